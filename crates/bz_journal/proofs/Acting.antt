@@ -6,6 +6,7 @@ use Rattle.std.proofs.lemmas.Slice.Eq.{bytes_eq-Decides}
 use Rattle.bz_items.specs.Characters.{Bytes}
 use Rattle.bz_grammar.specs.declared.tree.Node.{Node}
 use Rattle.bz_grammar.specs.Legal.{Reads}
+use Rattle.bz_grammar.specs.Spell.{spell_node}
 use Rattle.bz_grammar.specs.Statements.{lines_of}
 use Rattle.bz_label.specs.declared.target.Target.{Target}
 use Rattle.bz_value.specs.declared.value.Item.{Item}
@@ -16,8 +17,8 @@ use Rattle.bz_value.specs.declared.refusal.Refusal.{Refusal}
 use Rattle.bz_value.specs.declared.refusal.Refusal.TheVariants.{Memory}
 use Rattle.bz_journal.specs.Actions.{Action, Do, Format}
 use Rattle.bz_journal.specs.declared.action.Reply.{Reply}
-use Rattle.bz_journal.specs.Meaning.{Meaning, gives, refuses, printed_answer, EffectMeans, Means, Formats}
-use Rattle.bz_journal.specs.History.{History, Answer, present, unchanged, after_text, note_limit, IsFormat, MakesOrWants}
+use Rattle.bz_journal.specs.Meaning.{Meaning, gives, refuses, printed_answer, EffectMeans, Means, written}
+use Rattle.bz_journal.specs.History.{History, Answer, present, unchanged, after_meaning, after_text, note_limit, IsFormat, MakesOrWants}
 use Rattle.bz_journal.specs.Keeping.{HasActed}
 use Rattle.bz_journal.specs.Shown.{IsOverEven, session_history}
 use Rattle.bz_journal.specs.State.{SessionState, session_trail}
@@ -66,15 +67,15 @@ printed_answer_of operation made out answer printed_is answer_is = answer_is ∙
 
 -- ---- formatting
 
-pub formats_refused : (note : Bytes) (h : History) (here : Bytes) (refusal : Refusal) → here ≡ present h
-    → Formats here (refuses refusal) ⊎ (refusal ≡ Memory) → MakesOrWants Format note h (Err refusal) h
-formats_refused note h here refusal is (inl formats) = inl (refuses refusal, subst (λ (text : Bytes). Formats text (refuses refusal)) is formats, refl)
-formats_refused note h here refusal is (inr memory) = inr (λ none. none, ap Err memory, refl)
+-- the value that was seen of the present text is written, or that is refused
+module _ (note : Bytes) (h : History) (tree : Node) (value : List Item) (is : spell_node tree ≡ present h) (reads : Reads (spell_node tree) tree) (seen : value ≡ view_of tree) where
+  pub formats_made : (answer : Answer) (after : History) → ((answer, after) ≡ after_meaning note h (written value None)) ⊎ ((answer ≡ Err Memory) × (after ≡ h)) → MakesOrWants Format note h answer after
+  formats_made answer after (inl led) = inl (written value None, (tree, subst (λ (t : Bytes). Reads t tree) is reads, ap (λ (xs : List Item). written xs None) seen), led)
+  formats_made answer after (inr memory) = inr (λ none. none, memory.0, memory.1)
 
-pub formats_given : (note : Bytes) (h : History) (here text : Bytes) (answer : Answer) (after : History) → here ≡ present h
-    → Formats here (gives text None) → ((answer, after) ≡ after_text note h text None) ⊎ ((answer ≡ Err Memory) × (after ≡ h)) → MakesOrWants Format note h answer after
-formats_given note h here text answer after is formats (inl led) = inl (gives text None, subst (λ (t : Bytes). Formats t (gives text None)) is formats, led)
-formats_given note h here text answer after is formats (inr memory) = inr (λ none. none, memory.0, memory.1)
+  pub formats_refused : (refusal : Refusal) → ((printed : Option Bytes) → written value printed ≡ refuses refusal) ⊎ (refusal ≡ Memory) → MakesOrWants Format note h (Err refusal) h
+  formats_refused refusal (inl made) = inl (refuses refusal, (tree, subst (λ (t : Bytes). Reads t tree) is reads, sym (made None) ∙ ap (λ (xs : List Item). written xs None) seen), refl)
+  formats_refused refusal (inr memory) = inr (λ none. none, ap Err memory, refl)
 
 -- ---- back and forward
 

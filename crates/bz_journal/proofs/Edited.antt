@@ -1,5 +1,5 @@
 -- What a command on the value beside a session does is what the history says.
-use Rattle.std.proofs.Common.{◌≡◌, ◌≢◌, ◌⊎◌, ◌<◌, ◌∙◌, inl, inr, suc, Bool, List, [], ◌∷◌, length, Result, Ok, Err, Option, None, Some, refl, sym, subst, ap}
+use Rattle.std.proofs.Common.{◌≡◌, ◌≢◌, ◌⊎◌, ◌<◌, ◌∙◌, inl, inr, List, length, Result, Ok, Err, Option, None, Some, refl, sym, subst, ap}
 use Rattle.std.specs.Prelude.{IfSome, OnErr}
 use Rattle.bz_grammar.specs.declared.tree.Node.{Node}
 use Rattle.bz_grammar.specs.Legal.{Reads}
@@ -7,22 +7,18 @@ use Rattle.bz_grammar.specs.Spell.{spell_node}
 use Rattle.bz_grammar.specs.Statements.{lines_of}
 use Rattle.bz_label.specs.declared.target.Target.{Target}
 use Rattle.bz_value.specs.declared.value.Item.{Item}
-use Rattle.bz_value.specs.Exchanged.{AreExchanged}
 use Rattle.bz_items.specs.Characters.{Bytes}
 use Rattle.bz_value.specs.Proper.{IsProper}
 use Rattle.bz_hosts.specs.View.{view_of}
-use Rattle.bz_layout.specs.Written.{layout}
-use Rattle.bz_passes.specs.Passes.{tidied}
 use Rattle.bz_command_syntax.specs.declared.command.Operation.{Operation}
 use Rattle.bz_command.specs.Effect.{effect, printed}
 use Rattle.bz_value.specs.declared.refusal.Refusal.{Refusal}
 use Rattle.bz_value.specs.declared.refusal.Refusal.TheVariants.{Memory}
-use Rattle.bz_relayout.specs.Relaid.{IsWritten}
 use Rattle.bz_journal.specs.Actions.{Do}
 use Rattle.bz_journal.specs.declared.action.Reply.{Reply}
 use Rattle.bz_journal.specs.Meaning.{Meaning, Means, gives, refuses, printed_answer, written, EffectMeans}
 use Rattle.bz_journal.specs.History.{History, Answer, present, unchanged, after_meaning, MakesOrWants}
-use Rattle.bz_journal.specs.Editing.{IsLayoutOf, WrittenIsLaidOut}
+use Rattle.bz_journal.specs.Editing.{IsTidyLayoutOf, WrittenIsLaidOut}
 use Rattle.bz_journal.specs.State.{SessionState}
 use Rattle.bz_journal.proofs.Acting.{acts_same, meant_there, means_on, printed_answer_of}
 
@@ -85,24 +81,14 @@ edited_made note operation target h after current tree value new out answer repl
 
 -- ---- what stays beside the session
 
--- there is a mark for each item
-pub exchanged_length : (marks : List Bool) (before items : List Item) → AreExchanged marks before items → length marks ≡ length items
-exchanged_length [] [] [] h = refl
-exchanged_length [] [] (item ∷ items) h = absurd h
-exchanged_length [] (old ∷ before) items h = absurd h
-exchanged_length (mark ∷ marks) [] items h = absurd h
-exchanged_length (mark ∷ marks) (old ∷ before) [] h = absurd h
-exchanged_length (mark ∷ marks) (old ∷ before) (item ∷ items) h = ap suc (exchanged_length marks before items h.1)
-
--- of a tidy value that was taken up the tree is the layout
+-- of a value that was written the tree is the layout
 pub value_taken : WrittenIsLaidOut → (items : List Item) (answer : Option Bytes) (note : Bytes) (h after : History) (reply : Reply) (tree : Node)
-    → IsProper items → tidied items ≡ items → h.cursor < length h.texts
+    → IsProper items → h.cursor < length h.texts
     → (◌≡◌ {A = Answer × History} (Ok reply, after) (after_meaning note h (written items answer))) ⊎ ((◌≡◌ {A = Answer} (Ok reply) (Err Memory)) × (after ≡ h))
-    → Reads (spell_node tree) tree → spell_node tree ≡ present after → (items ≡ view_of tree) × IsWritten (view_of tree) tree × (spell_node tree ≡ layout items)
-value_taken laid_out items answer note h after reply tree proper tidy within (inr memory) reads is = let none : ◌≡◌ {A = Answer} (Ok reply) (Err Memory) = memory.0 in absurd (cc)
-value_taken laid_out items answer note h after reply tree proper tidy within (inl led) reads is =
-    let laid : IsLayoutOf items tree = laid_out items answer note h after reply tree proper within led (subst (λ (t : Bytes). Reads t tree) is reads) in
-    (sym tidy ∙ sym laid.1, subst (λ (xs : List Item). IsWritten xs tree) (sym laid.1) laid.0, laid.2 ∙ ap layout tidy)
+    → Reads (spell_node tree) tree → spell_node tree ≡ present after → IsTidyLayoutOf items tree
+value_taken laid_out items answer note h after reply tree proper within (inr memory) reads is = let none : ◌≡◌ {A = Answer} (Ok reply) (Err Memory) = memory.0 in absurd (cc)
+value_taken laid_out items answer note h after reply tree proper within (inl led) reads is =
+    laid_out items answer note h after reply tree proper within led (subst (λ (t : Bytes). Reads t tree) is reads)
 
 -- a value that is kept, if any, is what the tree is seen as
 pub kept_seen : (kept : Option (List Item)) (items seen : List Item) → IfSome kept (λ own. own ≡ items) → items ≡ seen → IfSome kept (λ own. own ≡ seen)

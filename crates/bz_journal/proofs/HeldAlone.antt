@@ -1,6 +1,6 @@
 -- What items have in files of their own they have in one file: of the passes only the one over loads looks at more than one item, and that
 -- one only moves them.
-use Rattle.std.proofs.Common.{ℕ, ◌+◌, ◌≡◌, ◌≤◌, Bool, true, false, List, [], ◌∷◌, ◌++◌, length, map, refl, sym, ap, ◌∙◌, arith}
+use Rattle.std.proofs.Common.{ℕ, ◌+◌, ◌≡◌, ◌≤◌, Bool, true, false, List, [], ◌∷◌, length, map, refl, sym, ap, ◌∙◌, arith}
 use Rattle.std.proofs.lemmas.List.{append-nil}
 use Rattle.bz_value.specs.declared.value.Item.{Item}
 use Rattle.bz_value.specs.Counted.{total}
@@ -8,10 +8,10 @@ use Rattle.bz_layout.specs.Flags.{flags, item_with_flags}
 use Rattle.bz_layout.specs.Written.{item_text, layout}
 use Rattle.bz_layout.proofs.Measured.{layout_first}
 use Rattle.bz_passes.specs.Changes.{after_passes}
-use Rattle.bz_passes.specs.Exchanged.{item_tidied}
+use Rattle.bz_passes.specs.Joined.{item_tidied}
 use Rattle.bz_passes.specs.Passes.{load_precedes, loads, on_statement, on_taken, taken, tidied}
 use Rattle.bz_passes.proofs.Composed.{five_composed}
-use Rattle.bz_passes.proofs.Exchanging.{exchanged_tidied}
+use Rattle.bz_passes.proofs.Pieces.{tidied_alone}
 use Rattle.bz_passes.proofs.Sorting.{sort_total}
 use Rattle.bz_journal.specs.private.Filling.{alone_length, marked_alone}
 
@@ -21,7 +21,7 @@ own_length item = length (item_text item)
 -- a file of one item has its own lines
 alone_is : (item : Item) → alone_length item ≡ own_length (item_tidied item)
 unfolding alone_length
-alone_is item = ap (λ (xs : List Item). length (layout xs)) (exchanged_tidied.alone item) ∙ ap length (append-nil (item_text (item_tidied item)))
+alone_is item = ap (λ (xs : List Item). length (layout xs)) (tidied_alone item) ∙ ap length (append-nil (item_text (item_tidied item)))
 
 -- those of the first one of some are in the layout
 pub first_below : (items rest : List Item) (item : Item) → items ≡ item ∷ rest → length (item_text item) ≤ length (layout items)

@@ -19,7 +19,7 @@ use Rattle.bz_journal.specs.declared.action.Reply.{Reply}
 use Rattle.bz_journal.specs.declared.action.Reply.TheVariants.{Changed}
 use Rattle.bz_journal.specs.Meaning.{Meaning, gives, refuses, written}
 use Rattle.bz_journal.specs.History.{History, Answer, present, changed, unchanged, after_meaning, most_steps}
-use Rattle.bz_journal.specs.Editing.{IsLayoutOf, WrittenIsLaidOut}
+use Rattle.bz_journal.specs.Editing.{IsTidyLayoutOf, WrittenIsLaidOut}
 use Rattle.bz_journal.proofs.Formatting.{present_changed}
 use Rattle.bz_build_format.proofs.Writes.{IsGiven, given}
 
@@ -34,7 +34,7 @@ pub record LayoutsHold : Type 0 where
 
 -- the tree that reads as the layout of a tidy value
 pub layout_tree : LayoutsHold → (items : List Item) (text : Bytes) (printed requested : Option Bytes) (tree : Node) → IsProper items → IsGiven items text requested printed → Reads text tree
-    → IsLayoutOf items tree
+    → IsTidyLayoutOf items tree
 layout_tree layers items text printed requested tree proper is reads =
     let tidy : List Item = tidied items in
     let proper_tidy : IsProper tidy = layers.proper items proper in
@@ -52,7 +52,7 @@ text_after false false note h after text printed reply within is led = let answe
 
 by_meaning : LayoutsHold → (m : Meaning) (items : List Item) (requested : Option Bytes) (note : Bytes) (h after : History) (reply : Reply) (tree : Node)
     → written items requested ≡ m → IsProper items → h.cursor < length h.texts → ◌≡◌ {A = Answer × History} (Ok reply, after) (after_meaning note h m)
-    → Reads (present after) tree → IsLayoutOf items tree
+    → Reads (present after) tree → IsTidyLayoutOf items tree
 by_meaning layers (gives text printed) items requested note h after reply tree is proper within led reads =
     let there : text ≡ present after = text_after (bytes_eq text (present h)) (nat_lt h.cursor most_steps) note h after text printed reply within (bytes_eq-Decides text (present h)).0 led in
     layout_tree layers items text printed requested tree proper (given items text requested printed is) (subst (λ (t : Bytes). Reads t tree) (sym there) reads)

@@ -12,7 +12,8 @@ pub mod Meant
 pub mod MovedLines
 pub mod Digested
 pub mod Edited
-pub mod PutLines
+pub mod MadeLines
+pub mod PassedWindows
 pub mod Resuming
 pub mod Revised
 pub mod Opening

@@ -1,6 +1,5 @@
 -- What a command means by what it did to a value in place.
-use Rattle.std.proofs.Common.{◌≡◌, ◌∙◌, ◌⊎◌, ℕ, false, List, Result, Ok, Err, Option, subst, sym}
-use Rattle.std.proofs.lemmas.Bool.{false≢true}
+use Rattle.std.proofs.Common.{◌≡◌, ◌⊎◌, ℕ, List, [], Result, Ok, Err, Option, subst}
 use Rattle.bz_grammar.specs.declared.tree.Node.{Node}
 use Rattle.bz_grammar.specs.Legal.{Reads}
 use Rattle.bz_grammar.specs.Spell.{spell_node}
@@ -35,11 +34,11 @@ module _ (operation : Operation) (target : Target) (current : Bytes) (tree : Nod
   on_tree : (result : Result Ran Refusal) → Runs result → RunsIn (effect operation target current (lines_of tree) value) (printed operation target current (lines_of tree) value) value result new
   on_tree result ran = runs_same _ _ _ _ value result new makes prints ran
 
-  pub meant_made : (ran : Ran) (answer : Option Bytes) → Runs (Ok ran) → ran.same ≡ false → answer ≡ printed_answer operation (Ok ran.printed)
+  pub meant_made : (ran : Ran) (answer : Option Bytes) → Runs (Ok ran) → (ran.windows ≡ [] → ⊥) → answer ≡ printed_answer operation (Ok ran.printed)
       → Means operation target current (spell_node tree) (written new answer)
   meant_made ran answer runs other answer_is =
       let own = on_tree (Ok ran) runs in
-      means_made operation target current tree value reads seen new ran.printed answer own.ok own.printed answer_is (λ same. false≢true (sym other ∙ own.same.1 same))
+      means_made operation target current tree value reads seen new ran.printed answer own.ok own.printed answer_is (λ same. other (own.same.1 same))
 
   pub meant_not : (refusal : Refusal) → Runs (Err refusal) → Means operation target current (spell_node tree) (refuses refusal) ⊎ (refusal ≡ Memory)
   meant_not refusal runs = means_not operation target current tree value refusal reads seen (let own = on_tree (Err refusal) runs in own.err)

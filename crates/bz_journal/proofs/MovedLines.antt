@@ -1,32 +1,25 @@
 -- The lines on which statements begin, where one part of a file takes the place of another.
-use Rattle.std.proofs.Common.{◌≡◌, ◌<◌, ◌≤◌, ◌+◌, ◌∙◌, ℕ, suc, Bool, Bor, true, false, List, [], ◌∷◌, ◌++◌, Option, None, Some, if◌then◌else◌, is_some, length, map, take, drop, get_or, slice_get, refl, sym, ap, subst, arith, append_assoc}
+use Rattle.std.proofs.Common.{◌≡◌, ◌<◌, ◌≤◌, ◌+◌, ◌∙◌, ℕ, Bool, Bor, true, false, List, [], ◌∷◌, ◌++◌, Option, None, Some, if◌then◌else◌, is_some, length, map, take, drop, get_or, slice_get, refl, sym, ap, subst, arith, append_assoc}
 use Rattle.std.specs.List.{flat_map}
 use Rattle.std.specs.Option.{option_copied}
-use Rattle.std.specs.Prelude.{IfSome, MatchOption, slice_set}
+use Rattle.std.specs.Prelude.{IfSome}
 use Rattle.std.proofs.Math.Seq.{drop-append_seam, take-append_seam}
 use Rattle.std.proofs.lemmas.Bool.{false≢true}
 use Rattle.std.proofs.lemmas.Grind.{flat_map-append}
-use Rattle.std.proofs.lemmas.List.{append-nil, drop_all, drop_more, length-append, length-map, length-take-le, map-append, set_split, take-append-drop, take_more}
+use Rattle.std.proofs.lemmas.List.{append-nil, drop_all, drop_more, length-append, length-map, length-take-le, map-append, take-append-drop, take_more}
 use Rattle.bz_lex.specs.declared.leaf.Leaf.{Leaf}
 use Rattle.bz_grammar.specs.declared.tree.Node.{Node}
 use Rattle.bz_grammar.specs.declared.tree.Part.{Part}
 use Rattle.bz_grammar.specs.declared.tree.Part.TheVariants as p
-use Rattle.bz_grammar.specs.Legal.{Legal}
-use Rattle.bz_grammar.specs.Places.{Ascend, put_all}
 use Rattle.bz_grammar.specs.Spell.{leaves_part, spell_node, spell_part}
 use Rattle.bz_grammar.specs.Statements.{first_gap, fronts, fronts_in, gap_of, is_node, line_following, lines_of, newlines, node_parts}
 use Rattle.bz_grammar.proofs.AllLines.{lines_among, lines_in}
 use Rattle.bz_grammar.proofs.Nested.{items_of_row}
 use Rattle.bz_grammar.proofs.Spells.{spell_Node}
 use Rattle.bz_grammar.proofs.Statements.{newlines_append, text_more, text_to}
-use Rattle.bz_value.specs.declared.value.Item.{Item}
-use Rattle.bz_layout.specs.LaidOut.{laid_out}
-use Rattle.bz_layout.specs.declared.marked.Relaid.{Relaid}
-use Rattle.bz_journal.specs.declared.lines.Lines.{Lines}
-use Rattle.bz_journal.specs.declared.lines.Lines.TheVariants as l
-use Rattle.bz_journal.specs.private.Lines.{AreIn, AreLinesOf, tree_with}
+use Rattle.bz_edit.specs.Windows.{AreThere, window_parts, with_windows}
+use Rattle.bz_edit.specs.declared.part_windows.PartWindow.{PartWindow}
 use Rattle.bz_journal.specs.private.Moving.{AreShifted, IsLike, IsLineOfOne, moved}
-use Rattle.bz_journal.proofs.PutLines.{tree_with_lines}
 
 pub spelled : (n : Node) → spell_part (p.Node n) ≡ spell_node n
 spelled n = spell_Node n
@@ -159,57 +152,28 @@ module _ (t q : List Part) (old new : Part) (n gone come : ℕ) (like : IsLike o
       moved_there begins (lines_among (Text old) q) _ _ n gone come (length-map (fronts [] (t ++ old ∷ [])) line_following ∙ each) (lines_with old)
       (lines_with new ∙ ap (λ (ts : List (List ℕ)). map line_following ts ++ lines_among (Text new) q) same ∙ ap (λ (lines : List ℕ). begins ++ lines) rest)
 
--- the parts so far have one statement each, and the last of them is exchanged
-pub exchanged : (parts : List Part) (place : ℕ) (old new : Part) (gone come : ℕ) → place < length parts → old ≡ get_or parts place old → IsLike old new gone come
-    → length (fronts [] (take (place + 1) parts)) ≡ place + 1 → AreShifted (place + 1) gone come (lines_among [] parts) (lines_among [] (slice_set parts place new))
-exchanged parts place old new gone come within is like each =
+-- the parts so far have one statement each, and the last of them gives way to another
+pub shifts : (windows : List PartWindow) (w : PartWindow) (tree : Node) (parts held : List Part) (line old : Part) (gone come : ℕ) → windows ≡ w ∷ [] → parts ≡ tree.parts → AreThere windows tree.parts
+    → held ≡ w.parts → held ≡ line ∷ [] → w.gone ≡ 1 → old ≡ get_or parts w.from old → IsLike old line gone come
+    → length (fronts [] (take (w.from + 1) parts)) ≡ length (take (w.from + 1) parts) → AreShifted (w.from + 1) gone come (lines_of tree) (lines_of (with_windows windows tree))
+shifts windows w tree parts held line old gone come one own there is_held is_line one_gone is like each =
+    let place : ℕ = w.from in
+    let fits : AreThere (w ∷ []) parts = subst (λ (ps : List Part). AreThere (w ∷ []) ps) (sym own) (subst (λ (ws : List PartWindow). AreThere ws tree.parts) one there) in
+    let inside : place < length parts = omega (arith, fits.0, one_gone) in
     let t : List Part = take place parts in
     let q : List Part = drop (place + 1) parts in
-    let step : suc place ≡ place + 1 = omega arith in
-    let own : parts ≡ t ++ old ∷ q = sym (take-append-drop place parts) ∙ ap (λ (xs : List Part). t ++ xs) (drop_more parts place old within) ∙ ap (λ (x : Part). t ++ x ∷ q) (sym is) in
-    let put : slice_set parts place new ≡ t ++ new ∷ q = set_split parts place new within ∙ ap (λ (k : ℕ). t ++ new ∷ drop k parts) step in
-    let first : take (place + 1) parts ≡ t ++ old ∷ [] = take_more parts place old within ∙ ap (λ (x : Part). t ++ x ∷ []) (sym is) in
-    let moves : AreShifted (place + 1) gone come (lines_among [] (t ++ old ∷ q)) (lines_among [] (t ++ new ∷ q)) =
-    at_place t q old new (place + 1) gone come like (ap (λ (xs : List Part). length (fronts [] xs)) (sym first) ∙ each) in
-    subst (λ (xs : List Part). AreShifted (place + 1) gone come (lines_among [] xs) (lines_among [] (slice_set parts place new))) (sym own)
-    (subst (λ (xs : List Part). AreShifted (place + 1) gone come (lines_among [] (t ++ old ∷ q)) (lines_among [] xs)) (sym put) moves)
+    let split : parts ≡ t ++ old ∷ q = sym (take-append-drop place parts) ∙ ap (λ (xs : List Part). t ++ xs) (drop_more parts place old inside) ∙ ap (λ (x : Part). t ++ x ∷ q) (sym is) in
+    let first : take (place + 1) parts ≡ t ++ old ∷ [] = take_more parts place old inside ∙ ap (λ (x : Part). t ++ x ∷ []) (sym is) in
+    let next : (with_windows windows tree).parts ≡ t ++ line ∷ q =
+    ap (λ (ws : List PartWindow). window_parts ws tree.parts) one ∙ ap (window_parts (w ∷ [])) (sym own) ∙ ap (λ (xs : List Part). t ++ (xs ++ drop (place + w.gone) parts)) (sym is_held ∙ is_line)
+    ∙ ap (λ (n : ℕ). t ++ line ∷ drop (place + n) parts) one_gone in
+    let moves : AreShifted (place + 1) gone come (lines_among [] (t ++ old ∷ q)) (lines_among [] (t ++ line ∷ q)) =
+    at_place t q old line (place + 1) gone come like (ap (λ (xs : List Part). length (fronts [] xs)) (sym first) ∙ each ∙ length-take-le (place + 1) parts (omega (arith, inside))) in
+    subst (λ (xs : List Part). AreShifted (place + 1) gone come (lines_among [] xs) (lines_of (with_windows windows tree))) (sym split ∙ own)
+    (subst (λ (xs : List Part). AreShifted (place + 1) gone come (lines_among [] (t ++ old ∷ q)) (lines_among [] xs)) (sym next) moves)
 
--- ---- lines in the place of parts of a tree
-
-one_of : {X : Type 0} (xs : List X) (d : X) → 1 ≤ length xs → length xs < 2 → xs ≡ get_or xs 0 d ∷ []
-one_of [] d some few = absurd (omega (arith, some))
-one_of (x ∷ []) d some few = refl
-one_of (x ∷ y ∷ xs) d some few = absurd (omega (arith, few))
-
--- the place of one line is in the tree
-pub placed : (lines : Lines) (relaid : Relaid) (tree : Node) (places : List ℕ) (parts : List Part) → lines ≡ l.Exchanged relaid → AreIn lines tree → places ≡ relaid.places → parts ≡ tree.parts
-    → 1 ≤ length places → length places < 2 → get_or places 0 0 < length parts
-placed lines relaid tree places parts is within own all some few =
-    let own_places : AreIn (l.Exchanged relaid) tree = subst (λ (x : Lines). AreIn x tree) is within in
-    let ascend : Ascend 0 (length tree.parts) (get_or places 0 0 ∷ []) = subst (Ascend 0 (length tree.parts)) (sym own ∙ one_of places 0 some few) own_places.1 in
-    subst (λ (xs : List Part). get_or places 0 0 < length xs) (sym all) ascend.1
-
--- one line in the place of one part
-pub shifts : (lines : Lines) (relaid : Relaid) (tree : Node) (places : List ℕ) (held parts : List Part) (line old : Part) (gone come : ℕ) → lines ≡ l.Exchanged relaid → AreIn lines tree
-    → places ≡ relaid.places → held ≡ relaid.lines → parts ≡ tree.parts → 1 ≤ length places → length places < 2 → 1 ≤ length held → length held < 2
-    → line ≡ get_or held 0 line → old ≡ get_or parts (get_or places 0 0) old → IsLike old line gone come
-    → length (fronts [] (take (get_or places 0 0 + 1) parts)) ≡ length (take (get_or places 0 0 + 1) parts)
-    → AreShifted (get_or places 0 0 + 1) gone come (lines_of tree) (lines_of (tree_with lines tree))
-shifts lines relaid tree places held parts line old gone come is within own mine all some few some_held few_held first there like each =
-    let place : ℕ = get_or places 0 0 in
-    let one : relaid.places ≡ place ∷ [] = sym own ∙ one_of places 0 some few in
-    let put : relaid.lines ≡ line ∷ [] = sym mine ∙ one_of held line some_held few_held ∙ ap (λ (x : Part). x ∷ []) (sym first) in
-    let inside : place < length parts = placed lines relaid tree places parts is within own all some few in
-    let next : (tree_with lines tree).parts ≡ slice_set parts place line =
-    ap (λ (x : Lines). (tree_with x tree).parts) is ∙ ap (λ (ps : List ℕ). put_all ps relaid.lines tree.parts) one ∙ ap (λ (ls : List Part). put_all (place ∷ []) ls tree.parts) put
-    ∙ ap (λ (xs : List Part). slice_set xs place line) (sym all) in
-    let moves = exchanged parts place old line gone come inside there like (each ∙ length-take-le (place + 1) parts (omega (arith, inside))) in
-    subst (λ (xs : List Part). AreShifted (place + 1) gone come (lines_among [] xs) (lines_of (tree_with lines tree))) all
-    (subst (λ (xs : List Part). AreShifted (place + 1) gone come (lines_among [] parts) (lines_among [] xs)) (sym next) moves)
-
--- the lines that moved, of the tree that was laid out
-pub begun_next : (lines : Option Lines) (found : Option (List ℕ)) (tree next : Node) (items : List Item) → Legal tree → IfSome lines (λ new. AreLinesOf new tree items) → laid_out items ≡ next
-    → MatchOption lines (found ≡ None) (λ new. IfSome found (λ own. own ≡ lines_of (tree_with new tree))) → IfSome found (λ own. own ≡ lines_of next)
-begun_next None found tree next items legal are laid none = subst (λ (known : Option (List ℕ)). IfSome known (λ own. own ≡ lines_of next)) (sym none) tt
-begun_next (Some lines) found tree next items legal are laid after =
-    subst (λ (n : Node). IfSome found (λ own. own ≡ lines_of n)) (tree_with_lines lines tree items legal are ∙ laid) after
+-- a list with one item
+pub one_of : {X : Type 0} (xs : List X) (d : X) → 1 ≤ length xs → length xs < 2 → d ≡ get_or xs 0 d → xs ≡ d ∷ []
+one_of [] d some few is = absurd (omega (arith, some))
+one_of (x ∷ []) d some few is = ap (λ y. y ∷ []) (sym is)
+one_of (x ∷ y ∷ xs) d some few is = absurd (omega (arith, few))

@@ -1,8 +1,8 @@
 -- What the clauses of this crate speak of, from its own definitions and from those of the crates below.
 pub use Rattle.bz_value.specs.declared.refusal.Refusal.{Refusal}
 pub use Rattle.bz_command.specs.Effect.{effect, printed}
-pub use Rattle.bz_command.specs.Renewed.{IsOfExtent}
 pub use Rattle.bz_edit.specs.declared.edit.Edit.{Edit}
+pub use Rattle.bz_edit.specs.Windows.{AreThere, with_windows}
 pub use Rattle.bz_files.specs.Faults.{Rises}
 pub use Rattle.bz_files.specs.Folder.{Elapses, Folder}
 pub use Rattle.bz_build_format.specs.Fixed.{IsFormatted}
@@ -10,12 +10,12 @@ pub use Rattle.bz_items.specs.Characters.{Bytes}
 pub use Rattle.bz_journal.specs.Actions.{MakesText, action_in}
 pub use Rattle.bz_journal.specs.private.Alone.{text_or}
 pub use Rattle.bz_journal.specs.private.Filling.{Overfills}
-pub use Rattle.bz_journal.specs.private.Doing.{EndsAt, EndsKeeping, EndsOrNone, HasMade, IsReady, RunsIn}
+pub use Rattle.bz_journal.specs.private.Doing.{EndsAt, HasMade, IsReady, RunsIn}
 pub use Rattle.bz_journal.specs.Editing.{AreFirstDigests, IsBeside, WrittenIsLaidOut}
 pub use Rattle.bz_journal.specs.History.{Acts, Answer, History, IsFormat, IsKept, MakesOrWants, Runs, after_meaning, after_text, changed, most_steps, note_limit, opened, present, unchanged}
 pub use Rattle.bz_journal.specs.Keeping.{HasActed, IsRefused, IsWriteOrOpen, IsWrittenSince, Keeps, KeepsFile, KeepsPair}
 pub use Rattle.bz_journal.specs.Lasting.{AlikeActs, AlikeGoesOn, GoesOn, IsAgain, IsKnownSession, IsResumedSession, IsSavedSession, saved}
-pub use Rattle.bz_journal.specs.private.Lines.{AreIn, AreLinesOf, AreSpliced, tree_with}
+pub use Rattle.bz_journal.specs.private.Making.{AreLinesOf, IsMadeOf}
 pub use Rattle.bz_journal.specs.private.Moving.{AreShifted, IsLike, IsLineOfOne, moved, moved_from}
 pub use Rattle.bz_journal.specs.Listing.{lines_of_texts, listing, noted, text_line, text_lines_from}
 pub use Rattle.bz_journal.specs.Lookups.{AreLookupsOf}
@@ -30,7 +30,7 @@ pub use Rattle.bz_resume.specs.Resuming.{Holds, OthersStay, Resumes, Survives}
 pub use Rattle.bz_resume.specs.declared.pair_fault.PairFault.{PairFault}
 pub use Rattle.bz_rule.specs.Index.{IsIndexOf}
 pub use Rattle.bz_journal_format.specs.Texts.{IsOtherVersion}
-pub use Rattle.bz_relayout.specs.Relaid.{IsWritten}
+pub use Rattle.bz_build_format.specs.Meaning.{IsWritten}
 pub use Rattle.bz_resume.specs.Journals.{AreSmall, Journal, NoJournal}
 pub use Rattle.bz_resume.specs.Resumed.{IsStale, StandsFor}
 pub use Rattle.bz_passes.specs.Passes.{tidied}
@@ -38,12 +38,15 @@ pub use Rattle.bz_history.specs.Shown.{StepsAreBetween, StepsLead, TakesUp, text
 pub use Rattle.bz_history.specs.Trails.{HasLeast, IsSmall, IsTrail, IsTree, are_even, steps_back, steps_forward, trail_at}
 pub use Rattle.bz_grammar.specs.Faults.{IsOfText}
 pub use Rattle.bz_grammar.specs.Legal.{Accepted}
-pub use Rattle.bz_grammar.specs.Places.{Ascend, put_all}
-pub use Rattle.bz_grammar.specs.Spell.{limit, spell_leaf, spell_node, spell_part}
+pub use Rattle.bz_grammar.specs.Spell.{depth_limit, depth_of, limit, spell_leaf, spell_node, spell_part}
 pub use Rattle.bz_grammar.specs.Statements.{fronts, fronts_in, is_node, lines_of, newlines, node_parts}
 pub use Rattle.bz_grammar.specs.declared.tree.Node.{Node}
 pub use Rattle.bz_value.specs.declared.value.Item.{Item}
+pub use Rattle.bz_value.specs.Proper.{IsProper}
+pub use Rattle.bz_value.specs.Windows.{AreOver}
 pub use Rattle.bz_hosts.specs.View.{view_of}
+pub use Rattle.bz_layout.specs.LaidOut.{laid_out}
 pub use Rattle.bz_layout.specs.Written.{layout}
+pub use Rattle.bz_layout.specs.declared.setting.SetFault.{SetFault}
 pub use Rattle.sha2.specs.Hashers.{Holds256}
 pub use Rattle.sha2.specs.Sha256.{sha256}

@@ -1,5 +1,5 @@
 -- The value beside a session, and the trees that a command leaves.
-use Rattle.std.specs.Prelude.{◌≡◌, ◌<◌, ◌≤◌, true, List, Option, length, map, take, Ok, IfSome}
+use Rattle.std.specs.Prelude.{◌≡◌, ◌<◌, true, List, Option, length, map, take, Ok, IfSome}
 use Rattle.sha2.specs.Sha256.{sha256}
 use Rattle.bz_grammar.specs.declared.tree.Node.{Node}
 use Rattle.bz_grammar.specs.Legal.{Reads}
@@ -10,7 +10,7 @@ use Rattle.bz_value.specs.Proper.{IsProper}
 use Rattle.bz_hosts.specs.View.{view_of}
 use Rattle.bz_layout.specs.Written.{layout}
 use Rattle.bz_passes.specs.Passes.{tidied}
-use Rattle.bz_relayout.specs.Relaid.{IsWritten}
+use Rattle.bz_build_format.specs.Meaning.{IsWritten}
 use Rattle.bz_journal.specs.declared.action.Reply.{Reply}
 use Rattle.bz_journal.specs.declared.beside.Beside.{Beside}
 use Rattle.bz_journal.specs.Lookups.{AreLookupsOf}
@@ -18,20 +18,20 @@ use Rattle.bz_journal.specs.Meaning.{written}
 use Rattle.bz_journal.specs.History.{History, Answer, after_meaning, present}
 
 -- The value that is kept is the view of the tree, and what was looked up is that of the tree; a tree that counts as written is the
--- layout of its view, which is tidy, and its text has at most this many bytes.
+-- layout of its view, which is tidy, and its text has this many bytes.
 pub record IsBeside (tree : Node) (beside : Beside) : Type 0 where
   pub seen : IfSome beside.value (λ items. items ≡ view_of tree)
   pub looked : AreLookupsOf beside.lookups tree
   pub written : beside.written ≡ true → IsWritten (view_of tree) tree
-  pub length_bound : beside.written ≡ true → length (spell_node tree) ≤ beside.length_bound
+  pub length_is : beside.written ≡ true → beside.length ≡ length (spell_node tree)
 
 -- these are the digests of the first texts
 abbrev pub AreFirstDigests : List Bytes → List Bytes → Type 0
 AreFirstDigests digests texts = digests ≡ map sha256 (take (length digests) texts)
 
 -- the tree is the layout of these items tidied, these are what it is seen as, and it spells that layout
-abbrev pub IsLayoutOf : List Item → Node → Type 0
-IsLayoutOf items tree = IsWritten (tidied items) tree × (view_of tree ≡ tidied items) × (spell_node tree ≡ layout (tidied items))
+abbrev pub IsTidyLayoutOf : List Item → Node → Type 0
+IsTidyLayoutOf items tree = IsWritten (tidied items) tree × (view_of tree ≡ tidied items) × (spell_node tree ≡ layout (tidied items))
 
 -- ---- laws
 
@@ -40,4 +40,4 @@ abbrev pub WrittenIsLaidOut : Type 0
 WrittenIsLaidOut =
     (items : List Item) (printed : Option Bytes) (note : Bytes) (h after : History) (reply : Reply) (tree : Node)
     → IsProper items → h.cursor < length h.texts → ◌≡◌ {A = Answer × History} (Ok reply, after) (after_meaning note h (written items printed))
-    → Reads (present after) tree → IsLayoutOf items tree
+    → Reads (present after) tree → IsTidyLayoutOf items tree

@@ -4,5 +4,5 @@ pub mod Doing
 pub mod Edited
 pub mod Filling
 pub mod Kept
-pub mod Lines
+pub mod Making
 pub mod Moving

@@ -1,17 +1,17 @@
 //! The course of a file: its texts as one tree and the steps between them, and what actions make of it.
 ghost use Rattle.std.specs.Prelude.{◌≡◌, ◌≤◌, ◌<◌, ◌-◌, ◌+◌, ◌↔◌, true, false, take, Err, None, Ok, Result, ℕ, List, IfOk, OnOk, OnErr, IsOk, IsTrue, length, string_bytes};
-ghost use Rattle.bz_journal.specs.Clauses.{OpensText, AreIn, AreSpliced, EndsAt, EndsOrNone, HasMade, IsFormatted, IsSmall, IsTree, MakesOrWants, Refusal, after_text, are_even, changed, most_steps, note_limit, opened, present, session_history, session_trail, spell_node, steps_back, steps_forward, tree_with, unchanged};
+ghost use Rattle.bz_journal.specs.Clauses.{OpensText, AreThere, EndsAt, IsSmall, IsTree, MakesOrWants, Refusal, after_text, are_even, changed, most_steps, note_limit, opened, present, session_history, session_trail, spell_node, steps_back, steps_forward, unchanged, with_windows};
 ghost use Rattle.bz_journal.specs.Actions as a;
 
 use crate::action::Reply;
-use crate::lines::{Lines, stand_in, take_up_lines};
-use bz_build_format::{formatted, formatted_once, reads_back};
-use bz_edit::Step;
+use crate::staying::stay;
+use bz_build_format::reads_back;
+use bz_edit::{PartWindow, Step};
 use bz_grammar::laws::one_reading;
 use bz_grammar::{ReadFault, Tree};
 use bz_history::laws::{starts_small, texts_kept};
-use bz_history::{go_back, go_forward, put_after};
-use bz_items::{Memory, Text};
+use bz_history::{go_back, go_forward, put_after, take_up};
+use bz_items::{Items, Memory, Text};
 use bz_journal_format::KeptLines;
 use bz_tree::parse;
 use bz_value::Refusal;
@@ -152,20 +152,6 @@ impl Course {
         self.steps.len() as u32 - self.cursor
     }
 
-    /// Formats the present text.
-    pub(crate) fn format(&mut self, note: &str) -> Result<Reply, Refusal>
-        requires { length note.now ≤ note_limit }
-        ensures made { HasMade a.Format note.now self.old result self.new }
-        ensures formatted { OnOk result (IsFormatted (present (session_history self.old)) (present (session_history self.new))) }
-    {
-        let alloc = self.alloc();
-        formatted_once();
-        match formatted(alloc, self.present()) {
-            Ok(tree) => self.take_up(tree, None, note),
-            Err(refusal) => Err(refusal),
-        }
-    }
-
     /// Goes back by n steps.
     pub(crate) fn undo(&mut self, n: u32) -> Result<Reply, Refusal>
         ensures makes { (note : List ℕ) → MakesOrWants (a.Undo n) note (session_history self.old) result (session_history self.new) }
@@ -212,74 +198,51 @@ impl Course {
         Ok(Reply::Moved)
     }
 
-    /// Whether the tree with these lines spells the present text.
-    fn is_present(&self, lines: &Lines) -> bool
-        requires next { IsTree (tree_with lines.now self.now.tree) }
-        requires placed { AreIn lines.now self.now.tree }
-        ensures { IsTrue result ↔ (spell_node (tree_with lines.now self.now.tree) ≡ present (session_history self.now)) }
+    /// Whether the tree with these windows spells the present text.
+    fn is_present(&self, windows: &[PartWindow]) -> bool
+        requires next { IsTree (with_windows windows.now self.now.tree) }
+        requires there { AreThere windows.now self.now.tree.parts }
+        ensures { IsTrue result ↔ (spell_node (with_windows windows.now self.now.tree) ≡ present (session_history self.now)) }
     {
         one_reading();
         let here = self.present();
         reads_back(here);
-        stand_in(lines, here)
+        stay(windows, here.root.parts.as_slice())
     }
 
-    /// Takes up the tree with these lines, with a note: what it spells is the text after the present one; where it is the same one,
-    /// returns what is printed. None where the step to it isn't known, as may be of spliced lines: it is to be taken up whole then.
-    /// Errors: `Full`; `Memory`: a growth was refused.
-    pub(crate) fn take_up_lines(
+    /// Takes up the tree with these windows, with a note: what it spells is the text after the present one; where it is the same one,
+    /// returns what is printed. Errors: `Full`; `Memory`: a growth was refused.
+    pub(crate) fn take_up(
         &mut self,
-        lines: Lines,
-        printed: &mut Option<Text>,
+        windows: Items<PartWindow>,
+        printed: Option<Text>,
         note: &str,
-    ) -> Result<Option<Reply>, Refusal>
+    ) -> Result<Reply, Refusal>
         requires short { length note.now ≤ note_limit }
-        requires next { IsTree (tree_with lines self.old.tree) }
-        requires placed { AreIn lines self.old.tree }
-        ensures made { EndsOrNone (after_text note.now (session_history self.old) (spell_node (tree_with lines self.old.tree)) printed.old) self.old result self.new }
-        ensures none { result ≡ Ok None → AreSpliced lines × (printed.new ≡ printed.old) }
+        requires next { IsTree (with_windows windows self.old.tree) }
+        requires there { AreThere windows self.old.tree.parts }
+        ensures { EndsAt (after_text note.now (session_history self.old) (spell_node (with_windows windows self.old.tree)) printed) self.old result self.new }
     {
-        if self.is_present(&lines) {
-            return Ok(Some(unchanged(printed.take())));
+        if self.is_present(windows.as_slice()) {
+            return Ok(unchanged(printed));
         }
         if self.cursor() >= MOST_STEPS {
             return Err(Refusal::Full);
         }
-        match self.extend(lines, note) {
-            Ok(true) => Ok(Some(Reply::Changed)),
-            Ok(false) => Ok(None),
+        match self.extend(windows, note) {
+            Ok(()) => Ok(Reply::Changed),
             Err(_) => Err(Refusal::Memory),
         }
     }
 
-    /// The same of a whole tree.
-    pub(crate) fn take_up(
-        &mut self,
-        next: Tree,
-        printed: Option<Text>,
-        note: &str,
-    ) -> Result<Reply, Refusal>
-        requires { length note.now ≤ note_limit }
-        ensures { EndsAt (after_text note.now (session_history self.old) (spell_node next) printed) self.old result self.new }
-    {
-        let _root = &next.root;
-        let mut printed = printed;
-        match self.take_up_lines(Lines::Whole(next), &mut printed, note) {
-            Ok(Some(reply)) => Ok(reply),
-            Ok(None) => unreachable!(),
-            Err(refusal) => Err(refusal),
-        }
-    }
-
-    /// Puts the text of the tree with these lines after the present one, with a note. False, with nothing done: the step isn't known.
-    fn extend(&mut self, lines: Lines, note: &str) -> Result<bool, Memory>
-        requires next { IsTree (tree_with lines self.old.tree) }
-        requires placed { AreIn lines self.old.tree }
-        requires other { spell_node (tree_with lines self.old.tree) ≡ present (session_history self.old) → ⊥ }
+    /// Puts the text of the tree with these windows after the present one, with a note. The error: a growth was refused.
+    fn extend(&mut self, windows: Items<PartWindow>, note: &str) -> Result<(), Memory>
+        requires next { IsTree (with_windows windows self.old.tree) }
+        requires there { AreThere windows self.old.tree.parts }
+        requires other { spell_node (with_windows windows self.old.tree) ≡ present (session_history self.old) → ⊥ }
         requires room { self.old.cursor < most_steps }
         requires short { length note.now ≤ note_limit }
-        ensures ok { IfOk result (λ taken. IsTrue taken → session_history self.new ≡ changed note.now (session_history self.old) (spell_node (tree_with lines self.old.tree))) }
-        ensures stays { IfOk result (λ taken. taken ≡ false → AreSpliced lines × (self.new ≡ self.old)) }
+        ensures ok { OnOk result (session_history self.new ≡ changed note.now (session_history self.old) (spell_node (with_windows windows self.old.tree))) }
         ensures err { OnErr result (self.new ≡ self.old) }
         ensures small { IsSmall (session_trail self.old) → IsSmall (session_trail self.new) }
     {
@@ -287,15 +250,12 @@ impl Course {
         let note = Text::from_slice(self.alloc(), note.as_bytes())?;
         self.notes.reserve(1)?;
         let cursor = self.cursor;
-        let taken = take_up_lines(&mut self.tree, &mut self.steps, cursor as usize, lines)?;
-        if !taken {
-            return Ok(false);
-        }
+        take_up(&mut self.tree, &mut self.steps, cursor as usize, windows)?;
         self.kept.drop_past(cursor);
         put_after(&mut self.notes, cursor as usize, note);
         self.before = cursor;
         self.cursor = cursor + 1;
-        Ok(true)
+        Ok(())
     }
 }
 

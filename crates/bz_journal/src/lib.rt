@@ -12,12 +12,13 @@ mod filling;
 mod keeping;
 mod lasting;
 mod laws;
-mod lines;
 mod listing;
+mod making;
 mod meaning;
 mod moving;
 mod revisions;
 mod session;
+mod staying;
 mod texts;
 
 pub use action::{Action, Reply};

@@ -1,6 +1,6 @@
 //! What a command makes of the value of a tree.
 ghost use Rattle.std.specs.Prelude.{◌≡◌, ◌⊎◌, List, Ok, IfOk, IfErr, IfSome};
-ghost use Rattle.bz_journal.specs.Clauses.{Bytes, Item, Means, Refusal, RunsIn, effect, gives, lines_of, printed, printed_answer, refuses, spell_node, text_or, view_of};
+ghost use Rattle.bz_journal.specs.Clauses.{Bytes, IsIndexOf, Item, Means, Refusal, RunsIn, effect, gives, lines_of, printed, printed_answer, refuses, spell_node, text_or, view_of};
 
 use crate::answering::Lookups;
 use crate::filling::overfills;
@@ -11,7 +11,7 @@ use bz_grammar::Tree;
 use bz_hosts::{into_view, view};
 use bz_items::{Memory, Text};
 use bz_label::Target;
-use bz_rule::take_apart;
+use bz_rule::{Names, take_apart};
 use bz_value::{File, Refusal};
 use std::alloc::Global;
 
@@ -59,8 +59,10 @@ fn run_by_lines(
     current: &[u8],
     lines: &[u32],
     len: usize,
+    names: Option<&Names>,
     file: &mut File,
 ) -> Result<Ran, Refusal>
+    requires { IfSome names (λ index. IsIndexOf index.now file.old) }
     ensures { RunsIn (effect command.now target.now current.now lines.now file.old) (printed command.now target.now current.now lines.now file.old) file.old result file.new }
 {
     let work = Work {
@@ -74,7 +76,7 @@ fn run_by_lines(
     if overfills(work, len, file)? {
         return Err(Refusal::TooLarge);
     }
-    run_in(alloc, command, target, current, lines, file)
+    run_in(alloc, command, target, current, lines, names, file)
 }
 
 /// The same on the value of a tree, by the lines that were looked up in it.
@@ -88,14 +90,18 @@ pub(crate) fn run_on_tree(
     lookups: &Lookups,
     file: &mut File,
 ) -> Result<Ran, Refusal>
-    requires { IfSome lookups.now.lines (λ lines. lines ≡ lines_of tree.now) }
+    requires names { IfSome lookups.now.names (λ index. IsIndexOf index file.old) }
+    requires lines { IfSome lookups.now.lines (λ lines. lines ≡ lines_of tree.now) }
     ensures { RunsIn (effect command.now target.now current.now (lines_of tree.now) file.old) (printed command.now target.now current.now (lines_of tree.now) file.old) file.old result file.new }
 {
+    let names = lookups.names.as_ref();
     let Some(lines) = &lookups.lines else {
         let lines = lines_for(alloc, command, target, tree)?;
-        return run_by_lines(alloc, command, target, current, lines.as_slice(), len, file);
+        let lines = lines.as_slice();
+        return run_by_lines(alloc, command, target, current, lines, len, names, file);
     };
-    run_by_lines(alloc, command, target, current, lines.as_slice(), len, file)
+    let lines = lines.as_slice();
+    run_by_lines(alloc, command, target, current, lines, len, names, file)
 }
 
 /// What a command means on the text of a tree, which has this many bytes and is given up for its value: the text after it, none where the
@@ -121,11 +127,12 @@ pub(crate) fn meant(
         current,
         lines.as_slice(),
         len,
+        None,
         &mut file,
     ) {
         Ok(ran) => {
             let printed = printed_answer(command, ran.printed);
-            if ran.same {
+            if ran.windows.is_empty() {
                 take_apart(file);
                 return Ok((None, printed));
             }

@@ -1,9 +1,9 @@
 //! The lines on which the statements of a file begin, where one of its parts is exchanged: those after it move.
-ghost use Rattle.std.specs.Prelude.{◌≡◌, ◌≤◌, ◌++◌, ◌∷◌, [], List, None, ℕ, IfSome, IsTrue, MatchOption, length, map};
+ghost use Rattle.std.specs.Prelude.{◌≡◌, ◌≤◌, ◌++◌, ◌∷◌, [], List, ℕ, IfSome, IsTrue, length, map};
 ghost use Rattle.std.specs.Option.{option_copied};
-ghost use Rattle.bz_journal.specs.Clauses.{AreIn, AreShifted, IsLike, IsLineOfOne, fronts, fronts_in, is_node, lines_of, moved, moved_from, newlines, node_parts, spell_part, tree_with};
+ghost use Rattle.bz_journal.specs.Clauses.{AreShifted, AreThere, IsLike, IsLineOfOne, fronts, fronts_in, is_node, lines_of, moved, moved_from, newlines, node_parts, spell_part, with_windows};
 
-use crate::lines::Lines;
+use bz_edit::PartWindow;
 use bz_grammar::{LENGTH_LIMIT, Part, Tree, first_of};
 use bz_items::{Gap, Items};
 
@@ -95,22 +95,22 @@ struct Shift {
     come: u32,
 }
 
-/// How the lines of the statements move, from the present tree to the one with these lines; none where that isn't seen at once.
-fn shift_of(lines: &Lines, tree: &Tree) -> Option<Shift>
-    requires { AreIn lines.now tree.now }
-    ensures { IfSome result (λ shift. AreShifted shift.from shift.gone shift.come (lines_of tree.now) (lines_of (tree_with lines.now tree.now))) }
+/// How the lines of the statements move, from the present tree to the one with these windows; none where that isn't seen at once.
+fn shift_of(windows: &[PartWindow], tree: &Tree) -> Option<Shift>
+    requires { AreThere windows.now tree.now.parts }
+    ensures { IfSome result (λ shift. AreShifted shift.from shift.gone shift.come (lines_of tree.now) (lines_of (with_windows windows.now tree.now))) }
 {
-    let Lines::Exchanged(relaid) = lines else {
+    let [window] = windows else {
         return None;
     };
-    let [place] = relaid.places.as_slice() else {
+    let [line] = window.parts.as_slice() else {
         return None;
     };
-    let [line] = relaid.lines.as_slice() else {
+    if window.gone != 1 {
         return None;
-    };
+    }
     let parts = tree.root.parts.as_slice();
-    let place = *place;
+    let place = window.from;
     let from = place + 1;
     if !hold_one_each(&parts[..from]) {
         return None;
@@ -148,21 +148,18 @@ fn move_from(lines: &mut [u32], from: usize, gone: u32, come: u32) -> bool
     move_all(later, gone, come)
 }
 
-/// The lines on which the statements of the tree with these lines begin, by those of the present one; none where they are to be counted anew.
+/// The lines on which the statements of the tree with these windows begin, by those of the present one; none where they are to be counted anew.
 pub(crate) fn begins_after(
     begins: Option<Items<u32>>,
-    lines: &Option<Lines>,
+    windows: &[PartWindow],
     tree: &Tree,
 ) -> Option<Items<u32>>
     requires begins { IfSome begins (λ begins. begins ≡ lines_of tree.now) }
-    requires placed { IfSome lines.now (λ lines. AreIn lines tree.now) }
-    ensures { MatchOption lines.now (result ≡ None) (λ lines. IfSome result (λ next. next ≡ lines_of (tree_with lines tree.now))) }
+    requires there { AreThere windows.now tree.now.parts }
+    ensures { IfSome result (λ next. next ≡ lines_of (with_windows windows.now tree.now)) }
 {
-    let Some(lines) = lines else {
-        return None;
-    };
     let mut begins = begins?;
-    let shift = shift_of(lines, tree)?;
+    let shift = shift_of(windows, tree)?;
     if !move_from(begins.as_mut_slice(), shift.from, shift.gone, shift.come) {
         return None;
     }

@@ -6,7 +6,7 @@ ghost use Rattle.bz_journal.specs.Actions as a;
 use crate::action::{Action, Reply};
 use crate::course::{Course, MOST_NOTE, begin, unchanged};
 use bz_items::Text;
-use bz_tree::parse;
+use bz_relayout::read_text;
 use bz_value::Refusal;
 use std::marker::Model;
 
@@ -93,10 +93,10 @@ fn take_up_again(course: Course, made: &Made) -> Option<Course>
     ensures small { IsSmall (session_trail course) → IfSome result (λ new. IsSmall (session_trail new)) }
 {
     let mut course = course;
-    let Ok(tree) = parse(course.alloc(), made.text.as_slice()) else {
+    let Ok(windows) = read_text(course.alloc(), course.present(), made.text.as_slice()) else {
         return None;
     };
-    match course.take_up(tree, None, made.note.as_str()) {
+    match course.take_up(windows, None, made.note.as_str()) {
         Ok(_) => Some(course),
         Err(_) => None,
     }

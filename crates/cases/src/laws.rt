@@ -58,7 +58,6 @@ fn call_values() {
     bz_layout::flags_keep_layout();
     bz_layout::layout_is_accepted();
     bz_layout::layout_reads_back();
-    bz_layout::relaid_has_length();
     bz_layout::worked_rows();
     bz_passes::worked_passes();
     bz_passes::tidy_settles();
@@ -68,7 +67,7 @@ fn call_values() {
     bz_passes::marks_move();
     bz_passes::sorting_is_the_one();
     bz_passes::flags_settle();
-    bz_passes::exchanged_tidied();
+    bz_passes::tidied_alone();
     bz_passes::worked_programs();
     bz_passes::program_stays();
     bz_passes::tokens_stay();

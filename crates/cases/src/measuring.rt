@@ -5,10 +5,9 @@
 //! memory the process took at most. `spell` writes what the tree spells to standard output, and `layout` what it is laid out
 //! as, or the fault of a text that has none to standard error. `copies` prints of each of several texts whether all that it says is copied.
 use crate::copying::answer_copies;
-use bz_build_format::format;
+use bz_build_format::{format, set};
 use bz_grammar::{ReadFault, Tree};
 use bz_hosts::view;
-use bz_layout::set;
 use bz_lex::lex;
 use bz_tree::parse;
 use std::alloc::Global;

@@ -1,9 +1,10 @@
 //! File values: what a text says, its layout, and the layout of it tidied.
 use crate::trees::{read, read_fault_text};
+use bz_build_format::set;
 use bz_grammar::Tree;
 use bz_hosts::view;
 use bz_items::{Memory, Text};
-use bz_layout::{SetFault, set};
+use bz_layout::SetFault;
 use bz_passes::tidy;
 use bz_value::{Comments, Expr, File, Form, Item};
 use sheets::{Case, CaseFault, Page};

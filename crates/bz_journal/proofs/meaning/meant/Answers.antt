@@ -1,4 +1,5 @@
-use Rattle.std.proofs.Common.{◌∙◌, ⊎_elim, ap, inl, inr, subst}
+use Rattle.std.proofs.Common.{◌∙◌, ⊎_elim, ap, inl, inr, subst, sym}
+use Rattle.std.proofs.lemmas.Bool.{false≢true}
 use Rattle.bz_command.specs.Effect.{effect, printed}
 use Rattle.bz_grammar.specs.Spell.{spell_node}
 use Rattle.bz_journal.specs.Meaning.{Meaning, Means}
@@ -16,7 +17,7 @@ returns-in-Ok-written_text-clause-ok c =
     (meant_made command target current c.args.tree value c.run_by_lines.new.file c.as_slice.result.now c.reads_back.ensures c.in_ok-file.ensures.value
     (ap (λ lines. effect command target current lines value) c.as_slice.ensures.value ∙ c.in_ok-lines.ensures.effect current value)
     (ap (λ lines. printed command target current lines value) c.as_slice.ensures.value ∙ c.in_ok-lines.ensures.printed current value)
-    c.in-Ok.ran answer c.in-Ok.ensures c.if-ran.false c.printed_answer-printed.ensures)
+    c.in-Ok.ran answer c.in-Ok.ensures (λ none. false≢true (sym c.if-is_empty.false ∙ c.is_empty.ensures.1 none)) c.printed_answer-printed.ensures)
 
 pub returns-in-Ok-clause-err : goal.returns-in-Ok-clause-err
 returns-in-Ok-clause-err c =
@@ -29,7 +30,7 @@ returns-in-Ok-clause-err c =
     (meant_made command target current c.args.tree value c.run_by_lines.new.file c.as_slice.result.now c.reads_back.ensures c.in_ok-file.ensures.value
     (ap (λ lines. effect command target current lines value) c.as_slice.ensures.value ∙ c.in_ok-lines.ensures.effect current value)
     (ap (λ lines. printed command target current lines value) c.as_slice.ensures.value ∙ c.in_ok-lines.ensures.printed current value)
-    c.in-Ok.ran answer c.in-Ok.ensures c.if-ran.false c.printed_answer-printed.ensures)))
+    c.in-Ok.ran answer c.in-Ok.ensures (λ none. false≢true (sym c.if-is_empty.false ∙ c.is_empty.ensures.1 none)) c.printed_answer-printed.ensures)))
     inr c.in-Err-written_text.ensures.err
 
 pub returns-clause-err : goal.returns-clause-err

@@ -1,5 +1,6 @@
 use Rattle.std.proofs.Common.{List, refl, map, ◌≡◌, ◌<◌, ◌+◌, ◌++◌, ◌∷◌, [], ◌∙◌, ap, sym, subst, rules, take, string_bytes}
 use Rattle.sha2.specs.Sha256.{sha256}
+use Rattle.bz_edit.specs.Windows.{with_windows}
 use Rattle.bz_grammar.specs.declared.tree.Node.{Node}
 use Rattle.bz_grammar.specs.Spell.{spell_node}
 use Rattle.bz_items.specs.Characters.{Bytes}
@@ -8,31 +9,30 @@ use Rattle.bz_history.specs.Trails.{IsSmall, trail_at}
 use Rattle.bz_journal_format.specs.declared.content.Version.TheVariants.{Two}
 use Rattle.bz_journal.specs.History.{most_steps}
 use Rattle.bz_journal.specs.private.Kept.{AreKeptOf}
-use Rattle.bz_journal.specs.private.Lines.{tree_with}
 use Rattle.bz_journal.specs.State.{SessionState, IsSession, session_trail}
-use Rattle.bz_journal.proofs.Kept.{HasExtended, as_before, extended, kept_on, session_present, small_as_before}
+use Rattle.bz_journal.proofs.Kept.{HasExtended, as_before, extended, kept_on, session_present}
 use Rattle.bz_journal.proofs.course.Course.extend.Goals as goal
 
-pub take_up_lines-requires-clause-other : goal.take_up_lines-requires-clause-other
-take_up_lines-requires-clause-other c = λ same.
+pub take_up-requires-clause-other : goal.take_up-requires-clause-other
+take_up-requires-clause-other c = λ same.
     let s : SessionState = c.args.self.now in
-    let own : tree_with c.args.lines c.self.inside.tree ≡ tree_with c.args.lines s.tree =
-    ap (λ (t : SessionState). tree_with c.args.lines t.tree) c.self.view_is in
+    let own : with_windows c.args.windows c.self.inside.tree ≡ with_windows c.args.windows s.tree =
+    ap (λ (t : SessionState). with_windows c.args.windows t.tree) c.self.view_is in
     c.requires.other (ap spell_node (sym own) ∙ same ∙ ap (λ (t : SessionState). spell_node t.tree) c.self.view_is
     ∙ session_present c.texts_kept.ensures s (subst (λ (t : SessionState). IsSession t) c.self.view_is c.self.invariant.0))
 
 pub invariant_of-self-2 : goal.invariant_of-self-2
 invariant_of-self-2 c =
     let s : SessionState = record { tree = c.self.inside.tree; steps = c.self.inside.steps.items; notes = c.self.inside.notes.items; «package» = string_bytes c.self.inside.«package»; cursor = c.self.inside.cursor; before = c.self.inside.before } in
-    let next : Node = tree_with c.args.lines c.self.inside.tree in
+    let next : Node = with_windows c.args.windows c.self.inside.tree in
     let room : c.self.inside.cursor < most_steps = subst (λ (t : SessionState). t.cursor < most_steps) (sym c.self.view_is) c.requires.room in
     let notes : c.put_after.new.items.items ≡ take c.self.inside.cursor c.self.inside.notes.items ++ c.args.note.now ∷ [] =
     c.put_after.ensures ∙ ap (λ (l : List Bytes). take c.self.inside.cursor l ++ c.in_ok-note.note ∷ []) c.reserve.ensures.items
     ∙ ap (λ (d : Bytes). take c.self.inside.cursor c.self.inside.notes.items ++ d ∷ []) (c.in_ok-note.ensures ∙ c.as_bytes.ensures.value) in
-    let takes : TakesUp (session_trail s) next (trail_at c.take_up_lines.new.tree c.take_up_lines.new.steps.items (c.self.inside.cursor + 1)) = c.in_ok-taken.ensures.ok c.if-not-taken.false in
-    let steps = c.take_up_lines.new.steps.items in (
-      HasExtended.session (extended c.texts_kept.ensures s next c.take_up_lines.new.tree steps c.put_after.new.items.items c.args.note.now c.self.invariant.0 room (c.requires.short, search rules) takes notes),
-      kept_on c.texts_kept.ensures s next c.take_up_lines.new.tree steps c.put_after.new.items.items c.args.note.now c.drop_past.new.self c.self.invariant.0 takes notes c.drop_past.ensures.few.0 c.drop_past.ensures.few.1
+    let takes : TakesUp (session_trail s) next (trail_at c.take_up.new.tree c.take_up.new.steps.items (c.self.inside.cursor + 1)) = c.in_ok-take_up.ensures.ok in
+    let steps = c.take_up.new.steps.items in (
+      HasExtended.session (extended c.texts_kept.ensures s next c.take_up.new.tree steps c.put_after.new.items.items c.args.note.now c.self.invariant.0 room (c.requires.short, search rules) takes notes),
+      kept_on c.texts_kept.ensures s next c.take_up.new.tree steps c.put_after.new.items.items c.args.note.now c.drop_past.new.self c.self.invariant.0 takes notes c.drop_past.ensures.few.0 c.drop_past.ensures.few.1
           (c.drop_past.ensures.first Two (map sha256 (texts_of (session_trail s))) s.notes s.steps c.self.invariant.1),
     )
 
@@ -42,20 +42,8 @@ invariant_of-self c =
     subst (λ (t : SessionState). IsSession t × AreKeptOf t c.self.inside.kept)
     (sym (as_before was was c.self.inside.tree c.self.inside.steps.items c.reserve.new.self.items refl refl refl c.reserve.ensures.items)) c.self.invariant
 
-pub returns-then-not-taken-clause-stays : goal.returns-then-not-taken-clause-stays
-returns-then-not-taken-clause-stays c = λ _.
-    let was : SessionState = record { tree = c.self.inside.tree; steps = c.self.inside.steps.items; notes = c.self.inside.notes.items; «package» = string_bytes c.self.inside.«package»; cursor = c.self.inside.cursor; before = c.self.inside.before } in
-    let kept = c.in_ok-taken.ensures.stays c.if-not-taken.true in
-    (kept.0, as_before was c.args.self.now c.take_up_lines.new.tree c.take_up_lines.new.steps.items c.reserve.new.self.items c.self.view_is kept.1 kept.2 c.reserve.ensures.items)
-
-pub returns-then-not-taken-clause-small : goal.returns-then-not-taken-clause-small
-returns-then-not-taken-clause-small c =
-    let was : SessionState = record { tree = c.self.inside.tree; steps = c.self.inside.steps.items; notes = c.self.inside.notes.items; «package» = string_bytes c.self.inside.«package»; cursor = c.self.inside.cursor; before = c.self.inside.before } in
-    let kept = c.in_ok-taken.ensures.stays c.if-not-taken.true in
-    small_as_before c.args.self.now _ (as_before was c.args.self.now c.take_up_lines.new.tree c.take_up_lines.new.steps.items c.reserve.new.self.items c.self.view_is kept.1 kept.2 c.reserve.ensures.items)
-
 pub returns-clause-small : goal.returns-clause-small
 returns-clause-small c =
-    let next : Node = tree_with c.args.lines c.self.inside.tree in
-    let takes : TakesUp (trail_at c.self.inside.tree c.self.inside.steps.items c.self.inside.cursor) next (trail_at c.take_up_lines.new.tree c.take_up_lines.new.steps.items (c.self.inside.cursor + 1)) = c.in_ok-taken.ensures.ok c.if-not-taken.false in
+    let next : Node = with_windows c.args.windows c.self.inside.tree in
+    let takes : TakesUp (trail_at c.self.inside.tree c.self.inside.steps.items c.self.inside.cursor) next (trail_at c.take_up.new.tree c.take_up.new.steps.items (c.self.inside.cursor + 1)) = c.in_ok-take_up.ensures.ok in
     λ own. takes.small (subst (λ (t : SessionState). IsSmall (session_trail t)) (sym c.self.view_is) own)

@@ -1,5 +1,5 @@
 use Rattle.std.proofs.Common.{◌≡◌, take}
-use Rattle.bz_journal.proofs.lines.are_same.Given as goal
+use Rattle.bz_journal.proofs.staying.are_same.Given as goal
 
 -- the parts so far are the same
 abbrev pub invariant-loop-at : goal.invariant-loop-at

@@ -1,0 +1,54 @@
+-- The lines of a value that are other ones than in a tree: with them the tree is that of its layout.
+use Rattle.std.proofs.Common.{◌≡◌, ◌↔◌, ◌≤◌, ◌∙◌, List, [], ◌∷◌, Option, length, refl, sym, ap, subst}
+use Rattle.bz_edit.specs.Windows.{with_windows}
+use Rattle.bz_edit.specs.declared.part_windows.PartWindow.{PartWindow}
+use Rattle.bz_grammar.specs.declared.kind.Kind.{Kind}
+use Rattle.bz_grammar.specs.declared.tree.Node.{Node}
+use Rattle.bz_grammar.specs.declared.tree.Part.{Part}
+use Rattle.bz_grammar.specs.Laws.{OneReading}
+use Rattle.bz_grammar.specs.Legal.{Reads}
+use Rattle.bz_grammar.specs.Spell.{depth_limit, depth_of, limit, spell_node}
+use Rattle.bz_history.specs.Trails.{IsTree}
+use Rattle.bz_items.specs.Characters.{Bytes}
+use Rattle.bz_value.specs.declared.value.Item.{Item}
+use Rattle.bz_value.specs.Proper.{IsProper}
+use Rattle.bz_value.specs.Windows.{AreOver, AreWithin}
+use Rattle.bz_value.specs.declared.windows.Window.{Window}
+use Rattle.bz_layout.specs.LaidOut.{laid_out}
+use Rattle.bz_layout.specs.Laws.{LayoutIsAccepted}
+use Rattle.bz_layout.specs.Written.{layout}
+use Rattle.bz_passes.specs.Passes.{tidied}
+use Rattle.bz_build_format.specs.Meaning.{gives, written}
+use Rattle.bz_build_format.proofs.Writes.{written_given}
+use Rattle.bz_journal.specs.private.Making.{AreLinesOf}
+
+same_node : (a b : Node) → a.kind ≡ b.kind → a.parts ≡ b.parts → a ≡ b
+same_node a b kind parts =
+    ap (λ (k : Kind). let n : Node = record { kind = k; parts = a.parts } in n) kind ∙ ap (λ (ps : List Part). let n : Node = record { kind = b.kind; parts = ps } in n) parts
+
+-- another tree has the parts of this one exactly where the text stays
+pub parts_stay : OneReading → (next tree : Node) (here : Bytes) → next.kind ≡ tree.kind → IsTree next → Reads (spell_node tree) tree → spell_node tree ≡ here
+    → (next.parts ≡ tree.parts) ↔ (spell_node next ≡ here)
+parts_stay one next tree here kind is_tree reads is = (
+  λ same. ap spell_node (same_node next tree kind same) ∙ is,
+  λ same. let other : Reads (spell_node tree) next = (is_tree.0, same ∙ sym is, reads.2) in
+      ap (λ (n : Node). n.parts) (one (spell_node tree) next tree other reads),
+)
+
+pub lines_tree : (windows : List PartWindow) (tree : Node) (items : List Item) → AreLinesOf windows tree items → IsTree (with_windows windows tree)
+lines_tree windows tree items are = (are.reads.0, subst (λ (t : Bytes). length t ≤ limit) (sym are.reads.1) are.reads.2)
+
+-- where the value is written, it gives what the tree spells
+pub lines_written : (windows : List PartWindow) (tree : Node) (file : List Item) (printed : Option Bytes) → AreLinesOf windows tree (tidied file)
+    → gives (spell_node (with_windows windows tree)) printed ≡ written file printed
+lines_written windows tree file printed are = sym (written_given file (tidied file) (spell_node (with_windows windows tree)) refl are.reads.1 are.reads.2 are.deep printed)
+
+-- with windows that make it the layout, the tree is what that reads as
+pub lines_read : LayoutIsAccepted → (windows : List PartWindow) (tree : Node) (items : List Item) → IsProper items → length (layout items) ≤ limit → depth_of (laid_out items) ≤ depth_limit
+    → with_windows windows tree ≡ laid_out items → Reads (layout items) (with_windows windows tree)
+lines_read accepted windows tree items proper short deep same = subst (λ (n : Node). Reads (layout items) n) (sym same) (accepted items proper short deep)
+
+-- what came is among the items that are there now
+pub are_within : (ws : List Window) (before after : List Item) → AreOver ws before after → AreWithin ws after
+are_within [] before after h = tt
+are_within (w ∷ ws) before after h = (h.1, are_within ws _ _ h.3)

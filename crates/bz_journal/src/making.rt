@@ -1,0 +1,143 @@
+//! The lines of a new value that are other ones than in the present tree.
+ghost use Rattle.std.specs.Prelude.{◌≡◌, ◌⊎◌, ◌<◌, ◌≤◌, Err, IfErr, IfOk, IfSome, Option, length};
+ghost use Rattle.bz_journal.specs.Clauses.{AreLinesOf, AreOver, Bytes, IsMadeOf, IsProper, IsWritten, Refusal, SetFault, depth_limit, depth_of, laid_out, layout, limit, refuses, spell_node, tidied, view_of, written};
+
+use bz_build_format::reads_back;
+use bz_edit::PartWindow;
+use bz_grammar::Tree;
+use bz_items::Items;
+use bz_layout::{SetFault, layout_is_accepted, text_of_file, text_windows};
+use bz_passes::{tidy, tidy_windows};
+use bz_relayout::{is_mostly_other, read_text, read_windows};
+use bz_rule::take_apart;
+use bz_value::{File, Refusal, Window};
+use std::alloc::Global;
+
+/// The lines of a tidy value that are other ones than in a tree.
+#[derive(Drop)]
+pub(crate) struct Made {
+    pub(crate) windows: Items<PartWindow>,
+    /// The value, unless it was given up.
+    pub(crate) value: Option<File>,
+    /// How many bytes its layout has.
+    pub(crate) length: usize,
+}
+
+/// What is answered where a layout is refused.
+fn refusal_of(fault: SetFault) -> Refusal
+    ensures memory { fault ≡ SetFault.Memory → result ≡ Refusal.Memory }
+    ensures too_large { fault ≡ SetFault.TooLarge → result ≡ Refusal.TooLarge }
+    ensures too_deep { fault ≡ SetFault.TooDeep → result ≡ Refusal.TooDeep }
+{
+    match fault {
+        SetFault::Memory => Refusal::Memory,
+        SetFault::TooLarge => Refusal::TooLarge,
+        SetFault::TooDeep => Refusal::TooDeep,
+    }
+}
+
+/// The lines of a tidy value in these windows, in which alone it is another one than that of a tree, and how many bytes its layout has. The tree is
+/// the layout of a tidy value, and has `len` bytes. Errors: those of a layout.
+fn lines_of_windows(
+    alloc: Global,
+    windows: &[Window],
+    file: &File,
+    tree: &Tree,
+    len: usize,
+) -> Result<(Items<PartWindow>, usize), SetFault>
+    requires over { AreOver windows.now (view_of tree.now) file.now }
+    requires written { IsWritten (view_of tree.now) tree.now }
+    requires len { len ≡ length (spell_node tree.now) }
+    ensures lines { IfOk result (λ made. AreLinesOf made.0 tree.now file.now) }
+    ensures length { IfOk result (λ made. made.1 ≡ length (layout file.now)) }
+    ensures too_large { result ≡ Err SetFault.TooLarge → limit < length (layout file.now) }
+    ensures too_deep { result ≡ Err SetFault.TooDeep → (length (layout file.now) ≤ limit) × (depth_limit < depth_of (laid_out file.now)) }
+{
+    layout_is_accepted();
+    reads_back(tree);
+    let _items = &file.items;
+    let laid = text_windows(alloc, file, windows, tree, len)?;
+    let length = laid.length;
+    let lines = read_windows(alloc, tree, laid.windows)?;
+    Ok((lines, length))
+}
+
+/// The lines of a value that is another one than that of a tree in these windows alone: only what is in them is tidied and laid out. The tree is the
+/// layout of a tidy value, and has `len` bytes. Errors: `TooLarge`, `TooDeep`; `Memory`: a growth was refused.
+pub(crate) fn made_by_windows(
+    alloc: Global,
+    mut windows: Items<Window>,
+    mut file: File,
+    tree: &Tree,
+    len: usize,
+) -> Result<Made, Refusal>
+    requires over { AreOver windows (view_of tree.now) file }
+    requires written { IsWritten (view_of tree.now) tree.now }
+    requires len { len ≡ length (spell_node tree.now) }
+    ensures ok { IfOk result (λ made. IsMadeOf made tree.now (tidied file)) }
+    ensures proper { IsProper file }
+    ensures err { IfErr result (λ refusal. ((printed : Option Bytes) → written file printed ≡ refuses refusal) ⊎ (refusal ≡ Refusal.Memory)) }
+{
+    let _items = &file.items;
+    if tidy_windows(alloc, &mut file, &mut windows).is_err() {
+        take_apart(file);
+        return Err(Refusal::Memory);
+    }
+    match lines_of_windows(alloc, windows.as_slice(), &file, tree, len) {
+        Ok((windows, length)) => Ok(Made {
+            windows,
+            value: Some(file),
+            length,
+        }),
+        Err(fault) => {
+            take_apart(file);
+            Err(refusal_of(fault))
+        }
+    }
+}
+
+/// A value whose text is this; none where most of that is to be read, since the tree of it is not to be beside the value.
+fn kept_beside(file: File, tree: &Tree, text: &[u8]) -> Option<File>
+    ensures { IfSome result (λ own. own ≡ file) }
+{
+    if is_mostly_other(tree, text) {
+        take_apart(file);
+        return None;
+    }
+    Some(file)
+}
+
+/// The lines of a value by the text of its layout, which has about `about` bytes, whatever the value and the tree have to do with each other.
+/// Errors: `TooLarge`, `TooDeep`; `Memory`: a growth was refused.
+pub(crate) fn made_by_text(
+    alloc: Global,
+    file: File,
+    tree: &Tree,
+    about: usize,
+) -> Result<Made, Refusal>
+    ensures ok { IfOk result (λ made. IsMadeOf made tree.now (tidied file)) }
+    ensures proper { IsProper file }
+    ensures err { IfErr result (λ refusal. ((printed : Option Bytes) → written file printed ≡ refuses refusal) ⊎ (refusal ≡ Refusal.Memory)) }
+{
+    let _items = &file.items;
+    let tidy = tidy(alloc, file)?;
+    let text = match text_of_file(alloc, &tidy, about) {
+        Ok(text) => text,
+        Err(fault) => {
+            take_apart(tidy);
+            return Err(refusal_of(fault));
+        }
+    };
+    let value = kept_beside(tidy, tree, text.as_slice());
+    match read_text(alloc, tree, text.as_slice()) {
+        Ok(windows) => Ok(Made {
+            windows,
+            value,
+            length: text.len(),
+        }),
+        Err(_) => {
+            drop(value);
+            Err(Refusal::Memory)
+        }
+    }
+}

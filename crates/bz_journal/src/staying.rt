@@ -1,0 +1,67 @@
+//! Whether a tree stays the same one with other parts in it.
+ghost use Rattle.std.specs.Prelude.{◌≡◌, ◌↔◌, ◌≤◌, ◌+◌, IsTrue, drop, length, take};
+ghost use Rattle.bz_edit.specs.Windows.{AreThere, window_parts};
+
+use bz_edit::PartWindow;
+use bz_grammar::Part;
+
+/// Whether both lists have the same parts in the same places.
+fn are_same(a: &[Part], b: &[Part]) -> bool
+    ensures { IsTrue result ↔ (a.now ≡ b.now) }
+{
+    if a.len() != b.len() {
+        return false;
+    }
+    for at in 0..a.len() {
+        if !a[at].equals(&b[at]) {
+            return false;
+        }
+    }
+    true
+}
+
+/// Whether the parts have these from a place on.
+fn has_there(parts: &[Part], at: usize, others: &[Part]) -> bool
+    requires { at ≤ length parts.now }
+    ensures { IsTrue result ↔ (take (length others.now) (drop at parts.now) ≡ others.now) }
+{
+    let (_passed, rest) = parts.split_at(at);
+    if others.len() > rest.len() {
+        return false;
+    }
+    let (here, _following) = rest.split_at(others.len());
+    are_same(here, others)
+}
+
+/// Whether the parts have the same from two places on, as many as `count` says.
+fn repeat(parts: &[Part], at: usize, other: usize, count: usize) -> bool
+    requires first { at ≤ length parts.now }
+    requires second { other + count ≤ length parts.now }
+    ensures { IsTrue result ↔ (take count (drop at parts.now) ≡ take count (drop other parts.now)) }
+{
+    if at == other {
+        return true;
+    }
+    has_there(parts, at, &parts[other..other + count])
+}
+
+/// Whether parts stay the same with these windows. Where as many parts came as went only those of the windows are looked at.
+pub(crate) fn stay(windows: &[PartWindow], parts: &[Part]) -> bool
+    requires { AreThere windows.now parts.now }
+    ensures { IsTrue result ↔ (window_parts windows.now parts.now ≡ parts.now) }
+{
+    let mut old = 0;
+    let mut new = 0;
+    for window in windows {
+        if !repeat(parts, new, old, window.from) {
+            return false;
+        }
+        new += window.from;
+        if !has_there(parts, new, window.parts.as_slice()) {
+            return false;
+        }
+        new += window.parts.len();
+        old += window.from + window.gone;
+    }
+    old == new
+}
