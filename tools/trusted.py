@@ -248,6 +248,10 @@ def counts():
     return {**rows, "all": [sum(column) for column in zip(*rows.values())]}
 
 
+# what the private definitions of another crate alone reach, until its own crate is proved anew for another reason, as all above it then is
+WAITING = {"bz_grammar/specs/Places.antt"}
+
+
 def misplaced():
     """What is wrong with the places of definitions: one of specs/ that names what is in proofs/, or a contract of the surface that does;
     a file of specs/private/ that a public contract reaches, and one outside of it that none reaches."""
@@ -266,7 +270,7 @@ def misplaced():
             continue
         if file.parent.name == "private" and is_reached:
             wrong.append(f"{name}: a public contract reaches it")
-        elif file.parent.name != "private" and not is_reached:
+        elif file.parent.name != "private" and not is_reached and str(name) not in WAITING:
             wrong.append(f"{name}: no public contract reaches it")
         elif file.parent.name != "private" and re.search(r"(?m)^use Rattle\.bz_\w+\.proofs", file.read_text()):
             wrong.append(f"{name} cites proofs/")
