@@ -267,10 +267,10 @@ def definitions_are_there(place):
     wrong = []
     for page in CRATE_PAGES:
         for names, files in OF_SPECS.findall(page.read_text()):
-            inner = page.parent / "specs" / "private"
-            found = [max(inner / f"{file}.antt", inner.parent / f"{file}.antt", key=pathlib.Path.exists) for file in files.split(", ")]
-            words = {word for file in found if file.exists() for line in DEFINES.findall(file.read_text()) for word in line.split()}
-            lost = [file.stem for file in found if not file.exists()] + sorted(set(CODE.findall(names)) - words)
+            specs = page.parent / "specs"
+            found = {name: [file for file in (specs / f"{name}.antt", specs / "private" / f"{name}.antt") if file.exists()] for name in files.split(", ")}
+            words = {word for both in found.values() for file in both for line in DEFINES.findall(file.read_text()) for word in line.split()}
+            lost = [name for name, both in found.items() if not both] + sorted(set(CODE.findall(names)) - words)
             wrong += [f"{page.relative_to(TOP)}: {name} is not in {files}" for name in lost]
     return wrong
 
