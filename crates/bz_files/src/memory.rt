@@ -26,7 +26,7 @@ pub struct MemoryFiles {
     log: Vec<Entry>,
     // the new files that wait, the newest last
     waiting: Vec<Entry>,
-    // whether the last call was a look that found what it was to find
+    // whether the last call, `has_file` aside, was a look that found what it was to find
     looked: bool,
     unreadable: Vec<String>,
     calls: u64,
@@ -274,6 +274,10 @@ impl Files for MemoryFiles {
                 Err(_) => Err(FileFault::Memory),
             },
         }
+    }
+
+    fn has_file(&self, name: &str) -> bool {
+        self.bytes_at(name).is_some()
     }
 
     fn look(
