@@ -100,7 +100,7 @@ def all_are_tried(folder):
     file = folder.file("f", ODD)
     folder.file("d/BUILD", EVEN)
     folder.file("g", b"x(\n")
-    err = b"none: cannot open\nd: cannot open\nd: if this is a directory, see buildifier-tree\ng:2:1: Unexpected\n    \n    ^ the end of the file\n"
+    err = b"none: cannot open\nd: cannot open\nd: if this is a directory, see buildifier-tree\ng:2:1: Unexpected\n    \n    ^ the end of the file\n    inside the '(' at 1:2\n"
     return folder.leaves(["none", "d", "g", "f"], 3, err=err) and file.read_bytes() == EVEN
 
 

@@ -39,9 +39,9 @@ LEVELS = 500
 
 PIECES = ["a", "load", '"x"', "1.", "(", ")", "[", "]", ",", "=", "+", ".", " ", "\n", "# c\n", "\\\n"]
 
-# what may be reported of a text that is refused: a line, and below it that of the text with a caret and what is there
+# what may be reported of a text that is refused: a line, below it that of the text with a caret and what is there, and a bracket that is open there
 NAMES = rb"(?:BadCharacter|OpenString|Indented|Unexpected|TooDeep)"
-REFUSED = re.compile(rb"p(\d+)/BUILD:(?: (?:NotUtf8 at \d+|TooLarge)\n|\d+:\d+: " + NAMES + rb"\n(?:    [^\n]*\n    [ ]*\^ [^\n]*\n)?)")
+REFUSED = re.compile(rb"p(\d+)/BUILD:(?: (?:NotUtf8 at \d+|TooLarge)\n|\d+:\d+: " + NAMES + rb"\n(?:    [^\n]*\n    [ ]*\^ [^\n]*\n)?(?:    inside the '[(\[{]' at \d+:\d+\n)?)")
 # a string between three marks, or one; or a comment
 QUOTED = re.compile(rb"('''|\"\"\")(?:\\.|(?!\1).)*\1|(['\"])(?:\\\r\n|\\.|(?!\2).)*\2|(#[^\n]*)", re.DOTALL)
 

@@ -598,7 +598,7 @@ RUNS = {
     ),
     "a file that holds an earlier text": runs({P: b"x = 0\n", KEPT: spelled(THREE)}, (["--journal", "redo", "//p:all"], 2, told(err=STALE))),
     "a text that is refused beside its journal": runs({P: REFUSED_TEXT, KEPT: spelled(SAVED_ADD)}, (UNDOING, 2, told(err=STALE))),
-    "a text that is refused without a journal": runs({P: REFUSED_TEXT}, (ADDING, 2, told(err=b"p/BUILD:2:1: Unexpected\n    \n    ^ the end of the file\n"))),
+    "a text that is refused without a journal": runs({P: REFUSED_TEXT}, (ADDING, 2, told(err=b"p/BUILD:2:1: Unexpected\n    \n    ^ the end of the file\n    inside the '(' at 1:2\n"))),
     "a file that is gone": runs({KEPT: spelled(SAVED_ADD)}, (UNDOING, 2, told(err=b"p/BUILD: cannot open\n" + PACKAGE_HINT))),
     "one bit more": runs({P: EVEN, KEPT: spelled(SAVED_ADD).replace(b"note 14 a", b"note 14 A")}, (UNDOING, 2, told(err=DAMAGED))),
     "a refused journal ends the run": runs(

@@ -5,5 +5,6 @@ pub mod Least
 pub mod Excerpted
 pub mod ControlSteps
 pub mod BeginningSteps
+pub mod BracketSteps
 pub mod PieceSteps
 pub mod Escapes

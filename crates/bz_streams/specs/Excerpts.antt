@@ -6,6 +6,7 @@ use Rattle.bz_items.specs.Characters.{Bytes, space}
 use Rattle.bz_lex.specs.Positions.{is_newline}
 use Rattle.bz_streams.specs.Controls.{printable}
 use Rattle.bz_streams.specs.Beginnings.{from_character, beginning}
+use Rattle.bz_streams.specs.Brackets.{fault_bracket}
 use Rattle.bz_lex.specs.declared.fault.ReadFault.{ReadFault}
 use Rattle.bz_lex.specs.declared.fault.ReadFault.TheVariants as f
 
@@ -39,6 +40,10 @@ fault_place (f.Unexpected line column) = Some (line, column)
 fault_place (f.TooDeep line column) = Some (line, column)
 fault_place f.Memory = None
 
--- what is printed of the text below the line on its fault
+-- the line of the place of a fault
+abbrev pub place_excerpt : Bytes → ReadFault → Bytes
+place_excerpt text fault = option_map_or (λ place. excerpt (line_numbered text place.0) place.1 (is_last_line text place.0)) (fault_place fault) []
+
+-- what is printed of the text below the line on its fault: that line, and the bracket that is open there
 abbrev pub fault_excerpt : Bytes → ReadFault → Bytes
-fault_excerpt text fault = option_map_or (λ place. excerpt (line_numbered text place.0) place.1 (is_last_line text place.0)) (fault_place fault) []
+fault_excerpt text fault = place_excerpt text fault ++ fault_bracket text fault

@@ -1,4 +1,5 @@
 pub mod Beginnings
+pub mod Brackets
 pub mod Controls
 pub mod Excerpts
 pub mod Exits
@@ -11,3 +12,4 @@ pub mod Pieces
 pub mod Ports
 pub mod Reported
 pub mod Worked
+pub mod private

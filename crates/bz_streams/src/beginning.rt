@@ -7,7 +7,8 @@ ghost use Rattle.bz_streams.specs.Beginnings.{from_character, is_quotation_mark,
 /// Words, bytes of a text, and words after them.
 pub(crate) type Beginning<'a> = (&'static str, &'a [u8], &'static str);
 
-fn is_continuation(byte: u8) -> bool
+/// Whether a byte of UTF-8 goes on with a character.
+pub(crate) fn is_continuation(byte: u8) -> bool
     ensures { result ≡ is_continuation byte }
 {
     byte >= 128 && byte <= 191
@@ -35,7 +36,8 @@ fn byte_at(text: &[u8], at: usize) -> u8
     if at < text.len() { text[at] } else { 0 }
 }
 
-fn is_quotation_mark(byte: u8) -> bool
+/// Whether a byte is one of the two marks of strings.
+pub(crate) fn is_quotation_mark(byte: u8) -> bool
     ensures { result ≡ is_quotation_mark byte }
 {
     byte == b'"' || byte == b'\''

@@ -4,20 +4,24 @@ ghost use Rattle.std.specs.List.{slice_get, slice_split};
 ghost use Rattle.arrayvec.specs.ArrayVec.{array_vec_len};
 ghost use Rattle.bz_streams.specs.Controls.{printable};
 ghost use Rattle.bz_streams.specs.Beginnings.{beginning};
-ghost use Rattle.bz_streams.specs.Excerpts.{line_numbered, is_last_line, is_narrow, excerpt, fault_place, fault_excerpt};
+ghost use Rattle.bz_streams.specs.Excerpts.{line_numbered, is_last_line, is_narrow, excerpt, fault_place, place_excerpt, fault_excerpt};
+ghost use Rattle.bz_streams.specs.Brackets.{inside_line, bracket_line};
 ghost use Rattle.bz_items.specs.Characters.{space};
 ghost use Rattle.bz_lex.specs.Positions.{is_newline};
 
 use crate::beginning::{beginning, from_column};
+use crate::brackets::{Bracket, bracket_at};
 use crate::controls::next_control;
 use arrayvec::ArrayVec;
 use bz_lex::ReadFault;
+use itoa::Buffer;
 
 // The most bytes of a line that is printed.
 const WIDEST: usize = 200;
 
-// The most bytes of an excerpt: two lines of that width, two margins of four, a caret, a space, what is there and two newlines.
-const LONGEST: usize = 463;
+// The most bytes of an excerpt: two lines of that width, two margins of four, a caret, a space, what is there and two newlines; and below
+// that 104 of a bracket.
+const LONGEST: usize = 567;
 
 const SPACES: [u8; WIDEST] = [b' '; WIDEST];
 
@@ -52,7 +56,7 @@ fn is_last_line(text: &[u8], number: usize) -> bool
 }
 
 fn put(text: &mut Excerpt, bytes: &[u8])
-    requires { array_vec_len text.old + length bytes.now ≤ 463 }
+    requires { array_vec_len text.old + length bytes.now ≤ 567 }
     ensures items { text.new.items ≡ text.old.items ++ bytes.now }
     ensures len { array_vec_len text.new ≡ array_vec_len text.old + length bytes.now }
 {
@@ -60,7 +64,7 @@ fn put(text: &mut Excerpt, bytes: &[u8])
 }
 
 fn put_printable(text: &mut Excerpt, line: &[u8])
-    requires { array_vec_len text.old + length line.now ≤ 463 }
+    requires { array_vec_len text.old + length line.now ≤ 567 }
     ensures items { text.new.items ≡ text.old.items ++ printable line.now }
     ensures len { array_vec_len text.new ≤ array_vec_len text.old + length line.now }
 {
@@ -74,7 +78,7 @@ fn put_printable(text: &mut Excerpt, line: &[u8])
 }
 
 fn put_spaces(text: &mut Excerpt, count: usize)
-    requires room { array_vec_len text.old + count ≤ 463 }
+    requires room { array_vec_len text.old + count ≤ 567 }
     requires narrow { count ≤ 200 }
     ensures items { text.new.items ≡ text.old.items ++ replicate count space }
     ensures len { array_vec_len text.new ≡ array_vec_len text.old + count }
@@ -103,7 +107,8 @@ fn put_beginning(text: &mut Excerpt, rest: &[u8], last: bool)
 }
 
 fn excerpt(line: &[u8], column: usize, last: bool) -> Excerpt
-    ensures { result.items ≡ excerpt line.now column last }
+    ensures items { result.items ≡ excerpt line.now column last }
+    ensures len { array_vec_len result ≤ 463 }
 {
     let mut text = ArrayVec::new();
     if !is_narrow(line, column) {
@@ -132,9 +137,10 @@ fn fault_place(fault: &ReadFault) -> Option<(u32, u32)>
     }
 }
 
-/// The line of the place of a fault and a caret below it; nothing where the fault has no place or the line is too long.
-pub(crate) fn fault_excerpt(text: &[u8], fault: &ReadFault) -> Excerpt
-    ensures { result.items ≡ fault_excerpt text.now fault.now }
+// The line of the place of a fault and a caret below it; nothing where the fault has no place or the line is too long.
+fn place_excerpt(text: &[u8], fault: &ReadFault) -> Excerpt
+    ensures items { result.items ≡ place_excerpt text.now fault.now }
+    ensures len { array_vec_len result ≤ 463 }
 {
     match fault_place(fault) {
         Some((line, column)) => excerpt(
@@ -144,4 +150,45 @@ pub(crate) fn fault_excerpt(text: &[u8], fault: &ReadFault) -> Excerpt
         ),
         None => ArrayVec::new(),
     }
+}
+
+// The line on a bracket that a place is inside of.
+#[tactic(auto, using(crate::proofs::BracketSteps::six_pieces))]
+fn put_inside(text: &mut Excerpt, bracket: Bracket)
+    requires { array_vec_len text.old ≤ 463 }
+    ensures { text.new.items ≡ text.old.items ++ inside_line bracket }
+{
+    let mut lines = Buffer::new();
+    let mut columns = Buffer::new();
+    put(text, b"    inside the '");
+    put(text, &[bracket.byte]);
+    put(text, b"' at ");
+    put(text, lines.format(bracket.line).as_bytes());
+    put(text, b":");
+    put(text, columns.format(bracket.column).as_bytes());
+    put(text, b"\n");
+}
+
+// The same of a place of this line, where the bracket is on another one.
+fn put_bracket(text: &mut Excerpt, line: usize, bracket: Option<Bracket>)
+    requires { array_vec_len text.old ≤ 463 }
+    ensures { text.new.items ≡ text.old.items ++ bracket_line line bracket }
+{
+    match bracket {
+        Some(bracket) if bracket.line != line => put_inside(text, bracket),
+        _ => {}
+    }
+}
+
+/// The line of the place of a fault and a caret below it; nothing where the fault has no place or the line is too long. Below that the
+/// innermost bracket that is open there, where something else was to be there and the bracket is on another line.
+pub(crate) fn fault_excerpt(text: &[u8], fault: &ReadFault) -> Excerpt
+    ensures { result.items ≡ fault_excerpt text.now fault.now }
+{
+    let mut below = place_excerpt(text, fault);
+    if let ReadFault::Unexpected { line, column } = fault {
+        let bracket = bracket_at(text, *line as usize, *column as usize);
+        put_bracket(&mut below, *line as usize, bracket);
+    }
+    below
 }

@@ -3,6 +3,7 @@
 #![tactic(auto)]
 
 mod beginning;
+mod brackets;
 mod controls;
 mod device;
 mod excerpt;
