@@ -10,7 +10,8 @@ use Rattle.regex.specs.Templates.{written_after}
 use Rattle.regex.specs.Strings.{regex_pattern, regex_names, regex_source, regex_config, IsReadFromSource}
 use Rattle.regex.specs.declared.string.regex.Regex.{Regex}
 use Rattle.regex.proofs.ForCallers.{spans, find_all_alike}
-use Rattle.bz_command_syntax.specs.Patterns.{replaced_in, substituted_by}
+use Rattle.std.specs.Option.{option_and_then}
+use Rattle.bz_command_syntax.specs.Patterns.{missing_after, missing_group, replaced_in, substituted_by}
 
 -- what a caller sees of a match: where it starts and ends, and its slots
 abbrev Seen : Type 0
@@ -59,3 +60,18 @@ module _ (template body : List ℕ) (bytes : (k : ℕ) → get_or body k 0 < 256
   as_matched regex source pattern names is_source is_default is_read same_pattern same_names =
       ap₂ (λ re others. replaced_in re others template body) same_pattern same_names ∙ as_read regex is_default is_read
       ∙ ap (λ text. substituted_by (read default_config (chars text)) template body) is_source
+
+-- ---- names of groups
+
+module _ (template : List ℕ) where
+  by_names : (found : Option (Nested Re × Names)) (most : ℕ) (pattern : Re) (names : Names) →
+      IsSomeAnd found (λ (re, others). (re.depth ≤ most) × SameCaptures pattern re.value × (names ≡ others) × (group_count pattern ≤ length names)) →
+      missing_after names template 0 ≡ option_and_then (λ pattern. missing_after pattern.1 template 0) found
+  by_names None most pattern names h = absurd h
+  by_names (Some found) most pattern names h = ap (λ (others : Names). missing_after others template 0) h.2
+
+  -- A compiled pattern lacks the groups that the pattern that is read in its source lacks.
+  pub names_as_read : (regex : Regex) → regex_config regex ≡ default_config → IsReadFromSource regex →
+      missing_after (regex_names regex) template 0 ≡ missing_group (regex_source regex) template
+  unfolding Reads missing_group
+  names_as_read regex is_default is_read = by_names _ default_config.nest_limit (regex_pattern regex) (regex_names regex) (rw is_default at is_read)

@@ -6,4 +6,5 @@ pub mod Pieces
 pub mod PlainTexts
 pub mod ProperCommands
 pub mod Strings
+pub mod Templates
 pub mod Utf8Texts

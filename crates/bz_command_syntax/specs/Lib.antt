@@ -8,3 +8,4 @@ pub mod Quoted
 pub mod Refused
 pub mod Words
 pub mod Worked
+pub mod private

@@ -1,10 +1,11 @@
 -- Worked rows: what texts are cut into, which commands they are, and words as strings.
-use Rattle.std.specs.Prelude.{◌≡◌, true, false, [], ◌∷◌, Ok, Err, codes}
+use Rattle.std.specs.Prelude.{◌≡◌, true, false, [], ◌∷◌, Ok, Err, Option, Some, None, codes}
 use Rattle.bz_items.specs.Characters.{Bytes}
 use Rattle.bz_command_syntax.specs.Words.{words_of}
 use Rattle.bz_command_syntax.specs.Identifiers.{is_identifier, is_rule_kind}
 use Rattle.bz_command_syntax.specs.Commands.{command_in, command_of}
 use Rattle.bz_command_syntax.specs.Quoted.{quoted_of}
+use Rattle.bz_command_syntax.specs.Patterns.{missing_after, has_escaped_digit}
 use Rattle.bz_command_syntax.specs.declared.command.Operation.{Operation}
 use Rattle.bz_command_syntax.specs.declared.command.Operation.TheVariants as w
 use Rattle.bz_command_syntax.specs.declared.command.RuleOperation.TheVariants as wr
@@ -91,3 +92,17 @@ WorkedCommands = Rules × Attributes × Values × Others × Names
 
 abbrev pub WorkedStrings : Type 0
 WorkedStrings = (quoted_of [] ≡ codes "\"\"") × (quoted_of (codes "a\"b\\\n") ≡ codes "\"a\\\"b\\\\\\n\"")
+
+-- the name in the first reference to a missing group, where the pattern has one group, without a name
+abbrev missing : Bytes → Option Bytes
+missing template = missing_after (None ∷ None ∷ []) template 0
+
+abbrev pub WorkedTemplates : Type 0
+WorkedTemplates =
+    -- a bare name is as long as it can be
+    (missing (codes "$1_test") ≡ Some (codes "1_test")) × (missing (codes "${1}_test") ≡ None)
+    -- a number past the last group; the first of two
+    × (missing (codes "$2") ≡ Some (codes "2")) × (missing (codes "$1 ${b}$a") ≡ Some (codes "b"))
+    -- two dollar signs are one, and one that begins no reference is one as well
+    × (missing (codes "$$1_test") ≡ None) × (missing (codes "$") ≡ None) × (missing (codes "${b") ≡ None)
+    × (has_escaped_digit (codes "\\1") ≡ true) × (has_escaped_digit (codes "a\\.b") ≡ false)

@@ -1,7 +1,7 @@
 //! Facts about the definitions, for readers: the functions do nothing.
 ghost use Rattle.bz_command_syntax.specs.Identifiers.{IdentifiersAreNames};
 ghost use Rattle.bz_command_syntax.specs.Patterns.{TextStaysText};
-ghost use Rattle.bz_command_syntax.specs.Worked.{WorkedCommands, WorkedIdentifiers, WorkedStrings, WorkedWords};
+ghost use Rattle.bz_command_syntax.specs.Worked.{WorkedCommands, WorkedIdentifiers, WorkedStrings, WorkedTemplates, WorkedWords};
 
 /// An identifier is a lexeme of class Name, and each such lexeme is one.
 #[tactic(auto, using(crate::proofs::NameTests::identifiers_are_names))]
@@ -27,6 +27,11 @@ pub fn worked_commands()
 /// Worked rows: words as strings.
 pub fn worked_strings()
     ensures { WorkedStrings }
+{}
+
+/// Worked rows: what templates name.
+pub fn worked_templates()
+    ensures { WorkedTemplates }
 {}
 
 /// What a substitution makes of a text is a text.

@@ -7,6 +7,7 @@ mod forms;
 mod laws;
 mod pattern;
 mod table;
+mod template;
 mod words;
 
 pub use command::{
@@ -17,8 +18,9 @@ pub use fault::CommandFault;
 pub use forms::{as_text, is_identifier, is_kind_name};
 pub use laws::{
     identifiers_are_names, text_stays_text, worked_commands, worked_identifiers, worked_strings,
-    worked_words,
+    worked_templates, worked_words,
 };
 pub use pattern::Pattern;
 pub use table::{COMMAND_NAMES, TEXT_LIMIT, command_form};
+pub use template::has_escaped_digit;
 pub use words::{quoted, read_words};

@@ -4,6 +4,7 @@ ghost use Rattle.std.specs.Prelude.{◌≡◌};
 ghost use Rattle.bz_command_syntax.specs.Patterns.{is_special as special, has_special as more_than_text};
 
 use crate::fault::CommandFault;
+use crate::template;
 use bz_items::{Memory, Text};
 use regex::{Error, Regex, Template};
 use std::alloc::Global;
@@ -49,10 +50,10 @@ fn has_special(source: &str) -> bool
 }
 
 impl Pattern {
-    ghost use Rattle.std.specs.Prelude.{◌≡◌, ◌⊎◌, IfOk, IfErr, IsUtf8, chars};
+    ghost use Rattle.std.specs.Prelude.{◌≡◌, ◌⊎◌, IfOk, IfErr, IsUtf8, chars, option_map};
     ghost use Rattle.regex_syntax.specs.Grammar.{read};
     ghost use Rattle.regex.specs.Patterns.{default_config};
-    ghost use Rattle.bz_command_syntax.specs.Patterns.{IsRefusedPattern, substituted, substituted_by};
+    ghost use Rattle.bz_command_syntax.specs.Patterns.{IsRefusedPattern, missing_group, substituted, substituted_by};
 
     /// Compiles a pattern, with `regex`'s default options. Errors: `BadPattern` where `regex` refuses a text with a special
     /// character for another cause than memory: it is no pattern, is nested deeper than 250, or its tables would take more than 10 MiB;
@@ -93,7 +94,16 @@ impl Pattern {
         }
     }
 
-    /// The same of texts.
+    /// The name of the template's first reference to a group that the pattern lacks, as `regex` reads both: `$1`, `$name` or
+    /// `${name}`. A substitution writes nothing for such a reference.
+    #[tactic(auto, using(crate::proofs::Alike::names_as_read))]
+    pub fn missing_group<'a>(&self, template: &'a [u8]) -> Option<&'a str>
+        ensures { option_map (λ s. s.now) result ≡ missing_group self.now template.now }
+    {
+        template::missing_group(&self.regex, template)
+    }
+
+    /// The substitution of texts.
     fn replaced(&self, alloc: Global, template: &str, body: &str) -> Result<Text, Memory>
         ensures ok { IfOk result (λ text. text ≡ substituted_by (read default_config (chars self.now)) template.now body.now) }
         ensures utf8 { IfOk result IsUtf8 }

@@ -1,0 +1,129 @@
+-- Templates: numbers and names of groups, references, and what is passed over.
+use Rattle.std.proofs.Common.{◌≡◌, ◌≢◌, ◌<◌, ◌&&◌, ◌||◌, if◌then◌else◌, ℕ, zero, suc, ◌+◌, ◌==◌, ◌≤◌, List, [], ◌∷◌, length, drop, take, slice_index, Option, Some, None, Bool, true, false, not, IsUtf8, refl, lt-ltb, le-ltb, ne_eqb, arith}
+use Rattle.std.specs.Prelude.{nat_le, nat_lt}
+use Rattle.std.specs.Option.{is_some}
+use Rattle.std.specs.Str.{is_utf8}
+use Rattle.std.specs.Char.{is_ascii_digit}
+use Rattle.std.specs.List.{prefix_len}
+use Rattle.std.proofs.lemmas.Bool.{false_from_ne_true, lt-leb}
+use Rattle.std.proofs.lemmas.Str.{IsUtf8-from_is_utf8, is_utf8-from_IsUtf8}
+use Rattle.regex_syntax.specs.Grammar.{Names}
+use Rattle.regex.specs.Names.{IsIndexOf}
+use Rattle.regex.specs.Templates.{group_called, is_name_byte, name_at, number_in}
+use Rattle.regex.proofs.TemplateLemmas.{index_is_position, name_is_text}
+use Rattle.bz_items.specs.Characters.{backslash}
+use Rattle.bz_command_syntax.specs.Patterns.{dollar_sign, has_escaped_digit, is_missing, missing_after}
+use Rattle.bz_command_syntax.specs.private.Braces.{left_brace, right_brace}
+
+-- ---- groups
+
+module _ (names : Names) (name : List ℕ) where
+  pub missing_number : (number : ℕ) → number_in name ≡ Some number → is_missing names name ≡ nat_le (length names) number
+  unfolding group_called
+  missing_number number is = rw is refl
+
+  pub missing_name : (index : Option ℕ) → number_in name ≡ None → IsIndexOf names name index → is_missing names name ≡ not (is_some index)
+  unfolding group_called
+  missing_name None no_number where_is = rw (no_number, ← index_is_position names name None where_is) refl
+  missing_name (Some index) no_number where_is = rw (no_number, ← index_is_position names name (Some index) where_is) (lt-leb _ _ where_is.0)
+
+-- ---- references
+
+nowhere : {A : Type 0} (test : Bool) (x : Option A) → (if test && false then x else None) ≡ None
+nowhere true x = refl
+nowhere false x = refl
+
+module _ (inside : List ℕ) (len : ℕ) (is_len : len ≡ prefix_len (λ byte. not (byte == right_brace)) inside) where
+  pub not_closed : length inside ≤ len → name_at (left_brace ∷ inside) ≡ None
+  unfolding name_at
+  not_closed past = rw (← is_len, le-ltb _ _ past) refl
+
+  pub no_text : (IsUtf8 (take len inside) → ⊥) → name_at (left_brace ∷ inside) ≡ None
+  unfolding name_at
+  no_text other = rw (← is_len, false_from_ne_true (is_utf8 (take len inside)) (λ is. other (IsUtf8-from_is_utf8 _ is))) (nowhere (nat_lt len (length inside)) _)
+
+  pub in_braces : len < length inside → IsUtf8 (take len inside) → name_at (left_brace ∷ inside) ≡ Some (take len inside, len + 2)
+  unfolding name_at
+  in_braces closed text = rw (← is_len, lt-ltb _ _ closed, is_utf8-from_IsUtf8 _ text) refl
+
+module _ (rest : List ℕ) (len : ℕ) (is_bare : (slice_index rest 0 == left_brace) ≡ false) (is_len : len ≡ prefix_len is_name_byte rest) where
+  pub no_name : len ≡ 0 → name_at rest ≡ None
+  unfolding name_at
+  no_name none = rw (is_bare, ← is_len, none) refl
+
+  pub name_is_utf8 : IsUtf8 (take len rest)
+  name_is_utf8 = rw is_len (name_is_text rest)
+
+  pub bare : len ≢ 0 → name_at rest ≡ Some (take len rest, len)
+  unfolding name_at
+  bare some = let there : 0 < len = omega (arith, some) in rw (is_bare, ← is_len, lt-ltb _ _ there) refl
+
+pub nothing_there : (rest : List ℕ) → length rest ≡ 0 → name_at rest ≡ None
+unfolding name_at
+nothing_there [] none = refl
+nothing_there (byte ∷ rest) none = absurd cc
+
+module _ (names : Names) (byte : ℕ) (rest : List ℕ) where
+  pub no_dollar_sign : byte ≢ dollar_sign → missing_after names (byte ∷ rest) 0 ≡ missing_after names rest 0
+  unfolding missing_after
+  no_dollar_sign other = rw (ne_eqb byte dollar_sign other) refl
+
+  module _ (is_dollar_sign : byte ≡ dollar_sign) where
+    pub two_dollar_signs : slice_index rest 0 ≡ dollar_sign → missing_after names (byte ∷ rest) 0 ≡ missing_after names rest 1
+    unfolding missing_after
+    two_dollar_signs again = rw (is_dollar_sign, again) refl
+
+    module _ (is_one : slice_index rest 0 ≢ dollar_sign) where
+      pub no_reference : None ≡ name_at rest → missing_after names (byte ∷ rest) 0 ≡ missing_after names rest 0
+      unfolding missing_after
+      no_reference none = rw (is_dollar_sign, ne_eqb _ dollar_sign is_one, ← none) refl
+
+      module _ (name : List ℕ) (len : ℕ) (reference : Some (name, len) ≡ name_at rest) where
+        pub missing_there : true ≡ is_missing names name → missing_after names (byte ∷ rest) 0 ≡ Some name
+        unfolding missing_after
+        missing_there missing = rw (is_dollar_sign, ne_eqb _ dollar_sign is_one, ← reference, ← missing) refl
+
+        pub not_missing_there : false ≡ is_missing names name → missing_after names (byte ∷ rest) 0 ≡ missing_after names rest len
+        unfolding missing_after
+        not_missing_there found = rw (is_dollar_sign, ne_eqb _ dollar_sign is_one, ← reference, ← found) refl
+
+pub first_there : (rest : List ℕ) → slice_index rest 0 ≡ dollar_sign → 1 ≤ length rest
+first_there [] is = absurd cc
+first_there (byte ∷ rest) is = omega arith
+
+-- ---- what is passed over
+
+pub after_passed : (names : Names) (template : List ℕ) (passed : ℕ) → missing_after names template passed ≡ missing_after names (drop passed template) 0
+unfolding missing_after
+after_passed names template zero = refl
+after_passed names [] (suc passed) = refl
+after_passed names (byte ∷ template) (suc passed) = after_passed names template passed
+
+pub none_missing : (names : Names) (template : List ℕ) → length template ≡ 0 → missing_after names template 0 ≡ None
+unfolding missing_after
+none_missing names [] none = refl
+none_missing names (byte ∷ rest) none = absurd cc
+
+-- ---- digits after a backslash
+
+either_false : (test other : Bool) → (test && false || other) ≡ other
+either_false true other = refl
+either_false false other = refl
+
+module _ (byte : ℕ) (rest : List ℕ) where
+  pub escaped_there : byte ≡ backslash → true ≡ is_ascii_digit (slice_index rest 0) → has_escaped_digit (byte ∷ rest) ≡ true
+  unfolding has_escaped_digit
+  escaped_there is_backslash is_digit = rw (is_backslash, ← is_digit) refl
+
+  pub no_backslash : byte ≢ backslash → has_escaped_digit (byte ∷ rest) ≡ has_escaped_digit rest
+  unfolding has_escaped_digit
+  no_backslash other = rw (ne_eqb byte backslash other) refl
+
+  pub no_digit : false ≡ is_ascii_digit (slice_index rest 0) → has_escaped_digit (byte ∷ rest) ≡ has_escaped_digit rest
+  unfolding has_escaped_digit
+  no_digit other = rw (← other) (either_false (byte == backslash) _)
+
+pub none_escaped : (template : List ℕ) → length template ≡ 0 → has_escaped_digit template ≡ false
+unfolding has_escaped_digit
+none_escaped [] none = refl
+none_escaped (byte ∷ rest) none = absurd cc

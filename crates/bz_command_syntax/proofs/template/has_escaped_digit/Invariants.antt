@@ -1,0 +1,9 @@
+use Rattle.std.proofs.Common.{◌≡◌, length}
+use Rattle.bz_command_syntax.specs.Patterns.{has_escaped_digit}
+use Rattle.bz_command_syntax.proofs.template.has_escaped_digit.Given as goal
+
+abbrev pub invariant-loop-byte : goal.invariant-loop-byte
+invariant-loop-byte l = has_escaped_digit l.left ≡ has_escaped_digit l.fn.template
+
+abbrev pub decreases-loop-byte : goal.decreases-loop-byte
+decreases-loop-byte l = length l.left

@@ -1,0 +1,15 @@
+use Rattle.std.proofs.Common.{◌∙◌, ap, not, refl, sym}
+use Rattle.std.proofs.Math.Bool.{not-not}
+use Rattle.regex.proofs.TemplateLemmas.{number_parsed}
+use Rattle.bz_command_syntax.proofs.Templates.{missing_name, missing_number}
+use Rattle.bz_command_syntax.proofs.template.is_missing.Goals as goal
+
+pub returns-in-Ok : goal.returns-in-Ok
+returns-in-Ok c =
+    let number = rw c.in-Ok.is at (number_parsed c.args.name.now c.parse.result c.parse.ensures.value.0) in
+    rw (missing_number _ _ _ number, c.captures_len.ensures.names) refl
+
+pub returns-in-Err : goal.returns-in-Err
+returns-in-Err c =
+    let none = rw c.in-Err.is at (number_parsed c.args.name.now c.parse.result c.parse.ensures.value.0) in
+    sym (missing_name _ _ _ none c.capture_index.ensures ∙ ap not c.is_none.ensures ∙ not-not _)
