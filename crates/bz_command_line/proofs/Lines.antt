@@ -1,5 +1,5 @@
 -- Why operands request nothing, and what is below that.
-use Rattle.std.proofs.Common.{◌≡◌, ◌++◌, ◌∷◌, ◌∙◌, ℕ, [], codes, decimal, Option, Some, None, IfSome, option_map, subst}
+use Rattle.std.proofs.Common.{◌≡◌, ◌++◌, ◌∷◌, ◌∙◌, ℕ, [], codes, decimal, Option, Some, None, IfSome, option_map, append_assoc, ap, subst}
 use Rattle.std.specs.List.{concat}
 use Rattle.std.proofs.lemmas.List.{append-nil}
 use Rattle.bz_items.specs.Characters.{Bytes}
@@ -21,3 +21,7 @@ pub in_its_place : (found : Option Usage) (line : ℕ) (file place : Bytes) (f g
 in_its_place None line file place f g old new is holds = tt
 in_its_place (Some usage) line file place f g old new is holds =
     subst (λ (it : Bytes). AppendsUnlessFailed f g old new (usage_line file usage ++ (escaped_text file ++ it))) (append-nil place ∙ is) holds
+
+-- a line of three pieces, and a line below it
+pub three_pieces : (a b c d : Bytes) → (a ++ (b ++ c)) ++ d ≡ a ++ (b ++ (c ++ d))
+three_pieces a b c d = append_assoc a (b ++ c) d ∙ ap (λ (it : Bytes). a ++ it) (append_assoc b c d)

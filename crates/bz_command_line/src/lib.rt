@@ -11,4 +11,4 @@ pub use line::{CommandLine, Given, LineFault, Options, read_line, worked_command
 pub use reported::{report_line_usage, report_script, report_usage};
 pub use requested::{Request, Requested, UsageFault, read_group};
 pub use script::{ScriptFault, read_script};
-pub use verb::{OperandFault, Refused, Verb};
+pub use verb::{COMMENT_TEXT_LINE, OperandFault, Refused, Verb};

@@ -181,13 +181,14 @@ const TARGET_HINT: &str =
     "buildozer: a target has a colon or begins with //, and contains no space\n";
 
 const NAME_ALONE: &str =
-    "\nbuildozer: on a command line, put a command and its words in one pair of quotation marks\n";
+    "buildozer: on a command line, put a command and its words in one pair of quotation marks\n";
 
-const FIELDS_END: &str =
-    "\nbuildozer: a field is kind, startline, rule or the name of an attribute; label, endline and path are none here\n";
+const FIELDS_LINE: &str =
+    "buildozer: a field is kind, startline, rule or the name of an attribute; label, endline and path are none here\n";
 
-const TEXT_END: &str =
-    "\nbuildozer: the text of a comment is one word, so put a backslash before each space of it\n";
+/// The line on the text of a comment, of which several words are given.
+pub const COMMENT_TEXT_LINE: &str =
+    "buildozer: the text of a comment is one word, so put a backslash before each space of it\n";
 
 fn joined(alloc: Global, front: &str, word: &str, back: &str) -> Result<String, AllocError>
     ensures { IfOk result (λ text. string_bytes text ≡ front.now ++ word.now ++ back.now) }
@@ -274,20 +275,20 @@ fn forms_of(name: &str) -> Option<&'static str>
     }
 }
 
-// What is printed after the forms of the command of this name, of one word or of several.
+// What is printed below the forms of the command of this name, of one word or of several.
 fn words_end(name: &str, several: bool) -> &'static str
-    ensures { result.now ≡ codes "\n" ++ words_end name.now several }
+    ensures { result.now ≡ words_end name.now several }
 {
     if name == "print" {
-        return FIELDS_END;
+        return FIELDS_LINE;
     }
-    if name != "comment" {
-        return "\n";
+    if name == "comment" && several {
+        return COMMENT_TEXT_LINE;
     }
-    if several { TEXT_END } else { "\n" }
+    ""
 }
 
-// What is printed after the forms of the command of this name.
+// What is printed below the forms of the command of this name.
 fn form_end(name: &str, words: &[Text]) -> &'static str
     ensures { result.now ≡ form_end name.now words.now }
 {
@@ -298,18 +299,16 @@ fn form_end(name: &str, words: &[Text]) -> &'static str
     }
 }
 
+#[tactic(auto, using(crate::proofs::Lines::three_pieces))]
 fn form_hint(alloc: Global, name: &str, words: &[Text]) -> Result<String, AllocError>
     ensures { IfOk result (λ hint. string_bytes hint ≡ form_hint name.now words.now) }
 {
-    match forms_of(name) {
-        Some(forms) => joined(
-            alloc,
-            "buildozer: the form is ",
-            forms,
-            form_end(name, words),
-        ),
-        None => joined(alloc, "", "", ""),
-    }
+    let Some(forms) = forms_of(name) else {
+        return joined(alloc, "", "", "");
+    };
+    let mut hint = joined(alloc, "buildozer: the form is ", forms, "\n")?;
+    hint.push_str(form_end(name, words))?;
+    Ok(hint)
 }
 
 fn words_hint(alloc: Global, name: &str, words: &[Text]) -> Result<String, AllocError>
