@@ -1,6 +1,7 @@
 pub mod CommandRows
 pub mod LawComments
 pub mod LinesMatter
+pub mod MeantPlaces
 pub mod OneMore
 pub mod Pieces
 pub mod ProperEffects

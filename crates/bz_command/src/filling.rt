@@ -2,10 +2,10 @@
 ghost use Rattle.std.specs.Prelude.{◌≡◌, ◌⊎◌, Err, Ok, IfErr, IfOk, IfSome, length};
 ghost use Rattle.std.specs.Option.{option_copied};
 ghost use Rattle.bz_command.specs.Effect.{effect, on_each, on_one, source_of};
-ghost use Rattle.bz_command.specs.private.Looks.{changes_each};
+ghost use Rattle.bz_command.specs.private.Looks.{changes_each, marks_by, places_by};
 
 use crate::ruling::{Work, on_one, source_of};
-use crate::targets::{is_any, meant};
+use crate::targets::{is_any, meant, take_place};
 use bz_command_syntax::{
     AttributeOperation, Command, CommentOperation, DictOperation, Entry, Operation, RuleOperation,
     ValueOperation,
@@ -139,6 +139,22 @@ fn might_be_past(
     }
 }
 
+/// A mark for each item: whether it is at one of the places, which are those of the items that a command is meant for.
+fn marks_of(work: Work<'_, '_>, places: &[usize], items: &[Item]) -> Result<Vec<bool>, Memory>
+    requires { places.now ≡ places_by work items.now }
+    ensures value { IfOk result (λ marks. marks.items ≡ marks_by work.entry items.now) }
+    ensures count { IfOk result (λ marks. length marks.items ≡ length items.now) }
+{
+    let mut marks = Vec::new(work.alloc);
+    let mut left = places;
+    for at in 0..items.len() {
+        let (mark, following) = take_place(at, left);
+        marks.push(mark)?;
+        left = following;
+    }
+    Ok(marks)
+}
+
 /// A mark for each item of a file, which has about this many bytes: whether a command that changes rules one by one is meant for it.
 /// `None` where it is no such command, where it is meant for none, and where what it makes can hardly be past the limit of a text; so that
 /// says nothing. The error: a growth was refused.
@@ -156,9 +172,10 @@ pub fn marks_if_large(
     if !changes_each(operation) || !might_be_past(work, operation, items.len(), len)? {
         return Ok(None);
     }
-    let marks = meant(work.alloc, &work.target.which, work.lines, None, items)?;
-    if !is_any(marks.as_slice()) {
+    let places = meant(work.alloc, &work.target.which, work.lines, None, items)?;
+    if !is_any(places.as_slice()) {
         return Ok(None);
     }
+    let marks = marks_of(work, places.as_slice(), items)?;
     Ok(Some(marks))
 }

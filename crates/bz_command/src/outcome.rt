@@ -15,6 +15,8 @@ pub struct Outcome {
 pub struct Ran {
     /// Where its items are others; none where it is the same.
     pub windows: Items<Window>,
+    /// Whether each of its items is known to have the name that it had, or none where it had none.
+    pub same_names: bool,
     /// What it printed of the rules.
     pub printed: Text,
 }

@@ -9,10 +9,11 @@ ghost use Rattle.bz_rule.specs.private.Named.{each_named};
 ghost use Rattle.bz_command.specs.Effect.{before_rest, printed_one, printed_rules};
 ghost use Rattle.bz_command.specs.Laws.{looks_at_lines, prints_line, prints_lines};
 ghost use Rattle.bz_command.specs.Prints.{in_brackets, is_string, printed_body, printed_field, printed_item, printed_value, spaced, without_last};
+ghost use Rattle.bz_command.specs.private.Looks.{marks_by, places_by};
 ghost use Rattle.bz_command.specs.private.Steps.{seen_rule, space_between, text_or_nothing};
 
 use crate::ruling::Work;
-use crate::targets::{arguments_of, line_at};
+use crate::targets::{arguments_of, line_at, lines_after};
 use bz_attribute::{body_of, has_kind, items_of};
 use bz_command_syntax::{Command, CommentOperation, Field, Operation};
 use bz_comment::print_comments;
@@ -235,20 +236,21 @@ fn push(work: Work<'_, '_>, at: Option<u32>, item: &Item, out: &mut Vec<u8>) -> 
     Ok(())
 }
 
-/// What a command prints of the rules that are marked. The first that refuses decides.
-pub fn print_rules(work: Work<'_, '_>, marks: &[bool], items: &[Item]) -> Result<Text, Refusal>
-    requires { length marks.now ≡ length items.now }
-    ensures ok { IfOk result (λ text. printed_rules work.entry.command.now work.entry.current.now work.entry.lines.now marks.now items.now ≡ Ok text) }
-    ensures err { IfErr result (λ refusal. (printed_rules work.entry.command.now work.entry.current.now work.entry.lines.now marks.now items.now ≡ Err refusal) ⊎ (refusal ≡ Refusal.Memory)) }
+/// What a command prints of the rules that it is meant for, which are at these places. The first that refuses decides.
+pub fn print_rules(work: Work<'_, '_>, places: &[usize], items: &[Item]) -> Result<Text, Refusal>
+    requires { places.now ≡ places_by work items.now }
+    ensures ok { IfOk result (λ text. printed_rules work.entry.command.now work.entry.current.now work.entry.lines.now (marks_by work.entry items.now) items.now ≡ Ok text) }
+    ensures err { IfErr result (λ refusal. (printed_rules work.entry.command.now work.entry.current.now work.entry.lines.now (marks_by work.entry items.now) items.now ≡ Err refusal) ⊎ (refusal ≡ Refusal.Memory)) }
 {
     let mut all = Vec::new(work.alloc);
     let mut left = work.lines;
-    for (mark, item) in marks.iter().zip(items) {
-        let (line, following) = line_at(left, item);
-        if *mark {
-            push(work, line, item, &mut all)?;
-        }
+    let mut past = 0;
+    for at in places {
+        let item = &items[*at];
+        let (line, following) = line_at(lines_after(left, items, past, *at), item);
+        push(work, line, item, &mut all)?;
         left = following;
+        past = *at + 1;
     }
     Ok(Text::from_vec(all))
 }

@@ -1,18 +1,20 @@
-//! What a command makes of a rule, and of the items of a file: of the rules that are marked, with a new rule, without some, and of loads.
+//! What a command makes of a rule, and of the items of a file: of the rules at some places, with a new rule, without some, and of loads.
 //! Items that stay are moved.
-ghost use Rattle.std.specs.Prelude.{◌≡◌, ◌⊎◌, ◌↔◌, ◌≤◌, ◌<◌, ◌+◌, ◌∷◌, ◌++◌, [], Bool, List, length, slice_get, slice_set, Ok, Err, OnOk, IsTrue, IfOk, IfErr, IfSome, if◌then◌else◌};
+ghost use Rattle.std.specs.Prelude.{◌≡◌, ◌⊎◌, ◌↔◌, ◌≤◌, ◌<◌, ◌+◌, ◌∷◌, ◌++◌, [], ℕ, Bool, List, drop, false, length, slice_get, slice_set, None, Ok, Err, OnOk, IsTrue, IfOk, IfErr, IfSome, if◌then◌else◌};
 ghost use Rattle.std.specs.List.{insert, list_any, position};
 ghost use Rattle.std.specs.Option.{option_copied};
 ghost use Rattle.bz_value.specs.declared.value.Item.{Item};
 ghost use Rattle.bz_value.specs.Windows.{AreOver, IsSpliced};
-ghost use Rattle.bz_rule.specs.Rules.{has_name};
+ghost use Rattle.bz_rule.specs.Rules.{has_name, name_in};
+ghost use Rattle.bz_items.specs.Characters.{Bytes};
+ghost use Rattle.bz_grammar.specs.Places.{Ascend};
 ghost use Rattle.bz_attribute.specs.Made.{function_of};
 ghost use Rattle.bz_comment.specs.Changes.{changed_by};
-ghost use Rattle.bz_command.specs.Effect.{is_rule, loads_changed, on_arguments, on_meant, on_rules, on_each, on_statement, new_rule_place, source, source_of, unmarked, with_function};
-ghost use Rattle.bz_command.specs.private.Looks.{arguments_by, before_in, before_in_call, made_by, one_made_by, with_list, with_list_in};
+ghost use Rattle.bz_command.specs.Effect.{HaveSameNames, is_rule, loads_changed, looks_at_rules, on_arguments, on_meant, on_rules, on_each, on_statement, new_rule_place, rule_arguments, source, source_of, unmarked, with_function};
+ghost use Rattle.bz_command.specs.private.Looks.{arguments_by, before_in, before_in_call, made_by, marks_by, one_made_by, places_by, with_list, with_list_in};
 ghost use Rattle.bz_command.specs.private.Growing.{IsGrown};
 
-use crate::targets::{arguments_of, is_rule};
+use crate::targets::{arguments_of, is_rule, take_place};
 use crate::windows::{Growing, put_window, window_between, windows_of};
 use bz_attribute::{function_of, rule_made};
 use bz_change::{change_attributes, change_dicts};
@@ -21,12 +23,12 @@ use bz_command_syntax::{
     RulePlace,
 };
 use bz_comment::{Change, change_comments, change_own};
-use bz_grammar::Kind;
+use bz_grammar::{Class, Kind};
 use bz_items::{Items, Memory, Text};
 use bz_label::Target;
 use bz_list::change_values;
 use bz_load::{fix, new_load};
-use bz_rule::{attribute, has_name};
+use bz_rule::{attribute, body, has_name, text_in};
 use bz_value::{Expr, Item, Refusal, Window};
 use std::alloc::Global;
 use std::mem;
@@ -45,12 +47,36 @@ pub struct Work<'a, 'f> {
     pub found: Option<&'f Expr>,
 }
 
+impl<'a> Work<'a, 'a> {
+    /// A command on a file, before the value that it copies is known.
+    pub fn new(
+        alloc: Global,
+        command: &'a Command,
+        target: &'a Target,
+        current: &'a [u8],
+        lines: &'a [u32],
+    ) -> Work<'a, 'a>
+        ensures { result ≡ record { alloc = alloc; command = command.entry; target = target.entry; current = current.entry; lines = lines.entry; found = None } }
+    {
+        Work {
+            alloc,
+            command,
+            target,
+            current,
+            lines,
+            found: None,
+        }
+    }
+}
+
 /// The items that a command makes of those of a file, and where they are others.
 #[derive(Drop)]
 pub struct Changed {
     pub items: Items<Item>,
     /// None where they are the same.
     pub windows: Items<Window>,
+    /// Whether each is known to have the name that it had, or none where it had none.
+    pub same_names: bool,
 }
 
 /// A list of the call that a rule is.
@@ -189,20 +215,47 @@ pub(crate) fn on_one(
     }
 }
 
-/// What a command makes of an item where it is marked. Whether the item is the same then.
-#[tactic(auto, unfolding(crate::specs::private::Looks::one_made))]
-fn change_item(work: Work<'_, '_>, mark: bool, item: &mut Item) -> Result<bool, Refusal>
-    ensures ok { OnOk result ((if mark then one_made_by work.entry item.old else Ok item.old) ≡ Ok item.new) }
-    ensures same { IfOk result (λ same. IsTrue same ↔ (item.new ≡ item.old)) }
-    ensures err { IfErr result (λ refusal. ((if mark then one_made_by work.entry item.old else Ok item.old) ≡ Err refusal) ⊎ (refusal ≡ Refusal.Memory)) }
+/// The name of an item, where it is a rule that has one.
+fn name_of(item: &Item) -> Option<&[u8]>
+    ensures { option_copied result ≡ name_in (rule_arguments item.now) }
 {
-    if !mark {
-        return Ok(true);
+    body(text_in(Class::String, attribute(b"name", arguments_of(item))?)?)
+}
+
+/// Whether both items have the same name, or none.
+fn has_same_name(one: &Item, other: &Item) -> bool
+    ensures { IsTrue result → (name : Bytes) → has_name name one.now ≡ has_name name other.now }
+{
+    match (name_of(one), name_of(other)) {
+        (Some(name), Some(others)) => name == others,
+        (None, None) => true,
+        _ => false,
     }
+}
+
+/// Whether an item is the same as it was, and whether it has the same name.
+fn compared(item: &Item, before: &Item) -> (bool, bool)
+    ensures same { IsTrue result.0 ↔ (item.now ≡ before.now) }
+    ensures names { IsTrue result.1 → (name : Bytes) → has_name name item.now ≡ has_name name before.now }
+{
+    if item.equals(before) {
+        return (true, true);
+    }
+    (false, has_same_name(item, before))
+}
+
+/// What a command makes of an item that it is meant for. Whether the item is the same then, and whether it has the same name.
+#[tactic(auto, unfolding(crate::specs::private::Looks::one_made))]
+fn change_item(work: Work<'_, '_>, item: &mut Item) -> Result<(bool, bool), Refusal>
+    ensures ok { OnOk result (one_made_by work.entry item.old ≡ Ok item.new) }
+    ensures same { IfOk result (λ compared. IsTrue compared.0 ↔ (item.new ≡ item.old)) }
+    ensures names { IfOk result (λ compared. IsTrue compared.1 → (name : Bytes) → has_name name item.new ≡ has_name name item.old) }
+    ensures err { IfErr result (λ refusal. (one_made_by work.entry item.old ≡ Err refusal) ⊎ (refusal ≡ Refusal.Memory)) }
+{
     let command = work.command;
     let before = item.copy()?;
     let answer = match on_one(work, &command.operation, item) {
-        Ok(()) => Ok(item.equals(&before)),
+        Ok(()) => Ok(compared(item, &before)),
         Err(refusal) => Err(refusal),
     };
     // By a call: by the end of its scope, each form of the item would be a path of this proof.
@@ -217,7 +270,9 @@ fn note(same: bool, at: usize, growing: &mut Growing) -> Result<(), Memory>
     ensures grown { (before after changed : List Item) → length before ≤ usize.MAX → length changed ≤ usize.MAX → IsGrown growing.old before after → (IsTrue same → changed ≡ after) → IsSpliced at 1 1 after changed
         → OnOk result (IsGrown growing.new before changed) }
     ensures none { OnOk result (IsTrue same → growing.new.windows ≡ growing.old.windows) }
-    ensures past { OnOk result (growing.new.past ≤ at + 1) }
+    ensures left { (before after changed : List Item) → drop growing.old.past after ≡ drop growing.old.past before → (IsTrue same → changed ≡ after) → drop (at + 1) changed ≡ drop (at + 1) before
+        → OnOk result (drop growing.new.past changed ≡ drop growing.new.past before) }
+    ensures order { (end : ℕ) (places : List ℕ) → Ascend growing.old.past end (at ∷ places) → OnOk result (Ascend growing.new.past end places) }
 {
     if same {
         return Ok(());
@@ -225,24 +280,28 @@ fn note(same: bool, at: usize, growing: &mut Growing) -> Result<(), Memory>
     put_window(at, 1, 1, growing)
 }
 
-/// What a command makes of the items that are marked, and where they are others then. The first that refuses decides.
+/// What a command makes of the items that it is meant for, which are at these places, where they are others then, and whether each
+/// has the name that it had. The first that refuses decides.
 fn on_meant(
     work: Work<'_, '_>,
-    marks: &[bool],
+    places: &[usize],
     items: &mut [Item],
-) -> Result<Items<Window>, Refusal>
-    requires { length marks.now ≡ length items.old }
-    ensures ok { OnOk result (on_meant (one_made_by work.entry) marks.now items.old ≡ Ok items.new) }
-    ensures windows { IfOk result (λ windows. AreOver windows items.old items.new) }
-    ensures same { IfOk result (λ windows. (windows ≡ []) ↔ (items.new ≡ items.old)) }
-    ensures err { IfErr result (λ refusal. (on_meant (one_made_by work.entry) marks.now items.old ≡ Err refusal) ⊎ (refusal ≡ Refusal.Memory)) }
+) -> Result<(Items<Window>, bool), Refusal>
+    requires { places.now ≡ places_by work items.old }
+    ensures ok { OnOk result (on_meant (one_made_by work.entry) (marks_by work.entry items.old) items.old ≡ Ok items.new) }
+    ensures windows { IfOk result (λ made. AreOver made.0 items.old items.new) }
+    ensures same { IfOk result (λ made. (made.0 ≡ []) ↔ (items.new ≡ items.old)) }
+    ensures names { IfOk result (λ made. IsTrue made.1 → HaveSameNames items.old items.new) }
+    ensures err { IfErr result (λ refusal. (on_meant (one_made_by work.entry) (marks_by work.entry items.old) items.old ≡ Err refusal) ⊎ (refusal ≡ Refusal.Memory)) }
 {
     let mut growing = Growing::new(work.alloc);
-    for at in 0..items.len() {
-        let same = change_item(work, marks[at], &mut items[at])?;
-        note(same, at, &mut growing)?;
+    let mut same_names = true;
+    for at in places {
+        let (same, same_name) = change_item(work, &mut items[*at])?;
+        note(same, *at, &mut growing)?;
+        same_names &= same_name;
     }
-    Ok(growing.windows)
+    Ok((growing.windows, same_names))
 }
 
 /// The value that an attribute has in the first rule of a name.
@@ -281,26 +340,36 @@ fn copied_source(operation: &Operation, items: &[Item]) -> Result<Option<Expr>, 
     }
 }
 
-/// What a command makes of each of the items that are marked.
+/// What a command makes of each of the items that it is meant for, which are at these places.
 #[tactic(auto, unfolding(crate::specs::private::Looks::one_made))]
-fn on_found(work: Work<'_, '_>, marks: &[bool], mut items: Items<Item>) -> Result<Changed, Refusal>
-    requires { length marks.now ≡ length items }
-    ensures ok { IfOk result (λ changed. on_meant (made_by work.entry.command.now work.entry) marks.now items ≡ Ok changed.items) }
+fn on_found(
+    work: Work<'_, '_>,
+    places: &[usize],
+    mut items: Items<Item>,
+) -> Result<Changed, Refusal>
+    requires { places.now ≡ places_by work items }
+    ensures ok { IfOk result (λ changed. on_meant (made_by work.entry.command.now work.entry) (marks_by work.entry items) items ≡ Ok changed.items) }
     ensures windows { IfOk result (λ changed. AreOver changed.windows items changed.items) }
     ensures same { IfOk result (λ changed. (changed.windows ≡ []) ↔ (changed.items ≡ items)) }
-    ensures err { IfErr result (λ refusal. (on_meant (made_by work.entry.command.now work.entry) marks.now items ≡ Err refusal) ⊎ (refusal ≡ Refusal.Memory)) }
+    ensures names { IfOk result (λ changed. IsTrue changed.same_names → HaveSameNames items changed.items) }
+    ensures err { IfErr result (λ refusal. (on_meant (made_by work.entry.command.now work.entry) (marks_by work.entry items) items ≡ Err refusal) ⊎ (refusal ≡ Refusal.Memory)) }
 {
-    let windows = on_meant(work, marks, items.as_mut_slice())?;
-    Ok(Changed { items, windows })
+    let (windows, same_names) = on_meant(work, places, items.as_mut_slice())?;
+    Ok(Changed {
+        items,
+        windows,
+        same_names,
+    })
 }
 
 /// The same by the value that is copied, as it is before anything changes.
-fn on_each(work: Work<'_, '_>, marks: &[bool], items: Items<Item>) -> Result<Changed, Refusal>
-    requires { length marks.now ≡ length items }
-    ensures ok { IfOk result (λ changed. on_each work.entry.command.now work.entry.current.now marks.now items ≡ Ok changed.items) }
+fn on_each(work: Work<'_, '_>, places: &[usize], items: Items<Item>) -> Result<Changed, Refusal>
+    requires { places.now ≡ places_by work items }
+    ensures ok { IfOk result (λ changed. on_each work.entry.command.now work.entry.current.now (marks_by work.entry items) items ≡ Ok changed.items) }
     ensures windows { IfOk result (λ changed. AreOver changed.windows items changed.items) }
     ensures same { IfOk result (λ changed. (changed.windows ≡ []) ↔ (changed.items ≡ items)) }
-    ensures err { IfErr result (λ refusal. (on_each work.entry.command.now work.entry.current.now marks.now items ≡ Err refusal) ⊎ (refusal ≡ Refusal.Memory)) }
+    ensures names { IfOk result (λ changed. IsTrue changed.same_names → HaveSameNames items changed.items) }
+    ensures err { IfErr result (λ refusal. (on_each work.entry.command.now work.entry.current.now (marks_by work.entry items) items ≡ Err refusal) ⊎ (refusal ≡ Refusal.Memory)) }
 {
     let command = work.command;
     let found = copied_source(&command.operation, items.as_slice())?;
@@ -308,7 +377,7 @@ fn on_each(work: Work<'_, '_>, marks: &[bool], items: Items<Item>) -> Result<Cha
         found: found.as_ref(),
         ..work
     };
-    let changed = on_found(work, marks, items);
+    let changed = on_found(work, places, items);
     // By a call: by the end of its scope, each form of the value would be a path of this proof.
     drop(found);
     changed
@@ -340,22 +409,27 @@ fn push_unmarked(
     Ok(())
 }
 
-/// The items without a mark, in their order.
-fn delete(alloc: Global, marks: &[bool], items: Items<Item>) -> Result<Changed, Memory>
-    requires { length marks.now ≡ length items }
-    ensures items { IfOk result (λ changed. changed.items ≡ unmarked marks.now items) }
+/// The items that a command isn't meant for, in their order: all but those at the places.
+fn delete(work: Work<'_, '_>, places: &[usize], items: Items<Item>) -> Result<Changed, Memory>
+    requires { places.now ≡ places_by work items }
+    ensures items { IfOk result (λ changed. changed.items ≡ unmarked (marks_by work.entry items) items) }
     ensures windows { IfOk result (λ changed. AreOver changed.windows items changed.items) }
     ensures same { IfOk result (λ changed. (changed.windows ≡ []) ↔ (changed.items ≡ items)) }
+    ensures names { IfOk result (λ changed. changed.same_names ≡ false) }
 {
     let _count = items.len();
-    let mut kept = Vec::new(alloc);
-    let mut growing = Growing::new(alloc);
-    for (mark, item) in marks.iter().zip(items.into_vec()) {
-        push_unmarked(*mark, item, &mut kept, &mut growing)?;
+    let mut kept = Vec::new(work.alloc);
+    let mut growing = Growing::new(work.alloc);
+    let mut left = places;
+    for (at, item) in items.into_vec().into_iter().enumerate() {
+        let (mark, following) = take_place(at, left);
+        push_unmarked(mark, item, &mut kept, &mut growing)?;
+        left = following;
     }
     Ok(Changed {
         items: Items::from_vec(kept),
         windows: growing.windows,
+        same_names: false,
     })
 }
 
@@ -397,6 +471,7 @@ fn inserted(alloc: Global, at: usize, new: Item, items: Items<Item>) -> Result<C
     ensures items { IfOk result (λ changed. changed.items ≡ insert items at new) }
     ensures windows { IfOk result (λ changed. AreOver changed.windows items changed.items) }
     ensures same { IfOk result (λ changed. (changed.windows ≡ []) ↔ (changed.items ≡ items)) }
+    ensures names { IfOk result (λ changed. changed.same_names ≡ false) }
 {
     let mut all = items.into_vec();
     all.insert(at, new)?;
@@ -408,6 +483,7 @@ fn inserted(alloc: Global, at: usize, new: Item, items: Items<Item>) -> Result<C
     Ok(Changed {
         windows: windows_of(alloc, false, window)?,
         items: Items::from_vec(all),
+        same_names: false,
     })
 }
 
@@ -416,6 +492,7 @@ fn on_loads(alloc: Global, operation: &LoadOperation, items: Items<Item>) -> Res
     ensures items { IfOk result (λ changed. changed.items ≡ loads_changed operation.now items) }
     ensures windows { IfOk result (λ changed. AreOver changed.windows items changed.items) }
     ensures same { IfOk result (λ changed. (changed.windows ≡ []) ↔ (changed.items ≡ items)) }
+    ensures names { IfOk result (λ changed. changed.same_names ≡ false) }
 {
     match operation {
         LoadOperation::New { path, symbols } => {
@@ -428,6 +505,7 @@ fn on_loads(alloc: Global, operation: &LoadOperation, items: Items<Item>) -> Res
             Ok(Changed {
                 windows: windows_of(alloc, made.same, window)?,
                 items: made.items,
+                same_names: false,
             })
         }
         LoadOperation::Fix { fixes } => {
@@ -435,18 +513,24 @@ fn on_loads(alloc: Global, operation: &LoadOperation, items: Items<Item>) -> Res
             Ok(Changed {
                 windows: window_between(alloc, items.as_slice(), new.as_slice())?,
                 items: new,
+                same_names: false,
             })
         }
     }
 }
 
-/// What a command makes of the items, of which those that it is meant for are marked.
-pub fn on_rules(work: Work<'_, '_>, marks: &[bool], items: Items<Item>) -> Result<Changed, Refusal>
-    requires { length marks.now ≡ length items }
-    ensures ok { IfOk result (λ changed. on_rules work.entry.command.now work.entry.current.now marks.now items ≡ Ok changed.items) }
+/// What a command makes of the items; a command on rules is meant for those at the places.
+pub fn on_rules(
+    work: Work<'_, '_>,
+    places: &[usize],
+    items: Items<Item>,
+) -> Result<Changed, Refusal>
+    requires { IsTrue (looks_at_rules work.command.now) → places.now ≡ places_by work items }
+    ensures ok { IfOk result (λ changed. on_rules work.entry.command.now work.entry.current.now (marks_by work.entry items) items ≡ Ok changed.items) }
     ensures windows { IfOk result (λ changed. AreOver changed.windows items changed.items) }
     ensures same { IfOk result (λ changed. (changed.windows ≡ []) ↔ (changed.items ≡ items)) }
-    ensures err { IfErr result (λ refusal. (on_rules work.entry.command.now work.entry.current.now marks.now items ≡ Err refusal) ⊎ (refusal ≡ Refusal.Memory)) }
+    ensures names { IfOk result (λ changed. IsTrue changed.same_names → HaveSameNames items changed.items) }
+    ensures err { IfErr result (λ refusal. (on_rules work.entry.command.now work.entry.current.now (marks_by work.entry items) items ≡ Err refusal) ⊎ (refusal ≡ Refusal.Memory)) }
 {
     let (alloc, command) = (work.alloc, work.command);
     match &command.operation {
@@ -460,16 +544,17 @@ pub fn on_rules(work: Work<'_, '_>, marks: &[bool], items: Items<Item>) -> Resul
             let rule = rule_made(alloc, kind.as_slice(), name.as_slice())?;
             Ok(inserted(alloc, at, rule, items)?)
         }
-        Operation::Rule(RuleOperation::Delete) => Ok(delete(alloc, marks, items)?),
+        Operation::Rule(RuleOperation::Delete) => Ok(delete(work, places, items)?),
         Operation::Load(operation) => Ok(on_loads(alloc, operation, items)?),
         Operation::Rule(RuleOperation::SetKind { .. })
         | Operation::Attribute(_)
         | Operation::Value(_)
         | Operation::Dict(_)
-        | Operation::Comment(_) => on_each(work, marks, items),
+        | Operation::Comment(_) => on_each(work, places, items),
         Operation::Print { .. } => Ok(Changed {
             items,
             windows: Items::new(alloc),
+            same_names: true,
         }),
     }
 }

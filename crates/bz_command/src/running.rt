@@ -1,10 +1,10 @@
 //! The effect of a command on a file value.
-ghost use Rattle.std.specs.Prelude.{length, ◌≡◌, ◌⊎◌, ◌↔◌, [], false, None, Ok, Err, IfOk, IfErr, IfSome, OnOk};
+ghost use Rattle.std.specs.Prelude.{◌≡◌, ◌⊎◌, ◌↔◌, [], false, None, Ok, Err, IfOk, IfErr, IfSome, IsTrue, OnOk};
 ghost use Rattle.std.specs.Option.{unwrap_or};
 ghost use Rattle.bz_rule.specs.Index.{IsIndexOf};
 ghost use Rattle.bz_value.specs.Windows.{AreOver};
-ghost use Rattle.bz_command.specs.Effect.{meant, effect, lacks_rules, printed};
-ghost use Rattle.bz_command.specs.private.Looks.{IsLook, effect_by};
+ghost use Rattle.bz_command.specs.Effect.{HaveSameNames, effect, looks_at_rules, printed};
+ghost use Rattle.bz_command.specs.private.Looks.{IsChange, IsLook, effect_by, printed_for};
 
 use crate::laws::effects_stay_proper;
 use crate::outcome::{Outcome, Ran};
@@ -15,46 +15,61 @@ use bz_command_syntax::{Command, Operation, RuleOperation};
 use bz_items::{Items, Text};
 use bz_label::{Target, Which};
 use bz_rule::{Names, take_apart};
-use bz_value::{File, Item, Refusal, Window};
+use bz_value::{File, Item, Refusal};
 use std::alloc::Global;
 use std::mem;
 
-/// Whether an operation is meant for rules, and for none that is there.
-fn lacks_rules(operation: &Operation, marks: &[bool]) -> bool
-    ensures { result ≡ lacks_rules operation.now marks.now }
+/// What is known of a command on a file before anything changes.
+#[derive(Drop)]
+enum Look {
+    /// The items stay, and this is printed.
+    Stays(Text),
+    /// The items may change, and nothing is printed. Of a command on rules: the places of those that it is meant for.
+    Changes(Vec<usize>),
+}
+
+/// Whether an operation is meant for rules.
+fn looks_at_rules(operation: &Operation) -> bool
+    ensures { result ≡ looks_at_rules operation.now }
 {
     match operation {
         Operation::Rule(RuleOperation::New { .. }) | Operation::Load(_) => false,
-        _ => !is_any(marks),
+        _ => true,
     }
 }
 
-/// What is printed where the items stay; `None`: they may change, and nothing is printed. Those that a command is meant for are marked.
-fn look_at(work: Work<'_, '_>, marks: &[bool], items: &[Item]) -> Result<Option<Text>, Refusal>
-    requires value { marks.now ≡ meant work.target.now.which work.lines.now items.now }
-    requires count { length marks.now ≡ length items.now }
-    ensures ok { IfOk result (IsLook work.entry items.now marks.now) }
+/// Looks at a file before a command changes it; there may be an index of the names of its rules.
+fn look_at(work: Work<'_, '_>, names: Option<&Names>, items: &[Item]) -> Result<Look, Refusal>
+    requires { IfSome names (λ index. IsIndexOf index.now items.now) }
+    ensures ok { IfOk result (IsLook work.entry items.now) }
     ensures err { IfErr result (λ refusal. (effect_by work.entry items.now ≡ Err refusal) ⊎ (refusal ≡ Refusal.Memory)) }
 {
     let command = work.command;
-    if lacks_rules(&command.operation, marks) {
-        return match work.target.which {
-            Which::All | Which::Kind(_) => Ok(Some(Text::from_vec(Vec::new(work.alloc)))),
+    let which = &work.target.which;
+    if !looks_at_rules(&command.operation) {
+        return Ok(Look::Changes(Vec::new(work.alloc)));
+    }
+    let places = meant(work.alloc, which, work.lines, names, items)?;
+    if !is_any(places.as_slice()) {
+        return match which {
+            Which::All | Which::Kind(_) => Ok(Look::Stays(Text::from_vec(Vec::new(work.alloc)))),
             Which::Line(_) | Which::Package | Which::Name(_) => Err(Refusal::NoTarget),
         };
     }
     if command.prints() {
-        return Ok(Some(print_rules(work, marks, items)?));
+        return Ok(Look::Stays(print_rules(work, places.as_slice(), items)?));
     }
-    Ok(None)
+    Ok(Look::Changes(places))
 }
 
-/// What a command that prints nothing makes of a file of which the items that it is meant for are marked, and where it differs then.
-fn change(work: Work<'_, '_>, marks: &[bool], file: &mut File) -> Result<Items<Window>, Refusal>
-    requires { IsLook work file.old marks.now None }
+/// What a command that prints nothing makes of a file; of a command on rules, of those at the places.
+fn change(work: Work<'_, '_>, places: &[usize], file: &mut File) -> Result<Ran, Refusal>
+    requires { IsChange work file.old places.now }
     ensures ok { OnOk result (effect_by work.entry file.old ≡ Ok file.new) }
-    ensures windows { IfOk result (λ windows. AreOver windows file.old file.new) }
-    ensures same { IfOk result (λ windows. (windows ≡ []) ↔ (file.new ≡ file.old)) }
+    ensures printed { IfOk result (λ ran. printed_for work.entry file.old ≡ Ok ran.printed) }
+    ensures windows { IfOk result (λ ran. AreOver ran.windows file.old file.new) }
+    ensures same { IfOk result (λ ran. (ran.windows ≡ []) ↔ (file.new ≡ file.old)) }
+    ensures names { IfOk result (λ ran. IsTrue ran.same_names → HaveSameNames file.old file.new) }
     ensures err { IfErr result (λ refusal. (effect_by work.entry file.old ≡ Err refusal) ⊎ (refusal ≡ Refusal.Memory)) }
 {
     effects_stay_proper();
@@ -62,12 +77,17 @@ fn change(work: Work<'_, '_>, marks: &[bool], file: &mut File) -> Result<Items<W
     let command = work.command;
     let _ = &command.operation;
     let before = mem::replace(&mut file.items, Items::new(work.alloc));
-    let changed = on_rules(work, marks, before)?;
+    let changed = on_rules(work, places, before)?;
     file.items = changed.items;
-    Ok(changed.windows)
+    Ok(Ran {
+        windows: changed.windows,
+        same_names: changed.same_names,
+        printed: Text::from_vec(Vec::new(work.alloc)),
+    })
 }
 
-/// The effect of a command on the rules that the target means, on a file in place, and where its items differ then.
+/// The effect of a command on the rules that the target means, on a file in place, where its items differ then, and whether each is known to
+/// have the name that it had.
 /// `current` is the path of the file's package, `lines` the lines on which its statements begin, from 1. There may be an index of the
 /// names of its rules: with it a target that is a name is not sought among the items.
 /// Errors: the effect's refusal; `Memory`: a growth was refused. After an error the file may have lost its items.
@@ -85,49 +105,40 @@ pub fn run_in(
     ensures printed { IfOk result (λ ran. printed command.now target.now current.now lines.now file.old ≡ Ok ran.printed) }
     ensures windows { IfOk result (λ ran. AreOver ran.windows file.old file.new) }
     ensures same { IfOk result (λ ran. (ran.windows ≡ []) ↔ (file.new ≡ file.old)) }
+    ensures names { IfOk result (λ ran. IsTrue ran.same_names → HaveSameNames file.old file.new) }
     ensures err { IfErr result (λ refusal. (effect command.now target.now current.now lines.now file.old ≡ Err refusal) ⊎ (refusal ≡ Refusal.Memory)) }
 {
-    let work = Work {
-        alloc,
-        command,
-        target,
-        current,
-        lines,
-        found: None,
-    };
-    let items = file.items.as_slice();
-    let marks = meant(alloc, &target.which, lines, names, items)?;
-    if let Some(printed) = look_at(work, marks.as_slice(), items)? {
-        return Ok(Ran {
+    let work = Work::new(alloc, command, target, current, lines);
+    match look_at(work, names, file.items.as_slice())? {
+        Look::Stays(printed) => Ok(Ran {
             windows: Items::new(alloc),
+            same_names: true,
             printed,
-        });
+        }),
+        Look::Changes(places) => change(work, places.as_slice(), file),
     }
-    let windows = change(work, marks.as_slice(), file)?;
-    let printed = Text::from_vec(Vec::new(alloc));
-    Ok(Ran { windows, printed })
 }
 
 /// The same, and whether the file is another one then.
-fn is_changed(work: Work<'_, '_>, marks: &[bool], file: &mut File) -> Result<bool, Refusal>
-    requires { IsLook work file.old marks.now None }
+fn is_changed(work: Work<'_, '_>, places: &[usize], file: &mut File) -> Result<bool, Refusal>
+    requires { IsChange work file.old places.now }
     ensures ok { OnOk result (effect_by work.entry file.old ≡ Ok file.new) }
     ensures same { IfOk result (λ changed. (changed ≡ false) ↔ (file.new ≡ file.old)) }
     ensures err { IfErr result (λ refusal. (effect_by work.entry file.old ≡ Err refusal) ⊎ (refusal ≡ Refusal.Memory)) }
 {
-    let windows = change(work, marks, file)?;
-    Ok(!windows.is_empty())
+    let ran = change(work, places, file)?;
+    Ok(!ran.windows.is_empty())
 }
 
 /// What a command that prints nothing makes of a copy of a file: `None` where it is the same.
-fn change_copy(work: Work<'_, '_>, marks: &[bool], copy: File) -> Result<Option<File>, Refusal>
-    requires { IsLook work copy marks.now None }
+fn change_copy(work: Work<'_, '_>, places: &[usize], copy: File) -> Result<Option<File>, Refusal>
+    requires { IsChange work copy places.now }
     ensures ok { IfOk result (λ made. effect_by work.entry copy ≡ Ok (unwrap_or made copy)) }
     ensures unchanged { IfOk result (λ made. (made ≡ None) ↔ (effect_by work.entry copy ≡ Ok copy)) }
     ensures err { IfErr result (λ refusal. (effect_by work.entry copy ≡ Err refusal) ⊎ (refusal ≡ Refusal.Memory)) }
 {
     let mut file = copy;
-    match is_changed(work, marks, &mut file) {
+    match is_changed(work, places, &mut file) {
         Ok(true) => Ok(Some(file)),
         Ok(false) => {
             take_apart(file);
@@ -177,23 +188,17 @@ pub fn run_named(
     ensures printed { IfOk result (λ outcome. printed command.now target.now current.now lines.now file.now ≡ Ok outcome.printed) }
     ensures err { IfErr result (λ refusal. (effect command.now target.now current.now lines.now file.now ≡ Err refusal) ⊎ (refusal ≡ Refusal.Memory)) }
 {
-    let work = Work {
-        alloc,
-        command,
-        target,
-        current,
-        lines,
-        found: None,
+    let work = Work::new(alloc, command, target, current, lines);
+    let places = match look_at(work, names, file.items.as_slice())? {
+        Look::Stays(printed) => {
+            return Ok(Outcome {
+                file: None,
+                printed,
+            });
+        }
+        Look::Changes(places) => places,
     };
-    let items = file.items.as_slice();
-    let marks = meant(alloc, &target.which, lines, names, items)?;
-    if let Some(printed) = look_at(work, marks.as_slice(), items)? {
-        return Ok(Outcome {
-            file: None,
-            printed,
-        });
-    }
-    let file = change_copy(work, marks.as_slice(), file.copy()?)?;
+    let file = change_copy(work, places.as_slice(), file.copy()?)?;
     let printed = Text::from_vec(Vec::new(alloc));
     Ok(Outcome { file, printed })
 }

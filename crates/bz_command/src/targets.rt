@@ -1,9 +1,10 @@
 //! The rules that a target means.
-ghost use Rattle.std.specs.Prelude.{◌≡◌, IfOk, IfSome, length, map};
+ghost use Rattle.std.specs.Prelude.{◌≡◌, ◌≤◌, ◌+◌, ◌-◌, ◌++◌, ◌∷◌, ℕ, Bool, List, IfOk, IfSome, OnOk, drop, length, map, take};
 ghost use Rattle.std.specs.List.{list_any};
 ghost use Rattle.bz_rule.specs.Rules.{has_name, is_rule_of_kind};
 ghost use Rattle.bz_rule.specs.Index.{IsIndexOf};
-ghost use Rattle.bz_command.specs.Effect.{first_mark, is_rule, item_line, lines_after_item, meant, on_line, rule_arguments};
+ghost use Rattle.bz_command.specs.Effect.{is_rule, item_line, lines_after_item, meant, on_line, rule_arguments};
+ghost use Rattle.bz_command.specs.private.Places.{lines_after_items, marked_places};
 
 use bz_items::Memory;
 use bz_label::Which;
@@ -46,92 +47,125 @@ pub(crate) fn line_at<'a>(lines: &'a [u32], item: &Item) -> (Option<u32>, &'a [u
     }
 }
 
-/// A mark for each item: whether it is a rule.
-fn all_rules(alloc: Global, items: &[Item]) -> Result<Vec<bool>, Memory>
-    ensures { IfOk result (λ marks. marks.items ≡ map is_rule items.now) }
+/// The lines of the statements after the items from one place to another.
+pub(crate) fn lines_after<'a>(lines: &'a [u32], items: &[Item], from: usize, to: usize) -> &'a [u32]
+    requires start { from ≤ to }
+    requires end { to ≤ length items.now }
+    ensures { result.now ≡ lines_after_items lines.entry.now (take (to - from) (drop from items.now)) }
 {
-    let mut marks = Vec::new(alloc);
-    for item in items {
-        marks.push(is_rule(item))?;
+    if lines.is_empty() {
+        return lines;
     }
-    Ok(marks)
-}
-
-/// A mark for each item: whether it is a rule of this kind.
-fn all_of_kind(alloc: Global, kind: &[u8], items: &[Item]) -> Result<Vec<bool>, Memory>
-    ensures { IfOk result (λ marks. marks.items ≡ map (is_rule_of_kind kind.now) items.now) }
-{
-    items
-        .iter()
-        .map(|item| is_rule_of_kind(kind, item))
-        .collect(alloc)
-}
-
-/// A mark for each item: whether it is a rule of this name.
-fn all_of_name(alloc: Global, name: &[u8], items: &[Item]) -> Result<Vec<bool>, Memory>
-    ensures { IfOk result (λ marks. marks.items ≡ map (has_name name.now) items.now) }
-{
-    items.iter().map(|item| has_name(name, item)).collect(alloc)
-}
-
-/// A mark for each item: whether it is a rule on this line.
-fn all_on_line(alloc: Global, line: u32, lines: &[u32], items: &[Item]) -> Result<Vec<bool>, Memory>
-    ensures { IfOk result (λ marks. marks.items ≡ on_line line lines.now items.now) }
-{
-    let mut marks = Vec::new(alloc);
+    let between = &items[from..to];
     let mut left = lines;
-    for item in items {
+    for item in between {
+        left = line_at(left, item).1;
+    }
+    left
+}
+
+/// Appends the place of an item, where it is marked.
+fn push_marked(mark: bool, at: usize, places: &mut Vec<usize>) -> Result<(), Memory>
+    ensures { (marks : List Bool) → OnOk result (places.new.items ++ marked_places (at + 1) marks ≡ places.old.items ++ marked_places at (mark ∷ marks)) }
+{
+    if mark {
+        places.push(at)?;
+    }
+    Ok(())
+}
+
+/// The places of the rules.
+fn all_rules(alloc: Global, items: &[Item]) -> Result<Vec<usize>, Memory>
+    ensures { IfOk result (λ places. places.items ≡ marked_places 0 (map is_rule items.now)) }
+{
+    let mut places = Vec::new(alloc);
+    for (at, item) in items.iter().enumerate() {
+        push_marked(is_rule(item), at, &mut places)?;
+    }
+    Ok(places)
+}
+
+/// The places of the rules of this kind.
+fn all_of_kind(alloc: Global, kind: &[u8], items: &[Item]) -> Result<Vec<usize>, Memory>
+    ensures { IfOk result (λ places. places.items ≡ marked_places 0 (map (is_rule_of_kind kind.now) items.now)) }
+{
+    let mut places = Vec::new(alloc);
+    for (at, item) in items.iter().enumerate() {
+        push_marked(is_rule_of_kind(kind, item), at, &mut places)?;
+    }
+    Ok(places)
+}
+
+/// The places of the rules of this name.
+fn all_of_name(alloc: Global, name: &[u8], items: &[Item]) -> Result<Vec<usize>, Memory>
+    ensures { IfOk result (λ places. places.items ≡ marked_places 0 (map (has_name name.now) items.now)) }
+{
+    let mut places = Vec::new(alloc);
+    for (at, item) in items.iter().enumerate() {
+        push_marked(has_name(name, item), at, &mut places)?;
+    }
+    Ok(places)
+}
+
+/// The places of the rules on this line.
+fn all_on_line(
+    alloc: Global,
+    line: u32,
+    lines: &[u32],
+    items: &[Item],
+) -> Result<Vec<usize>, Memory>
+    ensures { IfOk result (λ places. places.items ≡ marked_places 0 (on_line line lines.now items.now)) }
+{
+    let mut places = Vec::new(alloc);
+    let mut left = lines;
+    for (at, item) in items.iter().enumerate() {
         let (begins, following) = line_at(left, item);
-        marks.push(begins == Some(line) && is_rule(item))?;
+        push_marked(begins == Some(line) && is_rule(item), at, &mut places)?;
         left = following;
     }
-    Ok(marks)
+    Ok(places)
 }
 
-/// Leaves only the first mark.
-fn only_first(marks: &mut [bool])
-    ensures { marks.new ≡ first_mark marks.old }
-{
-    let mut found = false;
-    for mark in marks.iter_mut() {
-        let first = *mark && !found;
-        found = found || first;
-        *mark = first;
-    }
-}
-
-/// A mark for each item: whether the target means it. There may be an index of their names.
-#[tactic(auto, using(crate::proofs::TargetMarks::as_many))]
+/// The places of the items that a target means, from 0, in their order. There may be an index of their names.
 pub(crate) fn meant(
     alloc: Global,
     which: &Which,
     lines: &[u32],
     names: Option<&Names>,
     items: &[Item],
-) -> Result<Vec<bool>, Memory>
+) -> Result<Vec<usize>, Memory>
     requires { IfSome names (λ index. IsIndexOf index.now items.now) }
-    ensures value { IfOk result (λ marks. marks.items ≡ meant which.now lines.now items.now) }
-    ensures count { IfOk result (λ marks. length marks.items ≡ length items.now) }
+    ensures { IfOk result (λ places. places.items ≡ marked_places 0 (meant which.now lines.now items.now)) }
 {
     match which {
         Which::All => all_rules(alloc, items),
         Which::Kind(kind) => all_of_kind(alloc, kind.as_slice(), items),
         Which::Line(line) => all_on_line(alloc, *line, lines, items),
         Which::Package => {
-            let mut marks = all_of_kind(alloc, b"package", items)?;
-            only_first(marks.as_mut_slice());
-            Ok(marks)
+            let mut places = all_of_kind(alloc, b"package", items)?;
+            places.truncate(1);
+            Ok(places)
         }
         Which::Name(name) => match names {
-            Some(index) => index.marks(alloc, name.as_slice()),
+            Some(index) => Vec::from_slice(alloc, index.places(name.as_slice())),
             None => all_of_name(alloc, name.as_slice(), items),
         },
     }
 }
 
-/// Whether an item is marked.
-pub(crate) fn is_any(marks: &[bool]) -> bool
-    ensures { result ≡ list_any (λ mark. mark) marks.now }
+/// Whether there is a place.
+pub(crate) fn is_any(places: &[usize]) -> bool
+    ensures { (at : ℕ) (marks : List Bool) → places.now ≡ marked_places at marks → result ≡ list_any (λ mark. mark) marks }
 {
-    marks.iter().any(|mark| *mark)
+    !places.is_empty()
+}
+
+/// Whether the first of these places is this one, and the places after it.
+pub(crate) fn take_place(at: usize, places: &[usize]) -> (bool, &[usize])
+    ensures { (mark : Bool) (marks : List Bool) → places.entry.now ≡ marked_places at (mark ∷ marks) → (result.0 ≡ mark) × (result.1.now ≡ marked_places (at + 1) marks) }
+{
+    match places.split_first() {
+        Some((first, following)) if *first == at => (true, following),
+        _ => (false, places),
+    }
 }

@@ -1,6 +1,6 @@
 -- What the code does with a rule that a command is meant for: the lists of its call, exchanged for others; and what is known of a
 -- command before it changes anything.
-use Rattle.std.specs.Prelude.{List, [], ◌∷◌, if◌then◌else◌, ◌≡◌, Bool, true, false, Result, Ok, Option, Some, None, length}
+use Rattle.std.specs.Prelude.{ℕ, IsTrue, List, [], ◌∷◌, if◌then◌else◌, ◌≡◌, Bool, true, false, Result, Ok, Option}
 use Rattle.bz_grammar.specs.declared.kind.Kind.TheVariants as k
 use Rattle.bz_value.specs.declared.value.Expr.{Expr, Token, Form', items-the_row-Expr}
 use Rattle.bz_value.specs.declared.value.Item.{Item}
@@ -17,7 +17,10 @@ use Rattle.bz_command_syntax.specs.declared.command.Operation.TheVariants as w
 use Rattle.bz_command_syntax.specs.declared.command.RuleOperation.TheVariants as wr
 use Rattle.bz_command.specs.declared.ruling.Work.{Work}
 use Rattle.bz_attribute.specs.Attributes.{Arguments}
-use Rattle.bz_command.specs.Effect.{NewItem, arguments_of, effect, on_one, on_rules, printed}
+use Rattle.bz_command.specs.Effect.{NewItem, arguments_of, effect, looks_at_rules, meant, on_one, on_rules, printed}
+use Rattle.bz_command.specs.private.Places.{marked_places}
+use Rattle.bz_command.specs.declared.running.Look.{Look}
+use Rattle.bz_command.specs.declared.running.Look.TheVariants as l
 
 -- an expression with another list in this place, and a statement with another list in this place of its call
 abbrev pub with_list : CallPart → List Expr → Expr → Expr
@@ -65,10 +68,22 @@ effect_by work = effect work.command.now work.target.now work.current.now work.l
 abbrev pub printed_for : Work → List Item → Result Bytes Refusal
 printed_for work = printed work.command.now work.target.now work.current.now work.lines.now
 
--- Where something is printed the items stay; else they may change, and the command makes of them what it makes of those that are marked.
-abbrev pub IsLook : Work → List Item → List Bool → Option Bytes → Type 0
-IsLook work items marks (Some text) = (effect_by work items ≡ Ok items) × (printed_for work items ≡ Ok text)
-IsLook work items marks None = (length marks ≡ length items) × (effect_by work items ≡ on_rules work.command.now work.current.now marks items) × (printed_for work items ≡ Ok [])
+-- the marks of the rules that it is meant for, and their places
+abbrev pub marks_by : Work → List Item → List Bool
+marks_by work items = meant work.target.now.which work.lines.now items
+
+abbrev pub places_by : Work → List Item → List ℕ
+places_by work items = marked_places 0 (marks_by work items)
+
+-- A command that prints nothing makes of the items what it makes of those that are marked.
+abbrev pub IsChange : Work → List Item → List ℕ → Type 0
+IsChange work items places =
+    (IsTrue (looks_at_rules work.command.now) → places ≡ places_by work items) × (effect_by work items ≡ on_rules work.command.now work.current.now (marks_by work items) items) × (printed_for work items ≡ Ok [])
+
+-- Where something is printed the items stay; else they may change.
+abbrev pub IsLook : Work → List Item → Look → Type 0
+IsLook work items (l.Stays text) = (effect_by work items ≡ Ok items) × (printed_for work items ≡ Ok text)
+IsLook work items (l.Changes places) = IsChange work items places.items
 
 -- a command that changes the rules that it is meant for one by one
 abbrev pub changes_each : Operation → Bool

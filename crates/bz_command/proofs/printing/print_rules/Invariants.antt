@@ -1,12 +1,15 @@
-use Rattle.std.proofs.Common.{◌≡◌, length, Ok}
-use Rattle.bz_command.specs.Effect.{before_rest, printed_rules}
+use Rattle.std.proofs.Common.{◌≡◌, Ok, [], drop, length}
+use Rattle.bz_value.specs.declared.value.Item.TheVariants as i
+use Rattle.bz_grammar.specs.Places.{Ascend}
+use Rattle.bz_command.specs.Effect.{before_rest}
+use Rattle.bz_command.proofs.MeantPlaces.{printed_at}
 use Rattle.bz_command.proofs.printing.print_rules.Given as goal
 
--- what is printed of all items, by what is printed so far and of those that are left; a mark is left for each
-abbrev pub invariant-loop-mark : goal.invariant-loop-mark
-invariant-loop-mark l = record {
+-- what is printed of all places, by what is printed so far and of those that are left
+abbrev pub invariant-loop-at : goal.invariant-loop-at
+invariant-loop-at l = record {
   printed :
-      printed_rules l.work.command.now l.work.current.now l.work.lines.now l.marks l.items
-      ≡ before_rest (Ok l.all.items) (printed_rules l.work.command.now l.work.current.now l.left l.mark-iterator.a.rest.now l.mark-iterator.b.rest.now);
-  count : length l.mark-iterator.a.rest.now ≡ length l.mark-iterator.b.rest.now;
+      printed_at l.work.command.now l.work.current.now (i.Block []) l.work.lines.now 0 l.places l.items
+      ≡ before_rest (Ok l.all.items) (printed_at l.work.command.now l.work.current.now (i.Block []) l.left l.past (drop l.at-index l.places) l.items);
+  order : Ascend l.past (length l.items) (drop l.at-index l.places);
 }

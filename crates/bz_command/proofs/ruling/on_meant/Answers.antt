@@ -1,37 +1,75 @@
-use Rattle.std.proofs.Common.{◌∙◌, ◌<◌, arith, inl, inr, length, refl, set, sym}
-use Rattle.std.proofs.lemmas.List.{length-set}
+use Rattle.std.proofs.Common.{◌∙◌, ◌<◌, [], ℕ, List, ap, arith, get_or, inl, inr, length, refl, set, subst, sym}
+use Rattle.std.proofs.lemmas.List.{drop_all, length-set}
+use Rattle.std.proofs.lemmas.Bool.{and_parts}
 use Rattle.std.proofs.lemmas.Result.{err_from_is_err_and}
+use Rattle.std.proofs.Math.Seq.{map-set_same}
+use Rattle.bz_value.specs.declared.value.Item.TheVariants as i
 use Rattle.bz_load.proofs.PutSteps.{put_over}
+use Rattle.bz_grammar.specs.Places.{Ascend}
+use Rattle.bz_rule.specs.Rules.{has_name}
 use Rattle.bz_command.specs.private.Looks.{one_made_by}
-use Rattle.bz_command.proofs.OneMore.{left_next, same_before, same_put}
-use Rattle.bz_command.proofs.RunningItems.{made, refused}
+use Rattle.bz_command.proofs.OneMore.{left_further, left_next, nothing_grown, same_before, same_put}
+use Rattle.bz_command.proofs.MeantPlaces.{ascend_here, by_places, made, meant_ascend, on_places, refused}
 use Rattle.bz_command.proofs.ruling.on_meant.Goals as goal
+
+pub loop-at-init : goal.loop-at-init
+loop-at-init c =
+    let new = c.new-growing.result in
+    let items = c.args.items.now in record {
+      made = refl;
+      order =
+          subst (λ n. Ascend n (length items) c.args.places.now) (sym c.new-growing.ensures.past)
+          (subst (Ascend 0 (length items)) (sym c.requires) (meant_ascend c.args.work.target.now.which c.args.work.lines.now items));
+      grown = nothing_grown new items c.new-growing.ensures.windows c.new-growing.ensures.past;
+      none = λ _. c.new-growing.ensures.windows;
+      left = refl;
+      names = λ _ name. refl;
+      count = refl;
+    }
+
+pub offset_bounds-items-at : goal.offset_bounds-items-at
+offset_bounds-items-at c =
+    let l = c.loop-at in
+    let h = ascend_here l.growing.past (length c.args.items.now) c.args.places.now l.at-index c.loop-at-test.true l.invariant.order in
+    omega (arith, h.1)
 
 pub returns-in_err-same-clause-err : goal.returns-in_err-same-clause-err
 returns-in_err-same-clause-err c =
     let p = err_from_is_err_and c.from_residual.result c.from_residual.ensures.1 in
     let l = c.loop-at in
-    let there : l.at < length l.items = omega (arith, c.loop-at-test.true, l.invariant.count, c.requires) in
+    let items = c.args.items.now in
+    let h = ascend_here l.growing.past (length items) c.args.places.now l.at-index c.loop-at-test.true l.invariant.order in
+    let d = c.index-items-at.result in
+    let there : get_or c.args.places.now l.at-index 0 < length l.items = omega (arith, h.1, l.invariant.count) in
     rw (p.1, p.2) (elim c.in_err-same.ensures.err [
-      | inl is ↦ inl (refused (one_made_by c.args.work) c.args.marks.now l.items l.at c.index-items-at.result there l.invariant.count _ l.invariant.made _ is)
+      | inl is ↦ inl (by_places c.args.work c.args.places.now items c.requires ∙ refused (one_made_by c.args.work) (i.Block []) c.args.places.now l.items l.at-index d _ c.loop-at-test.true there l.invariant.made _ is)
       | inr memory ↦ inr memory
     ])
 
 pub loop-at-preserved : goal.loop-at-preserved
 loop-at-preserved c =
     let l = c.loop-at in
+    let h = ascend_here l.growing.past (length c.args.items.now) c.args.places.now l.at-index c.loop-at-test.true l.invariant.order in
+    let at = get_or c.args.places.now l.at-index 0 in
     let d = c.index-items-at.result in
     let new = c.change_item.new.item in
-    let there : l.at < length l.items = omega (arith, c.loop-at-test.true, l.invariant.count, c.requires) in
+    let there : at < length l.items = omega (arith, h.1, l.invariant.count) in
     let same = c.in_ok-same.ensures.same in
-    let long = length-set l.items l.at new in
-    let stays = same_put l.items l.at d new in record {
-      made = made (one_made_by c.args.work) c.args.marks.now l.items l.at d there l.invariant.count _ l.invariant.made new c.in_ok-same.ensures.ok;
-      grown = c.in_ok-note.ensures.grown c.args.items.now l.items (set l.items l.at new) (omega arith) (omega (arith, long)) l.invariant.grown (λ is. stays (same.0 is)) (put_over l.at new l.items (set l.items l.at new) there refl);
-      past = c.in_ok-note.ensures.past;
+    let long = length-set l.items at new in
+    let stays = same_put l.items at d new in
+    let left = left_further c.args.items.now l.items l.growing.past at h.0 l.invariant.left in record {
+      made = made (one_made_by c.args.work) (i.Block []) c.args.places.now l.items l.at-index d _ c.loop-at-test.true there l.invariant.made new c.in_ok-same.ensures.ok;
+      order = c.in_ok-note.ensures.order _ _ h;
+      grown = c.in_ok-note.ensures.grown c.args.items.now l.items (set l.items at new) (omega arith) (omega (arith, long)) l.invariant.grown (λ is. stays (same.0 is)) (put_over at new l.items (set l.items at new) there refl);
       none = λ equal.
-          let is = same_before c.args.items.now l.items l.at d new there l.invariant.left equal in
+          let is = same_before c.args.items.now l.items at d new there left equal in
           c.in_ok-note.ensures.none (same.1 is) ∙ l.invariant.none (sym (stays is) ∙ equal);
-      left = left_next c.args.items.now l.items l.at new l.invariant.left;
+      left = c.in_ok-note.ensures.left c.args.items.now l.items (set l.items at new) l.invariant.left (λ is. stays (same.0 is)) (left_next c.args.items.now l.items at new left);
+      names = λ both name. map-set_same (has_name name) l.items at new d (c.in_ok-same.ensures.names (and_parts _ _ both).1 name) ∙ l.invariant.names (and_parts _ _ both).0 name;
       count = long ∙ l.invariant.count;
     }
+
+pub returns-clause-ok : goal.returns-clause-ok
+returns-clause-ok c =
+    by_places c.args.work c.args.places.now c.args.items.now c.requires
+    ∙ (c.loop-at.invariant.made ∙ ap (λ (places : List ℕ). on_places (one_made_by c.args.work) (i.Block []) places c.loop-at.items) (drop_all c.loop-at.at-index c.args.places.now c.loop-at-test.false))

@@ -1,19 +1,22 @@
-use Rattle.std.proofs.Common.{◌≡◌, ◌≤◌, [], length, take, drop}
-use Rattle.bz_command.specs.Effect.{on_meant}
+use Rattle.std.proofs.Common.{◌≡◌, [], drop, length}
+use Rattle.std.specs.Prelude.{IsTrue}
+use Rattle.bz_value.specs.declared.value.Item.TheVariants as i
+use Rattle.bz_grammar.specs.Places.{Ascend}
+use Rattle.bz_command.specs.Effect.{HaveSameNames}
 use Rattle.bz_command.specs.private.Growing.{IsGrown}
 use Rattle.bz_command.specs.private.Looks.{one_made_by}
-use Rattle.bz_command.proofs.RunningItems.{with_front}
+use Rattle.bz_command.proofs.MeantPlaces.{on_places}
 use Rattle.bz_command.proofs.ruling.on_meant.Given as goal
 
--- what is made of the items that are left, after what is made of those before; a mark is left for each; where items are others there are windows
+-- What is made at all places is what is made at those that are left, of the items as they are now. These places are after the last window, where
+-- items are as they were.
 abbrev pub invariant-loop-at : goal.invariant-loop-at
 invariant-loop-at l = record {
-  made :
-      on_meant (one_made_by l.fn.work) l.marks l.fn.items
-      ≡ with_front (take l.at l.items) (on_meant (one_made_by l.fn.work) (drop l.at l.marks) (drop l.at l.items));
+  made : on_places (one_made_by l.fn.work) (i.Block []) l.places l.fn.items ≡ on_places (one_made_by l.fn.work) (i.Block []) (drop l.at-index l.places) l.items;
+  order : Ascend l.growing.past (length l.fn.items) (drop l.at-index l.places);
   grown : IsGrown l.growing l.fn.items l.items;
-  past : l.growing.past ≤ l.at;
   none : l.items ≡ l.fn.items → l.growing.windows ≡ [];
-  left : drop l.at l.items ≡ drop l.at l.fn.items;
-  count : length l.items ≡ length l.marks;
+  left : drop l.growing.past l.items ≡ drop l.growing.past l.fn.items;
+  names : IsTrue l.same_names → HaveSameNames l.fn.items l.items;
+  count : length l.items ≡ length l.fn.items;
 }

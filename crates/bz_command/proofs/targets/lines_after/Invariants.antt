@@ -1,0 +1,6 @@
+use Rattle.std.proofs.Common.{◌≡◌, ◌-◌, drop, take}
+use Rattle.bz_command.specs.private.Places.{lines_after_items}
+use Rattle.bz_command.proofs.targets.lines_after.Given as goal
+
+abbrev pub invariant-loop-item : goal.invariant-loop-item
+invariant-loop-item l = lines_after_items l.left (drop l.item-index l.between) ≡ lines_after_items l.fn.lines (take (l.fn.to - l.fn.from) (drop l.fn.from l.fn.items))
