@@ -1,8 +1,8 @@
 -- A formatted text is formatted to itself, its value is that of the text it was made of, tidied, and the program is kept.
-use Rattle.std.proofs.Common.{◌≡◌, ◌∙◌, List, length, sym, ap, subst, Option, None, nat_lt, if◌then◌else◌}
+use Rattle.std.proofs.Common.{◌≡◌, ◌∙◌, List, sym, ap, subst, None}
 use Rattle.bz_grammar.specs.declared.tree.Node.{Node}
 use Rattle.bz_grammar.specs.Legal.{Reads}
-use Rattle.bz_grammar.specs.Spell.{depth_of, depth_limit, limit}
+use Rattle.bz_grammar.specs.Spell.{depth_of}
 use Rattle.bz_value.specs.Counted.{times}
 use Rattle.bz_grammar.specs.Laws.{OneReading}
 use Rattle.bz_value.specs.declared.value.Item.{Item}
@@ -18,15 +18,10 @@ use Rattle.bz_passes.specs.Passes.{tidied}
 use Rattle.bz_passes.specs.Programs.{KeepsProgram, KeptProgramsKeepTokens, TidyingKeepsProgram}
 use Rattle.bz_passes.specs.Syntax.{token_times}
 use Rattle.bz_layout.specs.Written.{layout}
-use Rattle.bz_value.specs.declared.refusal.Refusal.TheVariants.{TooLarge, TooDeep}
-use Rattle.bz_build_format.specs.Meaning.{Meaning, gives, refuses, written}
+use Rattle.bz_build_format.specs.Meaning.{written}
 use Rattle.bz_build_format.specs.Fixed.{FixedPoint}
 use Rattle.bz_build_format.specs.TreePrograms.{ViewsKeepPrograms}
-use Rattle.bz_build_format.proofs.Writes.{IsGiven, given}
-
--- what is written of a value that is tidy already
-abbrev as_written : List Item → Option Bytes → Meaning
-as_written items printed = if nat_lt limit (length (layout items)) then refuses TooLarge else (if nat_lt depth_limit (depth_of (laid_out items)) then refuses TooDeep else gives (layout items) printed)
+use Rattle.bz_build_format.proofs.Writes.{IsGiven, given, limited}
 
 -- What the layers below promise: of reading, of the view, of the layout of a proper value, and of tidying.
 pub record LayersHold : Type 0 where
@@ -59,7 +54,7 @@ formatted_again layers text formatted formats =
     λ t u h i. subst (KeepsProgram (view_of t)) (sym (valued t u h i)) (layers.program (view_of t)) in
     record {
       given = formats;
-      again = (new, reads, formats.2 ∙ sym (ap (λ (xs : List Item). written xs None) seen ∙ ap (λ (xs : List Item). as_written xs None) (layers.stays items)));
+      again = (new, reads, formats.2 ∙ sym (ap (λ (xs : List Item). written xs None) seen ∙ ap (λ (xs : List Item). limited (depth_of (laid_out xs)) (layout xs) None) (layers.stays items)));
       value = valued;
       comments = λ t u h i comment.
           sym (layers.kept u i.0 comment) ∙ ap (times comment) (valued t u h i) ∙ layers.comments comment (view_of t) ∙ layers.kept t h.0 comment;

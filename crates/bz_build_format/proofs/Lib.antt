@@ -7,3 +7,6 @@ pub mod WrittenPrograms
 pub mod Chunking
 pub mod BzlFormatting
 pub mod Layouts
+pub mod Nodes
+pub mod Lines
+pub mod Windowed

@@ -11,7 +11,7 @@ use Rattle.bz_passes.specs.Passes.{tidied}
 use Rattle.bz_value.specs.declared.refusal.Refusal.TheVariants.{TooLarge, TooDeep}
 use Rattle.bz_build_format.specs.Meaning.{Meaning, gives, refuses, written}
 
-abbrev limited : ℕ → Bytes → Option Bytes → Meaning
+abbrev pub limited : ℕ → Bytes → Option Bytes → Meaning
 limited depth text printed = if nat_lt limit (length text) then refuses TooLarge else (if nat_lt depth_limit depth then refuses TooDeep else gives text printed)
 
 too_large : (depth : ℕ) (text : Bytes) (printed : Option Bytes) → limit < length text → limited depth text printed ≡ refuses TooLarge

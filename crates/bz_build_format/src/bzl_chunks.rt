@@ -1,5 +1,5 @@
 //! The formatted text of a long .bzl text, made chunk by chunk: its tree and its value are never in memory as a whole.
-ghost use Rattle.std.specs.Prelude.{◌≡◌, ◌≤◌, ◌<◌, IfOk, IfSome, Ok, length, take};
+ghost use Rattle.std.specs.Prelude.{◌≤◌, ◌<◌, IfOk, IfSome, Ok, length, take};
 ghost use Rattle.bz_build_format.specs.private.Chunks.{bzl_files, IsAppended, ReadsAs};
 ghost use Rattle.bz_build_format.specs.Faults.{FormatsBzlTo};
 

@@ -1,12 +1,11 @@
 //! The formatted text of a long text, made chunk by chunk: its tree and its value are never in memory as a whole.
-ghost use Rattle.std.specs.Prelude.{◌≡◌, ◌≤◌, ◌<◌, ◌++◌, true, None, IfOk, IfSome, length, take};
+ghost use Rattle.std.specs.Prelude.{◌≤◌, ◌<◌, true, None, IfOk, IfSome, length, take};
 ghost use Rattle.bz_build_format.specs.private.Chunks.{build_files, IsAppended, ReadsAs};
 ghost use Rattle.bz_build_format.specs.Meaning.{gives, Formats};
 
 use crate::cut::{CHUNK, TRIES, Unseen, chunk_end, why_unseen};
-use crate::writing::value_of;
 use bz_grammar::LENGTH_LIMIT;
-use bz_hosts::{ends_with_line, views_join};
+use bz_hosts::{ends_with_line, into_view, views_join};
 use bz_items::Text;
 use bz_layout::{append_file, layouts_join};
 use bz_passes::{begins_with_load, tidied_apart, tidy};
@@ -36,7 +35,7 @@ fn seen(alloc: Global, text: &[u8], is_last: bool) -> Result<(File, bool), Unsee
     if !ends && !is_last {
         return Err(Unseen::Short);
     }
-    match value_of(alloc, tree) {
+    match into_view(alloc, tree) {
         Ok(file) => Ok((file, ends)),
         Err(_) => Err(Unseen::Never),
     }

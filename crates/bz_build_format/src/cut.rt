@@ -6,13 +6,13 @@ use memchr::{memchr, memrchr};
 
 /// This many bytes a chunk has at least: most are one statement. So few nodes and values are there at a time that the allocator has at hand
 /// what the chunk before gave back; with 32 KB it searches for nearly each, which takes a tenth of the whole time.
-pub const CHUNK: usize = 128;
+pub(crate) const CHUNK: usize = 128;
 
 /// How often a chunk that ends within a statement is tried again, at twice the length.
-pub const TRIES: usize = 20;
+pub(crate) const TRIES: usize = 20;
 
 /// Why a chunk is not seen.
-pub enum Unseen {
+pub(crate) enum Unseen {
     /// It may be read where more of the text is taken.
     Short,
     /// It is not read, or memory was refused.
@@ -21,7 +21,7 @@ pub enum Unseen {
 
 /// Why a text is not seen that is not read: with more after it, if it is not the last, it may be, where a string is open, or the end is
 /// not expected.
-pub fn why_unseen(fault: &ReadFault, text: &[u8], is_last: bool) -> Unseen {
+pub(crate) fn why_unseen(fault: &ReadFault, text: &[u8], is_last: bool) -> Unseen {
     match fault {
         _ if is_last => Unseen::Never,
         ReadFault::OpenString { .. } => Unseen::Short,
@@ -78,7 +78,7 @@ fn code_end(text: &[u8], bare: bool) -> usize
 /// A place after which a chunk may begin that has some `from` bytes before it: right after a line that is neither blank nor a
 /// comment, where the next such line begins as a statement does (`bare`: with no comment between them); or else the end of the text. It is a
 /// guess: brackets and strings that are open there are not looked for.
-pub fn chunk_end(text: &[u8], from: usize, bare: bool) -> usize
+pub(crate) fn chunk_end(text: &[u8], from: usize, bare: bool) -> usize
     ensures bound { result ≤ length text.now }
     ensures some { 0 < length text.now → 0 < result }
 {

@@ -6,10 +6,11 @@ ghost use Rattle.bz_build_format.specs.Fixed.{IsFormatted, IsFormattedBzl};
 use crate::bzl_chunks::chunks_formatted as bzl_chunks_formatted;
 use crate::chunks::chunks_formatted;
 use crate::laws::{formatted_bzl_once, formatted_once};
-use crate::writing::{value_of, written_text};
+use crate::writing::written_text;
 use bz_bzl_layout::{level, level_keeps_layout, level_stays, set_bzl};
 use bz_bzl_value::{bzl_view_is_proper, view_bzl};
 use bz_grammar::ReadFault;
+use bz_hosts::into_view;
 use bz_items::Text;
 use bz_layout::SetFault;
 use bz_tree::{parse, parse_bzl};
@@ -35,7 +36,7 @@ pub enum FormatFault {
 }
 
 /// Why there is no formatted text of a text that is not read.
-pub fn of_read_fault(fault: ReadFault) -> FormatFault
+fn of_read_fault(fault: ReadFault) -> FormatFault
     ensures { ((result ≡ FormatFault.Unread fault) × (fault ≢ ReadFault.Memory)) ⊎ (result ≡ FormatFault.Memory) }
 {
     match fault {
@@ -59,7 +60,7 @@ pub fn format(alloc: Global, text: &[u8]) -> Result<Text, FormatFault>
         Ok(tree) => tree,
         Err(fault) => return Err(of_read_fault(fault)),
     };
-    let Ok(value) = value_of(alloc, tree) else {
+    let Ok(value) = into_view(alloc, tree) else {
         return Err(FormatFault::Memory);
     };
     match written_text(alloc, value, text.len()) {

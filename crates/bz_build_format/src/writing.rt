@@ -1,14 +1,12 @@
-//! Texts of new values, and what trees say.
+//! Texts of new values, and of trees.
 ghost use Rattle.std.specs.Prelude.{◌≡◌, ◌⊎◌, Option, IfOk, IfErr};
 ghost use Rattle.bz_items.specs.Characters.{Bytes};
 ghost use Rattle.bz_grammar.specs.Legal.{Reads};
 ghost use Rattle.bz_grammar.specs.Spell.{spell_node};
-ghost use Rattle.bz_hosts.specs.View.{view_of};
 ghost use Rattle.bz_build_format.specs.Meaning.{gives, refuses, written};
 
 use bz_grammar::Tree;
-use bz_hosts::into_view;
-use bz_items::{Memory, Text};
+use bz_items::Text;
 use bz_layout::{SetFault, text_of_file};
 use bz_passes::tidy;
 use bz_rule::take_apart;
@@ -20,13 +18,6 @@ pub fn reads_back(tree: &Tree)
     ensures { Reads (spell_node tree.now) tree.now }
 {
     let _root = &tree.root;
-}
-
-/// The value of a tree that is dropped.
-pub(crate) fn value_of(alloc: Global, tree: Tree) -> Result<File, Memory>
-    ensures { IfOk result (λ file. file ≡ view_of tree) }
-{
-    into_view(alloc, tree)
 }
 
 /// The text of a new value, which has about this many bytes: the layout of the value tidied. No tree is made for it.

@@ -18,7 +18,7 @@ pub returns-in-Ok-written_text-clause-fixed : goal.returns-in-Ok-written_text-cl
 returns-in-Ok-written_text-clause-fixed c = c.formatted_once.ensures c.args.text.now c.in-Ok-written_text.formatted (
   c.in-Ok.tree,
   c.in-Ok.ensures.ok,
-  sym (c.in-Ok-written_text.ensures.ok None) ∙ ap (λ (items : List Item). written items None) c.in-Ok-value_of.ensures,
+  sym (c.in-Ok-written_text.ensures.ok None) ∙ ap (λ (items : List Item). written items None) c.in-Ok-into_view.ensures.value,
 )
 
 pub returns-in-Some-clause-fixed : goal.returns-in-Some-clause-fixed

@@ -1,9 +1,0 @@
-use Rattle.std.proofs.Common.{ap}
-use Rattle.bz_grammar.specs.declared.tree.Node.{Node}
-use Rattle.bz_relayout.proofs.Lines.{lines_of_read}
-use Rattle.bz_relayout.proofs.whole_lines.lines_read.Goals as goal
-
-pub returns : goal.returns
-returns c =
-    lines_of_read c.lines_join.ensures.build c.args.text.now c.in-Ok.tree c.tree.inside.root.parts c.pop.new.self c.pop.result c.in-Ok.ensures.ok (c.ends_with_line.ensures c.if-not-ends_with_line.false)
-    (ap (λ (n : Node). n.parts) c.tree.view_is) c.pop.ensures
