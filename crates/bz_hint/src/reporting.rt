@@ -1,4 +1,4 @@
-//! The line below that of a command which is refused. The faults of standard error are passed over.
+//! The lines below that of a command which is refused, and those on a file that a command changed. The faults of standard error are passed over.
 ghost use Rattle.std.specs.Prelude.{◌≡◌, ◌∷◌, [], ◌++◌, List, ℕ, Some, None, codes, decimal, option_map, OnOk, OnErr};
 ghost use Rattle.std.specs.Str.Lossy.{utf8_lossy};
 ghost use Rattle.bz_grammar.specs.Legal.{Reads};
@@ -8,13 +8,16 @@ ghost use Rattle.bz_hosts.specs.View.{view_of};
 ghost use Rattle.bz_streams.specs.Faults.{AppendsUnlessFailed};
 ghost use Rattle.bz_streams.specs.Outputs.{Reports};
 ghost use Rattle.bz_streams.specs.Controls.{escaped_text};
-ghost use Rattle.bz_hint.specs.Hints.{missing_line, missing_lines, refusal_hint, refusing_lines, rule_line};
+ghost use Rattle.bz_command_syntax.specs.Patterns.{has_escaped_digit, missing_group};
+ghost use Rattle.bz_hint.specs.Hints.{change_notes, comment_hint_lines, escaped_digit_lines, missing_group_line, missing_group_lines, missing_line, missing_lines, refusal_hint, refusing_lines, rule_line, target_lines};
 ghost use Rattle.bz_hint.specs.Names as names;
 ghost use Rattle.bz_hint.specs.Refusing as refusing;
 
 use crate::names::nearest_rule;
 use crate::refusing::refusing_rule;
 use bz_command::{Command, Refusal};
+use bz_command_line::COMMENT_TEXT_LINE;
+use bz_command_syntax::{CommentOperation, Operation, Pattern, ValueOperation, has_escaped_digit};
 use bz_items::Memory;
 use bz_label::{Target, Which};
 use bz_streams::{LinePiece, Sink, report_pieces};
@@ -156,9 +159,46 @@ fn hint_refusing<E: Sink>(
     Ok(())
 }
 
+// Reports what helps by the target of a command that is refused.
+fn hint_target<E: Sink>(
+    alloc: Global,
+    err: &mut E,
+    file: &str,
+    text: &[u8],
+    command: &Command,
+    target: &Target,
+    current: &[u8],
+    refusal: Refusal,
+) -> Result<(), Memory>
+    ensures ok { (n : Node) → Reads text.now n → OnOk result (Reports (E.faults err.old) (E.faults err.new) (E.contents err.old) (E.contents err.new)
+        (target_lines file.now refusal command.now target.now.which current.now (lines_of n) (view_of n))) }
+    ensures err { OnErr result (err.new ≡ err.old) }
+{
+    match &target.which {
+        Which::All | Which::Kind(_) => {
+            hint_refusing(alloc, err, file, text, command, target, current)
+        }
+        Which::Name(name) if refusal.number() == Refusal::NoTarget.number() => {
+            hint_missing(alloc, err, file, text, name.as_slice())
+        }
+        Which::Name(_) | Which::Line(_) | Which::Package => Ok(()),
+    }
+}
+
+// Reports how the text of a comment is written, of which the first words were read as an attribute that isn't there.
+fn report_comment_text<E: Sink>(err: &mut E, command: &Command, refusal: Refusal)
+    ensures { Reports (E.faults err.old) (E.faults err.new) (E.contents err.old) (E.contents err.new) (comment_hint_lines refusal command.now) }
+{
+    if let Operation::Comment(CommentOperation::Add { .. }) = &command.operation
+        && refusal.number() == Refusal::NoAttribute.number()
+    {
+        report_pieces(err, &[LinePiece::Own(COMMENT_TEXT_LINE)]);
+    }
+}
+
 /// Reports what helps below the line of a command that is refused in a file of this name and text, a BUILD file's: where no rule has the name
-/// of the target, that, and the name that is near; where the target means several rules, which one refuses it. `current` is the path of
-/// the file's package. The error: memory was refused, and nothing is reported.
+/// of the target, that, and the name that is near; where the target means several rules, which one refuses it; where a comment is put on an attribute that isn't there, how
+/// its text is written. `current` is the path of the file's package. The error: memory was refused, and nothing is reported.
 pub fn report_hint<E: Sink>(
     alloc: Global,
     err: &mut E,
@@ -173,13 +213,71 @@ pub fn report_hint<E: Sink>(
         (refusal_hint file.now refusal command.now target.now.which current.now (lines_of n) (view_of n))) }
     ensures err { OnErr result (err.new ≡ err.old) }
 {
-    match &target.which {
-        Which::All | Which::Kind(_) => {
-            hint_refusing(alloc, err, file, text, command, target, current)
-        }
-        Which::Name(name) if refusal.number() == Refusal::NoTarget.number() => {
-            hint_missing(alloc, err, file, text, name.as_slice())
-        }
-        Which::Name(_) | Which::Line(_) | Which::Package => Ok(()),
+    hint_target(alloc, err, file, text, command, target, current, refusal)?;
+    report_comment_text(err, command, refusal);
+    Ok(())
+}
+
+// A template names a group that its pattern lacks.
+fn report_missing_group<'a, E: Sink>(err: &mut E, file: &'a str, name: &'a str)
+    ensures { AppendsUnlessFailed (E.faults err.old) (E.faults err.new) (E.contents err.old) (E.contents err.new)
+        (missing_group_line file.entry.now name.entry.now) }
+{
+    report_pieces(
+        err,
+        &[
+            LinePiece::Own("buildozer: note: "),
+            LinePiece::Outside(file),
+            LinePiece::Own(": the pattern has no group '"),
+            LinePiece::Outside(name),
+            LinePiece::Own(
+                "', and nothing is put there: before a letter, a digit or _ a group is written ${1}\n",
+            ),
+        ],
+    );
+}
+
+fn note_missing_group<E: Sink>(err: &mut E, file: &str, pattern: &Pattern, template: &[u8])
+    ensures { Reports (E.faults err.old) (E.faults err.new) (E.contents err.old) (E.contents err.new)
+        (missing_group_lines file.now (missing_group pattern.now template.now)) }
+{
+    if let Some(name) = pattern.missing_group(template) {
+        report_missing_group(err, file, name);
+    }
+}
+
+fn note_escaped_digit<'a, E: Sink>(err: &mut E, file: &'a str, template: &[u8])
+    ensures { Reports (E.faults err.old) (E.faults err.new) (E.contents err.old) (E.contents err.new)
+        (escaped_digit_lines file.entry.now (has_escaped_digit template.now)) }
+{
+    if has_escaped_digit(template) {
+        report_pieces(
+            err,
+            &[
+                LinePiece::Own("buildozer: note: "),
+                LinePiece::Outside(file),
+                LinePiece::Own(
+                    ": a backslash before a digit is put there as it is: a group is written $1 or ${1}\n",
+                ),
+            ],
+        );
+    }
+}
+
+/// Reports what is to be noted of a command that changed the file of this name: a template that names a group which its pattern lacks, or that
+/// has a backslash before a digit. It takes no memory.
+pub fn report_notes<E: Sink>(err: &mut E, file: &str, command: &Command)
+    ensures { Reports (E.faults err.old) (E.faults err.new) (E.contents err.old) (E.contents err.new) (change_notes file.now command.now) }
+{
+    if let Operation::Value(
+        ValueOperation::Substitute {
+            pattern,
+            template,
+            ..
+        },
+    ) = &command.operation
+    {
+        note_missing_group(err, file, pattern, template.as_slice());
+        note_escaped_digit(err, file, template.as_slice());
     }
 }
