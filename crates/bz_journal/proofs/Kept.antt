@@ -46,9 +46,6 @@ as_before was s tree steps notes is same_tree same_steps same_notes =
     ∙ ap (λ (l : List (List Edit)). let v : SessionState = record { tree = was.tree; steps = l; notes = notes; «package» = was.«package»; cursor = was.cursor; before = was.before } in v) same_steps
     ∙ ap (λ (l : List Bytes). let v : SessionState = record { tree = was.tree; steps = was.steps; notes = l; «package» = was.«package»; cursor = was.cursor; before = was.before } in v) same_notes ∙ is
 
-pub small_as_before : (s t : SessionState) → t ≡ s → IsSmall (session_trail s) → IsSmall (session_trail t)
-small_as_before s t same small = subst (λ (v : SessionState). IsSmall (session_trail v)) (sym same) small
-
 -- ---- the cursor moves
 
 -- what a slice of the steps wrote back

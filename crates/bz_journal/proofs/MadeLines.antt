@@ -35,9 +35,6 @@ parts_stay one next tree here kind is_tree reads is = (
       ap (λ (n : Node). n.parts) (one (spell_node tree) next tree other reads),
 )
 
-pub lines_tree : (windows : List PartWindow) (tree : Node) (items : List Item) → AreLinesOf windows tree items → IsTree (with_windows windows tree)
-lines_tree windows tree items are = (are.reads.0, subst (λ (t : Bytes). length t ≤ limit) (sym are.reads.1) are.reads.2)
-
 -- where the value is written, it gives what the tree spells
 pub lines_written : (windows : List PartWindow) (tree : Node) (file : List Item) (printed : Option Bytes) → AreLinesOf windows tree (tidied file)
     → gives (spell_node (with_windows windows tree)) printed ≡ written file printed

@@ -26,9 +26,6 @@ pub record IsPassed (ws : List PartWindow) (parts : List Part) (i old new : ℕ)
   pub new_within : new ≤ length parts
   pub stays : (window_parts ws parts ≡ parts) ↔ (window_parts (drop i ws) (drop old parts) ≡ drop new parts)
 
-pub none_passed : (ws : List PartWindow) (parts : List Part) → AreThere ws parts → IsPassed ws parts 0 0 0
-none_passed ws parts there = record { there = there; old_within = omega arith; new_within = omega arith; stays = (λ e. e, λ e. e) }
-
 -- the next window
 module _ (ws : List PartWindow) (parts : List Part) (i old new : ℕ) (w : PartWindow) (in_list : i < length ws) (is : w ≡ get_or ws i w) (passed : IsPassed ws parts i old new) where
   rest_is : drop i ws ≡ w ∷ drop (i + 1) ws

@@ -1,6 +1,6 @@
 -- What keeping an action leaves, by its ways out.
 use Rattle.std.proofs.Common.{◌≡◌, ◌≢◌, ◌⊎◌, ◌≤◌, ◌∙◌, inl, inr, ℕ, List, [], true, length, Option, Result, Some, Ok, Err, refl, sym, ap, subst, arith}
-use Rattle.std.specs.Prelude.{IfErr, IsErrOf}
+use Rattle.std.specs.Prelude.{IfOk, IfErr, IsErrOf}
 use Rattle.std.specs.FinMap.{get}
 use Rattle.std.proofs.lemmas.Bool.{false≢true}
 use Rattle.bz_edit.specs.declared.edit.Edit.{Edit}
@@ -275,3 +275,8 @@ module _ {F : Type 0} (files : FilesOf F) (file : Bytes) (h : History) (held : F
     count = omega arith;
     honest = refl;
   }
+
+  pub file_unkept : (answer : Answer) (result : Result Reply KeepFault) → IfOk answer (λ reply. result ≡ Ok reply) → IfErr answer (λ refusal. result ≡ Err (Refused refusal))
+      → KeepsFile files file h h result held held
+  file_unkept (Ok reply) result is err = subst (λ (r : Result Reply KeepFault). KeepsFile files file h h r held held) (sym is) (file_still reply)
+  file_unkept (Err refusal) result ok is = subst (λ (r : Result Reply KeepFault). KeepsFile files file h h r held held) (sym is) (file_left refusal)

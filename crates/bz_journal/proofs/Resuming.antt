@@ -1,5 +1,5 @@
 -- What is saved of a session, and what is resumed of a journal.
-use Rattle.std.proofs.Common.{◌≡◌, ◌≤◌, ℕ, List, [], length, map, IsUtf8, refl, sym, ap, subst, ◌∙◌, arith, Some}
+use Rattle.std.proofs.Common.{◌≡◌, ◌≤◌, ℕ, List, [], length, map, IsUtf8, refl, sym, ap, subst, ◌∙◌, arith}
 use Rattle.std.specs.Prelude.{slice_index_or, Result, Ok, Err, IfOk, IfErr}
 use Rattle.sha2.specs.Sha256.{sha256}
 use Rattle.bz_grammar.specs.declared.tree.Node.{Node}
@@ -13,13 +13,13 @@ use Rattle.bz_items.specs.Characters.{Bytes}
 use Rattle.bz_resume.specs.declared.fault.ResumeFault.{ResumeFault}
 use Rattle.bz_resume.specs.declared.fault.ResumeFault.TheVariants as f
 use Rattle.bz_resume.specs.declared.resumed.Resumed.{Resumed}
-use Rattle.bz_resume.specs.Journals.{AreSmall, Journal, MaySave, stands}
+use Rattle.bz_resume.specs.Journals.{AreSmall, Journal, MaySave}
 use Rattle.bz_resume.specs.Resumed as r
 use Rattle.bz_resume.specs.Resumed.{StandsFor}
 use Rattle.bz_journal.specs.History.{History, present}
 use Rattle.bz_files.specs.Folder.{Folder}
 use Rattle.bz_resume.specs.Resuming.{FollowsKept, MayResume, Resumes}
-use Rattle.bz_journal.specs.Lasting.{GoesOn, IsAgain, IsKnownSession, IsResumedSession, IsSavedSession, saved}
+use Rattle.bz_journal.specs.Lasting.{GoesOn, IsKnownSession, IsResumedSession, IsSavedSession, saved}
 use Rattle.bz_journal.specs.Shown.{session_history}
 use Rattle.bz_journal.specs.State.{SessionState, IsSession, session_trail}
 
@@ -88,14 +88,6 @@ same_history p q ts us ns ms c e f g =
     ∙ ap (λ z. let h : History = record { «package» = p; texts = z; notes = ms; cursor = c; before = c } in h) f
     ∙ ap (λ z. let h : History = record { «package» = p; texts = ts; notes = z; cursor = c; before = c } in h) g
 
-pub goes_on : (h : History) (es : List (List Edit)) (text current : Bytes) (s : Resumed) → StandsFor h es text s → current ≡ s.«package» → GoesOn h es text (state_of s current)
-goes_on h es text current s stood is = record {
-  at = s.cursor;
-  stands_there = stood.stands_there;
-  history = same_history h.«package» current h.texts (texts_of (r.trail_of s)) h.notes s.notes s.cursor (is ∙ stood.package_is) stood.texts stood.notes;
-  small = stood.small;
-}
-
 pub resumed_made : (bytes text : Bytes) (s : Resumed) (result : Result SessionState ResumeFault) → r.IsResumed bytes text s
     → IfOk result (λ t. (h : History) (es : List (List Edit)) (text : Bytes) → StandsFor h es text s → GoesOn h es text t) → IfOk result (IsResumedSession bytes text)
 resumed_made bytes text s (Ok t) (h, es, journal, stood) made = (h, es, journal, made h es text stood)
@@ -106,21 +98,6 @@ pub known_made : (h : History) (es : List (List Edit)) (text : Bytes) (s : Resum
     → IsKnownSession h es text result
 known_made h es text s (Ok t) stood made memory = made h es text stood
 known_made h es text s (Err fault) stood made memory = subst (λ (x : ResumeFault). IsKnownSession h es text (Err x)) (sym memory) tt
-
--- ---- once more
-
-some_same : (a b : ℕ) → Some a ≡ Some b → a ≡ b
-some_same a b e = cc
-
-pub is_again : (s : SessionState) (small : IsSmall (session_trail s) → AreSmall (session_history s) s.steps) (text : Bytes) (result : Result SessionState ResumeFault)
-    → stands (session_history s) text ≡ Some s.cursor → IsKnownSession (session_history s) s.steps text result → IsAgain s result
-is_again s small text (Ok t) there known =
-    let at : known.at ≡ s.cursor = some_same known.at s.cursor (sym known.stands_there ∙ there) in
-    (known.history ∙ ap (λ (n : ℕ). let h : History = record (session_history s) { cursor = n; before = n } in h) at, λ own. known.small (small own))
-is_again s small text (Err f.Memory) there known = tt
-is_again s small text (Err f.Stale) there known = let e = sym known ∙ there in absurd (cc)
-is_again s small text (Err f.Damaged) there known = known
-is_again s small text (Err f.Version) there known = known
 
 -- ---- keeping
 

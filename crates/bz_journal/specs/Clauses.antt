@@ -10,12 +10,12 @@ pub use Rattle.bz_items.specs.Characters.{Bytes}
 pub use Rattle.bz_journal.specs.Actions.{MakesText, action_in}
 pub use Rattle.bz_journal.specs.private.Alone.{text_or}
 pub use Rattle.bz_journal.specs.private.Filling.{Overfills}
-pub use Rattle.bz_journal.specs.private.Doing.{EndsAt, HasMade, IsReady, RunsIn}
-pub use Rattle.bz_journal.specs.Editing.{AreFirstDigests, IsBeside, WrittenIsLaidOut}
+pub use Rattle.bz_journal.specs.private.Doing.{EndsAt, HasMade, IsAtOnce, IsReady, RunsIn}
+pub use Rattle.bz_journal.specs.Editing.{AreFirstDigests, IsSeenIn, WrittenIsLaidOut}
 pub use Rattle.bz_journal.specs.History.{Acts, Answer, History, IsFormat, IsKept, MakesOrWants, Runs, after_meaning, after_text, changed, most_steps, note_limit, opened, present, unchanged}
 pub use Rattle.bz_journal.specs.Keeping.{HasActed, IsRefused, IsWriteOrOpen, IsWrittenSince, Keeps, KeepsFile, KeepsPair}
 pub use Rattle.bz_journal.specs.Lasting.{AlikeActs, AlikeGoesOn, GoesOn, IsAgain, IsKnownSession, IsResumedSession, IsSavedSession, saved}
-pub use Rattle.bz_journal.specs.private.Making.{AreLinesOf, IsMadeOf}
+pub use Rattle.bz_journal.specs.private.Making.{AreLinesOf, IsMadeOf, MakesLines}
 pub use Rattle.bz_journal.specs.private.Moving.{AreShifted, IsLike, IsLineOfOne, moved, moved_from}
 pub use Rattle.bz_journal.specs.Listing.{lines_of_texts, listing, noted, text_line, text_lines_from}
 pub use Rattle.bz_journal.specs.Lookups.{AreLookupsOf}

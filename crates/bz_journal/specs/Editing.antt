@@ -12,18 +12,18 @@ use Rattle.bz_layout.specs.Written.{layout}
 use Rattle.bz_passes.specs.Passes.{tidied}
 use Rattle.bz_build_format.specs.Meaning.{IsWritten}
 use Rattle.bz_journal.specs.declared.action.Reply.{Reply}
-use Rattle.bz_journal.specs.declared.beside.Beside.{Beside}
+use Rattle.bz_journal.specs.declared.doing.Seen.{Seen}
 use Rattle.bz_journal.specs.Lookups.{AreLookupsOf}
 use Rattle.bz_journal.specs.Meaning.{written}
 use Rattle.bz_journal.specs.History.{History, Answer, after_meaning, present}
 
 -- The value that is kept is the view of the tree, and what was looked up is that of the tree; a tree that counts as written is the
 -- layout of its view, which is tidy, and its text has this many bytes.
-pub record IsBeside (tree : Node) (beside : Beside) : Type 0 where
-  pub seen : IfSome beside.value (λ items. items ≡ view_of tree)
-  pub looked : AreLookupsOf beside.lookups tree
-  pub written : beside.written ≡ true → IsWritten (view_of tree) tree
-  pub length_is : beside.written ≡ true → beside.length ≡ length (spell_node tree)
+pub record IsSeenIn (tree : Node) (seen : Seen) : Type 0 where
+  pub value : IfSome seen.value (λ items. items ≡ view_of tree)
+  pub looked : AreLookupsOf seen.lookups tree
+  pub written : seen.written ≡ true → IsWritten (view_of tree) tree
+  pub length_is : seen.written ≡ true → seen.length ≡ length (spell_node tree)
 
 -- these are the digests of the first texts
 abbrev pub AreFirstDigests : List Bytes → List Bytes → Type 0

@@ -1,11 +1,11 @@
 //! Commands that leave the present text as it is, answered by the value beside a session.
 ghost use Rattle.std.specs.Prelude.{◌≡◌, ◌⊎◌, None, Ok, Err, IfErr, IfOk, IfSome};
-ghost use Rattle.bz_journal.specs.Clauses.{AreLookupsOf, Bytes, IsBeside, IsIndexOf, MakesOrWants, Node, Refusal, effect, lines_of, printed, session_history, view_of};
+ghost use Rattle.bz_journal.specs.Clauses.{AreLookupsOf, Bytes, IsSeenIn, IsIndexOf, MakesOrWants, Node, Refusal, effect, lines_of, printed, session_history, view_of};
 ghost use Rattle.bz_journal.specs.Actions as a;
 
 use crate::action::Reply;
-use crate::beside::Beside;
 use crate::course::{Course, unchanged};
+use crate::doing::Seen;
 use crate::meaning::{lines_for, printed_answer, value_of};
 use bz_build_format::reads_back;
 use bz_command::{Outcome, looks_at_lines, run_named};
@@ -114,6 +114,28 @@ pub(crate) fn look_up_lines(
     Ok(())
 }
 
+/// Makes the index of the names in the value of a tree, where it isn't there yet. The error: memory was refused.
+pub(crate) fn look_up_names(
+    alloc: Global,
+    lookups: &mut Lookups,
+    tree: &Tree,
+    file: &File,
+) -> Result<(), Memory>
+    requires lookups { AreLookupsOf lookups.old tree.now }
+    requires value { file.now ≡ view_of tree.now }
+    ensures { AreLookupsOf lookups.new tree.now }
+{
+    if lookups.names.is_none() {
+        lookups.names = Some(Names::of(alloc, file.items.as_slice())?);
+    }
+    Ok(())
+}
+
+/// Whether a target means rules by their name.
+pub(crate) fn is_by_name(target: &Target) -> bool {
+    matches!(target.which, Which::Name(_))
+}
+
 /// Looks up what a command and its target need of a tree and its value, and isn't there yet. The error: memory was refused.
 fn look_up(
     alloc: Global,
@@ -128,8 +150,8 @@ fn look_up(
     ensures { AreLookupsOf lookups.new tree.now }
 {
     look_up_lines(alloc, command, target, lookups, tree)?;
-    if lookups.names.is_none() && matches!(target.which, Which::Name(_)) {
-        lookups.names = Some(Names::of(alloc, file.items.as_slice())?);
+    if is_by_name(target) {
+        look_up_names(alloc, lookups, tree, file)?;
     }
     Ok(())
 }
@@ -137,23 +159,23 @@ fn look_up(
 /// What a command answers by the value of the present text, which is kept with what is looked up; none where it would change the text.
 pub(crate) fn answer(
     course: &Course,
-    beside: &mut Beside,
+    seen: &mut Seen,
     command: &Command,
     target: &Target,
 ) -> Option<Result<Reply, Refusal>>
-    requires { IsBeside course.now.tree beside.old }
+    requires { IsSeenIn course.now.tree seen.old }
     ensures makes { IfSome result (λ answer. (note : Bytes) → MakesOrWants (a.Do command.now target.now) note (session_history course.now) answer (session_history course.now)) }
-    ensures beside { IsBeside course.now.tree beside.new }
+    ensures seen { IsSeenIn course.now.tree seen.new }
 {
     let alloc = course.alloc();
     let here = course.present();
-    let Ok(file) = value_of(alloc, beside.value.take(), here) else {
+    let Ok(file) = value_of(alloc, seen.value.take(), here) else {
         return Some(Err(Refusal::Memory));
     };
-    if look_up(alloc, command, target, &mut beside.lookups, here, &file).is_err() {
+    if look_up(alloc, command, target, &mut seen.lookups, here, &file).is_err() {
         return Some(Err(Refusal::Memory));
     }
-    let answer = answer_of(course, command, target, &beside.lookups, &file);
-    beside.value = Some(file);
+    let answer = answer_of(course, command, target, &seen.lookups, &file);
+    seen.value = Some(file);
     answer
 }

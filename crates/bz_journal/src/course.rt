@@ -1,9 +1,9 @@
 //! The course of a file: its texts as one tree and the steps between them, and what actions make of it.
-ghost use Rattle.std.specs.Prelude.{◌≡◌, ◌≤◌, ◌<◌, ◌-◌, ◌+◌, ◌↔◌, true, false, take, Err, None, Ok, Result, ℕ, List, IfOk, OnOk, OnErr, IsOk, IsTrue, length, string_bytes};
-ghost use Rattle.bz_journal.specs.Clauses.{OpensText, AreThere, EndsAt, IsSmall, IsTree, MakesOrWants, Refusal, after_text, are_even, changed, most_steps, note_limit, opened, present, session_history, session_trail, spell_node, steps_back, steps_forward, unchanged, with_windows};
+ghost use Rattle.std.specs.Prelude.{◌≡◌, ◌≤◌, ◌<◌, ◌+◌, ◌↔◌, true, false, take, Err, None, Ok, Result, ℕ, List, IfOk, OnOk, OnErr, IsOk, IsTrue, length, string_bytes};
+ghost use Rattle.bz_journal.specs.Clauses.{AreThere, EndsAt, IsAtOnce, IsSmall, IsTree, MakesOrWants, OpensText, Refusal, action_in, after_text, are_even, changed, most_steps, note_limit, opened, present, session_history, session_trail, spell_node, steps_back, steps_forward, unchanged, with_windows};
 ghost use Rattle.bz_journal.specs.Actions as a;
 
-use crate::action::Reply;
+use crate::action::{Action, Reply};
 use crate::staying::stay;
 use bz_build_format::reads_back;
 use bz_edit::{PartWindow, Step};
@@ -85,6 +85,27 @@ pub(crate) fn text_of(tree: &Tree) -> Result<Vec<u8>, Memory>
     Ok(text)
 }
 
+/// What an action with a note answers at this number of a history, with `ahead` steps after it, where nothing is done for it: too long a note
+/// is refused before all else. None: it takes steps or makes a text.
+pub(crate) fn at_once(
+    action: &Action<'_>,
+    note: &str,
+    cursor: u32,
+    ahead: u32,
+) -> Option<Result<Reply, Refusal>>
+    ensures { IsAtOnce (action_in action.now) note.now cursor ahead result }
+{
+    if note.len() > MOST_NOTE {
+        return Some(Err(Refusal::NoteTooLong));
+    }
+    match *action {
+        Action::Undo(0) | Action::Redo(0) => Some(Ok(Reply::Moved)),
+        Action::Undo(n) if n > cursor => Some(Err(Refusal::TooFar)),
+        Action::Redo(n) if n > ahead => Some(Err(Refusal::TooFar)),
+        _ => None,
+    }
+}
+
 impl Course {
     pub(crate) fn alloc(&self) -> Global {
         *self.steps.allocator()
@@ -144,7 +165,7 @@ impl Course {
     }
 
     /// How many steps there are between the present text and the last.
-    fn steps_ahead(&self) -> u32
+    pub(crate) fn steps_ahead(&self) -> u32
         ensures steps { self.now.cursor + result ≡ length self.now.steps }
         ensures texts { (session_history self.now).cursor + result + 1 ≡ length (session_history self.now).texts }
     {
@@ -154,18 +175,14 @@ impl Course {
 
     /// Goes back by n steps.
     pub(crate) fn undo(&mut self, n: u32) -> Result<Reply, Refusal>
+        requires some { 0 < n }
+        requires there { n ≤ self.old.cursor }
         ensures makes { (note : List ℕ) → MakesOrWants (a.Undo n) note (session_history self.old) result (session_history self.new) }
         ensures unmoved { OnErr result (self.new ≡ self.old) }
         ensures even { n ≤ self.old.cursor → are_even (take n (steps_back (session_trail self.old))) ≡ true → IsOk result }
         ensures small { IsSmall (session_trail self.old) → IsSmall (session_trail self.new) }
     {
         texts_kept();
-        if n > self.cursor() {
-            return Err(Refusal::TooFar);
-        }
-        if n == 0 {
-            return Ok(Reply::Moved);
-        }
         let cursor = self.cursor;
         self.kept = KeptLines::new(self.alloc()); // the steps turn forward
         let steps = self.steps.as_mut_slice();
@@ -177,18 +194,15 @@ impl Course {
 
     /// Goes forward by n steps.
     pub(crate) fn redo(&mut self, n: u32) -> Result<Reply, Refusal>
+        requires some { 0 < n }
+        requires there { self.old.cursor + n ≤ length self.old.steps }
         ensures makes { (note : List ℕ) → MakesOrWants (a.Redo n) note (session_history self.old) result (session_history self.new) }
         ensures unmoved { OnErr result (self.new ≡ self.old) }
         ensures even { self.old.cursor + n ≤ length self.old.steps → are_even (take n (steps_forward (session_trail self.old))) ≡ true → IsOk result }
         ensures small { IsSmall (session_trail self.old) → IsSmall (session_trail self.new) }
     {
         texts_kept();
-        if n > self.steps_ahead() {
-            return Err(Refusal::TooFar);
-        }
-        if n == 0 {
-            return Ok(Reply::Moved);
-        }
+        let _ahead = self.steps_ahead();
         let cursor = self.cursor;
         self.kept = KeptLines::new(self.alloc()); // the steps turn back
         let steps = self.steps.as_mut_slice();

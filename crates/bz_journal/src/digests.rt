@@ -1,7 +1,7 @@
 //! The SHA-256 of the texts of a course: of the first ones, as they were taken, or of all, taken of a copy that goes through them.
-ghost use Rattle.std.specs.Prelude.{◌≡◌, ◌<◌, IfOk, IfSome, length, map};
+ghost use Rattle.std.specs.Prelude.{◌≡◌, ◌<◌, IfOk, IfSome, OnOk, length, map};
 ghost use Rattle.bz_journal.specs.Actions.{Action};
-ghost use Rattle.bz_journal.specs.Clauses.{Acts, AreFirstDigests, Bytes, History, IsTrail, present, session_history, sha256, texts_of, trail_at};
+ghost use Rattle.bz_journal.specs.Clauses.{Acts, AreFirstDigests, Bytes, History, IsSavedSession, IsTrail, listing, present, saved, session_history, sha256, texts_of, trail_at};
 
 use crate::action::{Reply, is_changed};
 use crate::course::Course;
@@ -10,7 +10,7 @@ use bz_edit::Step;
 use bz_grammar::Tree;
 use bz_history::laws::texts_kept;
 use bz_history::{copy_steps, go_back, go_forward};
-use bz_items::Memory;
+use bz_items::{Memory, Text};
 use bz_value::Refusal;
 use sha2::{Digest, Sha256};
 use std::alloc::Global;
@@ -40,7 +40,7 @@ pub(crate) fn cut_off(digests: &mut Vec<[u8; 32]>, course: &Course, answer: &Res
 }
 
 /// The digest of each text, where all are there.
-pub(crate) fn known<'a>(digests: &'a [[u8; 32]], course: &Course) -> Option<&'a [[u8; 32]]>
+fn known<'a>(digests: &'a [[u8; 32]], course: &Course) -> Option<&'a [[u8; 32]]>
     requires { AreFirstDigests digests.now (session_history course.now).texts }
     ensures { IfSome result (λ list. list.now ≡ map sha256 (session_history course.now).texts) }
 {
@@ -49,6 +49,42 @@ pub(crate) fn known<'a>(digests: &'a [[u8; 32]], course: &Course) -> Option<&'a 
         Some(digests)
     } else {
         None
+    }
+}
+
+/// The texts of a course, one line each, by the digests that are there. The error: a growth was refused.
+pub(crate) fn listed_by(
+    alloc: Global,
+    course: &Course,
+    digests: &[[u8; 32]],
+) -> Result<Text, Memory>
+    requires { AreFirstDigests digests.now (session_history course.now).texts }
+    ensures { IfOk result (λ text. text ≡ listing (session_history course.now)) }
+{
+    match known(digests, course) {
+        Some(digests) => course.listed(alloc, digests),
+        None => course.listed(alloc, course.hashed()?.as_slice()),
+    }
+}
+
+/// The journal of a course at this text, by the digests that are there. The error: a growth was refused.
+pub(crate) fn journal_by(
+    course: &mut Course,
+    digests: &[[u8; 32]],
+    text: &[u8],
+) -> Result<Vec<u8>, Memory>
+    requires first { AreFirstDigests digests.now (session_history course.old).texts }
+    requires text { text.now ≡ present (session_history course.old) }
+    ensures stored { IfOk result (λ stored. stored.items ≡ saved course.old) }
+    ensures journal { OnOk result (IsSavedSession course.old) }
+    ensures stays { course.new ≡ course.old }
+{
+    match known(digests, course) {
+        Some(digests) => course.journal(digests, text),
+        None => {
+            let hashed = course.hashed()?;
+            course.journal(hashed.as_slice(), text)
+        }
     }
 }
 

@@ -1,9 +1,11 @@
 //! Actions whose history outlives the run: a file and its journal, kept.
-ghost use Rattle.std.specs.Prelude.{◌≡◌, IfOk};
-ghost use Rattle.bz_journal.specs.Clauses.{Bytes, HasActed, IsWrittenSince, KeepsPair, SessionState, present, session_history};
+ghost use Rattle.std.specs.Prelude.{◌≡◌, ◌<◌, ℕ, IfErr, IfOk, IfSome, Err, Ok, length};
+ghost use Rattle.bz_journal.specs.Clauses.{AreFirstDigests, Bytes, HasActed, IsWrittenSince, KeepsPair, SessionState, present, session_history};
 ghost use Rattle.bz_journal.specs.Actions as a;
 
 use crate::action::Reply;
+use crate::course::{Course, text_of};
+use crate::digests::{journal_by, learn};
 use bz_files::Files;
 use bz_items::Memory;
 use bz_resume::{PairFault, keep};
@@ -24,6 +26,73 @@ pub enum KeepFault {
 pub(crate) struct Written {
     pub(crate) journal: Vec<u8>,
     pub(crate) text: Vec<u8>,
+}
+
+/// What is answered of an action that nothing was done for.
+pub(crate) fn unkept(answer: Result<Reply, Refusal>) -> Result<Reply, KeepFault>
+    ensures ok { IfOk answer (λ reply. result ≡ Ok reply) }
+    ensures err { IfErr answer (λ refusal. result ≡ Err (KeepFault.Refused refusal)) }
+{
+    match answer {
+        Ok(reply) => Ok(reply),
+        Err(refusal) => Err(KeepFault::Refused(refusal)),
+    }
+}
+
+/// The present text of a course: the one that is at hand, or else that of the tree. The error: a growth was refused.
+pub(crate) fn own_text(course: &Course, text: Option<Vec<u8>>) -> Result<Vec<u8>, Memory>
+    requires { IfSome text (λ own. own.items ≡ present (session_history course.now)) }
+    ensures { IfOk result (λ own. own.items ≡ present (session_history course.now)) }
+{
+    match text {
+        Some(text) => Ok(text),
+        None => text_of(course.present()),
+    }
+}
+
+/// The same; its digest is then known where those of the texts before it are.
+pub(crate) fn known_text(
+    course: &Course,
+    digests: &mut Vec<[u8; 32]>,
+    text: Option<Vec<u8>>,
+) -> Result<Vec<u8>, Memory>
+    requires first { AreFirstDigests digests.old.items (session_history course.now).texts }
+    requires text { IfSome text (λ own. own.items ≡ present (session_history course.now)) }
+    ensures first { AreFirstDigests digests.new.items (session_history course.now).texts }
+    ensures text { IfOk result (λ own. own.items ≡ present (session_history course.now)) }
+{
+    let text = own_text(course, text)?;
+    learn(digests, course, text.as_slice());
+    Ok(text)
+}
+
+/// What is written of a course, where its cursor is another one than this. The error: a growth was refused.
+pub(crate) fn written_since(
+    course: &mut Course,
+    digests: &mut Vec<[u8; 32]>,
+    from: u32,
+) -> Result<Option<Written>, Memory>
+    requires { AreFirstDigests digests.old.items (session_history course.old).texts }
+    ensures first { AreFirstDigests digests.new.items (session_history course.new).texts }
+    ensures written { IsWrittenSince course.new from result }
+    ensures stays { course.new ≡ course.old }
+{
+    if course.cursor() == from {
+        return Ok(None);
+    }
+    let text = known_text(course, digests, None)?;
+    let journal = journal_by(course, digests.as_slice(), text.as_slice())?;
+    Ok(Some(Written { journal, text }))
+}
+
+/// The text that was written, which the file is to hold at the next action.
+pub(crate) fn text_written(written: Result<Option<Written>, Memory>) -> Option<Vec<u8>>
+    ensures { (s : SessionState) (from : ℕ) → IsWrittenSince s from written → IfSome result (λ text. text.items ≡ present (session_history s)) }
+{
+    match written {
+        Ok(Some(written)) => Some(written.text),
+        Ok(None) | Err(_) => None,
+    }
 }
 
 /// Keeps an answer: where something is to be written, replaces the journal and then the file, which is still to hold the text `before`.

@@ -1,11 +1,10 @@
 //! Facts about the definitions, for readers: the functions do nothing.
 
-ghost use Rattle.bz_journal.specs.Forms.{HoldsRevisions};
+ghost use Rattle.bz_journal.specs.Forms.{HoldsPast};
 ghost use Rattle.bz_journal.specs.Clauses.{AlikeActs, AlikeGoesOn, HoldsSteps, IsKept, StoppedIsResumed, WorkedHistories, WrittenIsLaidOut, session_history};
 
 use crate::course::Course;
-use crate::editor::Editor;
-use crate::revisions::{Form, Revisions};
+use crate::past::{Form, Past};
 use crate::session::Session;
 use bz_grammar::laws::one_reading;
 use bz_history::laws::{small_steps, steps_lead, texts_kept};
@@ -48,20 +47,13 @@ pub fn session_holds(session: &Session)
     let _tree = &session.tree;
 }
 
-/// The same of an editor: what its history keeps, and what it holds.
-pub fn editor_holds(editor: &Editor)
-    ensures { HoldsSteps editor.now }
+/// The same of what a run has of a file, where that is a course; texts alone are two at most.
+pub fn past_holds(past: &Past)
+    ensures { HoldsPast past.now }
 {
-    course_holds(&editor.course);
-}
-
-/// The same of what a run has of a file, where that is an editor; texts alone are two at most.
-pub fn revisions_hold(revisions: &Revisions)
-    ensures { HoldsRevisions revisions.now }
-{
-    match &revisions.form {
-        Form::Editor(editor) => editor_holds(editor),
-        Form::Texts(texts) => texts.are_few(),
+    match &past.form {
+        Form::Course(course) => course_holds(course),
+        Form::Alone(texts) => texts.are_few(),
     }
 }
 

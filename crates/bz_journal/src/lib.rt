@@ -2,12 +2,12 @@
 #![tactic(auto)]
 
 mod action;
+mod alone;
 mod answering;
-mod beside;
 mod course;
 mod digest;
 mod digests;
-mod editor;
+mod doing;
 mod filling;
 mod keeping;
 mod lasting;
@@ -16,19 +16,17 @@ mod listing;
 mod making;
 mod meaning;
 mod moving;
-mod revisions;
+mod naming;
+mod past;
 mod session;
 mod staying;
-mod texts;
 
 pub use action::{Action, Reply};
 pub use bz_files::{DiskFiles, FileFault, FileKind, Files, MemoryFiles};
 pub use bz_resume::ResumeFault;
-pub use editor::Editor;
 pub use keeping::KeepFault;
 pub use laws::{
-    alike_goes_on, editor_holds, history_kept, revisions_hold, session_holds, stopped_is_resumed,
-    worked_histories,
+    alike_goes_on, history_kept, past_holds, session_holds, stopped_is_resumed, worked_histories,
 };
-pub use revisions::Revisions;
+pub use past::Past;
 pub use session::Session;

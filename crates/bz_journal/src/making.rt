@@ -1,15 +1,15 @@
 //! The lines of a new value that are other ones than in the present tree.
-ghost use Rattle.std.specs.Prelude.{◌≡◌, ◌⊎◌, ◌<◌, ◌≤◌, Err, IfErr, IfOk, IfSome, Option, length};
-ghost use Rattle.bz_journal.specs.Clauses.{AreLinesOf, AreOver, Bytes, IsMadeOf, IsProper, IsWritten, Refusal, SetFault, depth_limit, depth_of, laid_out, layout, limit, refuses, spell_node, tidied, view_of, written};
+ghost use Rattle.std.specs.Prelude.{◌≡◌, ◌<◌, ◌≤◌, Err, IfOk, IfSome, length};
+ghost use Rattle.bz_journal.specs.Clauses.{AreLinesOf, AreOver, IsIndexOf, IsWritten, MakesLines, Refusal, SetFault, depth_limit, depth_of, laid_out, layout, limit, spell_node, view_of};
 
-use bz_build_format::reads_back;
+use crate::naming::outlives;
+use bz_build_format::{is_mostly_other, read_text, read_windows, reads_back};
 use bz_edit::PartWindow;
 use bz_grammar::Tree;
 use bz_items::Items;
 use bz_layout::{SetFault, layout_is_accepted, text_of_file, text_windows};
 use bz_passes::{tidy, tidy_windows};
-use bz_relayout::{is_mostly_other, read_text, read_windows};
-use bz_rule::take_apart;
+use bz_rule::{Names, take_apart};
 use bz_value::{File, Refusal, Window};
 use std::alloc::Global;
 
@@ -19,6 +19,8 @@ pub(crate) struct Made {
     pub(crate) windows: Items<PartWindow>,
     /// The value, unless it was given up.
     pub(crate) value: Option<File>,
+    /// The index of the names in the value, where that of the names before is known to be it.
+    pub(crate) names: Option<Names>,
     /// How many bytes its layout has.
     pub(crate) length: usize,
 }
@@ -63,30 +65,33 @@ fn lines_of_windows(
 }
 
 /// The lines of a value that is another one than that of a tree in these windows alone: only what is in them is tidied and laid out. The tree is the
-/// layout of a tidy value, and has `len` bytes. Errors: `TooLarge`, `TooDeep`; `Memory`: a growth was refused.
+/// layout of a tidy value, and has `len` bytes; there may be an index of the names in that value. Errors: `TooLarge`, `TooDeep`; `Memory`: a growth
+/// was refused.
 pub(crate) fn made_by_windows(
     alloc: Global,
     mut windows: Items<Window>,
     mut file: File,
     tree: &Tree,
     len: usize,
+    names: Option<Names>,
 ) -> Result<Made, Refusal>
+    requires names { IfSome names (λ index. IsIndexOf index (view_of tree.now)) }
     requires over { AreOver windows (view_of tree.now) file }
     requires written { IsWritten (view_of tree.now) tree.now }
     requires len { len ≡ length (spell_node tree.now) }
-    ensures ok { IfOk result (λ made. IsMadeOf made tree.now (tidied file)) }
-    ensures proper { IsProper file }
-    ensures err { IfErr result (λ refusal. ((printed : Option Bytes) → written file printed ≡ refuses refusal) ⊎ (refusal ≡ Refusal.Memory)) }
+    ensures { MakesLines file tree.now result }
 {
     let _items = &file.items;
     if tidy_windows(alloc, &mut file, &mut windows).is_err() {
         take_apart(file);
         return Err(Refusal::Memory);
     }
+    let names = outlives(names, windows.as_slice(), file.items.as_slice());
     match lines_of_windows(alloc, windows.as_slice(), &file, tree, len) {
         Ok((windows, length)) => Ok(Made {
             windows,
             value: Some(file),
+            names,
             length,
         }),
         Err(fault) => {
@@ -115,9 +120,7 @@ pub(crate) fn made_by_text(
     tree: &Tree,
     about: usize,
 ) -> Result<Made, Refusal>
-    ensures ok { IfOk result (λ made. IsMadeOf made tree.now (tidied file)) }
-    ensures proper { IsProper file }
-    ensures err { IfErr result (λ refusal. ((printed : Option Bytes) → written file printed ≡ refuses refusal) ⊎ (refusal ≡ Refusal.Memory)) }
+    ensures { MakesLines file tree.now result }
 {
     let _items = &file.items;
     let tidy = tidy(alloc, file)?;
@@ -133,6 +136,7 @@ pub(crate) fn made_by_text(
         Ok(windows) => Ok(Made {
             windows,
             value,
+            names: None,
             length: text.len(),
         }),
         Err(_) => {

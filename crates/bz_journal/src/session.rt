@@ -4,9 +4,9 @@ ghost use Rattle.bz_journal.specs.Clauses.{HasActed, IsSmall, IsWrittenSince, Ke
 ghost use Rattle.bz_edit.specs.Steps.{weight as weight_held};
 
 use crate::action::{Action, Reply, is_changed};
-use crate::beside::{Beside, act};
 use crate::course::{Course, MOST_NOTE, begin, text_of};
 use crate::digest::digest_of;
+use crate::doing::{Seen, act};
 use crate::keeping::{KeepFault, Written, persist};
 use crate::listing::listed;
 use bz_edit::{Step, weight};
@@ -296,7 +296,7 @@ fn act_hashed(
         return Err(Refusal::NoteTooLong);
     }
     make_room(digests, action)?;
-    let answer = act(course, &mut Beside::none(), action, note);
+    let answer = act(course, &mut Seen::none(), action, note);
     if !is_changed(&answer) {
         return answer;
     }

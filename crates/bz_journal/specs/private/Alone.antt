@@ -2,7 +2,7 @@
 use Rattle.std.specs.Prelude.{◌≢◌, ◌≤◌, length, Option, None, Some, IfSome, string_bytes}
 use Rattle.bz_items.specs.Characters.{Bytes}
 use Rattle.bz_journal.specs.History.{History, changed, note_limit, opened}
-use Rattle.bz_journal.specs.declared.texts.Made.{Made}
+use Rattle.bz_journal.specs.declared.alone.Made.{Made}
 
 -- a text, or the one that came in its place
 abbrev pub text_or : Bytes → Option Bytes → Bytes

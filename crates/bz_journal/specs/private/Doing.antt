@@ -1,5 +1,5 @@
 -- What is done to a session: what is answered, and the session after it.
-use Rattle.std.specs.Prelude.{◌≡◌, ◌⊎◌, ◌↔◌, ◌≤◌, length, List, [], None, Result, Ok, Err, OnErr, OnOk, IfErr, IfOk}
+use Rattle.std.specs.Prelude.{◌≡◌, ◌⊎◌, ◌↔◌, ◌≤◌, ◌<◌, ◌+◌, ℕ, length, List, [], Option, None, Some, Result, Ok, Err, OnErr, OnOk, IfErr, IfOk}
 use Rattle.bz_grammar.specs.declared.tree.Node.{Node}
 use Rattle.bz_value.specs.declared.value.Item.{Item}
 use Rattle.bz_value.specs.declared.refusal.Refusal.{Refusal}
@@ -8,11 +8,11 @@ use Rattle.bz_value.specs.Windows.{AreOver}
 use Rattle.bz_command.specs.declared.outcome.Ran.{Ran}
 use Rattle.bz_items.specs.Characters.{Bytes}
 use Rattle.bz_history.specs.Trails.{IsSmall}
-use Rattle.bz_journal.specs.Actions.{Action}
-use Rattle.bz_journal.specs.declared.beside.Beside.{Beside}
-use Rattle.bz_journal.specs.Editing.{IsBeside}
+use Rattle.bz_journal.specs.Actions.{Action, Do, Format, Redo, Undo}
+use Rattle.bz_journal.specs.declared.doing.Seen.{Seen}
+use Rattle.bz_journal.specs.Editing.{IsSeenIn}
 use Rattle.bz_journal.specs.private.Filling.{Overfills}
-use Rattle.bz_journal.specs.History.{Answer, History, MakesOrWants, note_limit}
+use Rattle.bz_journal.specs.History.{Answer, History, IsFree, Leads, MakesOrWants, note_limit}
 use Rattle.bz_journal.specs.Shown.{session_history}
 use Rattle.bz_journal.specs.State.{SessionState, session_trail}
 
@@ -38,7 +38,22 @@ pub record HasMade (action : Action) (note : Bytes) (s : SessionState) (answer :
   pub small : IsSmall (session_trail s) → IsSmall (session_trail t)
 
 -- The note isn't too long, and no value is kept beside the session.
-pub record IsReady (note : Bytes) (tree : Node) (beside : Beside) : Type 0 where
+pub record IsReady (note : Bytes) (tree : Node) (seen : Seen) : Type 0 where
   pub short : length note ≤ note_limit
-  pub none : beside.value ≡ None
-  pub own : IsBeside tree beside
+  pub none : seen.value ≡ None
+  pub own : IsSeenIn tree seen
+
+-- ---- what is answered at once
+
+-- an action makes a text, or goes by steps that are there
+abbrev pub TakesSteps : Action → ℕ → ℕ → Type 0
+TakesSteps (Do command target) cursor ahead = Unit {0}
+TakesSteps Format cursor ahead = Unit {0}
+TakesSteps (Undo n) cursor ahead = (0 < n) × (n ≤ cursor)
+TakesSteps (Redo n) cursor ahead = (0 < n) × (n ≤ ahead)
+
+-- A history at this number, with this many steps ahead, stays, and that is answered; or the action is to be done.
+abbrev pub IsAtOnce : Action → Bytes → ℕ → ℕ → Option Answer → Type 0
+IsAtOnce action note cursor ahead None = (length note ≤ note_limit) × TakesSteps action cursor ahead
+IsAtOnce action note cursor ahead (Some answer) =
+    (h : History) → h.cursor ≡ cursor → h.cursor + ahead + 1 ≡ length h.texts → Leads action note h answer h × OnOk answer (IsFree action h)

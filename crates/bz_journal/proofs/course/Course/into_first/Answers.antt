@@ -1,6 +1,6 @@
 use Rattle.std.proofs.Common.{◌≡◌, subst, sym}
 use Rattle.bz_journal.specs.State.{SessionState, IsSession}
-use Rattle.bz_journal.proofs.Alone.{opened_first}
+use Rattle.bz_journal.proofs.LastText.{opened_first}
 use Rattle.bz_journal.proofs.Kept.{session_kept, session_present}
 use Rattle.bz_journal.specs.Shown.{session_history}
 use Rattle.bz_journal.specs.History.{opened}

@@ -1,0 +1,23 @@
+use Rattle.std.proofs.Common.{ap, subst, sym}
+use Rattle.bz_journal.specs.Actions.{Action, Redo, Undo, action_in}
+use Rattle.bz_journal.specs.Keeping.{HasActed}
+use Rattle.bz_journal.proofs.Acting.{has_gone}
+use Rattle.bz_journal.proofs.AtOnce.{acted_at_once}
+use Rattle.bz_journal.proofs.doing.act.Goals as goal
+
+pub returns-in-Some-clause-acted : goal.returns-in-Some-clause-acted
+returns-in-Some-clause-acted c =
+    acted_at_once (action_in c.args.action.now) c.args.note.now c.args.course.now c.cursor.result c.steps_ahead.result c.in-Some.answer c.present-before.ensures.within
+    c.cursor.ensures c.steps_ahead.ensures.steps c.steps_ahead.ensures.texts c.in-Some.ensures
+
+pub returns-in-Undo-clause-acted : goal.returns-in-Undo-clause-acted
+returns-in-Undo-clause-acted c =
+    subst (λ (a : Action). HasActed a c.args.note.now c.args.course.now c.undo.result c.undo.new.self) (sym (ap action_in c.in-Undo.is))
+    (has_gone (Undo c.in-Undo.n) c.args.note.now c.args.course.now c.undo.result c.undo.new.self (λ is. is) c.present-before.ensures.within c.in_default.ensures.0 (c.undo.ensures.makes c.args.note.now)
+    c.undo.ensures.unmoved (λ over. c.undo.ensures.even over.0 over.1) c.undo.ensures.small)
+
+pub returns-in-Redo-clause-acted : goal.returns-in-Redo-clause-acted
+returns-in-Redo-clause-acted c =
+    subst (λ (a : Action). HasActed a c.args.note.now c.args.course.now c.redo.result c.redo.new.self) (sym (ap action_in c.in-Redo.is))
+    (has_gone (Redo c.in-Redo.n) c.args.note.now c.args.course.now c.redo.result c.redo.new.self (λ is. is) c.present-before.ensures.within c.in_default.ensures.0 (c.redo.ensures.makes c.args.note.now)
+    c.redo.ensures.unmoved (λ over. c.redo.ensures.even over.0 over.1) c.redo.ensures.small)

@@ -1,0 +1,45 @@
+use Rattle.std.proofs.Common.{◌≡◌, ◌∙◌, List, Ok, ap, length, subst, sym}
+use Rattle.std.specs.Prelude.{IfSome}
+use Rattle.bz_edit.specs.Windows.{with_windows}
+use Rattle.bz_grammar.specs.declared.tree.Node.{Node}
+use Rattle.bz_grammar.specs.Legal.{Reads}
+use Rattle.bz_grammar.specs.Spell.{spell_node}
+use Rattle.bz_grammar.specs.Statements.{lines_of}
+use Rattle.bz_items.specs.Characters.{Bytes}
+use Rattle.bz_value.specs.declared.value.Item.{Item}
+use Rattle.bz_hosts.specs.View.{view_of}
+use Rattle.bz_layout.specs.Written.{layout}
+use Rattle.bz_passes.specs.Passes.{tidied}
+use Rattle.bz_build_format.specs.Meaning.{IsWritten, Meaning}
+use Rattle.bz_rule.specs.Index.{IsIndexOf}
+use Rattle.bz_journal.specs.Editing.{IsTidyLayoutOf}
+use Rattle.bz_journal.specs.History.{after_meaning}
+use Rattle.bz_journal.specs.Shown.{session_history}
+use Rattle.bz_journal.specs.private.Doing.{EndsAt}
+use Rattle.bz_journal.specs.private.Making.{IsMadeOf}
+use Rattle.bz_journal.proofs.Edited.{kept_seen, value_taken}
+use Rattle.bz_journal.proofs.MadeLines.{lines_written}
+use Rattle.bz_journal.proofs.doing.take_up_made.Goals as goal
+
+pub returns-in-Ok-clause-seen : goal.returns-in-Ok-clause-seen
+returns-in-Ok-clause-seen c =
+    let file : List Item = c.requires.made.0 in
+    let made : IsMadeOf c.args.made c.args.course.now.tree (tidied file) = c.requires.made.2 in
+    let here : Node = c.present.result.now in
+    let end = subst (λ (m : Meaning). EndsAt (after_meaning c.args.note.now (session_history c.args.course.now) m) c.args.course.now (Ok c.in-Ok.reply) c.take_up.new.self)
+    (lines_written c.args.made.windows c.args.course.now.tree file c.args.printed made.lines) c.in-Ok.ensures in
+    let laid : IsTidyLayoutOf file here = value_taken c.written_is_laid_out.ensures file c.args.printed c.args.note.now (session_history c.args.course.now) (session_history c.take_up.new.self) c.in-Ok.reply here
+    c.requires.made.1 c.present-before.ensures.within end.made c.reads_back.ensures c.present.ensures.text in
+    let reads : Reads (layout (tidied file)) here = subst (λ (t : Bytes). Reads t here) laid.2 c.reads_back.ensures in
+    let next : with_windows c.args.made.windows c.args.course.now.tree ≡ here = c.one_reading.ensures (layout (tidied file)) _ here made.lines.reads reads in
+    let moved : with_windows c.as_slice.result.now c.present-before.result.now ≡ c.take_up.new.self.tree =
+    ap (λ ws. with_windows ws c.present-before.result.now) c.as_slice.ensures ∙ ap (with_windows c.args.made.windows) c.present-before.ensures.tree ∙ next ∙ c.present.ensures.tree in
+    record {
+      value = kept_seen c.args.made.value (tidied file) _ made.own (sym laid.1 ∙ ap view_of c.present.ensures.tree);
+      looked = record {
+        named = subst (λ (xs : List Item). IfSome c.args.made.names (λ index. IsIndexOf index xs)) (sym laid.1 ∙ ap view_of c.present.ensures.tree) made.named;
+        begun = subst (λ (n : Node). IfSome c.begins_after-begins.result (λ own. own ≡ lines_of n)) moved c.begins_after-begins.ensures;
+      };
+      written = λ _. subst (λ (n : Node). IsWritten (view_of n) n) c.present.ensures.tree (subst (λ (xs : List Item). IsWritten xs here) (sym laid.1) laid.0);
+      length_is = λ _. made.length_is ∙ sym (ap length laid.2) ∙ ap (λ (n : Node). length (spell_node n)) c.present.ensures.tree;
+    }

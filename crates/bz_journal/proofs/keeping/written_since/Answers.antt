@@ -1,0 +1,18 @@
+use Rattle.std.proofs.Common.{◌≡◌, ◌≢◌, ◌∙◌, ap, refl, subst, sym}
+use Rattle.bz_journal.specs.History.{present}
+use Rattle.bz_journal.specs.Lasting.{IsSavedSession, saved}
+use Rattle.bz_journal.specs.Shown.{session_history}
+use Rattle.bz_journal.specs.State.{SessionState}
+use Rattle.bz_journal.proofs.Following.{has_moved}
+use Rattle.bz_journal.proofs.keeping.written_since.Goals as goal
+
+pub returns-clause-written : goal.returns-clause-written
+returns-clause-written c =
+    let stays : c.journal_by.new.course ≡ c.args.course.now = c.journal_by.ensures.stays in (
+      subst (λ (x : SessionState). x.cursor ≢ c.args.from) (sym stays) (has_moved c.cursor.result c.args.from _ c.args.from c.if-cursor-from.false c.cursor.ensures refl),
+      record {
+        stored = c.in_ok-journal.ensures.stored ∙ ap saved (sym stays);
+        own = subst (λ (x : SessionState). IsSavedSession x) (sym stays) c.in_ok-journal.ensures.journal;
+        text = c.in_ok-text.ensures.text ∙ ap (λ (x : SessionState). present (session_history x)) (sym stays);
+      },
+    )

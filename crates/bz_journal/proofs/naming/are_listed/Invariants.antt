@@ -1,0 +1,7 @@
+use Rattle.std.proofs.Common.{◌+◌, drop}
+use Rattle.bz_journal.specs.private.Naming.{HaveListedNames}
+use Rattle.bz_journal.proofs.naming.are_listed.Given as goal
+
+-- all are listed, where those from here on are
+abbrev pub invariant-loop-at : goal.invariant-loop-at
+invariant-loop-at l = HaveListedNames l.index (l.from + l.at) (drop l.at l.items) → HaveListedNames l.index l.from l.items

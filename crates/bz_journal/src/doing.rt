@@ -1,0 +1,317 @@
+//! Actions in a course, and what is kept beside it from one command to the next: the value of the present text, so that a command need not
+//! make it anew. Where that text is the layout of a tidy value only what changes is tidied and laid out.
+ghost use Rattle.std.specs.Prelude.{◌≡◌, ◌≤◌, true, List, OnOk, length};
+ghost use Rattle.bz_journal.specs.Clauses.{AreOver, Bytes, EndsAt, HasActed, HasMade, IsFormatted, IsMadeOf, IsProper, IsReady, IsSeenIn, Item, MakesLines, Node, action_in, after_meaning, note_limit, present, session_history, tidied, view_of, written};
+ghost use Rattle.bz_journal.specs.Actions as a;
+
+use crate::action::{Action, Reply};
+use crate::answering::{Lookups, answer, is_by_name, look_up_lines, look_up_names};
+use crate::course::{Course, at_once, unchanged};
+use crate::laws::written_is_laid_out;
+use crate::making::{Made, made_by_text, made_by_windows};
+use crate::meaning::{printed_answer, run_on_tree, value_of};
+use crate::moving::begins_after;
+use bz_build_format::{formatted_once, reads_back};
+use bz_command_syntax::Command;
+use bz_grammar::Tree;
+use bz_grammar::laws::one_reading;
+use bz_items::{Items, Memory, Text};
+use bz_label::Target;
+use bz_rule::take_apart;
+use bz_value::{File, Refusal, Window};
+use std::alloc::Global;
+
+/// The fewest items of a value that is kept from the first command on. One of fewer is made anew in less than a millisecond.
+const FEWEST: usize = 500;
+
+/// After how many commands any value is kept, so that further ones cost the same in a short file as in a long one.
+const OFTEN: u32 = 64;
+
+/// What is kept beside a course.
+pub(crate) struct Seen {
+    /// The value of the present text, where it is kept.
+    pub(crate) value: Option<File>,
+    /// What was looked up in the present text.
+    pub(crate) lookups: Lookups,
+    /// Whether the present text is known to be the layout of a tidy value.
+    pub(crate) written: bool,
+    /// How many bytes the present text has, where it is known to be that.
+    pub(crate) length: usize,
+    /// Whether the last command printed something, so that the value is worth keeping for the next one that prints.
+    pub(crate) printed_last: bool,
+    /// Whether the last command was for a rule by its name and left all names, so that an index of them is worth making for the next one.
+    pub(crate) names_last: bool,
+    /// How many actions were done, up to `OFTEN`.
+    pub(crate) done: u32,
+}
+
+impl Drop for Seen {
+    fn drop(self) {
+        let Seen {
+            value: _,
+            lookups: _,
+            written: _,
+            length: _,
+            printed_last: _,
+            names_last: _,
+            done: _,
+        } = self;
+    }
+}
+
+impl Seen {
+    /// Nothing is kept yet.
+    pub(crate) fn none() -> Seen
+        ensures { (tree : Node) → IsSeenIn tree result }
+    {
+        Seen {
+            value: None,
+            lookups: Lookups::none(),
+            written: false,
+            length: 0,
+            printed_last: false,
+            names_last: false,
+            done: 0,
+        }
+    }
+
+    /// Forgets all of the text that was present, but how many actions were done.
+    fn forget(&mut self)
+        ensures { (tree : Node) → IsSeenIn tree self.new }
+    {
+        let done = self.done;
+        *self = Seen::none();
+        self.done = done;
+    }
+
+    /// Drops the value of a short text after an action, and what was looked up in it, unless actions came often.
+    pub(crate) fn let_go(&mut self)
+        ensures { (tree : Node) → IsSeenIn tree self.old → IsSeenIn tree self.new }
+    {
+        if self.done >= OFTEN {
+            return;
+        }
+        self.done += 1;
+        if let Some(file) = &self.value
+            && file.items.len() < FEWEST
+        {
+            self.value = None;
+            self.lookups = Lookups::none();
+        }
+    }
+}
+
+/// Takes up the lines of a value that was tidied, and keeps this as the value of the present text where it was not given up. The errors are
+/// those of taking them up.
+fn take_up_made(
+    course: &mut Course,
+    seen: &mut Seen,
+    made: Made,
+    printed: Option<Text>,
+    note: &str,
+) -> Result<Reply, Refusal>
+    requires ready { IsReady note.now course.old.tree seen.old }
+    requires made { (file : List Item) × IsProper file × IsMadeOf made course.old.tree (tidied file) }
+    ensures end { (file : List Item) → IsMadeOf made course.old.tree (tidied file) → EndsAt (after_meaning note.now (session_history course.old) (written file printed)) course.old result course.new }
+    ensures seen { IsSeenIn course.new.tree seen.new }
+{
+    one_reading();
+    written_is_laid_out();
+    let before = course.present();
+    let Made {
+        windows,
+        value,
+        names,
+        length,
+    } = made;
+    let begins = begins_after(seen.lookups.lines.take(), windows.as_slice(), before);
+    match course.take_up(windows, printed, note) {
+        Ok(reply) => {
+            reads_back(course.present());
+            seen.lookups = Lookups {
+                names,
+                lines: begins,
+            };
+            seen.written = true;
+            seen.length = length;
+            seen.value = value;
+            Ok(reply)
+        }
+        Err(refusal) => {
+            drop(value);
+            Err(refusal)
+        }
+    }
+}
+
+/// About how many bytes the present text has; a look at the whole of it where that isn't known.
+fn length_about(seen: &Seen, here: &Tree) -> usize {
+    if seen.written {
+        seen.length
+    } else {
+        here.len()
+    }
+}
+
+/// The lines of a value that a command made of that of a tree, and which is another one in these windows. Errors: `TooLarge`, `TooDeep`; `Memory`.
+fn made_of(
+    alloc: Global,
+    seen: &mut Seen,
+    windows: Items<Window>,
+    file: File,
+    tree: &Tree,
+) -> Result<Made, Refusal>
+    requires seen { IsSeenIn tree.now seen.old }
+    requires over { AreOver windows (view_of tree.now) file }
+    ensures made { MakesLines file tree.now result }
+    ensures seen { IsSeenIn tree.now seen.new }
+    ensures value { seen.new.value ≡ seen.old.value }
+{
+    if seen.written {
+        let names = seen.lookups.names.take();
+        made_by_windows(alloc, windows, file, tree, seen.length, names)
+    } else {
+        made_by_text(alloc, file, tree, tree.len())
+    }
+}
+
+/// Makes the index of names where the last command had use of it, and this one is for a rule by its name. The error: memory was refused.
+fn name_again(
+    alloc: Global,
+    target: &Target,
+    seen: &mut Seen,
+    tree: &Tree,
+    file: &File,
+) -> Result<(), Memory>
+    requires seen { IsSeenIn tree.now seen.old }
+    requires value { file.now ≡ view_of tree.now }
+    ensures seen { IsSeenIn tree.now seen.new }
+    ensures value { seen.new.value ≡ seen.old.value }
+{
+    if seen.names_last && is_by_name(target) {
+        look_up_names(alloc, &mut seen.lookups, tree, file)?;
+    }
+    Ok(())
+}
+
+/// Does a command with a note on the present text. At an error the course is as before. Errors: those of the command; `TooLarge` and
+/// `TooDeep` where the new text would be past a limit; `Full` at the most steps; `Memory`: a growth was refused.
+fn edit(
+    course: &mut Course,
+    seen: &mut Seen,
+    command: &Command,
+    target: &Target,
+    note: &str,
+) -> Result<Reply, Refusal>
+    requires short { length note.now ≤ note_limit }
+    requires seen { IsSeenIn course.old.tree seen.old }
+    ensures made { HasMade (a.Do command.now target.now) note.now course.old result course.new }
+    ensures seen { IsSeenIn course.new.tree seen.new }
+{
+    let alloc = course.alloc();
+    let here = course.present();
+    reads_back(here);
+    look_up_lines(alloc, command, target, &mut seen.lookups, here)?;
+    let mut file = value_of(alloc, seen.value.take(), here)?;
+    if name_again(alloc, target, seen, here, &file).is_err() {
+        take_apart(file);
+        return Err(Refusal::Memory);
+    }
+    let current = course.own_package().as_bytes();
+    let lookups = &seen.lookups;
+    let len = length_about(seen, here);
+    match run_on_tree(
+        alloc, command, target, current, here, len, lookups, &mut file,
+    ) {
+        Ok(ran) => {
+            seen.names_last = ran.same_names && is_by_name(target);
+            let printed = printed_answer(command, ran.printed);
+            if ran.windows.is_empty() {
+                // that of another text is kept from the second command that prints on
+                seen.value = seen.written.then_some(file);
+                return Ok(unchanged(printed));
+            }
+            match made_of(alloc, seen, ran.windows, file, here) {
+                Ok(made) => take_up_made(course, seen, made, printed, note),
+                Err(refusal) => Err(refusal),
+            }
+        }
+        Err(refusal) => {
+            take_apart(file);
+            Err(refusal)
+        }
+    }
+}
+
+/// Formats the present text, with a note. Errors: `TooLarge`, `TooDeep`, `Full`; `Memory`: a growth was refused.
+fn format(course: &mut Course, seen: &mut Seen, note: &str) -> Result<Reply, Refusal>
+    requires short { length note.now ≤ note_limit }
+    requires seen { IsSeenIn course.old.tree seen.old }
+    ensures made { HasMade a.Format note.now course.old result course.new }
+    ensures formatted { OnOk result (IsFormatted (present (session_history course.old)) (present (session_history course.new))) }
+    ensures seen { IsSeenIn course.new.tree seen.new }
+{
+    formatted_once();
+    let alloc = course.alloc();
+    let here = course.present();
+    reads_back(here);
+    let len = length_about(seen, here);
+    let file = value_of(alloc, seen.value.take(), here)?;
+    match made_by_text(alloc, file, here, len) {
+        Ok(made) => take_up_made(course, seen, made, None, note),
+        Err(refusal) => Err(refusal),
+    }
+}
+
+/// Does a command with a note; one that prints is answered by the value beside the course, where that is worth keeping.
+fn do_command(
+    course: &mut Course,
+    seen: &mut Seen,
+    command: &Command,
+    target: &Target,
+    note: &str,
+) -> Result<Reply, Refusal>
+    requires short { length note.now ≤ note_limit }
+    requires seen { IsSeenIn course.old.tree seen.old }
+    ensures made { HasMade (a.Do command.now target.now) note.now course.old result course.new }
+    ensures seen { IsSeenIn course.new.tree seen.new }
+{
+    let only_prints = command.prints();
+    if only_prints
+        && (seen.written || seen.printed_last)
+        && let Some(answer) = answer(course, seen, command, target)
+    {
+        return answer;
+    }
+    seen.printed_last = only_prints;
+    edit(course, seen, command, target, note)
+}
+
+/// Does an action with a note by what is kept beside the course, as `Session::act_noted` says. The errors are those.
+pub(crate) fn act(
+    course: &mut Course,
+    seen: &mut Seen,
+    action: &Action<'_>,
+    note: &str,
+) -> Result<Reply, Refusal>
+    requires { IsSeenIn course.old.tree seen.old }
+    ensures acted { HasActed (action_in action.now) note.now course.old result course.new }
+    ensures seen { IsSeenIn course.new.tree seen.new }
+{
+    let _before = course.present();
+    if let Some(answer) = at_once(action, note, course.cursor(), course.steps_ahead()) {
+        return answer;
+    }
+    match *action {
+        Action::Do(command, target) => do_command(course, seen, command, target, note),
+        Action::Format => format(course, seen, note),
+        Action::Undo(n) => {
+            seen.forget();
+            course.undo(n)
+        }
+        Action::Redo(n) => {
+            seen.forget();
+            course.redo(n)
+        }
+    }
+}

@@ -1,0 +1,77 @@
+//! An index of names that outlives a change: where each item that changed has the name that is listed at its place, it is that of the new
+//! items too.
+ghost use Rattle.std.specs.Prelude.{◌≡◌, ◌<◌, ◌+◌, ◌^◌, List, IfSome, IsTrue, length};
+ghost use Rattle.std.specs.Option.{option_copied};
+ghost use Rattle.bz_journal.specs.Clauses.{AreOver, IsIndexOf, Item};
+ghost use Rattle.bz_journal.specs.private.Naming.{HaveListedNamesIn, HaveListedNames, HasListedName, item_name};
+
+use bz_rule::{Names, call_of, is_named, name_of};
+use bz_value::{Item, Window};
+
+/// The name of an item, where it is a rule that has one.
+fn item_name(item: &Item) -> Option<&[u8]>
+    ensures { option_copied result ≡ item_name item.now }
+{
+    match call_of(item) {
+        Some(call) if is_named(call.function) => name_of(&call),
+        _ => None,
+    }
+}
+
+/// Whether an item has the name that is listed at its place.
+fn is_listed(index: &Names, at: usize, item: &Item) -> bool
+    ensures { IsTrue result → HasListedName index.now at item.now }
+{
+    match item_name(item) {
+        Some(name) => index.places(name).contains(&at),
+        None => false,
+    }
+}
+
+/// The same of items from a place on.
+fn are_listed(index: &Names, from: usize, items: &[Item]) -> bool
+    requires { from + length items.now < 2 ^ 63 }
+    ensures { IsTrue result → HaveListedNames index.now from items.now }
+{
+    for at in 0..items.len() {
+        if !is_listed(index, from + at, &items[at]) {
+            return false;
+        }
+    }
+    true
+}
+
+/// Whether in each window there are as many items as were, each of the name that is listed at its place.
+fn all_listed(index: &Names, windows: &[Window], items: &[Item]) -> bool
+    ensures { IsTrue result → HaveListedNamesIn index.now 0 windows.now items.now }
+{
+    let mut at = 0;
+    let mut left = items;
+    for window in windows {
+        let count = window.come;
+        if window.gone != count || window.from > left.len() || count > left.len() - window.from {
+            return false;
+        }
+        if !are_listed(
+            index,
+            at + window.from,
+            &left[window.from..window.from + count],
+        ) {
+            return false;
+        }
+        at += window.from + count;
+        left = &left[window.from + count..];
+    }
+    true
+}
+
+/// The index, where it is that of these items too, which are other ones than those that it is of in these windows alone.
+pub(crate) fn outlives(names: Option<Names>, windows: &[Window], items: &[Item]) -> Option<Names>
+    ensures { (before : List Item) → AreOver windows.now before items.now → IfSome names (λ index. IsIndexOf index before)
+        → IfSome result (λ index. IsIndexOf index items.now) }
+{
+    match names {
+        Some(index) if all_listed(&index, windows, items) => Some(index),
+        _ => None,
+    }
+}
