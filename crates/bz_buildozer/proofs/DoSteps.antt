@@ -13,7 +13,7 @@ use Rattle.bz_value.specs.declared.refusal.Refusal.{Refusal}
 use Rattle.bz_buildozer.specs.Keeps.{FolderAfter, file_after, is_left_at, left_out}
 use Rattle.bz_buildozer.specs.Found.{Opened, Used, file_at, with_opened}
 use Rattle.bz_buildozer.specs.Reported.{refusal_line}
-use Rattle.bz_buildozer.specs.Run.{Answers, AnswersIn, AreHints, FailsAt, IsKeptAt, LeadsBy, Progress, printed_in, reported_of, state_after}
+use Rattle.bz_buildozer.specs.Run.{Answers, AnswersIn, AreHints, FailsAt, IsKeptAt, LeadsBy, Progress, reply_notes, printed_in, reported_of, state_after}
 use Rattle.bz_buildozer.specs.Sessions.{Action, Answer, History, Leads, Reply, Printed, listing}
 use Rattle.bz_buildozer.specs.Steps.{RunStep, action_of}
 use Rattle.bz_buildozer.proofs.ActSteps.{put_again}
@@ -85,12 +85,13 @@ module _ (journals : Bool) (step : RunStep) (place : ℕ) (file : Opened) (histo
       (answer, history, leads, following, (hint, hints, refl), is)
 
   -- A reply is given, and what it prints is kept.
-  pub replied : (reply : Reply) (printed : Bytes) → LeadsTo (Ok reply) → FolderAfter journals (Ok reply) file history folder folder'
+  pub replied : (reply : Reply) (printed : Bytes) (notes : List Bytes) → AreHints (Ok reply) (action_of step.target step.request.verb) file.name history notes
+      → LeadsTo (Ok reply) → FolderAfter journals (Ok reply) file history folder folder'
       → used ≡ with_opened place (Some (file_after journals (Ok reply) history file)) before.used → printed ≡ before.printed ++ printed_in reply
-      → after ≡ record before { used = used; printed = printed } → Answers c.Whole journals step (Some place) folder before [] folder' after
-  replied reply printed leads following put said is =
+      → after ≡ record before { used = used; printed = printed } → Answers c.Whole journals step (Some place) folder before notes folder' after
+  replied reply printed notes noted leads following put said is =
       let put_in = with_opened place (Some (file_after journals (Ok reply) history file)) before.used in
-      answers_so (Ok reply) [] leads refl following (
+      answers_so (Ok reply) notes leads noted following (
       is
       ∙ ap (λ (u : List Used). record before { used = u; printed = printed }) put
       ∙ ap (λ (text : Bytes). record before { used = put_in; printed = text }) said
@@ -134,7 +135,7 @@ pub listed : (journals : Bool) (step : RunStep) (place : ℕ) (file : Opened) (f
     → Answers c.Whole journals step (Some place) folder before [] folder after
 listed journals step place file folder before after printed text there free none is said =
     let reply : Reply = Printed (listing file.history) in
-    replied journals step place file file.history folder folder before after before.used (free_file journals place before.used file there free) reply printed
-    (subst (λ (it : Option Action). LeadsBy it step.request.text file.history (Ok reply) file.history) (sym none) (refl, refl)) (folder_still journals reply file folder)
+    replied journals step place file file.history folder folder before after before.used (free_file journals place before.used file there free) reply printed []
+    (sym (ap (λ (it : Option Action). reply_notes it reply file.name) none)) (subst (λ (it : Option Action). LeadsBy it step.request.text file.history (Ok reply) file.history) (sym none) (refl, refl)) (folder_still journals reply file folder)
     (sym (ap (λ (f : Opened). with_opened place (Some f) before.used) (file_still journals reply file) ∙ put_again place before.used file there))
     (said ∙ ap (λ (t : Bytes). before.printed ++ t) is)

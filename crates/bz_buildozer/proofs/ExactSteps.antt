@@ -1,5 +1,5 @@
 -- Whole runs of steps do one thing, without journals and with them, and print the same lines but for what is left open.
-use Rattle.std.proofs.Common.{◌≡◌, ◌≢◌, ◌⊎◌, inl, inr, ◌∙◌, ◌++◌, ℕ, zero, suc, List, [], ◌∷◌, Option, Some, None, Bool, true, false, true≢false, Ok, Err, refl, sym, ap, subst, bytes_eq}
+use Rattle.std.proofs.Common.{◌≡◌, ◌≢◌, ◌⊎◌, inl, inr, ◌∙◌, ◌++◌, ℕ, zero, suc, List, [], ◌∷◌, Option, Some, None, Bool, true, false, true≢false, Ok, Err, refl, sym, ap, subst, bytes_eq, codes}
 use Rattle.std.specs.Prelude.{◌||◌, IfSome, if◌then◌else◌, unwrap_or}
 use Rattle.std.specs.Option.{option_map, option_map_or}
 use Rattle.std.specs.FinMap.{get}
@@ -17,15 +17,16 @@ use Rattle.bz_resume.specs.Resuming.{Holds, OthersStay}
 use Rattle.bz_streams.specs.Exits.{first_cut}
 use Rattle.bz_streams.specs.Excerpts.{fault_excerpt}
 use Rattle.bz_streams.specs.Ports.{IsInput}
-use Rattle.bz_streams.specs.Reported.{stdin, fault_line}
+use Rattle.bz_streams.specs.Reported.{stdin, fault_line, named_line}
 use Rattle.bz_streams.specs.declared.exit.Cut.{Cut}
 use Rattle.bz_streams.specs.declared.exit.Cut.TheVariants as c
 use Rattle.bz_buildozer.specs.Exact.{SameLines}
-use Rattle.bz_buildozer.specs.Found.{PackagesFound, IsNameOf, first_name, found_in, second_name, Opened, Used, file_at, package_number, with_opened}
+use Rattle.bz_buildozer.specs.Found.{PackagesFound, IsNameOf, first_name, found_in, root_above, second_name, Opened, Used, file_at, package_number, with_opened}
 use Rattle.bz_buildozer.specs.Journals.{OpensBeside, TakesBeside, file_of_journal, journal_beside, lines_of_journal}
 use Rattle.bz_buildozer.specs.Keeps.{FolderAfter, file_after, left_out}
 use Rattle.bz_buildozer.specs.Moments.{AllAre}
 use Rattle.bz_buildozer.specs.Opens.{Takes}
+use Rattle.bz_buildozer.specs.Reported.{absent_hint}
 use Rattle.bz_buildozer.specs.Run.{Answers, AnswersIn, AreHints, Does, Finds, LeadsBy, Progress, RunsSteps, Uses, UsesWhole, World, reported_of, state_after}
 use Rattle.bz_buildozer.specs.Sessions.{Action, Answer, Do, Format, History, Redo, Undo, present}
 use Rattle.bz_buildozer.specs.Steps.{RunStep, action_of, input_package, is_of_input}
@@ -34,6 +35,7 @@ use Rattle.bz_buildozer.proofs.ExactActions.{one_answer}
 use Rattle.bz_buildozer.proofs.ExactLines.{same_as, same_lines, same_parts}
 use Rattle.bz_buildozer.proofs.JournalSteps.{one_given}
 use Rattle.bz_buildozer.proofs.LeaveSteps.{Leaves, acts_leaves}
+use Rattle.bz_buildozer.proofs.RootSteps.{root_stays}
 use Rattle.bz_buildozer.proofs.StandSteps.{IsHeld, IsUnlike, OthersAre, all_after, all_last, apart_from, as_begun, file_in_front, found_by, found_holds, holds_still, names_stay, not_input, takes_stand, unlike_put}
 
 pub either_not : (a b : Bool) → a || b ≡ false → (a ≡ false) × (b ≡ false)
@@ -220,9 +222,12 @@ module _ (world here : World) (used : List Used) (current : Bytes) (none : packa
       same = found_by here.folder current (get world.folder (first_name current)) (get world.folder (second_name current)) (begun (first_name current) (inl refl)).0
           (begun (second_name current) (inr refl)).0
 
+      rooted : root_above here.folder ≡ root_above world.folder
+      rooted = root_stays (IsHeld here.folder) (λ other it held. held.0) world.folder here.folder used stays.0 stays.1
+
       beside : (there : Option PackagesFound) → there ≡ found_in here.folder current → OpensBeside true here.folder current there file lines
           → OpensBeside true world.folder current there file lines
-      beside None is opens = opens
+      beside None is opens = (opens.0, opens.1 ∙ ap (λ (root : Option Bytes). (named_line (second_name current) (codes "cannot open") ++ absent_hint current root) ∷ []) rooted)
       beside (Some it) is opens = subst (λ (journal : Option Bytes). TakesBeside journal current it.0 it.1 file lines)
           (begun it.0 (found_holds here.folder current it.0 it.1 (sym is)).0).1 opens
 

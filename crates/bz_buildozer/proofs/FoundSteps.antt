@@ -1,13 +1,13 @@
 -- Which file of a package is opened, by what its names and its journal hold.
-use Rattle.std.proofs.Common.{◌≡◌, ◌+◌, Bool, List, [], ◌∷◌, ◌++◌, Option, Some, None, refl, sym, ap, subst, ◌∙◌, take, codes}
+use Rattle.std.proofs.Common.{◌≡◌, ◌+◌, Bool, List, [], ◌∷◌, ◌++◌, Option, Some, None, refl, sym, ap, ap₂, subst, ◌∙◌, take, codes}
 use Rattle.std.specs.FinMap.{get}
 use Rattle.bz_grammar.specs.Spell.{limit}
 use Rattle.bz_items.specs.Characters.{Bytes}
 use Rattle.bz_files.specs.Folder.{Folder}
 use Rattle.bz_streams.specs.Reported.{named_line}
-use Rattle.bz_buildozer.specs.Found.{PackagesFound, first_name, found_at, found_in, found_second, second_name, Opened}
+use Rattle.bz_buildozer.specs.Found.{PackagesFound, first_name, found_at, found_in, found_second, root_above, second_name, Opened}
 use Rattle.bz_buildozer.specs.Journals.{OpensBeside, TakesBeside, journal_beside}
-use Rattle.bz_buildozer.specs.Reported.{package_hint}
+use Rattle.bz_buildozer.specs.Reported.{absent_hint}
 use Rattle.bz_buildozer.proofs.JournalSteps.{front_beside}
 
 -- a file that is there, of which these first bytes were read; the folder is still the same
@@ -34,11 +34,12 @@ pub second_opens : (journals : Bool) (current name front text : Bytes) (folder n
     → OpensBeside journals folder current (found_second folder current) file lines
 second_opens journals current name front text folder now file lines = there_opens journals current (second_name current) name front text folder now None file lines
 
-pub neither_opens : (journals : Bool) (current name : Bytes) (folder : Folder) → name ≡ second_name current → get folder name ≡ None
-    → OpensBeside journals folder current (found_second folder current) None ((named_line name (codes "cannot open") ++ package_hint current) ∷ [])
-neither_opens journals current name folder is held =
-    absent_opens journals current (second_name current) name folder None None ((named_line name (codes "cannot open") ++ package_hint current) ∷ []) is held
-    (refl, ap (λ (n : Bytes). (named_line n (codes "cannot open") ++ package_hint current) ∷ []) is)
+pub neither_opens : (journals : Bool) (current name : Bytes) (folder : Folder) (root : Option Bytes) → name ≡ second_name current → get folder name ≡ None
+    → root ≡ root_above folder
+    → OpensBeside journals folder current (found_second folder current) None ((named_line name (codes "cannot open") ++ absent_hint current root) ∷ [])
+neither_opens journals current name folder root is held rooted =
+    absent_opens journals current (second_name current) name folder None None ((named_line name (codes "cannot open") ++ absent_hint current root) ∷ []) is held
+    (refl, ap₂ (λ (n : Bytes) (r : Option Bytes). (named_line n (codes "cannot open") ++ absent_hint current r) ∷ []) is rooted)
 
 pub first_opens : (journals : Bool) (current name front text : Bytes) (folder now : Folder) (file : Option Opened) (lines : List Bytes) → name ≡ first_name current
     → get folder name ≡ Some text → front ≡ take (limit + 1) text → now ≡ folder → TakesBeside (journal_beside journals now name) current name front file lines

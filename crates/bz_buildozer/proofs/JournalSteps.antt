@@ -54,11 +54,9 @@ fault_gives A current bytes text f.Stale other version damaged stale = stale ref
 fault_gives A current bytes text f.Damaged other version damaged stale = ((λ is. let e = version.1 is in absurd (cc)), damaged refl)
 
 -- an open file by the same name, text and session
-pub same_opened : (name called text read : Bytes) (s t : SessionState) → name ≡ called → text ≡ read → s ≡ t
-    → opened_with name text (session_history s) ≡ opened_with called read (session_history t)
-same_opened name called text read s t names texts sessions =
-    ap (λ (n : Bytes). opened_with n text (session_history s)) names ∙ ap (λ (b : Bytes). opened_with called b (session_history s)) texts
-    ∙ ap (λ (x : SessionState). opened_with called read (session_history x)) sessions
+pub same_opened : (name called text read : Bytes) (h g : History) → name ≡ called → text ≡ read → h ≡ g → opened_with name text h ≡ opened_with called read g
+same_opened name called text read h g names texts histories =
+    ap (λ (n : Bytes). opened_with n text h) names ∙ ap (λ (b : Bytes). opened_with called b h) texts ∙ ap (λ (x : History). opened_with called read x) histories
 
 -- ---- one thing comes of a journal
 

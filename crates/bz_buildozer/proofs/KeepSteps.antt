@@ -24,7 +24,7 @@ use Rattle.bz_streams.proofs.Outputs.{counts_more}
 use Rattle.bz_buildozer.specs.Calls.{WorksOn}
 use Rattle.bz_buildozer.specs.Moments.{AllAreSafe}
 use Rattle.bz_buildozer.specs.Reported.{unkept_line}
-use Rattle.bz_buildozer.specs.Run.{Answers, AreHints, Progress, printed_in, reported_of}
+use Rattle.bz_buildozer.specs.Run.{Answers, AreHints, Progress, reply_notes, printed_in, reported_of}
 use Rattle.bz_buildozer.specs.Steps.{action_of}
 use Rattle.bz_buildozer.proofs.ActSteps.{file_put, led_on, led_to, still_open}
 use Rattle.bz_buildozer.proofs.CutSteps.{files_cut}
@@ -119,10 +119,11 @@ module _ {F : Type 0} (files : FilesOf F) (counts : (held : F) (t : ℕ) → t �
       (still_same action note done.file.history done.history (Ok reply) done.keeps).0 done.pair
 
   pub kept_answers : (reply : Reply) (done : Kept (Ok reply)) (printed : Bytes) → after ≡ record before { used = used; printed = printed }
-      → printed ≡ before.printed ++ printed_in reply → Did c.Whole []
+      → printed ≡ before.printed ++ printed_in reply → Did c.Whole (reply_notes (Some action) reply done.file.name)
   kept_answers reply done printed is said =
       replied true (step_at target verb note) place done.file done.history (files.folder old) (files.folder new) before after used
-      (free_file true place before.used done.file done.there free) reply printed
+      (free_file true place before.used done.file done.there free) reply printed (reply_notes (Some action) reply done.file.name)
+      (hints_by target verb action done.file.name done.history (Ok reply) (reply_notes (Some action) reply done.file.name) requested refl)
       (leads_by target verb note action done.file.history done.history (Ok reply) requested (leads_on reply done)) (following_of reply done) done.kept said is
 
   -- it was kept, and what it prints is not

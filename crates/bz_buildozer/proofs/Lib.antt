@@ -27,6 +27,8 @@ pub mod OpenedSteps
 pub mod Outcomes
 pub mod Performing
 pub mod PlaceSteps
+pub mod RootSteps
+pub mod RootsAbove
 pub mod RunSteps
 pub mod SafeSteps
 pub mod ShownPackages

@@ -1,5 +1,5 @@
 -- The names of files of different packages.
-use Rattle.std.proofs.Common.{arith, ◌≡◌, ◌≢◌, ◌⊎◌, inl, inr, ◌∙◌, ◌+◌, ◌++◌, ◌∷◌, ℕ, [], codes, refl, sym, ap, subst}
+use Rattle.std.proofs.Common.{arith, ◌≡◌, ◌≢◌, ◌⊎◌, inl, inr, ◌∙◌, ◌+◌, ◌++◌, ◌∷◌, ℕ, [], codes, refl, sym, ap, subst, append_assoc}
 use Rattle.std.proofs.lemmas.List.{append_cancel_right}
 use Rattle.bz_items.specs.Characters.{Bytes}
 use Rattle.bz_files.specs.Folder.{new_name}
@@ -98,3 +98,55 @@ apart one other name file differ named is_file =
         new_journal = journal_not_new name (journal_name file);
       },
     )
+
+-- ---- the files by which a folder is a root
+
+-- a name that no file of a package has, no journal and no new file
+abbrev pub IsOther : Bytes → Type 0
+IsOther name =
+    ((current file : Bytes) → IsNameOf current file → name ≢ file) × ((file : Bytes) → name ≢ journal_name file) × ((file : Bytes) → name ≢ new_name file)
+
+module _ (path : Bytes) where
+  -- one that ends in `.bazel`, by what is before that
+  ends_in_bazel : (a b : ℕ) (rest : Bytes) → sum_after a b rest ≢ 144 → IsOther (path ++ a ∷ b ∷ (rest ++ codes ".bazel"))
+  ends_in_bazel a b rest differs = (
+    (λ current file named same. elim named [
+      | inl is ↦ differs (sym (sum_over 0 0 a b path rest) ∙ ap last_sum (append_cancel_right (path ++ a ∷ b ∷ rest) (front current ++ codes "BUILD") (codes ".bazel")
+          (append_assoc path (a ∷ b ∷ rest) (codes ".bazel") ∙ same ∙ is ∙ in_front current (codes "BUILD.bazel") ∙ sym (append_assoc (front current) (codes "BUILD") (codes ".bazel"))))
+          ∙ sum_over 0 0 66 85 (front current) (codes "ILD"))
+      | inr is ↦ unlike name (second_name current) 209 144 sum (sum_of_second current) (λ e. omega (arith, e)) (same ∙ is)
+    ]),
+    (λ file. unlike name (journal_name file) 209 205 sum (sum_of_journal file) (λ e. omega (arith, e))),
+    (λ file. unlike name (new_name file) 209 220 sum (sum_of_new file) (λ e. omega (arith, e))),
+  )
+    where
+      name : Bytes
+      name = path ++ a ∷ b ∷ (rest ++ codes ".bazel")
+
+      sum : last_sum name ≡ 209
+      sum = sum_over 0 0 a b path (rest ++ codes ".bazel") ∙ sum_over a b 46 98 rest (codes "azel")
+
+  pub module_other : IsOther (path ++ codes "MODULE.bazel")
+  module_other = ends_in_bazel 77 79 (codes "DULE") (λ e. omega (arith, e))
+
+  pub repo_other : IsOther (path ++ codes "REPO.bazel")
+  repo_other = ends_in_bazel 82 69 (codes "PO") (λ e. omega (arith, e))
+
+  pub workspace_bazel_other : IsOther (path ++ codes "WORKSPACE.bazel")
+  workspace_bazel_other = ends_in_bazel 87 79 (codes "RKSPACE") (λ e. omega (arith, e))
+
+  pub workspace_other : IsOther (path ++ codes "WORKSPACE")
+  workspace_other = (
+    (λ current file named same. elim named [
+      | inl is ↦ unlike name (first_name current) 136 209 sum (sum_of_first current) (λ e. omega (arith, e)) (same ∙ is)
+      | inr is ↦ unlike name (second_name current) 136 144 sum (sum_of_second current) (λ e. omega (arith, e)) (same ∙ is)
+    ]),
+    (λ file. unlike name (journal_name file) 136 205 sum (sum_of_journal file) (λ e. omega (arith, e))),
+    (λ file. unlike name (new_name file) 136 220 sum (sum_of_new file) (λ e. omega (arith, e))),
+  )
+    where
+      name : Bytes
+      name = path ++ codes "WORKSPACE"
+
+      sum : last_sum name ≡ 136
+      sum = sum_over 0 0 87 79 path (codes "RKSPACE")

@@ -31,14 +31,14 @@ use Rattle.bz_command_syntax.specs.declared.command.AttributeOperation.TheVarian
 use Rattle.bz_command_syntax.specs.declared.command.Operation.TheVariants as w
 use Rattle.bz_command_syntax.specs.declared.command.RuleOperation.TheVariants as wr
 use Rattle.bz_command_syntax.specs.declared.fault.CommandFault.TheVariants.{Unknown, Arguments}
-use Rattle.bz_buildozer.specs.Found.{found_in, second_name, opened_with, Opened, Used, package_number, file_at}
+use Rattle.bz_buildozer.specs.Found.{found_in, root_above, second_name, opened_with, Opened, Used, package_number, file_at}
 use Rattle.bz_buildozer.specs.Opens.{opened_fresh}
 use Rattle.bz_buildozer.specs.Ending.{Ended, TriesFile, TriesFiles, fixed_lines, status_of, texts_out}
 use Rattle.bz_buildozer.specs.Outcome.{WordsOutcome, IsText, LineOutcome, ScriptOutcome, unread, unused}
 use Rattle.bz_buildozer.specs.Keeps.{FolderAfter}
 use Rattle.bz_buildozer.specs.Run.{World, Progress, Answers, AnswersIn, AreHints, Does, Finds, LeadsBy, RunsSteps, UsesWhole, nothing_done, reported_of, state_after, ends_run}
 use Rattle.bz_buildozer.specs.Steps.{RunStep, action_of, all_steps, shows_input}
-use Rattle.bz_buildozer.specs.Reported.{output_lines, usage_line}
+use Rattle.bz_buildozer.specs.Reported.{absent_hint, output_lines, usage_line}
 use Rattle.bz_buildozer.specs.WorkedParts.{text_read, text_made}
 use Rattle.bz_buildozer.specs.WorkedRuns.{WorkedUsage, WorkedWholeRuns, HasBuild, OverBuild, BesideNone, OverInput}
 use Rattle.bz_buildozer.proofs.StandSteps.{found_by, not_input}
@@ -392,8 +392,8 @@ module _ (world : World) (has : HasBuild world) where
 abbrev none : Bytes
 none = codes "none"
 
-abbrev none_line : Bytes
-none_line = codes "none/BUILD: cannot open\nbuildozer: a package is a directory below the working directory, which is to be the root of the workspace\n"
+abbrev none_line : World → Bytes
+none_line world = codes "none/BUILD: cannot open\n" ++ absent_hint none (root_above world.folder)
 
 abbrev none_used : Used
 none_used = record { «package» = none; file = None }
@@ -405,8 +405,8 @@ abbrev after_both : Progress
 after_both = state_of (none_used ∷ file_with [] build (set_history []) ∷ []) true
 
 module _ (world : World) (has : HasBuild world) (gone : found_in world.folder none ≡ None) where
-  fails_first : (request : Request) → DoesHere world (step_at none request) nothing_done (none_line ∷ []) after_none
-  fails_first request = does world (step_at none request) nothing_done after_none 0 (none_used ∷ []) None (none_line ∷ []) []
+  fails_first : (request : Request) → DoesHere world (step_at none request) nothing_done (none_line world ∷ []) after_none
+  fails_first request = does world (step_at none request) nothing_done after_none 0 (none_used ∷ []) None (none_line world ∷ []) []
       (inr (refl, refl, (None, None, inr (inr (not_input none refl), sym gone), (refl, refl), refl))) refl (refl, refl, refl)
 
   beside_none : BesideNone world
@@ -416,7 +416,7 @@ module _ (world : World) (has : HasBuild world) (gone : found_in world.folder no
       let again : List Bytes = undo_text ∷ codes "redo" ∷ codes "//none:x" ∷ [] in
       let requested : Requested = requested_of (set_size ∷ []) (rule_x none ∷ rule_x [] ∷ []) in
       let folder : Folder = world.folder in
-      let lines : List Bytes = none_line ∷ [] in
+      let lines : List Bytes = none_line world ∷ [] in
       let next : RunStep = step_at [] set_size in (
         run_of texts texts false false false requested world c.Whole lines [] after_none folder refl refl
             (one_step world false (step_at none set_size) (next ∷ []) nothing_done after_none after_none lines [] refl (fails_first set_size) (inl (refl, refl, refl, refl, refl)))

@@ -1,5 +1,5 @@
 -- Which file of a package is read.
-use Rattle.std.specs.Prelude.{◌≡◌, ◌≢◌, ◌⊎◌, [], ◌∷◌, ◌++◌, codes, Option, Some, None, ℕ, ◌+◌, zero, suc, Bool, false, List, bytes_eq, if◌then◌else◌}
+use Rattle.std.specs.Prelude.{◌≡◌, ◌≢◌, ◌⊎◌, [], ◌∷◌, ◌++◌, ◌||◌, codes, Option, Some, None, ℕ, ◌+◌, zero, suc, Bool, false, is_some, List, bytes_eq, if◌then◌else◌}
 use Rattle.std.specs.FinMap.{get}
 use Rattle.bz_items.specs.Characters.{Bytes}
 use Rattle.bz_files.specs.Folder.{Folder, new_name}
@@ -32,6 +32,26 @@ found_second folder current = found_at (second_name current) (get folder (second
 
 abbrev pub found_in : Folder → Bytes → Option PackagesFound
 found_in folder current = found_at (first_name current) (get folder (first_name current)) (found_second folder current)
+
+-- ---- the root of the workspace
+
+-- The folder of this path, which ends with a slash or is empty, has this file.
+abbrev pub has_file : Folder → Bytes → Bytes → Bool
+has_file folder path name = is_some (get folder (path ++ name))
+
+-- It is a root.
+abbrev pub is_root : Folder → Bytes → Bool
+is_root folder path = (has_file folder path (codes "MODULE.bazel") || has_file folder path (codes "REPO.bazel"))
+    || (has_file folder path (codes "WORKSPACE.bazel") || has_file folder path (codes "WORKSPACE"))
+
+-- the path of the first root among as many folders: that one and those above it
+unfoldable pub root_from : ℕ → Folder → Bytes → Option Bytes
+root_from zero folder path = None
+root_from (suc count) folder path = if is_root folder path then Some path else root_from count folder (path ++ codes "../")
+
+-- The root is above the current folder, among the first sixteen, where that isn't one itself.
+abbrev pub root_above : Folder → Option Bytes
+root_above folder = if is_root folder [] then None else root_from 16 folder (codes "../")
 
 -- ---- files of other packages
 

@@ -80,7 +80,7 @@ journal_beside journals folder name = if journals then get folder (journal_name 
 -- The file that is found for a package is opened, with its journal where journals are kept.
 abbrev pub OpensBeside : Bool → Folder → Bytes → Option PackagesFound → Option Opened → List Bytes → Type 0
 OpensBeside journals folder current (Some found) file lines = TakesBeside (journal_beside journals folder found.0) current found.0 found.1 file lines
-OpensBeside journals folder current None file lines = Opens current None file lines
+OpensBeside journals folder current None file lines = Opens folder current None file lines
 
 -- ---- what an opening leaves, whatever comes
 

@@ -6,6 +6,7 @@ use Rattle.bz_lex.specs.Faults.{is_of_leaves}
 use Rattle.bz_lex.specs.Stops.{IsFaultAt}
 use Rattle.bz_grammar.specs.Legal.{Accepted}
 use Rattle.bz_grammar.specs.Spell.{limit}
+use Rattle.bz_files.specs.Folder.{Folder}
 use Rattle.bz_items.specs.Characters.{Bytes}
 use Rattle.bz_journal.specs.Actions.{Action}
 use Rattle.bz_grammar.specs.Faults.{IsFaultOf}
@@ -14,8 +15,8 @@ use Rattle.bz_streams.specs.Excerpts.{fault_excerpt}
 use Rattle.bz_streams.specs.Outputs.{Reports}
 use Rattle.bz_streams.specs.Reported.{named_line, fault_line}
 use Rattle.bz_streams.specs.declared.sink.Sink.{Ghosts as SinkOf}
-use Rattle.bz_buildozer.specs.Found.{Opened, Used, file_at, opened_with, with_opened, PackagesFound, second_name}
-use Rattle.bz_buildozer.specs.Reported.{package_hint}
+use Rattle.bz_buildozer.specs.Found.{Opened, Used, file_at, opened_with, with_opened, PackagesFound, root_above, second_name}
+use Rattle.bz_buildozer.specs.Reported.{absent_hint}
 
 -- a package of this path has this number, and its file isn't open
 pub record IsUnopened (place : ℕ) (current : Bytes) (used : List Used) : Type 0 where
@@ -42,10 +43,11 @@ abbrev pub FrontsAreReportedAlike : Type 0
 FrontsAreReportedAlike = (current name text : Bytes) (file : Option Opened) (lines : List Bytes)
     → (Takes current name (take (limit + 1) text) file lines ↔ Takes current name text file lines)
 
--- The file that is found for a package is opened; where none is, that is reported of `BUILD`, and below it what a package is.
-abbrev pub Opens : Bytes → Option PackagesFound → Option Opened → List Bytes → Type 0
-Opens current (Some found) file lines = Takes current found.0 found.1 file lines
-Opens current None file lines = (file ≡ None) × (lines ≡ (named_line (second_name current) (codes "cannot open") ++ package_hint current) ∷ [])
+-- The file that is found for a package is opened; where none is, that is reported of `BUILD`, and below it what a package is, and the root.
+abbrev pub Opens : Folder → Bytes → Option PackagesFound → Option Opened → List Bytes → Type 0
+Opens folder current (Some found) file lines = Takes current found.0 found.1 file lines
+Opens folder current None file lines =
+    (file ≡ None) × (lines ≡ (named_line (second_name current) (codes "cannot open") ++ absent_hint current (root_above folder)) ∷ [])
 
 -- The package with this number has a file from now on, or none, of which this is so, and the lines were printed. (Its number, where
 -- its file is open; the packages, and standard error, before and after.)

@@ -1,5 +1,5 @@
 -- The lines of buildozer on standard error, of which those on usage are bz_command_line's.
-use Rattle.std.specs.Prelude.{◌==◌, ◌&&◌, ◌||◌, ℕ, Bool, not, List, [], ◌∷◌, ◌++◌, bytes_eq, eqb, codes, decimal, if◌then◌else◌}
+use Rattle.std.specs.Prelude.{◌==◌, ◌&&◌, ◌||◌, ℕ, Bool, not, List, [], ◌∷◌, ◌++◌, Option, Some, None, bytes_eq, eqb, codes, decimal, if◌then◌else◌}
 use Rattle.std.specs.List.{concat, ends_with}
 use Rattle.bz_items.specs.Characters.{Bytes}
 use Rattle.bz_value.specs.Refusals.{refusal_name, refusal_number}
@@ -30,6 +30,11 @@ abbrev pub package_hint : Bytes → Bytes
 package_hint current =
     if bytes_eq current (codes "...") || ends_with eqb current (codes "/...") then codes "buildozer: ... is no package here: see buildozer-tree\n"
     else codes "buildozer: a package is a directory below the working directory, which is to be the root of the workspace\n"
+
+-- the same, and below it the root of the workspace, where that is above the current folder
+abbrev pub absent_hint : Bytes → Option Bytes → Bytes
+absent_hint current None = package_hint current
+absent_hint current (Some root) = package_hint current ++ (codes "buildozer: the root of the workspace is " ++ (root ++ codes "\n"))
 
 -- a file that was written
 abbrev pub fixed_line : Bytes → Bytes

@@ -6,7 +6,7 @@ use Rattle.bz_grammar.specs.Legal.{Reads}
 use Rattle.bz_grammar.specs.Statements.{lines_of}
 use Rattle.bz_grammar.specs.declared.tree.Node.{Node}
 use Rattle.bz_hosts.specs.View.{view_of}
-use Rattle.bz_hint.specs.Hints.{refusal_hint}
+use Rattle.bz_hint.specs.Hints.{change_notes, refusal_hint}
 use Rattle.bz_value.specs.declared.refusal.Refusal.TheVariants.{NoteTooLong}
 use Rattle.bz_items.specs.Characters.{Bytes}
 use Rattle.bz_files.specs.Folder.{Folder}
@@ -117,9 +117,9 @@ abbrev pub printed_by : Answer → Bytes
 printed_by (Ok reply) = printed_in reply
 printed_by (Err refusal) = []
 
--- what is reported of an answer: a refusal, by its file and its command, and what helps
+-- what is reported of an answer: a refusal, by its file and its command, and what helps; else what is noted
 abbrev pub reported_of : Bool → Bytes → Bytes → Answer → List Bytes → List Bytes
-reported_of journals name command (Ok reply) hint = []
+reported_of journals name command (Ok reply) hint = hint
 reported_of journals name command (Err refusal) hint = refusal_line journals name command refusal ∷ hint
 
 -- the state after an answer of the open file with this number
@@ -136,10 +136,15 @@ abbrev pub LeadsBy : Option Action → Bytes → History → Answer → History 
 LeadsBy None note h answer after = (answer ≡ Ok (Printed (listing h))) × (after ≡ h)
 LeadsBy (Some action) note h answer after = Leads action note h answer after
 
--- What helps below the line of a refusal of a command, by the tree of the text: not where the note is too long, which is refused before
--- all else. (The file's name, and its history after the answer.)
+-- what is noted of a command that made another text of the file of this name
+abbrev pub reply_notes : Option Action → Reply → Bytes → List Bytes
+reply_notes (Some (Do operation target)) Changed name = change_notes name operation
+reply_notes _ _ name = []
+
+-- What is noted; or what helps below the line of a refusal of a command, by the tree of the text: not where the note is too long, which is
+-- refused before all else. (The file's name, and its history after the answer.)
 abbrev pub AreHints : Answer → Option Action → Bytes → History → List Bytes → Type 0
-AreHints (Ok reply) action name h hint = hint ≡ []
+AreHints (Ok reply) action name h hint = hint ≡ reply_notes action reply name
 AreHints (Err refusal) (Some (Do operation target)) name h hint = ((refusal ≡ NoteTooLong) × (hint ≡ []))
     ⊎ ((refusal ≢ NoteTooLong) × ((n : Node) × Reads (present h) n
     × (hint ≡ refusal_hint name refusal operation target.which target.«package» (lines_of n) (view_of n))))

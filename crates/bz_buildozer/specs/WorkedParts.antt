@@ -10,7 +10,7 @@ use Rattle.bz_items.specs.Characters.{Bytes}
 use Rattle.bz_streams.specs.declared.exit.Cut.TheVariants as c
 use Rattle.bz_buildozer.specs.Found.{found_in, first_name, second_name, Opened, Used, package_number}
 use Rattle.bz_buildozer.specs.Opens.{opened_fresh}
-use Rattle.bz_buildozer.specs.Reported.{package_hint, refusal_line, operand_line, fixed_line}
+use Rattle.bz_buildozer.specs.Reported.{absent_hint, package_hint, refusal_line, operand_line, fixed_line}
 use Rattle.bz_buildozer.specs.Ending.{texts_out, writing_of, status_of}
 use Rattle.bz_buildozer.specs.Run.{Finds, reported_of, printed_by, state_after}
 use Rattle.bz_buildozer.specs.Steps.{RunStep, all_steps, shows_input}
@@ -78,6 +78,9 @@ Reported =
     × (package_hint (codes "a/...") ≡ codes "buildozer: ... is no package here: see buildozer-tree\n")
     × (package_hint (codes "a...")
     ≡ codes "buildozer: a package is a directory below the working directory, which is to be the root of the workspace\n")
+    -- the same in a folder of the root
+    × (absent_hint (codes "...") (Some (codes "../"))
+    ≡ codes "buildozer: ... is no package here: see buildozer-tree\nbuildozer: the root of the workspace is ../\n")
     -- Only what a command prints is printed.
     × (printed_by (Ok (Printed (codes "x\n"))) ≡ codes "x\n") × (printed_by (Ok Same) ≡ []) × (printed_by (Err NotAList) ≡ [])
     -- A refusal after a printed line: the line stays, and the run has failed from then on.

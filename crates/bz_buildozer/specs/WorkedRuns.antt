@@ -1,5 +1,5 @@
 -- Worked rows: how whole runs of buildozer end. Above a row is what is typed (in a shell).
-use Rattle.std.specs.Prelude.{◌≡◌, ◌<◌, ℕ, true, List, [], ◌∷◌, ◌++◌, length, codes, Some, None}
+use Rattle.std.specs.Prelude.{◌≡◌, ◌<◌, ℕ, List, [], ◌∷◌, ◌++◌, length, codes, Some, None}
 use Rattle.std.specs.FinMap.{get}
 use Rattle.bz_files.specs.Folder.{Folder, with_file}
 use Rattle.bz_buildozer.specs.Sessions.{gives, Means}
@@ -9,7 +9,8 @@ use Rattle.bz_items.specs.Characters.{Bytes}
 use Rattle.bz_streams.specs.declared.exit.Cut.TheVariants as c
 use Rattle.bz_command_syntax.specs.declared.command.AttributeOperation.TheVariants as wa
 use Rattle.bz_command_syntax.specs.declared.command.Operation.TheVariants as w
-use Rattle.bz_buildozer.specs.Found.{found_in}
+use Rattle.bz_buildozer.specs.Found.{found_in, root_above}
+use Rattle.bz_buildozer.specs.Reported.{absent_hint}
 use Rattle.bz_buildozer.specs.Ending.{ended_whole}
 use Rattle.bz_buildozer.specs.Outcome.{WordsOutcome, unused}
 use Rattle.bz_buildozer.specs.Run.{World}
@@ -102,7 +103,7 @@ OverBuild world =
 -- Package `none` has no file: 'set size small' //none:x //:x ends there; with -k it goes on. -k undo redo //none:x reports it once.
 abbrev pub BesideNone : World → Type 0
 BesideNone world =
-    let none : Bytes = codes "none/BUILD: cannot open\nbuildozer: a package is a directory below the working directory, which is to be the root of the workspace\n" in
+    let none : Bytes = codes "none/BUILD: cannot open\n" ++ absent_hint (codes "none") (root_above world.folder) in
     let targets : List Bytes = codes "//none:x" ∷ codes "//:x" ∷ [] in
     Still (codes "set size small" ∷ targets) [] (none ∷ []) 2 world
     × BuildWritten (codes "-k" ∷ codes "set size small" ∷ targets) [] (none ∷ codes "fixed BUILD\n" ∷ []) 2 world

@@ -18,7 +18,7 @@ ghost use Rattle.bz_buildozer.specs.Calls.{KeepsSome, KeepsStep, ReportsLine, Re
 ghost use Rattle.bz_buildozer.specs.Keeps.{is_left_at};
 ghost use Rattle.bz_buildozer.specs.Moments.{AllAreSafe};
 ghost use Rattle.bz_buildozer.specs.Reported.{unkept_line};
-ghost use Rattle.bz_buildozer.specs.Run.{Answers, AreHints, Does, printed_in, reported_of};
+ghost use Rattle.bz_buildozer.specs.Run.{Answers, AreHints, Does, reply_notes, printed_in, reported_of};
 ghost use Rattle.bz_buildozer.specs.private.Shown.{progress_in};
 ghost use Rattle.bz_buildozer.specs.Steps as s;
 ghost use Rattle.bz_buildozer.specs.Steps.{RunStep, input_package, step_of};
@@ -32,7 +32,7 @@ use crate::workspace::Workspace;
 use bz_command_line::Request;
 use bz_command_syntax::Command;
 use bz_files::Files;
-use bz_hint::report_hint;
+use bz_hint::{report_hint, report_notes};
 use bz_items::at;
 use bz_journal::{Action, KeepFault, Reply};
 use bz_label::Target;
@@ -93,7 +93,7 @@ fn hint_below<E: Sink>(
     let file = open_file(&run.workspace, place);
     let alloc = *run.printed.allocator();
     let mut text = Vec::new(alloc);
-    file.revisions.text_into(&mut text)?;
+    file.past.text_into(&mut text)?;
     let (name, package) = (file.name.as_str(), target.package.as_slice());
     report_hint(alloc, err, name, &text, command, target, package, refusal)
 }
@@ -178,7 +178,23 @@ fn refuse_action<E: Sink>(
     }
 }
 
-// Does an action in the open file of the package with this number: what it prints is kept, and a refusal is reported.
+// Reports what is to be noted of an action that gave this reply in the open file of the package with this number. It takes no memory.
+fn note<E: Sink>(run: &Run, place: usize, action: &Action<'_>, reply: &Reply, err: &mut E) -> Cut
+    requires { IsSome (file_at place run.now.workspace) }
+    ensures cut { result ≡ Cut.Whole }
+    ensures notes { (file : p.Opened) → file_at place run.now.workspace ≡ Some file
+        → ReportsLines E.Sink err.old err.new (reply_notes (Some (action_in action.now)) reply.now file.name) }
+{
+    let name = open_file(&run.workspace, place).name.as_str();
+    if let Action::Do(command, _) = action
+        && let Reply::Changed = reply
+    {
+        report_notes(err, name, command);
+    }
+    Cut::Whole
+}
+
+// Does an action in the open file of the package with this number: what it prints is kept, what is to be noted is reported, and so is a refusal.
 fn act_at<E: Sink>(
     run: &mut Run,
     place: usize,
@@ -194,7 +210,7 @@ fn act_at<E: Sink>(
 {
     match run.workspace.act(place, action, command, run.once) {
         Ok(reply) => match put_printed(&reply, &mut run.printed) {
-            Ok(()) => Cut::Whole,
+            Ok(()) => note(run, place, action, &reply, err),
             Err(_) => refuse(false, run, place, command, Refusal::Memory, err),
         },
         Err(refusal) => refuse_action(false, run, place, action, command, refusal, err),
@@ -210,7 +226,7 @@ fn list_at<E: Sink>(alloc: Global, run: &mut Run, place: usize, command: &str, e
         × Answers result journals step (Some place) folder (progress_in run.old) lines folder (progress_in run.new) × ReportsLines E.Sink err.old err.new lines }
     ensures same { run.new.workspace ≡ run.old.workspace }
 {
-    let Ok(text) = open_file(&run.workspace, place).revisions.listing(alloc) else {
+    let Ok(text) = open_file(&run.workspace, place).past.listing(alloc) else {
         return refuse(false, run, place, command, Refusal::Memory, err);
     };
     match put_printed(&Reply::Printed(text), &mut run.printed) {
@@ -265,7 +281,7 @@ fn keep_at<F: Files, E: Sink>(
 {
     match run.workspace.keep(place, action, command, files) {
         Ok(reply) => match put_printed(&reply, &mut run.printed) {
-            Ok(()) => Cut::Whole,
+            Ok(()) => note(run, place, action, &reply, err),
             Err(_) => refuse(true, run, place, command, Refusal::Memory, err),
         },
         Err(KeepFault::Refused(refusal)) => {

@@ -54,7 +54,7 @@ fn put_file(file: &Opened, output: &mut Vec<u8>) -> Result<bool, Memory>
         × (output.new.items ≡ output.old.items ++ present (opened_in file.now).history)) }
 {
     let start = output.len();
-    file.revisions.text_into(output)?;
+    file.past.text_into(output)?;
     Ok(&output[start..] != file.read.as_slice())
 }
 

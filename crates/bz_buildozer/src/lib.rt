@@ -9,6 +9,7 @@ mod laws;
 mod opening;
 mod reading;
 mod reported;
+mod rooting;
 mod run;
 mod running;
 mod script;

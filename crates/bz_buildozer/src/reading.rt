@@ -1,5 +1,5 @@
 //! What opening a file takes: its name, its bytes and its session.
-ghost use Rattle.std.specs.Prelude.{◌≡◌, ◌≢◌, ◌⊎◌, ◌≤◌, ◌++◌, [], ◌∷◌, codes, eqb, flat_map, length, take, true, Some, None, IfOk, IfErr, IsErrOf, string_bytes};
+ghost use Rattle.std.specs.Prelude.{◌≡◌, ◌≢◌, ◌⊎◌, ◌≤◌, ◌++◌, [], ◌∷◌, codes, eqb, flat_map, length, option_map, take, true, Some, None, IfOk, IfErr, IsErrOf, string_bytes};
 ghost use Rattle.std.specs.List.{ends_with};
 ghost use Rattle.std.specs.FinMap.{get};
 ghost use Rattle.bz_grammar.specs.Legal.{Accepted};
@@ -13,12 +13,12 @@ ghost use Rattle.bz_buildozer.specs.Journals.{fault_lines, of_package, of_resumi
 ghost use Rattle.bz_buildozer.specs.Keeps.{KeepsFolder};
 ghost use Rattle.bz_buildozer.specs.Opens.{IsRefusedFor, opened_fresh};
 ghost use Rattle.bz_buildozer.specs.private.ShownFiles.{opened_in};
-ghost use Rattle.bz_buildozer.specs.Reported.{package_hint};
+ghost use Rattle.bz_buildozer.specs.Reported.{absent_hint, package_hint};
 
 use crate::used::Opened;
 use bz_files::{FileFault, FileKind, Files};
 use bz_items::{Memory, Text};
-use bz_journal::{Editor, ResumeFault};
+use bz_journal::{Past, ResumeFault};
 use bz_lex::ReadFault;
 use bz_streams::{Cut, LinePiece, Sink, report_named, report_pieces};
 use std::alloc::Global;
@@ -92,8 +92,8 @@ pub(crate) fn opened(
     let Ok(name) = String::from_str(alloc, name) else {
         return Err((text, ReadFault::Memory));
     };
-    match Editor::open(alloc, package, text.as_slice()) {
-        Ok(editor) => Ok(Opened::new(name, Text::from_vec(text), editor)),
+    match Past::open(alloc, package, text.as_slice()) {
+        Ok(past) => Ok(Opened::new(name, Text::from_vec(text), past)),
         Err(fault) => Err((text, fault)),
     }
 }
@@ -143,13 +143,50 @@ fn report_above<'a, E: Sink>(err: &mut E, name: &'a str, word: &'a str, below: &
     );
 }
 
-/// Reports that no file of a package is there, by the name of one, and below it what a package is.
-pub(crate) fn fail_absent<E: Sink>(err: &mut E, name: &str, package: &str) -> Opening
+// The same, and below that the root of the workspace.
+fn report_above_root<'a, E: Sink>(
+    err: &mut E,
+    name: &'a str,
+    word: &'a str,
+    below: &'a str,
+    root: &'a str,
+)
+    ensures { AppendsUnlessFailed (E.faults err.old) (E.faults err.new) (E.contents err.old) (E.contents err.new)
+        (named_line name.entry.now word.entry.now
+        ++ (below.entry.now ++ (codes "buildozer: the root of the workspace is " ++ (root.entry.now ++ codes "\n")))) }
+{
+    report_pieces(
+        err,
+        &[
+            LinePiece::Outside(name),
+            LinePiece::Own(": "),
+            LinePiece::Own(word),
+            LinePiece::Own("\n"),
+            LinePiece::Own(below),
+            LinePiece::Own("buildozer: the root of the workspace is "),
+            LinePiece::Own(root),
+            LinePiece::Own("\n"),
+        ],
+    );
+}
+
+/// Reports that no file of a package is there, by the name of one; below it what a package is, and the root of the workspace, where that is above the
+/// current folder.
+pub(crate) fn fail_absent<E: Sink>(
+    err: &mut E,
+    name: &str,
+    package: &str,
+    root: Option<&str>,
+) -> Opening
     ensures opening { result ≡ record { place = None; cut = Cut.Whole } }
     ensures reported { AppendsUnlessFailed (E.faults err.old) (E.faults err.new) (E.contents err.old) (E.contents err.new)
-        (named_line name.now (codes "cannot open") ++ package_hint «package».now) }
+        (named_line name.now (codes "cannot open") ++ absent_hint «package».now (option_map (λ s. s.now) root.entry)) }
 {
-    report_above(err, name, "cannot open", package_hint(package));
+    let hint = package_hint(package);
+    match root {
+        Some(root) => report_above_root(err, name, "cannot open", hint, root),
+        None => report_above(err, name, "cannot open", hint),
+    }
     Opening::new(None, Cut::Whole)
 }
 

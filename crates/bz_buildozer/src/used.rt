@@ -4,14 +4,14 @@ ghost use Rattle.std.specs.Option.{option_map};
 ghost use Rattle.bz_journal.specs.Actions.{action_in};
 ghost use Rattle.bz_journal.specs.History.{History};
 ghost use Rattle.bz_journal.specs.Keeping.{Keeps};
-ghost use Rattle.bz_journal.specs.Shown.{session_history};
+ghost use Rattle.bz_journal.specs.Forms.{past_history};
 ghost use Rattle.bz_buildozer.specs.Keeps.{KeepsFile, after_keeping};
 ghost use Rattle.bz_buildozer.specs.Found.{opened_with, with_opened};
 ghost use Rattle.bz_buildozer.specs.private.ShownFiles.{opened_in, used_in};
 
 use bz_files::Files;
 use bz_items::Text;
-use bz_journal::{Action, Editor, KeepFault, Reply, Revisions};
+use bz_journal::{Action, KeepFault, Past, Reply};
 
 /// A file that is open.
 pub(crate) struct Opened {
@@ -20,7 +20,7 @@ pub(crate) struct Opened {
     /// The text that was read.
     pub(crate) read: Text,
     /// What became of it: its texts so far.
-    pub(crate) revisions: Revisions,
+    pub(crate) past: Past,
     /// Whether its journal and it were written in this run.
     pub(crate) written: bool,
     /// Whether it is left alone: the two could not both be written.
@@ -32,7 +32,7 @@ impl Drop for Opened {
         let Opened {
             name: _,
             read: _,
-            revisions: _,
+            past: _,
             written: _,
             left: _,
         } = self;
@@ -40,14 +40,14 @@ impl Drop for Opened {
 }
 
 impl Opened {
-    /// A file of this name as it was read, with its editor.
-    pub(crate) fn new(name: String, read: Text, editor: Editor) -> Opened
-        ensures { opened_in result ≡ opened_with (string_bytes name) read (session_history editor) }
+    /// A file of this name as it was read, with its texts so far.
+    pub(crate) fn new(name: String, read: Text, past: Past) -> Opened
+        ensures { opened_in result ≡ opened_with (string_bytes name) read (past_history past) }
     {
         Opened {
             name,
             read,
-            revisions: Revisions::new(editor),
+            past,
             written: false,
             left: false,
         }
@@ -65,7 +65,7 @@ impl Opened {
         ensures same { opened_in self.new ≡ record (opened_in self.old) { history = (opened_in self.new).history } }
         ensures pair { KeepsFile F.Files (opened_in self.old).name (opened_in self.old).history (opened_in self.new).history result files.old files.new }
     {
-        self.revisions
+        self.past
             .keep_noted(action, note, self.name.as_str(), files)
     }
 
@@ -80,10 +80,10 @@ impl Opened {
             × (opened_in self.new ≡ after_keeping result history (opened_in self.old))
             × KeepsFile F.Files (opened_in self.old).name (opened_in self.old).history history result files.old files.new }
     {
-        let from = self.revisions.cursor();
+        let from = self.past.cursor();
         match self.keep_pair(action, note, files) {
             Ok(reply) => {
-                self.written |= self.revisions.cursor() != from;
+                self.written |= self.past.cursor() != from;
                 Ok(reply)
             }
             Err(KeepFault::Refused(refusal)) => Err(KeepFault::Refused(refusal)),

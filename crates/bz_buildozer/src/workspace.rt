@@ -19,10 +19,11 @@ ghost use Rattle.bz_buildozer.specs.Found.{file_at, package_number, with_opened}
 use crate::reading::{
     Opening, bytes_of, fail, fail_absent, misplaced, name_in, opened, unnamed, unresumed,
 };
+use crate::rooting::root_above;
 use crate::used::{Opened, Used, put_file};
 use bz_files::{FileFault, Files};
 use bz_items::{Memory, Text, at};
-use bz_journal::{Action, Editor, KeepFault, Reply, Session};
+use bz_journal::{Action, KeepFault, Past, Reply, Session};
 use bz_lex::ReadFault;
 use bz_resume::journal_name;
 use bz_streams::{Cut, MOST, Sink, report_fault_in, report_named};
@@ -182,7 +183,7 @@ impl Workspace {
         match String::from_str(alloc, name) {
             Ok(name) => self.put(
                 place,
-                Opened::new(name, Text::from_vec(text), Editor::new(session)),
+                Opened::new(name, Text::from_vec(text), Past::new(session)),
             ),
             Err(_) => fail(err, journal, "Memory (8)", Cut::Memory),
         }
@@ -230,7 +231,7 @@ impl Workspace {
         }
     }
 
-    /// Reads the second name of a package whose file isn't open. Where none is there, what a package is is printed below the line.
+    /// Reads the second name of a package whose file isn't open. Where none is there, what a package is, and where the root of the workspace is, is printed below the line.
     fn open_second<F: Files, E: Sink>(
         &mut self,
         place: usize,
@@ -251,7 +252,10 @@ impl Workspace {
         let name = name.as_str();
         match bytes_of(alloc, files, name, MOST) {
             Ok(text) => self.open_found(place, package, name, text, journals, files, err),
-            Err(FileFault::Absent) => fail_absent(err, name, package),
+            Err(FileFault::Absent) => match root_above(alloc, files) {
+                Ok(root) => fail_absent(err, name, package, root.as_deref()),
+                Err(_) => unnamed(err, package),
+            },
             Err(FileFault::Memory) => fail(err, name, "Memory", Cut::Memory),
             Err(_) => fail(err, name, "cannot open", Cut::Files),
         }
@@ -334,7 +338,7 @@ impl Workspace {
     {
         let used = &mut self.used[place];
         match &mut used.file {
-            Some(opened) => opened.revisions.act_noted(action, note, is_last),
+            Some(opened) => opened.past.act_noted(action, note, is_last),
             None => unreachable!(),
         }
     }

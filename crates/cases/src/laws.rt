@@ -2,7 +2,7 @@
 //! that what a law requires can be met.
 use bz_edit::advance;
 use bz_grammar::ReadFault;
-use bz_journal::{Editor, Session, editor_holds, history_kept, session_holds};
+use bz_journal::{Past, Session, history_kept, past_holds, session_holds};
 use bz_label::{Label, LabelFault, Target, TargetFault};
 use bz_tree::parse;
 use sheets::{Case, CaseFault, Page};
@@ -205,6 +205,6 @@ fn one_history(alloc: Global) -> Result<(), ReadFault> {
     let session = Session::open(alloc, "p", b"x = [1]\n")?;
     history_kept(&session);
     session_holds(&session);
-    editor_holds(&Editor::new(session));
+    past_holds(&Past::new(session));
     Ok(())
 }

@@ -3,13 +3,13 @@ use Rattle.std.specs.Prelude.{ℕ, List, Vec, map, string_bytes}
 use Rattle.std.specs.Option.{option_map}
 use Rattle.std.specs.declared.alloc.Global.{Global}
 use Rattle.bz_items.specs.Characters.{Bytes}
-use Rattle.bz_journal.specs.Forms.{revisions_history}
+use Rattle.bz_journal.specs.Forms.{past_history}
 use Rattle.bz_buildozer.specs.Found as p
 use Rattle.bz_buildozer.specs.declared.used.Opened.{Opened}
 use Rattle.bz_buildozer.specs.declared.used.Used.{Used}
 
 abbrev pub opened_in : Opened → p.Opened
-opened_in file = record { name = string_bytes file.name; read = file.read; history = revisions_history file.revisions; written = file.written; left = file.left }
+opened_in file = record { name = string_bytes file.name; read = file.read; history = past_history file.past; written = file.written; left = file.left }
 
 abbrev pub used_in : Used → p.Used
 used_in used = record { «package» = used.«package»; file = option_map opened_in used.file }

@@ -1,10 +1,11 @@
-use Rattle.std.proofs.Common.{Ok, Err, [], false, refl, inl}
+use Rattle.std.proofs.Common.{Ok, Err, Some, [], false, refl, subst, sym, inl}
+use Rattle.bz_streams.specs.declared.exit.Cut.{Cut}
 use Rattle.bz_value.specs.declared.refusal.Refusal.TheVariants.{Memory}
 use Rattle.bz_buildozer.specs.Sessions.{action_in}
 use Rattle.bz_buildozer.specs.Opens.{ActsAt}
 use Rattle.bz_buildozer.specs.Found.{Opened}
 use Rattle.bz_buildozer.specs.Reported.{refusal_line}
-use Rattle.bz_buildozer.specs.Run.{reported_of}
+use Rattle.bz_buildozer.specs.Run.{Answers, reply_notes, reported_of}
 use Rattle.bz_buildozer.specs.private.Shown.{progress_in}
 use Rattle.bz_buildozer.proofs.ActSteps.{file_put, led_on, led_to, still_open}
 use Rattle.bz_buildozer.proofs.DoSteps.{fails_at, free_file, hints_by, leads_by, memory_answers, refused, replied, step_at}
@@ -13,17 +14,23 @@ use Rattle.bz_buildozer.proofs.acting.act_at.Goals as goal
 
 pub returns-in-Ok-put_printed-clause-answers : goal.returns-in-Ok-put_printed-clause-answers
 returns-in-Ok-put_printed-clause-answers g c = λ folder target verb requested.
-    let note = c.args.command.now in
+    let command = c.args.command.now in
     let place = c.args.place in
     let before = progress_in c.args.run.now in
     let reply = c.in-Ok.reply in
-    let done : ActsAt place (action_in c.args.action.now) note before.used (Ok reply) c.act.new.self = c.in-Ok.ensures in (
-      [],
-      replied false (step_at target verb note) place done.file done.history folder folder before _ c.act.new.self
-          (free_file false place before.used done.file done.there refl) reply _
-          (leads_by target verb note (action_in c.args.action.now) done.file.history done.history (Ok reply) requested
-          (led_on done.file.history done.history (action_in c.args.action.now) note reply done.acts)) refl done.kept c.in-Ok-put_printed.ensures.ok refl,
-      (refl, refl),
+    let action = action_in c.args.action.now in
+    let done : ActsAt place action command before.used (Ok reply) c.act.new.self = c.in-Ok.ensures in
+    let new : Opened = record done.file { history = done.history } in
+    let notes = reply_notes (Some action) reply done.file.name in (
+      notes,
+      subst (λ (why : Cut). Answers why false (step_at target verb command) (Some place) folder before notes folder
+          (record before { used = c.act.new.self; printed = c.put_printed.new.printed.items })) (sym c.note.ensures.cut)
+          (replied false (step_at target verb command) place done.file done.history folder folder before _ c.act.new.self
+          (free_file false place before.used done.file done.there refl) reply _ notes
+          (hints_by target verb action done.file.name done.history (Ok reply) notes requested refl)
+          (leads_by target verb command action done.file.history done.history (Ok reply) requested (led_on done.file.history done.history action command reply done.acts)) refl
+          done.kept c.in-Ok-put_printed.ensures.ok refl),
+      c.note.ensures.notes new (file_put place before.used c.act.new.self done.file new done.there done.kept),
     )
 
 pub returns-in-Ok-clause-answers : goal.returns-in-Ok-clause-answers
@@ -70,4 +77,9 @@ refuse-requires g c =
 pub refuse_action-requires : goal.refuse_action-requires
 refuse_action-requires g c =
     let done : ActsAt c.args.place (action_in c.args.action.now) c.args.command.now c.args.run.now.workspace (Err c.in-Err.refusal) c.act.new.self = c.in-Err.ensures in
+    still_open c.args.place c.args.run.now.workspace c.act.new.self done.file (record done.file { history = done.history }) done.there done.kept
+
+pub note-requires : goal.note-requires
+note-requires g c =
+    let done : ActsAt c.args.place (action_in c.args.action.now) c.args.command.now c.args.run.now.workspace (Ok c.in-Ok.reply) c.act.new.self = c.in-Ok.ensures in
     still_open c.args.place c.args.run.now.workspace c.act.new.self done.file (record done.file { history = done.history }) done.there done.kept

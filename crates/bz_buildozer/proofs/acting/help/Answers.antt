@@ -1,4 +1,4 @@
-use Rattle.std.proofs.Common.{◌≡◌, refl, inl, inr}
+use Rattle.std.proofs.Common.{refl, inl, inr}
 use Rattle.bz_grammar.specs.Statements.{lines_of}
 use Rattle.bz_hosts.specs.View.{view_of}
 use Rattle.bz_hint.specs.Hints.{refusal_hint}

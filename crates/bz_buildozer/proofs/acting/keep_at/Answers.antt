@@ -1,24 +1,33 @@
-use Rattle.std.proofs.Common.{◌∷◌, Ok, Err, true, ap, refl, subst, []}
+use Rattle.std.proofs.Common.{◌∷◌, Ok, Err, Some, true, ap, refl, subst, sym, []}
+use Rattle.bz_streams.specs.declared.exit.Cut.{Cut}
 use Rattle.bz_journal.specs.declared.keeping.KeepFault.{KeepFault}
 use Rattle.bz_journal.specs.declared.keeping.KeepFault.TheVariants.{Refused, Pair}
 use Rattle.bz_value.specs.declared.refusal.Refusal.TheVariants.{Memory}
 use Rattle.bz_buildozer.specs.Keeps.{KeepsAt, after_keeping}
 use Rattle.bz_buildozer.specs.Found.{Opened}
 use Rattle.bz_buildozer.specs.Reported.{refusal_line, unkept_line}
-use Rattle.bz_buildozer.specs.Run.{Progress, reported_of}
+use Rattle.bz_buildozer.specs.Run.{Answers, Progress, reply_notes, reported_of}
 use Rattle.bz_buildozer.specs.Sessions.{action_in}
 use Rattle.bz_buildozer.specs.private.Shown.{progress_in}
 use Rattle.bz_buildozer.proofs.ActSteps.{file_put, led_to}
+use Rattle.bz_buildozer.proofs.DoSteps.{step_at}
 use Rattle.bz_buildozer.proofs.KeepSteps.{kept_answers, kept_by, kept_open, refused_answers, unkept_answers, unprinted_answers, wants_memory}
 use Rattle.bz_buildozer.proofs.acting.keep_at.Goals as goal
 
 pub returns-in-Ok-put_printed-clause-answers : goal.returns-in-Ok-put_printed-clause-answers
-returns-in-Ok-put_printed-clause-answers g c = λ honest safe free target verb requested. (
-  [],
-  kept_answers g.F.Files g.met.F.Files.counts_now target verb c.args.command.now c.args.place (action_in c.args.action.now) (progress_in c.args.run.now) _ c.keep.new.self
-      c.args.files.now c.keep.new.files requested honest safe free c.in-Ok.reply c.in-Ok.ensures.keeps _ refl c.in-Ok-put_printed.ensures.ok,
-  (refl, refl),
-)
+returns-in-Ok-put_printed-clause-answers g c = λ honest safe free target verb requested.
+    let before = progress_in c.args.run.now in
+    let action = action_in c.args.action.now in
+    let done : KeepsAt g.F.Files c.args.place action c.args.command.now before.used (Ok c.in-Ok.reply) c.keep.new.self c.args.files.now c.keep.new.files = c.in-Ok.ensures.keeps in
+    let new : Opened = after_keeping (Ok c.in-Ok.reply) done.history done.file in
+    let notes = reply_notes (Some action) c.in-Ok.reply done.file.name in (
+      notes,
+      subst (λ (why : Cut). Answers why true (step_at target verb c.args.command.now) (Some c.args.place) (g.F.Files.folder c.args.files.now) before notes
+          (g.F.Files.folder c.keep.new.files) (record before { used = c.keep.new.self; printed = c.put_printed.new.printed.items })) (sym c.note.ensures.cut)
+          (kept_answers g.F.Files g.met.F.Files.counts_now target verb c.args.command.now c.args.place action before _ c.keep.new.self
+          c.args.files.now c.keep.new.files requested honest safe free c.in-Ok.reply done _ refl c.in-Ok-put_printed.ensures.ok),
+      c.note.ensures.notes new (file_put c.args.place before.used c.keep.new.self done.file new done.there done.kept),
+    )
 
 pub returns-in-Ok-clause-answers : goal.returns-in-Ok-clause-answers
 returns-in-Ok-clause-answers g c = λ honest safe free target verb requested.
@@ -100,3 +109,7 @@ refuse_action-requires g c = kept_open g.F.Files c.args.place (action_in c.args.
 pub leave-requires : goal.leave-requires
 leave-requires g c = kept_open g.F.Files c.args.place (action_in c.args.action.now) c.args.command.now c.args.run.now.workspace _ c.keep.new.self c.args.files.now
     c.keep.new.files c.in-Err-Pair.ensures.keeps
+
+pub note-requires : goal.note-requires
+note-requires g c = kept_open g.F.Files c.args.place (action_in c.args.action.now) c.args.command.now c.args.run.now.workspace _ c.keep.new.self c.args.files.now
+    c.keep.new.files c.in-Ok.ensures.keeps

@@ -1,6 +1,6 @@
 use Rattle.std.proofs.Common.{Err, refl, subst}
 use Rattle.bz_journal.specs.declared.keeping.KeepFault.{KeepFault}
-use Rattle.bz_journal.specs.Forms.{revisions_history}
+use Rattle.bz_journal.specs.Forms.{past_history}
 use Rattle.bz_journal.specs.Keeping.{Keeps}
 use Rattle.bz_buildozer.specs.Keeps.{KeepsFile}
 use Rattle.bz_buildozer.specs.Sessions.{action_in}
@@ -11,7 +11,7 @@ use Rattle.bz_buildozer.proofs.used.Opened.keep.Goals as goal
 pub returns-in-Ok : goal.returns-in-Ok
 returns-in-Ok g c =
     let mid = c.keep_pair.new.self in
-    let after = revisions_history mid.revisions in (
+    let after = past_history mid.past in (
       after,
       c.in-Ok.ensures.keeps,
       marked_written after (opened_in c.args.self.now) (opened_in mid) _ c.cursor-from.result c.cursor.result c.in-Ok.ensures.same refl
@@ -22,7 +22,7 @@ returns-in-Ok g c =
 pub returns-in-Err-Refused : goal.returns-in-Err-Refused
 returns-in-Err-Refused g c =
     let file = opened_in c.args.self.now in
-    let after = revisions_history c.keep_pair.new.self.revisions in
+    let after = past_history c.keep_pair.new.self.past in
     let done = c.in-Err-Refused in (
       after,
       subst (λ (fault : KeepFault). Keeps (action_in c.args.action.now) c.args.note.now file.history (Err fault) after) done.field-0-is done.ensures.keeps,
@@ -34,7 +34,7 @@ pub returns-in-Err-Pair : goal.returns-in-Err-Pair
 returns-in-Err-Pair g c =
     let file = opened_in c.args.self.now in
     let mid = c.keep_pair.new.self in
-    let after = revisions_history mid.revisions in
+    let after = past_history mid.past in
     let done = c.in-Err-Pair in (
       after,
       subst (λ (fault : KeepFault). Keeps (action_in c.args.action.now) c.args.note.now file.history (Err fault) after) done.field-0-is done.ensures.keeps,

@@ -1,7 +1,7 @@
 use Rattle.std.proofs.Common.{◌∙◌, List, Some, ap, arith, refl, sym, true≢false}
 use Rattle.std.specs.Prelude.{is_some}
 use Rattle.std.specs.Option.{option_map}
-use Rattle.bz_journal.specs.Forms.{revisions_history}
+use Rattle.bz_journal.specs.Forms.{past_history}
 use Rattle.bz_buildozer.specs.private.ShownFiles.{texts_of_keys, opened_in}
 use Rattle.bz_buildozer.specs.Found as p
 use Rattle.bz_buildozer.specs.Found.{file_at, with_opened}
@@ -23,17 +23,17 @@ unreachable-requires c =
 pub invariant_of-self : goal.invariant_of-self
 invariant_of-self c =
     let there = c.index_mut-used.result.now in
-    kept_by (texts_of_keys c.self.inside.names.keys) c.args.place (Some (record (opened_in c.in-Some.opened) { history = revisions_history c.act_noted.new.self })) _ _
+    kept_by (texts_of_keys c.self.inside.names.keys) c.args.place (Some (record (opened_in c.in-Some.opened) { history = past_history c.act_noted.new.self })) _ _
     c.self.invariant
-    (put_in c.self.inside.used.items c.args.place there there (record there { file = Some (record c.in-Some.opened { revisions = c.act_noted.new.self }) })
-    (Some (record (opened_in c.in-Some.opened) { history = revisions_history c.act_noted.new.self })) c.index_mut-used.ensures.value refl)
+    (put_in c.self.inside.used.items c.args.place there there (record there { file = Some (record c.in-Some.opened { past = c.act_noted.new.self }) })
+    (Some (record (opened_in c.in-Some.opened) { history = past_history c.act_noted.new.self })) c.index_mut-used.ensures.value refl)
 
 pub returns : goal.returns
 returns c =
     let items = c.self.inside.used.items in
     let there = c.index_mut-used.result.now in
     let file = opened_in c.in-Some.opened in
-    let history = revisions_history c.act_noted.new.self in
+    let history = past_history c.act_noted.new.self in
     let some = ap (λ (used : List p.Used). is_some (file_at c.args.place used)) c.self.view_is ∙ c.requires in
     record {
       file = file;
@@ -41,7 +41,7 @@ returns c =
       there = ap (file_at c.args.place) (sym c.self.view_is) ∙ file_in items c.args.place there there c.index_mut-used.ensures.value some
           ∙ ap (option_map opened_in) c.in-Some.is;
       acts = c.act_noted.ensures.acts;
-      kept = put_in items c.args.place there there (record there { file = Some (record c.in-Some.opened { revisions = c.act_noted.new.self }) })
+      kept = put_in items c.args.place there there (record there { file = Some (record c.in-Some.opened { past = c.act_noted.new.self }) })
           (Some (record file { history = history })) c.index_mut-used.ensures.value refl
           ∙ ap (with_opened c.args.place (Some (record file { history = history }))) c.self.view_is;
     }

@@ -1,6 +1,7 @@
 use Rattle.std.proofs.Common.{◌≡◌, ◌≢◌, ◌∙◌, Bool, true, false, not, true≢false, [], Some, Ok, Err, ap, refl, subst, sym, string_bytes}
 use Rattle.std.proofs.lemmas.Slice.Eq.{bytes_eq-Decides}
 use Rattle.bz_items.specs.Characters.{Bytes}
+use Rattle.bz_journal.specs.Forms.{past_history}
 use Rattle.bz_journal.specs.Shown.{session_history}
 use Rattle.bz_journal.specs.State.{SessionState}
 use Rattle.bz_buildozer.specs.Journals.{JournalGives, of_package, of_resuming}
@@ -59,7 +60,7 @@ returns-in-Ok-from_str-clause-whole g c = λ _.
         refl,
       ),
       c.put.ensures.put ∙ ap (λ (file : p.Opened). with_opened c.args.place (Some file) c.args.self.now) (c.new-in-Ok-from_str.ensures
-          ∙ same_opened (string_bytes c.in-Ok-from_str.name) name c.from_vec.result text c.new.result session c.in-Ok-from_str.ensures.ok c.from_vec.ensures c.new.ensures),
+          ∙ same_opened (string_bytes c.in-Ok-from_str.name) name c.from_vec.result text (past_history c.new.result) (session_history session) c.in-Ok-from_str.ensures.ok c.from_vec.ensures (ap past_history c.new.ensures)),
       ap (λ (o : Opening). o.place) c.put.ensures.opening,
       (refl, refl),
     )

@@ -1,4 +1,5 @@
-use Rattle.std.proofs.Common.{◌≡◌, ◌∙◌, true, ap, refl, Err, inl}
+use Rattle.std.proofs.Common.{◌≡◌, ◌∙◌, true, ap, refl, Err, inl, Bor, List, ℕ, option_map}
+use Rattle.bz_buildozer.specs.Found.{root_above}
 use Rattle.bz_streams.specs.declared.exit.Cut.TheVariants as cut
 use Rattle.bz_buildozer.specs.Run.{SecondUntil, unreadable}
 use Rattle.bz_buildozer.proofs.FailSteps.{fails_as, second_until}
@@ -15,12 +16,20 @@ returns-in-Ok-bytes_of-clause-second g c =
     (g.F.Files.folder c.args.files.now) (g.F.Files.folder c.bytes_of.new.files) file lines (c.as_str-name.ensures.value ∙ c.in-Ok.ensures) held.1 held.2 (read.folder honest)
     (takes (read.honest ∙ honest))) c.open_found.ensures.fills
 
-pub returns-in-Err-Absent-clause-second : goal.returns-in-Err-Absent-clause-second
-returns-in-Err-Absent-clause-second g c =
+pub returns-in-Ok-root_above-clause-second : goal.returns-in-Ok-root_above-clause-second
+returns-in-Ok-root_above-clause-second g c =
     fails_as g.E.Sink c.args.place (λ why file lines. g.F.Files.honest c.args.files.now ≡ true → SecondUntil why c.args.journals (g.F.Files.folder c.args.files.now) c.args.package.now file lines) c.fail_absent.result cut.Whole
     c.args.self.now c.args.err.now c.fail_absent.new.err _ c.requires.closed c.fail_absent.ensures.opening
-    (λ honest. neither_opens c.args.journals c.args.package.now c.as_str-name.result.now (g.F.Files.folder c.args.files.now) (c.as_str-name.ensures.value ∙ c.in-Ok.ensures)
-    (c.in-Err-Absent.ensures.absent honest (ap Err c.in-Err-Absent.field-0-is))) c.fail_absent.ensures.reported
+    (λ honest. neither_opens c.args.journals c.args.package.now c.as_str-name.result.now (g.F.Files.folder c.args.files.now)
+    (option_map (λ (s : Bor (List ℕ)). s.now) c.as_deref.result) (c.as_str-name.ensures.value ∙ c.in-Ok.ensures)
+    (c.in-Err-Absent.ensures.absent honest (ap Err c.in-Err-Absent.field-0-is))
+    (c.as_deref.ensures.value ∙ c.in-Ok-root_above.ensures (c.bytes_of.ensures.honest ∙ honest) ∙ ap root_above (c.bytes_of.ensures.folder honest))) c.fail_absent.ensures.reported
+
+pub returns-in-Err-Absent-clause-second : goal.returns-in-Err-Absent-clause-second
+returns-in-Err-Absent-clause-second g c =
+    fails_as g.E.Sink c.args.place (λ why file lines. g.F.Files.honest c.args.files.now ≡ true → SecondUntil why c.args.journals (g.F.Files.folder c.args.files.now) c.args.package.now file lines) c.unnamed-in-Err-root_above.result cut.Memory
+    c.args.self.now c.args.err.now c.unnamed-in-Err-root_above.new.err c.unnamed-in-Err-root_above.ensures.told.0 c.requires.closed c.unnamed-in-Err-root_above.ensures.opening
+    (λ honest. (refl, (_, refl))) c.unnamed-in-Err-root_above.ensures.told.1
 
 pub returns-in-Err-Memory-clause-second : goal.returns-in-Err-Memory-clause-second
 returns-in-Err-Memory-clause-second g c =
