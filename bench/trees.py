@@ -16,7 +16,7 @@ import time
 TOP = pathlib.Path(__file__).resolve().parent.parent
 FILES, PACKAGES = 2_702, 2_000
 # how often both ways are taken; the quickest counts
-ROUNDS = 2
+ROUNDS = 4
 ODD = b'\ncc_library( name="odd_%d",\n  srcs=["b.cc","a.cc"], deps=[":x"])\n'
 RULES = b"".join(b'cc_library( name="r%d",\n  srcs=["r%d.c"], hdrs = [ "r%d.h" ],\n  deps=[":base"])\n\n' % (i, i, i) for i in range(10))
 EDIT = ["set testonly True", "//...:all"]

@@ -1,6 +1,7 @@
 """Lines that buildozer reads and prints."""
 
 PACKAGE_HINT = b"buildozer: a package is a directory below the working directory, which is to be the root of the workspace\n"
+COMMENT_HINT = b"buildozer: the text of a comment is one word, so put a backslash before each space of it\n"
 UNKEPT = b"buildozer: to undo or redo what earlier runs did, give --journal, as in those runs\n"
 
 

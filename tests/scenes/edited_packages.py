@@ -12,7 +12,7 @@ import os
 import resource
 import subprocess
 
-from lib.lines import PACKAGE_HINT, UNKEPT, fixed, lines_of
+from lib.lines import COMMENT_HINT, PACKAGE_HINT, UNKEPT, fixed, lines_of
 from lib.runs import copies, held_to
 from lib.scenes import Scenes, named
 from lib.workspaces import in_workspace
@@ -204,8 +204,23 @@ def a_file_by_a_second_path_keeps_the_first_edit(w):
 def a_refused_text_is_told(w):
     """Its place is reported, it stays, and with -k the others are edited."""
     (w.path / "a/b/BUILD").write_bytes(b'f(name="x")\ng(\n')
-    err = b"a/b/BUILD:3:1: Unexpected\n    \n    ^ the end of the file\n" + fixed("a/BUILD.bazel")
+    err = b"a/b/BUILD:3:1: Unexpected\n    \n    ^ the end of the file\n    inside the '(' at 2:2\n" + fixed("a/BUILD.bazel")
     return w.leaves(["-k", "delete", "//a/b:x", "//a:x"], 2, err=err, after={"a/BUILD.bazel": NO_X})
+
+
+def the_root_above_is_told(w):
+    """Where it is among the folders above; neither where the run is in it, nor by a folder of such a name."""
+    (w.path / "c/d").mkdir(parents=True)
+    runs = []
+    for name, kind, below in (("MODULE.bazel", "file", b"../../"), ("c/WORKSPACE", "file", b"../"), ("c/d/REPO.bazel", "folder", b"../"), ("c/d/REPO.bazel", "file", b"")):
+        mark = w.path / name
+        mark.mkdir() if kind == "folder" else mark.write_bytes(b"")
+        root = b"buildozer: the root of the workspace is %s\n" % below if below else b""
+        run = subprocess.run([w.program, "delete", "//none:x"], cwd=w.path / "c/d", capture_output=True)
+        runs.append((run.returncode, run.stdout, run.stderr) == (2, b"", MISSING + root))
+        if kind == "folder":
+            mark.rmdir()
+    return all(runs)
 
 
 def a_usage_fault_leaves_all(w):
@@ -247,7 +262,7 @@ def copies_of_a_comment_past_the_limit(w):
     long = "c" * 60_000
     refuses_within(w, f"comment {long}", rules, b"TooLarge (21)")
     refuses_within(w, f"comment k {long}", rules, b"TooLarge (21)")
-    refuses_within(w, f"comment k {long}", rules + b'f(name = "z")\n', b"NoAttribute (42)", rule=refusing(75_001))
+    refuses_within(w, f"comment k {long}", rules + b'f(name = "z")\n', b"NoAttribute (42)", rule=refusing(75_001) + COMMENT_HINT)
     return not w.wrong
 
 
@@ -325,7 +340,7 @@ EDITS |= {name: a_run(["-f", "-"], status, {**left, "text": text}) for name, tex
 EDITS |= named(
     a_hundred_lines, an_unchanged_file_is_not_written, permission_bits_stay, a_closed_folder_is_told, an_unreadable_file_is_told,
     a_folder_for_the_first_name_is_told, a_folder_for_the_second_name_is_told, a_link_becomes_a_file, a_left_file_is_written_over,
-    a_file_by_a_second_path_keeps_the_first_edit, a_refused_text_is_told, a_usage_fault_leaves_all, copies_of_a_comment_past_the_limit,
+    a_file_by_a_second_path_keeps_the_first_edit, a_refused_text_is_told, the_root_above_is_told, a_usage_fault_leaves_all, copies_of_a_comment_past_the_limit,
     words_past_the_limit_in_each_rule, a_match_that_grows_past_the_limit, thousands_of_items_added_to_one_list,
     thousands_of_rules_named_by_their_lines, thousands_of_files_loaded, thousands_of_lines_printed_of_a_short_file,
 )  # fmt: skip

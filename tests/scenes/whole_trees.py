@@ -451,6 +451,15 @@ def lines_in_their_order(place):
     place.expect("beside operands", place.run("buildozer-tree", "-f", "a/lines", "//a:b")[0], 1)
 
 
+def notes_are_no_refusals(place):
+    """What is noted of each file is told, and the run is as one without it."""
+    place.put({"MODULE.bazel": b"", **made(FEW)})
+    status, _, err = place.run("buildozer-tree", "substitute deps (.) $1_test", "//...:all")
+    notes = [line for line in err if line.startswith("buildozer: note: ")]
+    place.expect("run", (status, len(notes), len(set(notes)), err[-1]), (0, FEW, FEW, f"{FEW} files fixed"))
+    place.expect("lines", len(err), 2 * FEW + 1)
+
+
 def failures_end_a_run(place):
     """Without -k no further package is begun; with it all are. What failed and what is left can be gone on with."""
     place.put({"MODULE.bazel": b"", **made(FEW), "p1/bad/BUILD": REFUSED, "p0/bad/BUILD": REFUSED})
@@ -461,7 +470,7 @@ def failures_end_a_run(place):
     words = shlex.split(err[-1].partition(": ")[2])
     status, _, err = place.run(words[0], "-k", *words[1:])
     count = FEW + 1 - done
-    wanted = ["p1/bad/BUILD:2:1: Unexpected", "    ", "    ^ the end of the file", f"{count} files fixed, 1 refused", "to go on with just these: buildozer-tree -k --processes=1 'set size small' //p1/bad:all"]
+    wanted = ["p1/bad/BUILD:2:1: Unexpected", "    ", "    ^ the end of the file", "    inside the '(' at 1:2", f"{count} files fixed, 1 refused", "to go on with just these: buildozer-tree -k --processes=1 'set size small' //p1/bad:all"]
     place.expect("going on", (status, err[count:]), (2, wanted))
     place.expect("files", sum(b"size" in text for text in place.files().values()), FEW + 1)
 
@@ -623,7 +632,7 @@ def with_git(scene):
 TREES = named(
     all_files_are_formatted, paths_and_usage, refusals_are_sorted, differences, only_what_changed, a_process_that_is_killed, formats_stopped_and_run_again,
     slow_processes_are_ended, two_formats_at_once, on_a_terminal, a_closed_output, all_packages_are_edited, targets_mean_packages, names_that_no_target_has,
-    lines_in_their_order, failures_end_a_run, changed_and_taken_back, edits_stopped_and_taken_back, an_undo_that_is_stopped, two_edits_at_once, where_runs_are_kept,
+    lines_in_their_order, notes_are_no_refusals, failures_end_a_run, changed_and_taken_back, edits_stopped_and_taken_back, an_undo_that_is_stopped, two_edits_at_once, where_runs_are_kept,
     sources_are_of_python_3_9,
 )  # fmt: skip
 SCENES = Scenes(__file__, {name: with_git(scene) for name, scene in TREES.items()}, place=place)

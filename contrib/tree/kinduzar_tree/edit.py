@@ -4,7 +4,7 @@ import os
 
 from .names import BUILD_NAMES, build_file
 from .processes import batches
-from .refusals import by_name
+from .refusals import by_name, without_notes
 from .runs import digest_of
 from .targets import Target, of_kinds, packages_below, written
 
@@ -60,10 +60,11 @@ class Plan:
 
 @dataclasses.dataclass
 class Batch:
-    """What came of some packages: standard output, the files that were written, what was refused by package, the packages that were not
-    tried, the status, and of the files that were written, or may have been, the digests after it."""
+    """What came of some packages: standard output, what was noted, the files that were written, what was refused by package, the packages
+    that were not tried, the status, and of the files that were written, or may have been, the digests after it."""
 
     out: bytes = b""
+    notes: list = dataclasses.field(default_factory=list)
     fixed: list = dataclasses.field(default_factory=list)
     refused: dict = dataclasses.field(default_factory=dict)
     untried: list = dataclasses.field(default_factory=list)
@@ -125,7 +126,7 @@ class Editor:
         ended = self.edited(steps)
         packages = [package for package, _ in steps]
         done = Batch(ended.out, status=ended.status)
-        err = ended.err
+        done.notes, err = without_notes(ended.err)
         for package in packages:
             for name in (place(package, name) for name in BUILD_NAMES):
                 is_there, err = without_line(err, b"fixed " + os.fsencode(name))

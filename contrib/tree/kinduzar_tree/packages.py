@@ -162,6 +162,8 @@ class Run:
     def take(self, batch):
         self.screen.put(batch.out)
         self.has_printed |= bool(batch.out)
+        for note in batch.notes:
+            self.screen.say(note)
         for name in batch.fixed if not self.request.has("--quiet") else []:
             self.screen.say(f"fixed {name}")
         self.fixed |= set(batch.fixed)

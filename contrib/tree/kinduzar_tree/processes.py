@@ -19,7 +19,7 @@ NOT_RUN = 126
 MOST_FILES = 32
 MOST_BYTES = 96_000
 # the disk gives more than the processors: while one process waits for a flush, others go on
-PROCESSES = min(4 * (os.cpu_count() or 1), 32)
+PROCESSES = min(8 * (os.cpu_count() or 1), 64)
 
 
 class Stopped(BaseException):

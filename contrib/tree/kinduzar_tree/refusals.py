@@ -19,6 +19,14 @@ def by_name(err, fronts):
     return found
 
 
+def without_notes(err):
+    """The lines of standard error that only note something of what was done, and all others."""
+    lines = err.splitlines(keepends=True)
+    is_note = [line.startswith(b"buildozer: note: ") for line in lines]
+    notes = [os.fsdecode(line.rstrip(b"\n")) for line, is_one in zip(lines, is_note) if is_one]
+    return notes, b"".join(line for line, is_one in zip(lines, is_note) if not is_one)
+
+
 class Refusals:
     """What was refused, by the name of the file."""
 
