@@ -1,9 +1,9 @@
 pub mod Dotted
 pub mod Entries
 pub mod Forms
-pub mod Marks
 pub mod Named
 pub mod NamedItems
+pub mod NamedPlaces
 pub mod Opened
 pub mod ProperArguments
 pub mod ProperChanges

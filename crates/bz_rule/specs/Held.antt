@@ -1,5 +1,5 @@
--- What an index of names holds: the map of the code as names with places, and marks by places.
-use Rattle.std.specs.Prelude.{◌≡◌, ℕ, Bool, true, List, [], ◌∷◌, ◌++◌, Option, Vec, if◌then◌else◌, map, slice_set}
+-- What an index of names holds: the map of the code as names with places.
+use Rattle.std.specs.Prelude.{◌≡◌, ℕ, Bool, List, [], ◌∷◌, ◌++◌, Option, Vec, if◌then◌else◌, map}
 use Rattle.std.specs.Option.{option_and_then}
 use Rattle.std.specs.declared.alloc.Global.{Global}
 use Rattle.bz_value.specs.declared.value.Item.{Item}
@@ -21,8 +21,3 @@ held entries = map {B = Bytes × List ℕ} (λ (entry : Vec ℕ Global × Vec �
 -- one place more at the names that pass the test, and no other change
 abbrev pub AddsPlace : (Bytes → Bool) → ℕ → Entries → Entries → Type 0
 AddsPlace test at before after = (name : Bytes) → places_of name (held after) ≡ places_of name (held before) ++ (if test name then at ∷ [] else [])
-
--- the marks with those at the places set
-abbrev pub marked_at : List ℕ → List Bool → List Bool
-marked_at [] marks = marks
-marked_at (at ∷ places) marks = marked_at places (slice_set marks at true)

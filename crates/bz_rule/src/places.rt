@@ -17,7 +17,7 @@ pub(crate) type Places = HashMap<Vec<u8>, Vec<usize>>;
 
 /// The name of an item, where it is a rule that has one.
 #[tactic(auto, using(crate::proofs::NamedItems::name_of_call))]
-fn held_name(item: &Item) -> Option<&[u8]>
+pub fn held_name(item: &Item) -> Option<&[u8]>
     ensures { option_copied result ≡ held_name item.now }
 {
     match call_of(item) {

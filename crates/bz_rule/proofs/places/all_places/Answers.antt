@@ -1,6 +1,6 @@
 use Rattle.bz_rule.specs.Index.{places_of}
 use Rattle.bz_rule.specs.Held.{held}
-use Rattle.bz_rule.proofs.Marks.{places_turn}
+use Rattle.bz_rule.proofs.NamedPlaces.{places_turn}
 use Rattle.bz_rule.proofs.places.all_places.Goals as goal
 
 pub loop-at-preserved : goal.loop-at-preserved
