@@ -1,10 +1,10 @@
 -- Items by their places, in the place of a mark for each.
-use Rattle.std.proofs.Common.{◌≡◌, ◌≤◌, ◌<◌, ◌+◌, ◌-◌, ℕ, suc, Bool, true, false, List, [], ◌∷◌, ◌++◌, length, map, refl, sym, ap, ap₂, subst, arith, ◌∙◌, Err, Ok, take, drop, get_or, set, if◌then◌else◌, Option, true≢false}
+use Rattle.std.proofs.Common.{◌≡◌, ◌≤◌, ◌<◌, ◌+◌, ◌-◌, ℕ, suc, Bool, true, false, List, [], ◌∷◌, ◌++◌, length, map, refl, sym, ap, ap₂, subst, arith, ◌∙◌, Err, Ok, take, drop, get_or, set, Option, true≢false}
 use Rattle.std.specs.Prelude.{Result, codes, decimal, not, ◌==◌}
 use Rattle.std.specs.Option.{option_map}
 use Rattle.std.specs.List.{list_any}
 use Rattle.std.proofs.Math.Dec.{eqb-suc-zero}
-use Rattle.std.proofs.lemmas.List.{append_assoc, length-map, drop-drop, drop_at, drop_more, get_or_default, length-append}
+use Rattle.std.proofs.lemmas.List.{append_assoc, drop-drop, drop_at, drop_more, get_or_default, length-append}
 use Rattle.bz_label.specs.declared.target.Which.{Which}
 use Rattle.bz_label.specs.declared.target.Which.TheVariants as t
 use Rattle.bz_value.specs.declared.value.Item.{Item}
@@ -12,13 +12,13 @@ use Rattle.bz_value.specs.declared.value.Item.TheVariants as i
 use Rattle.bz_value.specs.declared.refusal.Refusal.{Refusal}
 use Rattle.bz_items.specs.Characters.{Bytes}
 use Rattle.bz_grammar.specs.Places.{Ascend}
-use Rattle.bz_rule.specs.Rules.{has_name, is_rule_of_kind}
-use Rattle.bz_rule.specs.Index.{Index, IsIndexOf, places_from}
-use Rattle.bz_command.specs.Effect.{HaveSameNames, NewItem, before_rest, first_mark, item_line, lines_after_item, meant, on_meant, printed_one, printed_rules, unmarked, with_item_first}
+use Rattle.bz_rule.specs.Rules.{is_rule_of_kind}
+use Rattle.bz_rule.specs.Index.{marked_places, places_from}
+use Rattle.bz_command.specs.Effect.{NewItem, before_rest, first_mark, item_line, lines_after_item, meant, on_meant, printed_one, printed_rules, unmarked, with_item_first}
 use Rattle.bz_command_syntax.specs.declared.command.Operation.{Operation}
 use Rattle.bz_command.specs.declared.ruling.Work.{Work}
 use Rattle.bz_command.specs.private.Looks.{marks_by, one_made_by, places_by}
-use Rattle.bz_command.specs.private.Places.{lines_after_items, marked_places}
+use Rattle.bz_command.specs.private.Steps.{lines_after_items}
 use Rattle.bz_command.proofs.TargetMarks.{as_many}
 use Rattle.bz_command.proofs.RunningItems.{NewItems, with_front, with_next}
 
@@ -38,17 +38,8 @@ pub first_meant : (which : Which) (lines : List ℕ) (items : List Item) → whi
 first_meant which lines items is = rw is (sym (first_place 0 (map (is_rule_of_kind (codes "package")) items)))
 
 -- the rules of a name by an index of names
-named_places : (at : ℕ) (name : Bytes) (items : List Item) → places_from at name items ≡ marked_places at (map (has_name name) items)
-named_places at name [] = refl
-named_places at name (item ∷ items) = by (named_places (at + 1) name items) (has_name name item)
-  where
-    by : places_from (at + 1) name items ≡ marked_places (at + 1) (map (has_name name) items)
-        → (mark : Bool) → (if mark then at ∷ places_from (at + 1) name items else places_from (at + 1) name items) ≡ marked_places at (mark ∷ map (has_name name) items)
-    by rest true = ap (λ places. at ∷ places) rest
-    by rest false = rest
-
 pub index_meant : (which : Which) (name : Bytes) (lines : List ℕ) (items : List Item) → which ≡ t.Name name → places_from 0 name items ≡ marked_places 0 (meant which lines items)
-index_meant which name lines items is = rw is (named_places 0 name items)
+index_meant which name lines items is = rw is refl
 
 -- ---- places that are marked
 
@@ -280,12 +271,3 @@ pub printed_by_places : (work : Work) (places : List ℕ) (items : List Item) �
 printed_by_places work places items is =
     sym (all_printed work.command.now work.current.now (i.Block []) (marks_by work items) work.lines.now items [] (as_many work.target.now.which work.lines.now items))
     ∙ ap (λ (ps : List ℕ). printed_at work.command.now work.current.now (i.Block []) work.lines.now 0 ps items) (sym is)
-
--- ---- an index of names over a change
-
--- an index of names that is right of items is right of others that have the same names
-pub index_stays : (index : Index) (before after : List Item) → HaveSameNames before after → IsIndexOf index before → IsIndexOf index after
-index_stays index before after same is = record {
-  count = is.count ∙ (sym (length-map before (has_name [])) ∙ (ap length (sym (same [])) ∙ length-map after (has_name [])));
-  places = λ name. is.places name ∙ (named_places 0 name before ∙ (ap (marked_places 0) (sym (same name)) ∙ sym (named_places 0 name after)));
-}

@@ -1,5 +1,5 @@
 -- Which rules a target means, and what a command prints of them and makes of a file value.
-use Rattle.std.specs.Prelude.{ℕ, ◌+◌, ◌≡◌, Bool, true, false, ◌&&◌, List, [], ◌∷◌, codes, length, map, is_some, nat_eq, ◌++◌, Option, Some, None, Result, Ok, Err, decimal, option_map, if◌then◌else◌, not}
+use Rattle.std.specs.Prelude.{ℕ, ◌+◌, Bool, true, false, ◌&&◌, List, [], ◌∷◌, codes, length, map, is_some, nat_eq, ◌++◌, Option, Some, None, Result, Ok, Err, decimal, option_map, if◌then◌else◌, not}
 use Rattle.bz_label.specs.declared.target.Which.{Which}
 use Rattle.bz_label.specs.declared.target.Which.TheVariants.{All, Kind, Line, Package, Name}
 use Rattle.bz_value.specs.declared.value.Item.{Item}
@@ -238,10 +238,6 @@ effect command target current lines items =
     if lacks_rules command (meant target.which lines items) then (if may_mean_none target.which then Ok items else Err NoTarget)
     else (if prints command then kept items (printed_rules command current lines (meant target.which lines items) items)
     else on_rules command current (meant target.which lines items) items)
-
--- each item has the name that it had, or none where it had none
-abbrev pub HaveSameNames : List Item → List Item → Type 0
-HaveSameNames before after = (name : Bytes) → map (has_name name) after ≡ map (has_name name) before
 
 -- What a command prints. Where no rule is meant it is nothing.
 abbrev pub printed : Operation → Target → Bytes → List ℕ → List Item → Result Bytes Refusal

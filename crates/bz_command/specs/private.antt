@@ -1,5 +1,4 @@
 -- What the contracts of private functions cite, and no contract of a public call reaches: nobody has to trust it.
 pub mod Growing
 pub mod Looks
-pub mod Places
 pub mod Steps

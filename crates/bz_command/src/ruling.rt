@@ -5,12 +5,13 @@ ghost use Rattle.std.specs.List.{insert, list_any, position};
 ghost use Rattle.std.specs.Option.{option_copied};
 ghost use Rattle.bz_value.specs.declared.value.Item.{Item};
 ghost use Rattle.bz_value.specs.Windows.{AreOver, IsSpliced};
-ghost use Rattle.bz_rule.specs.Rules.{has_name, name_in};
+ghost use Rattle.bz_rule.specs.Rules.{has_name};
+ghost use Rattle.bz_rule.specs.Index.{HaveSameNames};
 ghost use Rattle.bz_items.specs.Characters.{Bytes};
 ghost use Rattle.bz_grammar.specs.Places.{Ascend};
 ghost use Rattle.bz_attribute.specs.Made.{function_of};
 ghost use Rattle.bz_comment.specs.Changes.{changed_by};
-ghost use Rattle.bz_command.specs.Effect.{HaveSameNames, is_rule, loads_changed, looks_at_rules, on_arguments, on_meant, on_rules, on_each, on_statement, new_rule_place, rule_arguments, source, source_of, unmarked, with_function};
+ghost use Rattle.bz_command.specs.Effect.{is_rule, loads_changed, looks_at_rules, on_arguments, on_meant, on_rules, on_each, on_statement, new_rule_place, source, source_of, unmarked, with_function};
 ghost use Rattle.bz_command.specs.private.Looks.{arguments_by, before_in, before_in_call, made_by, marks_by, one_made_by, places_by, with_list, with_list_in};
 ghost use Rattle.bz_command.specs.private.Growing.{IsGrown};
 
@@ -23,12 +24,12 @@ use bz_command_syntax::{
     RulePlace,
 };
 use bz_comment::{Change, change_comments, change_own};
-use bz_grammar::{Class, Kind};
+use bz_grammar::Kind;
 use bz_items::{Items, Memory, Text};
 use bz_label::Target;
 use bz_list::change_values;
 use bz_load::{fix, new_load};
-use bz_rule::{attribute, body, has_name, text_in};
+use bz_rule::{attribute, has_name, held_name};
 use bz_value::{Expr, Item, Refusal, Window};
 use std::alloc::Global;
 use std::mem;
@@ -215,18 +216,11 @@ pub(crate) fn on_one(
     }
 }
 
-/// The name of an item, where it is a rule that has one.
-fn name_of(item: &Item) -> Option<&[u8]>
-    ensures { option_copied result ≡ name_in (rule_arguments item.now) }
-{
-    body(text_in(Class::String, attribute(b"name", arguments_of(item))?)?)
-}
-
 /// Whether both items have the same name, or none.
 fn has_same_name(one: &Item, other: &Item) -> bool
     ensures { IsTrue result → (name : Bytes) → has_name name one.now ≡ has_name name other.now }
 {
-    match (name_of(one), name_of(other)) {
+    match (held_name(one), held_name(other)) {
         (Some(name), Some(others)) => name == others,
         (None, None) => true,
         _ => false,

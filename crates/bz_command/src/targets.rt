@@ -2,9 +2,9 @@
 ghost use Rattle.std.specs.Prelude.{◌≡◌, ◌≤◌, ◌+◌, ◌-◌, ◌++◌, ◌∷◌, ℕ, Bool, List, IfOk, IfSome, OnOk, drop, length, map, take};
 ghost use Rattle.std.specs.List.{list_any};
 ghost use Rattle.bz_rule.specs.Rules.{has_name, is_rule_of_kind};
-ghost use Rattle.bz_rule.specs.Index.{IsIndexOf};
+ghost use Rattle.bz_rule.specs.Index.{IsIndexOf, marked_places};
 ghost use Rattle.bz_command.specs.Effect.{is_rule, item_line, lines_after_item, meant, on_line, rule_arguments};
-ghost use Rattle.bz_command.specs.private.Places.{lines_after_items, marked_places};
+ghost use Rattle.bz_command.specs.private.Steps.{lines_after_items};
 
 use bz_items::Memory;
 use bz_label::Which;

@@ -18,7 +18,7 @@ use Rattle.bz_command_syntax.specs.declared.command.RuleOperation.TheVariants as
 use Rattle.bz_command.specs.declared.ruling.Work.{Work}
 use Rattle.bz_attribute.specs.Attributes.{Arguments}
 use Rattle.bz_command.specs.Effect.{NewItem, arguments_of, effect, looks_at_rules, meant, on_one, on_rules, printed}
-use Rattle.bz_command.specs.private.Places.{marked_places}
+use Rattle.bz_rule.specs.Index.{marked_places}
 use Rattle.bz_command.specs.declared.running.Look.{Look}
 use Rattle.bz_command.specs.declared.running.Look.TheVariants as l
 

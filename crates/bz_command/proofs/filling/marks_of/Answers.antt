@@ -1,7 +1,7 @@
 use Rattle.std.proofs.Common.{◌<◌, ◌+◌, ◌++◌, ◌∷◌, ◌∙◌, [], Bool, List, ap, ap₂, arith, drop, false, get_or, length, sym}
 use Rattle.std.proofs.lemmas.List.{drop_more, take_all, take_more}
 use Rattle.bz_command.specs.private.Looks.{marks_by}
-use Rattle.bz_command.specs.private.Places.{marked_places}
+use Rattle.bz_rule.specs.Index.{marked_places}
 use Rattle.bz_command.proofs.TargetMarks.{as_many}
 use Rattle.bz_command.proofs.filling.marks_of.Goals as goal
 

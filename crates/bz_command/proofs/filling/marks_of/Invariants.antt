@@ -1,6 +1,6 @@
 use Rattle.std.proofs.Common.{◌≡◌, drop, take}
 use Rattle.bz_command.specs.private.Looks.{marks_by}
-use Rattle.bz_command.specs.private.Places.{marked_places}
+use Rattle.bz_rule.specs.Index.{marked_places}
 use Rattle.bz_command.proofs.filling.marks_of.Given as goal
 
 -- the first marks, and the places of those that are left

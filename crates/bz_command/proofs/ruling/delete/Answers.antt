@@ -5,7 +5,7 @@ use Rattle.bz_value.specs.declared.value.Item.{Item}
 use Rattle.bz_command.specs.Effect.{unmarked}
 use Rattle.bz_command.specs.private.Growing.{IsGrown}
 use Rattle.bz_command.specs.private.Looks.{marks_by}
-use Rattle.bz_command.specs.private.Places.{marked_places}
+use Rattle.bz_rule.specs.Index.{marked_places}
 use Rattle.bz_command.proofs.MeantPlaces.{unmarked_none}
 use Rattle.bz_command.proofs.TargetMarks.{as_many}
 use Rattle.bz_command.proofs.ruling.delete.Goals as goal

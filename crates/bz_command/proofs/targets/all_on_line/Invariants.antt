@@ -1,6 +1,6 @@
 use Rattle.std.proofs.Common.{◌≡◌, ◌++◌, drop}
 use Rattle.bz_command.specs.Effect.{on_line}
-use Rattle.bz_command.specs.private.Places.{marked_places}
+use Rattle.bz_rule.specs.Index.{marked_places}
 use Rattle.bz_command.proofs.targets.all_on_line.Given as goal
 
 -- the places of the items so far, and after them those of the items that are left
