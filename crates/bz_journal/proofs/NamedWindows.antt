@@ -1,16 +1,17 @@
 -- An index of names is that of other items too, where each that changed has the name which is listed at its place.
 use Rattle.std.proofs.Common.{arith, ◌≡◌, ◌+◌, ◌++◌, ◌∷◌, ◌∙◌, ◌⊎◌, ◌||◌, ◌==◌, inl, inr, ℕ, zero, suc, [], List, Bool, true, false, true≢false, Option, Some, None, map, take, drop, length, refl, sym, ap, ap₂, subst, eqb-true}
-use Rattle.std.specs.Prelude.{if◌then◌else◌, unwrap_or}
+use Rattle.std.specs.Prelude.{unwrap_or}
 use Rattle.std.specs.List.{list_any, slice_get}
-use Rattle.std.proofs.lemmas.List.{drop-drop, length-drop, length-map, length-take-le, map-append, take-append-drop}
+use Rattle.std.proofs.lemmas.List.{drop-drop, length-drop, length-take-le, map-append, take-append-drop}
 use Rattle.std.proofs.lemmas.Slice.Eq.{bytes_eq-Decides}
 use Rattle.bz_items.specs.Characters.{Bytes}
 use Rattle.bz_value.specs.Windows.{AreOver}
 use Rattle.bz_value.specs.declared.value.Item.{Item}
 use Rattle.bz_value.specs.declared.windows.Window.{Window}
-use Rattle.bz_rule.specs.Index.{Index, IsIndexOf, places_from}
+use Rattle.bz_rule.specs.Index.{Index, IsIndexOf, marked_places, places_from}
+use Rattle.bz_rule.specs.Held.{held_name}
 use Rattle.bz_rule.specs.Rules.{has_name, is_text}
-use Rattle.bz_journal.specs.private.Naming.{HaveListedNamesIn, HaveListedNames, HasListedName, item_name}
+use Rattle.bz_journal.specs.private.Naming.{HaveListedNamesIn, HaveListedNames, HasListedName}
 
 -- ---- a place that is listed
 
@@ -28,7 +29,7 @@ one_later name x xs at place (k, item, place_is, there, named) = (suc k, item, o
 -- by what is listed of the items after the first
 by_first : (name : Bytes) (x : Item) (xs : List Item) (at place : ℕ) (b : Bool) → has_name name x ≡ b
     → (list_any (λ p. p == place) (places_from (at + 1) name xs) ≡ true → At name (at + 1) xs place)
-    → list_any (λ p. p == place) (if b then at ∷ places_from (at + 1) name xs else places_from (at + 1) name xs) ≡ true → At name at (x ∷ xs) place
+    → list_any (λ p. p == place) (marked_places at (b ∷ map (has_name name) xs)) ≡ true → At name at (x ∷ xs) place
 by_first name x xs at place true named more is = elim (either (at == place) (list_any (λ p. p == place) (places_from (at + 1) name xs)) is) [
   | inl here ↦ (zero, x, omega (arith, eqb-true at place here), refl, named)
   | inr later ↦ one_later name x xs at place (more later)
@@ -44,10 +45,10 @@ text_is name None is = absurd (true≢false (sym is))
 text_is name (Some other) is = ap Some ((bytes_eq-Decides other name).0 is)
 
 module _ (index : Index) (before : List Item) (own : IsIndexOf index before) where
-  same_there : (at : ℕ) (item : Item) → HasListedName index at item → (old : Item) × (slice_get before at ≡ Some old) × (item_name old ≡ item_name item)
+  same_there : (at : ℕ) (item : Item) → HasListedName index at item → (old : Item) × (slice_get before at ≡ Some old) × (held_name old ≡ held_name item)
   same_there at item (name, is, listed) =
       let (k, old, at_is, there, named) = listed_has name before 0 at (listed before own) in
-      let here : k ≡ at = omega (arith, at_is) in (old, subst (λ (n : ℕ). slice_get before n ≡ Some old) here there, text_is name (item_name old) named ∙ sym is)
+      let here : k ≡ at = omega (arith, at_is) in (old, subst (λ (n : ℕ). slice_get before n ≡ Some old) here there, text_is name (held_name old) named ∙ sym is)
 
   drop_next : (xs : List Item) (at : ℕ) (x : Item) → slice_get xs at ≡ Some x → drop at xs ≡ x ∷ drop (suc at) xs
   drop_next [] at x is = absurd (let e = is in cc)
@@ -57,32 +58,32 @@ module _ (index : Index) (before : List Item) (own : IsIndexOf index before) whe
   drop_there : (xs : List Item) (at : ℕ) (x : Item) → slice_get xs at ≡ Some x → drop at xs ≡ x ∷ drop (at + 1) xs
   drop_there xs at x is = let next : suc at ≡ at + 1 = omega arith in drop_next xs at x is ∙ ap (λ (n : ℕ). x ∷ drop n xs) next
 
-  same_names : (items : List Item) (at : ℕ) → HaveListedNames index at items → map item_name items ≡ map item_name (take (length items) (drop at before))
+  same_names : (items : List Item) (at : ℕ) → HaveListedNames index at items → map held_name items ≡ map held_name (take (length items) (drop at before))
   same_names [] at listed = refl
   same_names (item ∷ items) at (is, listed) =
       let (old, there, same) = same_there at item is in
       ap₂ (λ (x : Option Bytes) (xs : List (Option Bytes)). x ∷ xs) (sym same) (same_names items (at + 1) listed)
-      ∙ ap (λ (rest : List Item). map item_name (take (suc (length items)) rest)) (sym (drop_there before at old there))
+      ∙ ap (λ (rest : List Item). map held_name (take (suc (length items)) rest)) (sym (drop_there before at old there))
 
   -- ---- windows
 
   three : (xs ys : List Item) (from count : ℕ) → take from xs ≡ take from ys
-      → map item_name (take count (drop from xs)) ≡ map item_name (take count (drop from ys))
-      → map item_name (drop (from + count) xs) ≡ map item_name (drop (from + count) ys) → map item_name xs ≡ map item_name ys
+      → map held_name (take count (drop from xs)) ≡ map held_name (take count (drop from ys))
+      → map held_name (drop (from + count) xs) ≡ map held_name (drop (from + count) ys) → map held_name xs ≡ map held_name ys
   three xs ys from count front middle rest =
-      pieces xs ∙ ap (λ (zs : List Item). map item_name zs ++ (map item_name (take count (drop from xs)) ++ map item_name (drop (from + count) xs))) front
-      ∙ ap₂ (λ (m r : List (Option Bytes)). map item_name (take from ys) ++ (m ++ r)) middle rest ∙ sym (pieces ys)
+      pieces xs ∙ ap (λ (zs : List Item). map held_name zs ++ (map held_name (take count (drop from xs)) ++ map held_name (drop (from + count) xs))) front
+      ∙ ap₂ (λ (m r : List (Option Bytes)). map held_name (take from ys) ++ (m ++ r)) middle rest ∙ sym (pieces ys)
     where
-      pieces : (zs : List Item) → map item_name zs ≡ map item_name (take from zs) ++ (map item_name (take count (drop from zs)) ++ map item_name (drop (from + count) zs))
+      pieces : (zs : List Item) → map held_name zs ≡ map held_name (take from zs) ++ (map held_name (take count (drop from zs)) ++ map held_name (drop (from + count) zs))
       pieces zs =
-          ap (map item_name) (sym (take-append-drop from zs)) ∙ map-append item_name (take from zs) (drop from zs)
-          ∙ ap (λ (m : List (Option Bytes)). map item_name (take from zs) ++ m)
-          (ap (map item_name) (sym (take-append-drop count (drop from zs))) ∙ map-append item_name (take count (drop from zs)) (drop count (drop from zs))
-          ∙ ap (λ (r : List Item). map item_name (take count (drop from zs)) ++ map item_name r) (drop-drop count from zs))
+          ap (map held_name) (sym (take-append-drop from zs)) ∙ map-append held_name (take from zs) (drop from zs)
+          ∙ ap (λ (m : List (Option Bytes)). map held_name (take from zs) ++ m)
+          (ap (map held_name) (sym (take-append-drop count (drop from zs))) ∙ map-append held_name (take count (drop from zs)) (drop count (drop from zs))
+          ∙ ap (λ (r : List Item). map held_name (take count (drop from zs)) ++ map held_name r) (drop-drop count from zs))
 
   same_over : (ws : List Window) (at : ℕ) (olds news : List Item) → drop at before ≡ olds → AreOver ws olds news → HaveListedNamesIn index at ws news
-      → map item_name olds ≡ map item_name news
-  same_over [] at olds news here same listed = ap (map item_name) same
+      → map held_name olds ≡ map held_name news
+  same_over [] at olds news here same listed = ap (map held_name) same
   same_over (w ∷ ws) at olds news here (within, held, front, over) (even, fits, listed, more) =
       let moved : drop (w.from + w.gone) olds ≡ drop (w.from + w.come) olds = ap (λ (n : ℕ). drop (w.from + n) olds) even in
       let there : drop (at + w.from) before ≡ drop w.from olds = sym (drop-drop w.from at before) ∙ ap (drop w.from) here in
@@ -91,27 +92,21 @@ module _ (index : Index) (before : List Item) (own : IsIndexOf index before) whe
       let count : length (take w.come (drop w.from news)) ≡ w.come = length-take-le w.come (drop w.from news) (omega (arith, fits, length-drop w.from news)) in
       three olds news w.from w.come (sym front)
       (sym (same_names (take w.come (drop w.from news)) (at + w.from) listed
-      ∙ ap₂ (λ (n : ℕ) (rest : List Item). map item_name (take n rest)) count there))
+      ∙ ap₂ (λ (n : ℕ) (rest : List Item). map held_name (take n rest)) count there))
       (same_over ws (at + w.from + w.come) (drop (w.from + w.come) olds) (drop (w.from + w.come) news) after
       (subst (λ (rest : List Item). AreOver ws rest (drop (w.from + w.come) news)) moved over) more)
 
 -- ---- the index
 
-same_places : (name : Bytes) (at : ℕ) (xs ys : List Item) → map item_name xs ≡ map item_name ys → places_from at name xs ≡ places_from at name ys
-same_places name at [] [] same = refl
-same_places name at [] (y ∷ ys) same = absurd (let e = same in cc)
-same_places name at (x ∷ xs) [] same = absurd (let e = same in cc)
-same_places name at (x ∷ xs) (y ∷ ys) same =
-    let head : item_name x ≡ item_name y = let e = same in cc in
-    let tail : map item_name xs ≡ map item_name ys = let e = same in cc in
-    ap (λ (b : Bool). if b then at ∷ places_from (at + 1) name xs else places_from (at + 1) name xs) (ap (is_text name) head)
-    ∙ ap (λ (rest : List ℕ). if has_name name y then at ∷ rest else rest) (same_places name (at + 1) xs ys tail)
+same_marks : (name : Bytes) (xs ys : List Item) → map held_name xs ≡ map held_name ys → map (has_name name) xs ≡ map (has_name name) ys
+same_marks name xs ys same = marks xs ∙ ap (map (is_text name)) same ∙ sym (marks ys)
+  where
+    marks : (zs : List Item) → map (has_name name) zs ≡ map (is_text name) (map held_name zs)
+    marks [] = refl
+    marks (z ∷ zs) = ap (λ (rest : List Bool). has_name name z ∷ rest) (marks zs)
 
 pub index_outlives : (index : Index) (ws : List Window) (before after : List Item) → HaveListedNamesIn index 0 ws after → AreOver ws before after → IsIndexOf index before
     → IsIndexOf index after
 index_outlives index ws before after listed over own =
     let same = same_over index before own ws 0 before after refl over listed in
-    record {
-      count = own.count ∙ sym (length-map before item_name) ∙ ap length same ∙ length-map after item_name;
-      places = λ name. own.places name ∙ same_places name 0 before after same;
-    }
+    record { places = λ name. own.places name ∙ ap (marked_places 0) (same_marks name before after same) }

@@ -1,28 +1,17 @@
 //! An index of names that outlives a change: where each item that changed has the name that is listed at its place, it is that of the new
 //! items too.
-ghost use Rattle.std.specs.Prelude.{◌≡◌, ◌<◌, ◌+◌, ◌^◌, List, IfSome, IsTrue, length};
-ghost use Rattle.std.specs.Option.{option_copied};
+ghost use Rattle.std.specs.Prelude.{◌<◌, ◌+◌, ◌^◌, List, IfSome, IsTrue, length};
 ghost use Rattle.bz_journal.specs.Clauses.{AreOver, IsIndexOf, Item};
-ghost use Rattle.bz_journal.specs.private.Naming.{HaveListedNamesIn, HaveListedNames, HasListedName, item_name};
+ghost use Rattle.bz_journal.specs.private.Naming.{HaveListedNamesIn, HaveListedNames, HasListedName};
 
-use bz_rule::{Names, call_of, is_named, name_of};
+use bz_rule::{Names, held_name};
 use bz_value::{Item, Window};
-
-/// The name of an item, where it is a rule that has one.
-fn item_name(item: &Item) -> Option<&[u8]>
-    ensures { option_copied result ≡ item_name item.now }
-{
-    match call_of(item) {
-        Some(call) if is_named(call.function) => name_of(&call),
-        _ => None,
-    }
-}
 
 /// Whether an item has the name that is listed at its place.
 fn is_listed(index: &Names, at: usize, item: &Item) -> bool
     ensures { IsTrue result → HasListedName index.now at item.now }
 {
-    match item_name(item) {
+    match held_name(item) {
         Some(name) => index.places(name).contains(&at),
         None => false,
     }

@@ -1,20 +1,15 @@
 -- Items that have the names which an index lists at their places.
-use Rattle.std.specs.Prelude.{◌≡◌, ◌==◌, ◌≤◌, ◌+◌, ℕ, true, List, [], ◌∷◌, Option, Some, drop, length, take}
+use Rattle.std.specs.Prelude.{◌≡◌, ◌==◌, ◌≤◌, ◌+◌, ℕ, true, List, [], ◌∷◌, Some, drop, length, take}
 use Rattle.std.specs.List.{list_any}
-use Rattle.std.specs.Option.{option_and_then}
 use Rattle.bz_items.specs.Characters.{Bytes}
 use Rattle.bz_value.specs.declared.value.Item.{Item}
 use Rattle.bz_value.specs.declared.windows.Window.{Window}
 use Rattle.bz_rule.specs.Index.{Index, IsIndexOf, places_from}
-use Rattle.bz_rule.specs.Rules.{name_of, rule_of}
-
--- the name of an item, where it is a rule that has one
-abbrev pub item_name : Item → Option Bytes
-item_name item = option_and_then name_of (rule_of item)
+use Rattle.bz_rule.specs.Held.{held_name}
 
 -- The item has a name, of which this place is listed, whatever items the index is of.
 abbrev pub HasListedName : Index → ℕ → Item → Type 0
-HasListedName index at item = (name : Bytes) × (item_name item ≡ Some name)
+HasListedName index at item = (name : Bytes) × (held_name item ≡ Some name)
     × ((items : List Item) → IsIndexOf index items → list_any (λ place. place == at) (places_from 0 name items) ≡ true)
 
 -- the same of items from this place on
