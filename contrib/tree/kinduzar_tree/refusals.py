@@ -6,6 +6,9 @@ from .terminal import command_line, counted
 # the command line that goes on has at most so many names; more go into a file
 MOST_NAMES = 20
 
+# how a line begins that is no refusal: it notes something of an edit that was done
+NOTE = b"buildozer: note: "
+
 
 def by_name(err, fronts):
     """The lines of standard error by what they are about, in their order: `fronts` gives for the beginning of a line what that is. A
@@ -22,9 +25,8 @@ def by_name(err, fronts):
 def without_notes(err):
     """The lines of standard error that only note something of what was done, and all others."""
     lines = err.splitlines(keepends=True)
-    is_note = [line.startswith(b"buildozer: note: ") for line in lines]
-    notes = [os.fsdecode(line.rstrip(b"\n")) for line, is_one in zip(lines, is_note) if is_one]
-    return notes, b"".join(line for line, is_one in zip(lines, is_note) if not is_one)
+    notes = [os.fsdecode(line.rstrip(b"\n")) for line in lines if line.startswith(NOTE)]
+    return notes, b"".join(line for line in lines if not line.startswith(NOTE))
 
 
 class Refusals:
