@@ -5,8 +5,8 @@ use Rattle.bz_lex.specs.declared.leaf.Leaf.{Leaf}
 use Rattle.bz_grammar.specs.declared.tree.Part.{Part}
 use Rattle.bz_states.specs.declared.token.TokenSet.{TokenSet}
 use Rattle.bz_states.specs.declared.token.TokenSet.TheVariants as t
-use Rattle.bz_states.specs.declared.token.ParseHalt.{ParseHalt}
-use Rattle.bz_states.specs.declared.token.ParseHalt.TheVariants as h
+use Rattle.bz_states.specs.declared.leaves.ParseHalt.{ParseHalt}
+use Rattle.bz_states.specs.declared.leaves.ParseHalt.TheVariants as h
 use Rattle.bz_grammar.specs.Shapes.{Terminal, name, string, simple, newline, end, open_round, close_round, open_square, close_square, open_curly, close_curly, comma_mark, colon_mark, semicolon, dot, equals, assigns, stars, signs, orders, shifts, sums, products, flows, one_mark, one_keyword, clause, stmt, expr}
 use Rattle.bz_grammar.specs.Reading.{Read, token_part, starts, first_of, suffix_plan}
 

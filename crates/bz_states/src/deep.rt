@@ -1,8 +1,9 @@
 //! Where a text nests too deep. It is reported with the fault; no clause speaks of the place.
 ghost use Rattle.std.specs.Prelude.{◌≡◌};
 
+use crate::leaves::Leaves;
 use crate::state::{LAMBDA, NOT, PartNonterminal, Precedence, UNARY, precedence_at};
-use crate::token::{Leaves, TokenSet};
+use crate::token::TokenSet;
 use bz_grammar::{Part, first_of};
 
 /// Marks where the part, right before the next leaf, holds the first node inside more than this many levels.

@@ -3,8 +3,8 @@ use Rattle.std.proofs.Common.{◌≡◌, ℕ, suc, Result, Ok, Err, List, Some, 
 use Rattle.std.specs.Prelude.{IfOk}
 use Rattle.std.proofs.lemmas.Option.{none-some}
 use Rattle.bz_lex.specs.declared.leaf.Leaf.{Leaf}
-use Rattle.bz_states.specs.declared.token.ParseHalt.{ParseHalt}
-use Rattle.bz_states.specs.declared.token.ParseHalt.TheVariants as halt
+use Rattle.bz_states.specs.declared.leaves.ParseHalt.{ParseHalt}
+use Rattle.bz_states.specs.declared.leaves.ParseHalt.TheVariants as halt
 use Rattle.bz_grammar.specs.declared.tree.Node.{Node}
 use Rattle.bz_grammar.specs.declared.tree.Part.{Part}
 use Rattle.bz_grammar.specs.Spell.{depth_limit}

@@ -2,7 +2,7 @@
 ghost use Rattle.std.specs.Prelude.{◌≡◌, ◌∷◌, ◌++◌, ◌≤◌, ◌*◌, [], ℕ, Some, None, Ok, Err, OnOk, IfOk, IfErr, length, take, drop};
 ghost use Rattle.bz_grammar.specs.declared.tree.Node.{Node};
 ghost use Rattle.bz_grammar.specs.declared.tree.Part.{Part};
-ghost use Rattle.bz_states.specs.declared.token.ParseHalt.TheVariants as h;
+ghost use Rattle.bz_states.specs.declared.leaves.ParseHalt.TheVariants as h;
 ghost use Rattle.bz_grammar.specs.Spell.{depth_limit};
 ghost use Rattle.bz_grammar.specs.Shapes.{line};
 ghost use Rattle.bz_grammar.specs.Reading.{node_part};
@@ -14,8 +14,8 @@ ghost use Rattle.bz_tree.specs.private.Words.{part_at};
 ghost use Rattle.bz_states.specs.States.{plan_at};
 ghost use Rattle.bz_tree.specs.private.Rows.{PutsAll, PutsOne, plan_of_header, header_at, owner_at, suite_at, statement_at, statements_at, if_at};
 
-use crate::grammar::part;
-use crate::row::Stack;
+use crate::expressions::part;
+use crate::stack::Stack;
 use bz_grammar::Kind;
 use bz_lex::DEPTH_LIMIT;
 use bz_states::{HeaderAt, Leaves, Move, NodeState, ParseHalt, PartNonterminal, TokenSet};

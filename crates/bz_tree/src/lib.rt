@@ -1,10 +1,10 @@
 //! The parser: a text is read as the one legal tree that spells it, or refused with its first fault.
 #![tactic(auto)]
 
-mod grammar;
+mod expressions;
 mod indented;
 mod parsing;
-mod row;
+mod stack;
 
 pub use bz_grammar::{
     BzlTree, Class, DEPTH_LIMIT, Kind, LENGTH_LIMIT, Leaf, Node, Part, ReadFault, Tree, laws,

@@ -11,7 +11,7 @@ ghost use Rattle.bz_grammar.specs.Faults.{IsOfText, IsOther};
 ghost use Rattle.bz_tree.specs.private.Indents.{is_wrong, IsIndentedAt};
 
 use crate::indented::{file, read_so_far};
-use crate::row::Stack;
+use crate::stack::Stack;
 use bz_grammar::{BzlTree, Kind, Tree};
 use bz_lex::{
     DEPTH_LIMIT, LENGTH_LIMIT, ReadFault, Reason, fault_at, lexical_fault, line_and_column,

@@ -1,5 +1,0 @@
-use Rattle.bz_grammar.proofs.Newer.{older_kind}
-use Rattle.bz_tree.proofs.row.may_be_newer.Goals as goal
-
-pub returns-clause-kind : goal.returns-clause-kind
-returns-clause-kind c e = older_kind _ _ c.is_newer.ensures e
