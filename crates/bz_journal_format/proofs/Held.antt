@@ -36,36 +36,36 @@ leaf_body l = spaced_number (class_number l.class) ++ (spaced_number (length l.g
 abbrev pub IsSmallLeaf : Leaf → Type 0
 IsSmallLeaf l = (length l.gap < number_limit) × (length l.token < number_limit)
 
-abbrev L1 : Class → List ℕ → ℕ → Leaf → Type 0
-L1 class gap t x = (length x.token ≡ t) × (x ≡ leaf_of class gap x.token)
+abbrev HasToken : Class → List ℕ → ℕ → Leaf → Type 0
+HasToken class gap t x = (length x.token ≡ t) × (x ≡ leaf_of class gap x.token)
 
-abbrev L2 : Class → ℕ → ℕ → Leaf → Type 0
-L2 class g t x = (length x.gap ≡ g) × L1 class x.gap t x
+abbrev HasGap : Class → ℕ → ℕ → Leaf → Type 0
+HasGap class g t x = (length x.gap ≡ g) × HasToken class x.gap t x
 
-abbrev L3 : Class → ℕ → Leaf → Type 0
-L3 class g x = (length x.token < number_limit) × L2 class g (length x.token) x
+abbrev HasTokenLength : Class → ℕ → Leaf → Type 0
+HasTokenLength class g x = (length x.token < number_limit) × HasGap class g (length x.token) x
 
-abbrev L4 : Class → Leaf → Type 0
-L4 class x = (length x.gap < number_limit) × L3 class (length x.gap) x
+abbrev HasGapLength : Class → Leaf → Type 0
+HasGapLength class x = (length x.gap < number_limit) × HasTokenLength class (length x.gap) x
 
-token_exact : (class : Class) (gap : List ℕ) (t : ℕ) → IsExact Leaf (λ x. x.token ++ line_feed ∷ []) (L1 class gap t) (λ s. field_at t s >>= λ token. after_mark (line_feed ∷ []) token.1 >>= λ r. Some (leaf_of class gap token.0, r))
+token_exact : (class : Class) (gap : List ℕ) (t : ℕ) → IsExact Leaf (λ x. x.token ++ line_feed ∷ []) (HasToken class gap t) (λ s. field_at t s >>= λ token. after_mark (line_feed ∷ []) token.1 >>= λ r. Some (leaf_of class gap token.0, r))
 token_exact class gap t =
     then_exact (λ x. x.token) (λ z. z) (λ z. length z ≡ t) (field_at t) (λ x. line_feed ∷ []) (λ token x. x ≡ leaf_of class gap token) (λ token s. after_mark (line_feed ∷ []) s >>= λ r. Some (leaf_of class gap token, r))
     (λ token x h. ap (λ y. y.token) h) (field_exact t) (λ token. last_exact (line_feed ∷ []) (leaf_of class gap token))
 
-gap_exact : (class : Class) (g t : ℕ) → IsExact Leaf (λ x. x.gap ++ (x.token ++ line_feed ∷ [])) (L2 class g t) (λ s. field_at g s >>= λ gap. field_at t gap.1 >>= λ token. after_mark (line_feed ∷ []) token.1 >>= λ r. Some (leaf_of class gap.0 token.0, r))
+gap_exact : (class : Class) (g t : ℕ) → IsExact Leaf (λ x. x.gap ++ (x.token ++ line_feed ∷ [])) (HasGap class g t) (λ s. field_at g s >>= λ gap. field_at t gap.1 >>= λ token. after_mark (line_feed ∷ []) token.1 >>= λ r. Some (leaf_of class gap.0 token.0, r))
 gap_exact class g t =
-    then_exact (λ x. x.gap) (λ z. z) (λ z. length z ≡ g) (field_at g) (λ x. x.token ++ line_feed ∷ []) (λ gap x. L1 class gap t x) (λ gap s. field_at t s >>= λ token. after_mark (line_feed ∷ []) token.1 >>= λ r. Some (leaf_of class gap token.0, r))
+    then_exact (λ x. x.gap) (λ z. z) (λ z. length z ≡ g) (field_at g) (λ x. x.token ++ line_feed ∷ []) (λ gap x. HasToken class gap t x) (λ gap s. field_at t s >>= λ token. after_mark (line_feed ∷ []) token.1 >>= λ r. Some (leaf_of class gap token.0, r))
     (λ gap x h. ap (λ y. y.gap) h.1) (field_exact g) (λ gap. token_exact class gap t)
 
 pub leaf_exact : IsExact Leaf leaf_body IsSmallLeaf leaf_at
 unfolding leaf_at
 leaf_exact =
-    let lengths = λ (class : Class) (g : ℕ). then_exact (λ x. length x.token) last_number (λ n. n < number_limit) (number_at line_feed) (λ x. x.gap ++ (x.token ++ line_feed ∷ [])) (λ t x. L2 class g t x) (λ t s. field_at g s >>= λ gap. field_at t gap.1 >>= λ token. after_mark (line_feed ∷ []) token.1 >>= λ r. Some (leaf_of class gap.0 token.0, r))
+    let lengths = λ (class : Class) (g : ℕ). then_exact (λ x. length x.token) last_number (λ n. n < number_limit) (number_at line_feed) (λ x. x.gap ++ (x.token ++ line_feed ∷ [])) (λ t x. HasGap class g t x) (λ t s. field_at g s >>= λ gap. field_at t gap.1 >>= λ token. after_mark (line_feed ∷ []) token.1 >>= λ r. Some (leaf_of class gap.0 token.0, r))
     (λ t x h. h.1.0) (number_exact line_feed refl) (λ t. gap_exact class g t) in
-    let first = λ (class : Class). then_exact (λ x. length x.gap) spaced_number (λ n. n < number_limit) (number_at space) (λ x. last_number (length x.token) ++ (x.gap ++ (x.token ++ line_feed ∷ []))) (λ g x. L3 class g x) (λ g s. number_at line_feed s >>= λ tokenlen. field_at g tokenlen.1 >>= λ gap. field_at tokenlen.0 gap.1 >>= λ token. after_mark (line_feed ∷ []) token.1 >>= λ r. Some (leaf_of class gap.0 token.0, r))
+    let first = λ (class : Class). then_exact (λ x. length x.gap) spaced_number (λ n. n < number_limit) (number_at space) (λ x. last_number (length x.token) ++ (x.gap ++ (x.token ++ line_feed ∷ []))) (λ g x. HasTokenLength class g x) (λ g s. number_at line_feed s >>= λ tokenlen. field_at g tokenlen.1 >>= λ gap. field_at tokenlen.0 gap.1 >>= λ token. after_mark (line_feed ∷ []) token.1 >>= λ r. Some (leaf_of class gap.0 token.0, r))
     (λ g x h. h.1.0) (number_exact space refl) (lengths class) in
-    let whole = then_exact (λ x. x.class) (λ k. spaced_number (class_number k)) (λ k. Unit {0}) numbered_class_at (λ x. spaced_number (length x.gap) ++ (last_number (length x.token) ++ (x.gap ++ (x.token ++ line_feed ∷ [])))) L4 (λ class s. number_at space s >>= λ gaplen. number_at line_feed gaplen.1 >>= λ tokenlen. field_at gaplen.0 tokenlen.1 >>= λ gap. field_at tokenlen.0 gap.1 >>= λ token. after_mark (line_feed ∷ []) token.1 >>= λ r. Some (leaf_of class gap.0 token.0, r))
+    let whole = then_exact (λ x. x.class) (λ k. spaced_number (class_number k)) (λ k. Unit {0}) numbered_class_at (λ x. spaced_number (length x.gap) ++ (last_number (length x.token) ++ (x.gap ++ (x.token ++ line_feed ∷ [])))) HasGapLength (λ class s. number_at space s >>= λ gaplen. number_at line_feed gaplen.1 >>= λ tokenlen. field_at gaplen.0 tokenlen.1 >>= λ gap. field_at tokenlen.0 gap.1 >>= λ token. after_mark (line_feed ∷ []) token.1 >>= λ r. Some (leaf_of class gap.0 token.0, r))
     (λ class x h. ap (λ y. y.class) h.1.1.1.1) numbered_class_exact first in
     so (λ x. refl) (λ x h. (h.1.0, h.1.1.0)) (λ x h. (tt, (h.0, (h.1, (refl, (refl, refl)))))) whole
 

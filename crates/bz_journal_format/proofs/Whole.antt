@@ -82,23 +82,23 @@ module _ (depth : ℕ) where
       then_exact (λ e. e.held) (λ xs. last_number (length xs) ++ flat_map part_text xs) (AreHeld depth) (listed_at line_feed (held_at depth)) (λ e. []) (λ xs e. e ≡ edit_of path at count xs) (λ xs s. Some (edit_of path at count xs, s))
       (λ xs e h. ap (λ y. y.held) h) (listed_exact line_feed refl part_text (IsHeld depth) (held_at depth) (held_exact_at depth)) (λ xs. done_exact (edit_of path at count xs))
 
-  abbrev E1 : List ℕ → ℕ → ℕ → Edit → Type 0
-  E1 path at count e = AreHeld depth e.held × (e ≡ edit_of path at count e.held)
+  abbrev HasHeld : List ℕ → ℕ → ℕ → Edit → Type 0
+  HasHeld path at count e = AreHeld depth e.held × (e ≡ edit_of path at count e.held)
 
-  abbrev E2 : List ℕ → ℕ → Edit → Type 0
-  E2 path at e = (e.count < number_limit) × E1 path at e.count e
+  abbrev HasCount : List ℕ → ℕ → Edit → Type 0
+  HasCount path at e = (e.count < number_limit) × HasHeld path at e.count e
 
-  abbrev E3 : List ℕ → Edit → Type 0
-  E3 path e = (e.at < number_limit) × E2 path e.at e
+  abbrev HasPlace : List ℕ → Edit → Type 0
+  HasPlace path e = (e.at < number_limit) × HasCount path e.at e
 
   pub edit_exact : IsExact Edit edit_text (IsEdit depth) (edit_at depth)
   unfolding edit_at
   edit_exact =
-      let counts = λ (path : List ℕ) (at : ℕ). then_exact (λ e. e.count) spaced_number (λ n. n < number_limit) (number_at space) (λ e. held_body e ++ []) (E1 path at) (λ count s. listed_at line_feed (held_at depth) s >>= λ xs. Some (edit_of path at count xs.0, xs.1))
+      let counts = λ (path : List ℕ) (at : ℕ). then_exact (λ e. e.count) spaced_number (λ n. n < number_limit) (number_at space) (λ e. held_body e ++ []) (HasHeld path at) (λ count s. listed_at line_feed (held_at depth) s >>= λ xs. Some (edit_of path at count xs.0, xs.1))
       (λ count e h. ap (λ y. y.count) h.1) (number_exact space refl) (held_exact path at) in
-      let ats = λ (path : List ℕ). then_exact (λ e. e.at) spaced_number (λ n. n < number_limit) (number_at space) (λ e. spaced_number e.count ++ (held_body e ++ [])) (E2 path) (λ at s. number_at space s >>= λ count. listed_at line_feed (held_at depth) count.1 >>= λ xs. Some (edit_of path at count.0 xs.0, xs.1))
+      let ats = λ (path : List ℕ). then_exact (λ e. e.at) spaced_number (λ n. n < number_limit) (number_at space) (λ e. spaced_number e.count ++ (held_body e ++ [])) (HasCount path) (λ at s. number_at space s >>= λ count. listed_at line_feed (held_at depth) count.1 >>= λ xs. Some (edit_of path at count.0 xs.0, xs.1))
       (λ at e h. ap (λ y. y.at) h.1.1) (number_exact space refl) (counts path) in
-      let paths = then_exact (λ e. e.path) (λ ns. spaced_number (length ns) ++ flat_map spaced_number ns) IsPath (listed_at space (number_at space)) (λ e. spaced_number e.at ++ (spaced_number e.count ++ (held_body e ++ []))) E3 (λ path s. number_at space s >>= λ at. number_at space at.1 >>= λ count. listed_at line_feed (held_at depth) count.1 >>= λ xs. Some (edit_of path at.0 count.0 xs.0, xs.1))
+      let paths = then_exact (λ e. e.path) (λ ns. spaced_number (length ns) ++ flat_map spaced_number ns) IsPath (listed_at space (number_at space)) (λ e. spaced_number e.at ++ (spaced_number e.count ++ (held_body e ++ []))) HasPlace (λ path s. number_at space s >>= λ at. number_at space at.1 >>= λ count. listed_at line_feed (held_at depth) count.1 >>= λ xs. Some (edit_of path at.0 count.0 xs.0, xs.1))
       (λ path e h. ap (λ y. y.path) h.1.1.1) (listed_exact space refl spaced_number (λ n. n < number_limit) (number_at space) (number_exact space refl)) ats in
       so (λ e. edit_lines (codes "edit ") (spaced_number (length e.path)) (flat_map spaced_number e.path) (spaced_number e.at) (spaced_number e.count) (last_number (length e.held)) (flat_map part_text e.held))
       (λ e h. record { path_length = h.0.0; path = h.0.1; at = h.1.0; count = h.1.1.0; held_length = h.1.1.1.0.0; held = h.1.1.1.0.1 })
