@@ -23,7 +23,9 @@ EDIT = ["set testonly True", "//...:all"]
 
 
 def environment():
-    return {**os.environ, "PATH": f"{TOP / 'bin'}{os.pathsep}{os.environ['PATH']}"}
+    """The programs of bin/ come first, and then the python3 that runs this, so that no shim before it is measured, too."""
+    first = [str(TOP / "bin"), os.path.dirname(os.path.realpath(sys.executable))]
+    return {**os.environ, "PATH": os.pathsep.join([*first, os.environ["PATH"]])}
 
 
 def seconds(words, folder, status=0):

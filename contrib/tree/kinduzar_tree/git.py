@@ -5,7 +5,8 @@ import subprocess
 # in a hook these say where the repository of the hook is, which need not be the one of the folder
 LOCAL = ("GIT_DIR", "GIT_WORK_TREE", "GIT_INDEX_FILE", "GIT_PREFIX", "GIT_OBJECT_DIRECTORY", "GIT_COMMON_DIR")
 NO_REPOSITORY = b"not a git repository"
-LINK, SUBMODULE = b"120000", b"160000"
+# the mode of a submodule, and how the row of a file begins that git doesn't know yet
+SUBMODULE, UNKNOWN = b" 160000 ", b"? "
 
 
 class GitError(Exception):
@@ -17,18 +18,34 @@ def environment():
     return {**rest, "LC_ALL": "C", "GIT_OPTIONAL_LOCKS": "0"}
 
 
-def call(folder, *words):
-    """The status and standard output of git in a folder; None where there is no git or no repository. Raises GitError on any other fault."""
+def begun(folder, *words):
+    """Starts git in a folder, so that others may run beside it; None where there is no git."""
     how = {"stdin": subprocess.DEVNULL, "stdout": subprocess.PIPE, "stderr": subprocess.PIPE, "env": environment()}
     try:
-        run = subprocess.run(["git", "-C", folder, *words], **how)
+        return subprocess.Popen(["git", "-C", folder, *words], **how)
     except FileNotFoundError:
         return None
-    if run.returncode > 1 or (run.returncode and run.stderr):
-        if NO_REPOSITORY in run.stderr:
+
+
+def ended(process):
+    """The status and standard output of git; None where there is no git or no repository. Raises GitError on any other fault."""
+    if process is None:
+        return None
+    try:
+        out, err = process.communicate()
+    except BaseException:  # a signal that ends the run ends git, too
+        process.kill()
+        raise
+    if process.returncode > 1 or (process.returncode and err):
+        if NO_REPOSITORY in err:
             return None
-        raise GitError(os.fsdecode(run.stderr).strip() or f"git {words[0]} ended with {run.returncode}")
-    return run.returncode, run.stdout
+        raise GitError(os.fsdecode(err).strip() or f"git {process.args[3]} ended with {process.returncode}")
+    return process.returncode, out
+
+
+def call(folder, *words):
+    """What `ended` gives of a call."""
+    return ended(begun(folder, *words))
 
 
 def names_in(output):
@@ -36,26 +53,23 @@ def names_in(output):
     return [os.fsdecode(name) for name in output.split(b"\0") if name]
 
 
-def is_ignored(folder):
-    """Whether git ignores this very folder; False where there is no repository."""
-    answer = call(folder, "check-ignore", "-q", ".")
-    return answer is not None and answer[0] == 0
-
-
 def listed(folder):
     """What is below a folder and not ignored: the names of files, and those of repositories in it, without those in these; None where
-    there is no repository. A link or a file that is gone may be among them."""
-    known = call(folder, "ls-files", "-z", "--stage")
-    if known is None:
+    there is no repository, or it ignores this very folder. A link or a file that is gone may be among them."""
+    ignoring = begun(folder, "check-ignore", "-q", ".")
+    listing = begun(folder, "ls-files", "-z", "-t", "--stage", "--cached", "--others", "--exclude-standard")
+    known, ignored = ended(listing), ended(ignoring)
+    if known is None or ignored[0] == 0:
         return None
     files, inner = [], []
-    for row in known[1].split(b"\0"):
-        mode, _, name = row.partition(b"\t")
-        if name:
-            (inner if mode.startswith(SUBMODULE) else files).append(os.fsdecode(name))
-    for name in names_in(call(folder, "ls-files", "-z", "--others", "--exclude-standard")[1]):
-        (inner if name.endswith("/") else files).append(name)
-    return files, [name.rstrip("/") for name in inner]
+    for row in known[1].split(b"\0")[:-1]:
+        if row.startswith(UNKNOWN):
+            name = row.removeprefix(UNKNOWN)
+            (inner if name.endswith(b"/") else files).append(os.fsdecode(name.rstrip(b"/")))
+        else:
+            head, _, name = row.partition(b"\t")
+            (inner if SUBMODULE in head else files).append(os.fsdecode(name))
+    return files, inner
 
 
 def changed_since(folder, revision):

@@ -1,9 +1,7 @@
 """Runs programs, so many at once, and ends them when a signal ends the run."""
 import contextlib
-import dataclasses
 import os
 import queue
-import shutil
 import signal
 import subprocess
 import sys
@@ -26,13 +24,11 @@ class Stopped(BaseException):
     """A signal came where nothing was running; the argument is its number."""
 
 
-@dataclasses.dataclass
 class Ended:
     """How a process ended: its status, less than zero for a signal, and what it wrote."""
 
-    status: int
-    out: bytes = b""
-    err: bytes = b""
+    def __init__(self, status, out, err):
+        self.status, self.out, self.err = status, out, err
 
     def how(self):
         """How a process ended that had no status to end with."""
@@ -45,6 +41,8 @@ def program(name):
         beside = os.path.join(os.path.dirname(command), name)
         if os.path.isfile(beside) and os.access(beside, os.X_OK):
             return beside
+    import shutil  # here, as reading it would slow every run
+
     return shutil.which(name)
 
 
@@ -117,7 +115,7 @@ class Pool:
     def call(self, words, text=b"", folder=None):
         """Runs a program with this on its standard input, and gives how it ended. It has a session of its own, so that a signal
         of the terminal reaches this process alone."""
-        pipes = {"stdin": subprocess.PIPE, "stdout": subprocess.PIPE, "stderr": subprocess.PIPE}
+        pipes = {"stdin": subprocess.PIPE if text else subprocess.DEVNULL, "stdout": subprocess.PIPE, "stderr": subprocess.PIPE}
         try:
             process = subprocess.Popen(words, cwd=folder, start_new_session=True, **pipes)
         except OSError as error:
@@ -125,7 +123,7 @@ class Pool:
         self.running.add(process)
         if self.is_ending:
             end_group(process)
-        out, err = process.communicate(text)
+        out, err = process.communicate(text or None)
         self.running.discard(process)
         return Ended(process.returncode, out, err)
 

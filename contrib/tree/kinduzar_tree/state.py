@@ -1,6 +1,5 @@
 """Where is kept what a later run needs: the folder of this working tree in .git, or one that is named."""
 import os
-import tempfile
 
 from . import git
 
@@ -18,6 +17,8 @@ def folder_for(place, named=None):
 
 def write_whole(file, content):
     """Replaces a file whole: whoever reads it, also after a crash, finds one of both."""
+    import tempfile  # here, as reading it would slow every run
+
     folder = os.path.dirname(file)
     os.makedirs(folder, exist_ok=True)
     handle, new = tempfile.mkstemp(prefix=".new-", dir=folder)

@@ -1,6 +1,5 @@
 """What is written: lines, a bar of progress where standard error is a terminal, and colours where standard output is one."""
 import os
-import shlex
 import sys
 import time
 
@@ -18,6 +17,8 @@ def counted(number, thing):
 
 def command_line(words):
     """Words as a shell reads them."""
+    import shlex  # here, as reading it would slow every run
+
     return " ".join(map(shlex.quote, words))
 
 

@@ -1,6 +1,5 @@
 """buildifier-tree: formats, checks or compares the BUILD files below folders."""
 import contextlib
-import difflib
 import os
 import signal
 import stat
@@ -192,6 +191,8 @@ def told(out, names):
 
 def difference(name, old, new):
     """The lines of a unified difference."""
+    import difflib  # here, as reading it would slow every run
+
     # a name with a space is ended by a tab, as patch reads it
     label = f"{name}\t" if any(sign.isspace() for sign in name) else name
     return [ended(os.fsencode(line)) for line in difflib.unified_diff(split_lines(old), split_lines(new), label, label)]

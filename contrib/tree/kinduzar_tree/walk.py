@@ -4,7 +4,6 @@ In a repository of git these are the files that git knows, and new ones that it 
 followed, files that are links are kept apart, and what a workspace's .bazelignore names is left out. What is named itself is
 taken, whoever ignores it.
 """
-import dataclasses
 import os
 import stat
 
@@ -14,13 +13,11 @@ from .names import ROOT_NAMES, root_above
 IGNORE = ".bazelignore"
 
 
-@dataclasses.dataclass
 class Found:
     """What is below a folder, by names from there: files, files that are links, and folders that cannot be read."""
 
-    files: dict = dataclasses.field(default_factory=dict)
-    links: list = dataclasses.field(default_factory=list)
-    closed: list = dataclasses.field(default_factory=list)
+    def __init__(self):
+        self.files, self.links, self.closed = {}, [], []
 
     def add(self, folder, name):
         """Takes a file in, with what the system says of it; one that is gone, or that is no file, is passed over."""
@@ -41,8 +38,7 @@ def below(folder, wanted):
     while pending:
         front = pending.pop()
         place = os.path.join(folder, front)
-        listed = None if git.is_ignored(place) else git.listed(place)
-        names, inner = listed or walked(place, found, front)
+        names, inner = git.listed(place) or walked(place, found, front)
         for name in names:
             if wanted(os.path.basename(name)):
                 found.add(folder, os.path.join(front, name))
