@@ -12,8 +12,8 @@ use Rattle.bz_edit.specs.declared.edit.Edit.{Edit}
 use Rattle.bz_items.specs.Characters.{Bytes}
 use Rattle.bz_grammar.specs.Legal.{Accepted}
 use Rattle.bz_grammar.specs.Spell.{limit}
-use Rattle.bz_history.specs.Trails.{trail_at}
-use Rattle.bz_history.proofs.Keeps.{trail_kept}
+use Rattle.bz_edit.specs.Trails.{trail_at}
+use Rattle.bz_edit.proofs.Keeps.{trail_kept}
 use Rattle.bz_journal_format.specs.Texts.{IsOtherVersion}
 use Rattle.bz_resume.specs.declared.fault.ResumeFault.{ResumeFault}
 use Rattle.bz_resume.specs.declared.fault.ResumeFault.TheVariants as f

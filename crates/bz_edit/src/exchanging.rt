@@ -39,8 +39,7 @@ fn exchange_edits(node: &mut Node, edits: &mut Items<Edit>) -> Result<(), EditFa
         let _ = swap_each(node, edits.as_mut_slice());
         return Ok(());
     }
-    if edits.len() == 1 {
-        let edit = edits.at_mut(0);
+    if let [edit] = edits.as_mut_slice() {
         swap_one(node, edit)?;
         return Ok(());
     }

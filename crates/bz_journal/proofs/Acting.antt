@@ -22,7 +22,7 @@ use Rattle.bz_journal.specs.History.{History, Answer, present, unchanged, after_
 use Rattle.bz_journal.specs.Keeping.{HasActed}
 use Rattle.bz_journal.specs.Shown.{IsOverEven, session_history}
 use Rattle.bz_journal.specs.State.{SessionState, session_trail}
-use Rattle.bz_history.specs.Trails.{IsSmall}
+use Rattle.bz_edit.specs.Trails.{IsSmall}
 
 -- ---- commands, in a history
 

@@ -4,9 +4,9 @@ use Rattle.std.specs.Prelude.{slice_index_or}
 use Rattle.std.proofs.lemmas.List.{map-append, take-map, take_all, take_more}
 use Rattle.sha2.specs.Sha256.{sha256}
 use Rattle.bz_grammar.specs.declared.tree.Node.{Node}
-use Rattle.bz_history.specs.Shown.{texts_of}
+use Rattle.bz_edit.specs.Shown.{texts_of}
 use Rattle.bz_edit.specs.declared.edit.Edit.{Edit}
-use Rattle.bz_history.specs.Trails.{trail_at}
+use Rattle.bz_edit.specs.Trails.{trail_at}
 use Rattle.bz_items.specs.Characters.{Bytes}
 use Rattle.bz_journal.specs.declared.action.Reply.TheVariants.{Changed}
 use Rattle.bz_journal.specs.Editing.{AreFirstDigests}

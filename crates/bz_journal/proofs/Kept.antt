@@ -6,8 +6,8 @@ use Rattle.sha2.specs.Sha256.{sha256}
 use Rattle.bz_grammar.specs.declared.tree.Node.{Node}
 use Rattle.bz_grammar.specs.Spell.{spell_node}
 use Rattle.bz_edit.specs.declared.edit.Edit.{Edit}
-use Rattle.bz_history.specs.Trails.{IsSmall, IsTrail, trail_at}
-use Rattle.bz_history.specs.Shown.{Moves, SmallIsBetween, SmallIsLeast, TakesUp, TrailsKeep, TrailsLead, texts_of}
+use Rattle.bz_edit.specs.Trails.{IsSmall, IsTrail, trail_at}
+use Rattle.bz_edit.specs.Shown.{Moves, SmallIsBetween, SmallIsLeast, TakesUp, TrailsKeep, TrailsLead, texts_of}
 use Rattle.bz_journal_format.proofs.Beginnings.{lines_stay}
 use Rattle.bz_journal_format.specs.FirstLines.{AreFirstLines}
 use Rattle.bz_journal_format.specs.Texts.{IsNote}

@@ -8,7 +8,7 @@ use Rattle.bz_grammar.specs.declared.tree.Part.{Part}
 use Rattle.bz_grammar.specs.Laws.{OneReading}
 use Rattle.bz_grammar.specs.Legal.{Reads}
 use Rattle.bz_grammar.specs.Spell.{depth_limit, depth_of, limit, spell_node}
-use Rattle.bz_history.specs.Trails.{IsTree}
+use Rattle.bz_edit.specs.Trails.{IsTree}
 use Rattle.bz_items.specs.Characters.{Bytes}
 use Rattle.bz_value.specs.declared.value.Item.{Item}
 use Rattle.bz_value.specs.Proper.{IsProper}

@@ -8,7 +8,7 @@ use Rattle.bz_files.specs.Faults.{Rises}
 use Rattle.bz_files.specs.Folder.{Elapses, Folder}
 use Rattle.bz_files.specs.declared.files.Files.{Ghosts as FilesOf}
 use Rattle.bz_files.proofs.Elapsing.{each_since, stays}
-use Rattle.bz_history.specs.Trails.{IsSmall}
+use Rattle.bz_edit.specs.Trails.{IsSmall}
 use Rattle.bz_items.specs.Characters.{Bytes}
 use Rattle.bz_value.specs.declared.refusal.Refusal.{Refusal}
 use Rattle.bz_resume.specs.Pair.{journal_name}

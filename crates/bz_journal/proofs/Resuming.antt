@@ -7,8 +7,8 @@ use Rattle.bz_grammar.specs.Laws.{OneReading}
 use Rattle.bz_grammar.specs.Legal.{Reads}
 use Rattle.bz_grammar.specs.Spell.{spell_node, limit}
 use Rattle.bz_edit.specs.declared.edit.Edit.{Edit}
-use Rattle.bz_history.specs.Trails.{IsSmall, trail_at}
-use Rattle.bz_history.specs.Shown.{TrailsKeep, texts_of}
+use Rattle.bz_edit.specs.Trails.{IsSmall, trail_at}
+use Rattle.bz_edit.specs.Shown.{TrailsKeep, texts_of}
 use Rattle.bz_items.specs.Characters.{Bytes}
 use Rattle.bz_resume.specs.declared.fault.ResumeFault.{ResumeFault}
 use Rattle.bz_resume.specs.declared.fault.ResumeFault.TheVariants as f

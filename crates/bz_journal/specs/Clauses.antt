@@ -34,8 +34,8 @@ pub use Rattle.bz_build_format.specs.Meaning.{IsWritten}
 pub use Rattle.bz_resume.specs.Journals.{AreSmall, Journal, NoJournal}
 pub use Rattle.bz_resume.specs.Resumed.{IsStale, StandsFor}
 pub use Rattle.bz_passes.specs.Passes.{tidied}
-pub use Rattle.bz_history.specs.Shown.{StepsAreBetween, StepsLead, TakesUp, texts_of}
-pub use Rattle.bz_history.specs.Trails.{HasLeast, IsSmall, IsTrail, IsTree, are_even, steps_back, steps_forward, trail_at}
+pub use Rattle.bz_edit.specs.Shown.{StepsAreBetween, StepsLead, TakesUp, texts_of}
+pub use Rattle.bz_edit.specs.Trails.{HasLeast, IsSmall, IsTrail, IsTree, are_even, steps_back, steps_forward, trail_at}
 pub use Rattle.bz_grammar.specs.Faults.{IsOfText}
 pub use Rattle.bz_grammar.specs.Legal.{Accepted}
 pub use Rattle.bz_grammar.specs.Spell.{depth_limit, depth_of, limit, spell_leaf, spell_node, spell_part}

@@ -11,7 +11,7 @@ use Rattle.bz_resume.specs.Journals.{journal_text}
 use Rattle.bz_resume.specs.Pair.{journal_name}
 use Rattle.bz_resume.specs.Resuming.{Holds, OthersStay, Resumes, Survives}
 use Rattle.bz_resume.specs.declared.pair_fault.PairFault.TheVariants as f
-use Rattle.bz_history.specs.Trails.{IsSmall}
+use Rattle.bz_edit.specs.Trails.{IsSmall}
 use Rattle.bz_journal.specs.Actions.{Action}
 use Rattle.bz_journal.specs.declared.action.Reply.{Reply}
 use Rattle.bz_journal.specs.declared.keeping.KeepFault.{KeepFault}

@@ -1,7 +1,7 @@
 -- Histories that outlive the run: what is saved of a session, and what is resumed of a journal.
 use Rattle.std.specs.Prelude.{◌≡◌, ℕ, List, Some, None, Result, Ok, Err}
 use Rattle.bz_edit.specs.declared.edit.Edit.{Edit}
-use Rattle.bz_history.specs.Trails.{IsSmall}
+use Rattle.bz_edit.specs.Trails.{IsSmall}
 use Rattle.bz_items.specs.Characters.{Bytes}
 use Rattle.bz_resume.specs.declared.fault.ResumeFault.{ResumeFault}
 use Rattle.bz_resume.specs.declared.fault.ResumeFault.TheVariants as f

@@ -9,8 +9,8 @@ use Rattle.bz_lex.specs.declared.fault.ReadFault.{ReadFault}
 use Rattle.bz_lex.specs.declared.fault.ReadFault.TheVariants as f
 use Rattle.bz_lex.specs.Faults.{is_of_leaves}
 use Rattle.bz_lex.specs.Stops.{IsFaultAt}
-use Rattle.bz_history.specs.Trails.{Trail, HasLeast, IsSmall, steps_back, steps_forward, are_even}
-use Rattle.bz_history.specs.Shown.{StepsAreBetween, StepsLead, texts_of}
+use Rattle.bz_edit.specs.Trails.{Trail, HasLeast, IsSmall, steps_back, steps_forward, are_even}
+use Rattle.bz_edit.specs.Shown.{StepsAreBetween, StepsLead, texts_of}
 use Rattle.bz_journal.specs.History.{History, IsKept, opened}
 use Rattle.bz_journal.specs.State.{SessionState, session_trail}
 use Rattle.bz_journal.specs.Actions.{Action}

@@ -4,7 +4,7 @@ use Rattle.std.specs.List.{AllByRecursion}
 use Rattle.std.specs.Coded.{Coded, code_by, coded×, coded_ℕ, coded_list}
 use Rattle.bz_grammar.specs.declared.tree.Node.{Node}
 use Rattle.bz_edit.specs.declared.edit.Edit.{Edit}
-use Rattle.bz_history.specs.Trails.{Trail, IsTrail, trail_at}
+use Rattle.bz_edit.specs.Trails.{Trail, IsTrail, trail_at}
 use Rattle.bz_journal_format.specs.Texts.{IsNote}
 use Rattle.bz_journal_format.specs.declared.content.Version.TheVariants.{Two}
 use Rattle.bz_items.specs.Characters.{Bytes}

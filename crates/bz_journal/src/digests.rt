@@ -6,10 +6,9 @@ ghost use Rattle.bz_journal.specs.Clauses.{Acts, AreFirstDigests, Bytes, History
 use crate::action::{Reply, is_changed};
 use crate::course::Course;
 use crate::digest::digest_of;
-use bz_edit::Step;
+use bz_edit::laws::texts_kept;
+use bz_edit::{Step, copy_steps, go_back, go_forward};
 use bz_grammar::Tree;
-use bz_history::laws::texts_kept;
-use bz_history::{copy_steps, go_back, go_forward};
 use bz_items::{Memory, Text};
 use bz_value::Refusal;
 use sha2::{Digest, Sha256};

@@ -6,8 +6,8 @@ ghost use Rattle.bz_journal.specs.Clauses.{AlikeActs, AlikeGoesOn, HoldsSteps, I
 use crate::course::Course;
 use crate::past::{Form, Past};
 use crate::session::Session;
+use bz_edit::laws::{small_steps, steps_lead, texts_kept};
 use bz_grammar::laws::one_reading;
-use bz_history::laws::{small_steps, steps_lead, texts_kept};
 use bz_layout::{layout_is_accepted, layout_reads_back};
 use bz_passes::{proper_stays, tidy_settles, tidy_stays};
 

@@ -9,11 +9,10 @@ use crate::digest::digest_of;
 use crate::doing::{Seen, act};
 use crate::keeping::{KeepFault, Written, persist};
 use crate::listing::listed;
-use bz_edit::{Step, weight};
+use bz_edit::laws::texts_kept;
+use bz_edit::{Step, put_after, weight};
 use bz_files::Files;
 use bz_grammar::{ReadFault, Tree};
-use bz_history::laws::texts_kept;
-use bz_history::put_after;
 use bz_items::{Memory, Text};
 use bz_journal_format::KeptLines;
 use bz_value::Refusal;
@@ -47,8 +46,8 @@ impl Model for Session {
     ghost use Rattle.sha2.specs.Sha256.{sha256};
     ghost use Rattle.bz_grammar.specs.contracts.tree.Tree as t;
     ghost use Rattle.bz_edit.specs.contracts.step.Step as s;
-    ghost use Rattle.bz_history.specs.Shown.{texts_of};
-    ghost use Rattle.bz_history.specs.Trails.{trail_at};
+    ghost use Rattle.bz_edit.specs.Shown.{texts_of};
+    ghost use Rattle.bz_edit.specs.Trails.{trail_at};
     ghost use Rattle.bz_journal.specs.State.{SessionState, IsSession, state_code};
 
     ghost Value = { SessionState };

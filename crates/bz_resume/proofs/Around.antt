@@ -7,8 +7,8 @@ use Rattle.bz_grammar.specs.declared.tree.Node.{Node}
 use Rattle.bz_grammar.specs.Spell.{spell_node}
 use Rattle.bz_edit.specs.declared.edit.Edit.{Edit}
 use Rattle.bz_edit.specs.Steps.{swap_node}
-use Rattle.bz_history.specs.Trails.{IsTree, LeadOn, steps_back, steps_forward, trees}
-use Rattle.bz_history.proofs.Keeps.{trees_length}
+use Rattle.bz_edit.specs.Trails.{IsTree, LeadOn, steps_back, steps_forward, trees}
+use Rattle.bz_edit.proofs.Keeps.{trees_length}
 use Rattle.bz_journal_format.specs.declared.content.Record.{Record}
 use Rattle.bz_resume.specs.private.Agreement.{StepsAgree, StepsAgreeAround, IsCounted, RecordAgrees, edits_of, recorded_trail}
 

@@ -9,7 +9,7 @@ use Rattle.bz_grammar.specs.Spell.{spell_node, limit}
 use Rattle.bz_grammar.proofs.Unique.{one_tree}
 use Rattle.bz_edit.specs.declared.edit.Edit.{Edit}
 use Rattle.bz_edit.specs.Steps.{swap_node}
-use Rattle.bz_history.specs.Trails.{IsTree}
+use Rattle.bz_edit.specs.Trails.{IsTree}
 use Rattle.bz_resume.specs.private.Outlines.{outline_node}
 use Rattle.bz_resume.specs.private.Agreement.{StepAgrees, StepsAgree}
 use Rattle.bz_resume.proofs.Outlined.{one_outline}

@@ -9,9 +9,9 @@ use Rattle.bz_grammar.specs.Legal.{Reads}
 use Rattle.bz_grammar.specs.Spell.{spell_node, limit, depth_limit}
 use Rattle.bz_grammar.proofs.Unique.{one_tree}
 use Rattle.bz_edit.specs.declared.edit.Edit.{Edit}
-use Rattle.bz_history.specs.Trails.{Trail, IsTrail, IsSmall, trail_at}
-use Rattle.bz_history.specs.Shown.{Moves, Text, texts_of}
-use Rattle.bz_history.proofs.Keeps.{present_text, texts_length}
+use Rattle.bz_edit.specs.Trails.{Trail, IsTrail, IsSmall, trail_at}
+use Rattle.bz_edit.specs.Shown.{Moves, Text, texts_of}
+use Rattle.bz_edit.proofs.Keeps.{present_text, texts_length}
 use Rattle.bz_journal_format.specs.declared.content.RecordedStep.{RecordedStep}
 use Rattle.bz_journal_format.specs.declared.content.Record.{Record}
 use Rattle.bz_journal_format.specs.declared.content.Version.{Version}

@@ -16,7 +16,7 @@ use Rattle.bz_edit.specs.declared.edit.Edit.{Edit}
 use Rattle.bz_edit.specs.Places.{has_place}
 use Rattle.bz_edit.specs.Steps.{all_there, swap_node}
 use Rattle.bz_edit.proofs.Puts.{child_found}
-use Rattle.bz_history.specs.Trails.{Trail, IsTrail, IsTree, StepLeads, LeadOn}
+use Rattle.bz_edit.specs.Trails.{Trail, IsTrail, IsTree, StepLeads, LeadOn}
 use Rattle.bz_resume.specs.private.Agreement.{MayLead}
 
 item_depth : (xs : List Part) (i : ℕ) (x : Part) → slice_get xs i ≡ Some x → depth_part x ≤ deepest xs

@@ -7,9 +7,9 @@ use Rattle.sha2.specs.Sha256.{sha256}
 use Rattle.bz_grammar.specs.declared.tree.Node.{Node}
 use Rattle.bz_grammar.specs.Spell.{spell_node, depth_limit}
 use Rattle.bz_edit.specs.declared.edit.Edit.{Edit}
-use Rattle.bz_history.specs.Trails.{Trail, IsTrail, trail_at}
-use Rattle.bz_history.specs.Shown.{Text, texts_of}
-use Rattle.bz_history.proofs.Keeps.{present_text, texts_length}
+use Rattle.bz_edit.specs.Trails.{Trail, IsTrail, trail_at}
+use Rattle.bz_edit.specs.Shown.{Text, texts_of}
+use Rattle.bz_edit.proofs.Keeps.{present_text, texts_length}
 use Rattle.bz_journal_format.specs.declared.content.Record.{Record}
 use Rattle.bz_journal_format.specs.declared.content.Version.TheVariants.{Two}
 use Rattle.bz_journal_format.specs.Spellings.{number_limit, IsDigest}

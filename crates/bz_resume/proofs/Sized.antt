@@ -22,7 +22,7 @@ use Rattle.bz_edit.proofs.Puts.{child_found}
 use Rattle.bz_edit.proofs.Sizes.{counted}
 use Rattle.bz_edit.proofs.Turns.{apart_of}
 use Rattle.bz_edit.proofs.Twice.{twice}
-use Rattle.bz_history.specs.Trails.{IsTree, StepLeads}
+use Rattle.bz_edit.specs.Trails.{IsTree, StepLeads}
 use Rattle.bz_resume.proofs.Paths.{place_within}
 use Rattle.bz_journal_format.specs.Spellings.{number_limit}
 use Rattle.bz_journal_format.specs.Texts.{row_length, IsSmallPart, AreSmallParts, IsHeld, IsEdit}

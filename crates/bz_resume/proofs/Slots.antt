@@ -15,7 +15,7 @@ use Rattle.bz_edit.specs.Steps.{IsBefore, WellFormed, MayFollow, all_there}
 use Rattle.bz_edit.proofs.Planning.{parts_Node, length_total}
 use Rattle.bz_edit.proofs.Puts.{child_found}
 use Rattle.bz_edit.proofs.Sizes.{few_parts}
-use Rattle.bz_history.specs.Trails.{IsTree, StepLeads}
+use Rattle.bz_edit.specs.Trails.{IsTree, StepLeads}
 
 -- ---- parts before a place
 

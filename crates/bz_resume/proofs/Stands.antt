@@ -6,9 +6,9 @@ use Rattle.std.specs.Str.{bytes_eq}
 use Rattle.bz_grammar.specs.declared.tree.Node.{Node}
 use Rattle.bz_grammar.specs.Spell.{spell_node}
 use Rattle.bz_edit.specs.declared.edit.Edit.{Edit}
-use Rattle.bz_history.specs.Trails.{Trail, IsTrail, trail_at}
-use Rattle.bz_history.specs.Shown.{Moves, Text, texts_of}
-use Rattle.bz_history.proofs.Keeps.{present_text, texts_length}
+use Rattle.bz_edit.specs.Trails.{Trail, IsTrail, trail_at}
+use Rattle.bz_edit.specs.Shown.{Moves, Text, texts_of}
+use Rattle.bz_edit.proofs.Keeps.{present_text, texts_length}
 use Rattle.bz_resume.specs.private.Agreement.{HasStood}
 
 shown_at : (t : Trail) (text : Text) (shown b : Bool) → IsTrail t → shown ≡ bytes_eq text (spell_node t.tree) → shown ≡ b → bytes_eq text (slice_index_or (texts_of t) t.cursor []) ≡ b

@@ -21,7 +21,7 @@ use Rattle.bz_grammar.proofs.Split.{all_both, leaves_both, IsLast, lines_split}
 use Rattle.bz_edit.specs.declared.edit.Edit.{Edit}
 use Rattle.bz_edit.specs.Steps.{here, if_here, below, if_below, spliced, splice_all, swap_part, swap_list, swap_node}
 use Rattle.bz_edit.proofs.Swaps.{stays, swap_none}
-use Rattle.bz_history.specs.Trails.{IsTree}
+use Rattle.bz_edit.specs.Trails.{IsTree}
 use Rattle.bz_resume.proofs.Sized.{all_taken, all_dropped}
 use Rattle.bz_resume.specs.private.Alone.{IsAlone, AreAlone, EndsLine, AreLined, IsAloneAt, IsTouchedAlone, IsHeldAlone, AreTouchedAlone}
 

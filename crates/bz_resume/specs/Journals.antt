@@ -6,8 +6,8 @@ use Rattle.sha2.specs.Sha256.{sha256}
 use Rattle.bz_grammar.specs.declared.tree.Node.{Node}
 use Rattle.bz_grammar.specs.Spell.{depth_limit}
 use Rattle.bz_edit.specs.declared.edit.Edit.{Edit}
-use Rattle.bz_history.specs.Trails.{IsTrail, IsSmall, trail_at}
-use Rattle.bz_history.specs.Shown.{Text, texts_of}
+use Rattle.bz_edit.specs.Trails.{IsTrail, IsSmall, trail_at}
+use Rattle.bz_edit.specs.Shown.{Text, texts_of}
 use Rattle.bz_journal_format.specs.Contents.{entries_of}
 use Rattle.bz_journal_format.specs.declared.content.Record.{Record}
 use Rattle.bz_journal_format.specs.declared.content.Version.{Version}

@@ -5,7 +5,7 @@ ghost use Rattle.bz_grammar.specs.declared.tree.Node.{Node};
 ghost use Rattle.bz_grammar.specs.Legal.{Reads};
 ghost use Rattle.bz_grammar.specs.Spell.{spell_node};
 ghost use Rattle.bz_edit.specs.Steps.{swap_node};
-ghost use Rattle.bz_history.specs.Trails.{IsTree};
+ghost use Rattle.bz_edit.specs.Trails.{IsTree};
 ghost use Rattle.bz_resume.specs.private.Agreement.{StepAgrees, StepsAgree, as_taken};
 
 use crate::outlining::outline_of;

@@ -3,8 +3,8 @@ ghost use Rattle.std.specs.Prelude.{◌≡◌, ◌++◌, OnOk, OnErr};
 ghost use Rattle.bz_resume.specs.Journals.{journal_text};
 ghost use Rattle.bz_resume.specs.Saved.{CanSave, IsSaved, saved_history};
 
+use bz_edit::laws::texts_kept;
 use bz_grammar::Tree;
-use bz_history::laws::texts_kept;
 use bz_items::Memory;
 use bz_journal_format::{Content, Version, write_record};
 

@@ -2,14 +2,13 @@
 ghost use Rattle.std.specs.Prelude.{◌≡◌, ◌≤◌, IfOk, OnOk, length};
 ghost use Rattle.std.specs.Str.{bytes_eq};
 ghost use Rattle.bz_grammar.specs.Spell.{spell_node};
-ghost use Rattle.bz_history.specs.Trails.{IsTrail, trail_at};
-ghost use Rattle.bz_history.specs.Shown.{Moves};
+ghost use Rattle.bz_edit.specs.Trails.{IsTrail, trail_at};
+ghost use Rattle.bz_edit.specs.Shown.{Moves};
 ghost use Rattle.bz_resume.specs.private.Agreement.{HasStood};
 
-use bz_edit::Step;
+use bz_edit::laws::texts_kept;
+use bz_edit::{Step, go_back, go_forward};
 use bz_grammar::Tree;
-use bz_history::laws::texts_kept;
-use bz_history::{go_back, go_forward};
 use bz_items::Memory;
 
 /// Whether the tree spells this text. The error: a growth was refused.

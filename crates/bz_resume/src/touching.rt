@@ -8,7 +8,7 @@ ghost use Rattle.bz_grammar.specs.Spell.{spell_node, limit};
 ghost use Rattle.bz_grammar.specs.Joined.{file_with};
 ghost use Rattle.bz_grammar.specs.Split.{bare_end};
 ghost use Rattle.bz_edit.specs.Steps.{swap_node};
-ghost use Rattle.bz_history.specs.Trails.{IsTree};
+ghost use Rattle.bz_edit.specs.Trails.{IsTree};
 ghost use Rattle.bz_resume.specs.private.Alone.{AreAlone, AreLined, AreTouchedAlone, EndsLine, IsAlone, IsAloneAt, IsHeldAlone, IsTouchedAlone};
 
 use bz_edit::Edit;

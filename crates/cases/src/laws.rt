@@ -145,10 +145,10 @@ fn call_histories() {
     bz_files::worked_folders();
     bz_files::folder_reads_back();
     bz_files::other_files_stay();
-    bz_history::laws::starts_small();
-    bz_history::laws::texts_kept();
-    bz_history::laws::steps_lead();
-    bz_history::laws::small_steps();
+    bz_edit::laws::starts_small();
+    bz_edit::laws::texts_kept();
+    bz_edit::laws::steps_lead();
+    bz_edit::laws::small_steps();
     bz_journal::worked_histories();
     bz_journal::alike_goes_on();
     bz_journal::stopped_is_resumed();

@@ -7,7 +7,7 @@ use Rattle.bz_value.specs.declared.refusal.Refusal.TheVariants.{Memory, TooLarge
 use Rattle.bz_value.specs.Windows.{AreOver}
 use Rattle.bz_command.specs.declared.outcome.Ran.{Ran}
 use Rattle.bz_items.specs.Characters.{Bytes}
-use Rattle.bz_history.specs.Trails.{IsSmall}
+use Rattle.bz_edit.specs.Trails.{IsSmall}
 use Rattle.bz_journal.specs.Actions.{Action, Do, Format, Redo, Undo}
 use Rattle.bz_journal.specs.declared.doing.Seen.{Seen}
 use Rattle.bz_journal.specs.Editing.{IsSeenIn}

@@ -4,7 +4,7 @@ use Rattle.sha2.specs.Sha256.{sha256}
 use Rattle.bz_journal_format.specs.FirstLines.{AreFirstLines}
 use Rattle.bz_journal_format.specs.declared.content.Version.TheVariants.{Two}
 use Rattle.bz_journal_format.specs.declared.kept.KeptLines.{KeptLines}
-use Rattle.bz_history.specs.Shown.{texts_of}
+use Rattle.bz_edit.specs.Shown.{texts_of}
 use Rattle.bz_journal.specs.State.{SessionState, session_trail}
 
 -- they are those of the first digests and of the first steps, as its journal has them

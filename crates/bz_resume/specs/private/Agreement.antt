@@ -8,8 +8,8 @@ use Rattle.bz_grammar.specs.Legal.{Reads}
 use Rattle.bz_grammar.specs.Spell.{spell_node, depth_limit}
 use Rattle.bz_edit.specs.declared.edit.Edit.{Edit}
 use Rattle.bz_edit.specs.Steps.{IsStep, swap_node}
-use Rattle.bz_history.specs.Trails.{StepLeads, IsTrail, Trail, trail_at}
-use Rattle.bz_history.specs.Shown.{Moves, Text, texts_of}
+use Rattle.bz_edit.specs.Trails.{StepLeads, IsTrail, Trail, trail_at}
+use Rattle.bz_edit.specs.Shown.{Moves, Text, texts_of}
 use Rattle.bz_journal_format.specs.declared.content.RecordedStep.{RecordedStep}
 use Rattle.bz_journal_format.specs.declared.content.Record.{Record}
 use Rattle.bz_resume.specs.declared.replaying.Way.{Way}

@@ -3,8 +3,8 @@ use Rattle.std.specs.Prelude.{slice_index_or}
 use Rattle.std.proofs.lemmas.List.{take_all}
 use Rattle.sha2.specs.Sha256.{sha256}
 use Rattle.bz_grammar.specs.Spell.{spell_node}
-use Rattle.bz_history.specs.Shown.{Moves, texts_of}
-use Rattle.bz_history.specs.Trails.{Trail, trail_at}
+use Rattle.bz_edit.specs.Shown.{Moves, texts_of}
+use Rattle.bz_edit.specs.Trails.{Trail, trail_at}
 use Rattle.bz_items.specs.Characters.{Bytes}
 use Rattle.bz_journal.proofs.Digested.{hash_next}
 use Rattle.bz_journal.proofs.digests.hashed_from.Goals as goal

@@ -1,5 +1,5 @@
 use Rattle.std.proofs.Common.{sym, ◌∙◌}
-use Rattle.bz_history.proofs.Turn.{apart_there}
+use Rattle.bz_edit.proofs.Turn.{apart_there}
 use Rattle.bz_resume.proofs.placing.swap_by_copy.Goals as goal
 
 pub swap_each-requires-clause-apart : goal.swap_each-requires-clause-apart

@@ -1,4 +1,4 @@
-use Rattle.bz_history.specs.Trails.{trail_at}
+use Rattle.bz_edit.specs.Trails.{trail_at}
 use Rattle.bz_resume.proofs.Stands.{stands_here, stands_there, stands_nowhere}
 use Rattle.bz_resume.proofs.standing.stand.Goals as goal
 

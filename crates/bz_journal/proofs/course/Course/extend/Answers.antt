@@ -4,8 +4,8 @@ use Rattle.bz_edit.specs.Windows.{with_windows}
 use Rattle.bz_grammar.specs.declared.tree.Node.{Node}
 use Rattle.bz_grammar.specs.Spell.{spell_node}
 use Rattle.bz_items.specs.Characters.{Bytes}
-use Rattle.bz_history.specs.Shown.{TakesUp, texts_of}
-use Rattle.bz_history.specs.Trails.{IsSmall, trail_at}
+use Rattle.bz_edit.specs.Shown.{TakesUp, texts_of}
+use Rattle.bz_edit.specs.Trails.{IsSmall, trail_at}
 use Rattle.bz_journal_format.specs.declared.content.Version.TheVariants.{Two}
 use Rattle.bz_journal.specs.History.{most_steps}
 use Rattle.bz_journal.specs.private.Kept.{AreKeptOf}

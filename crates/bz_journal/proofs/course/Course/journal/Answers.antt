@@ -1,7 +1,7 @@
 use Rattle.std.proofs.Common.{◌≡◌, ◌∙◌, ap, arith, length, map, refl, subst, sym}
 use Rattle.std.proofs.lemmas.Result.{IfOk-weaker}
 use Rattle.sha2.specs.Sha256.{sha256}
-use Rattle.bz_history.specs.Shown.{texts_of}
+use Rattle.bz_edit.specs.Shown.{texts_of}
 use Rattle.bz_journal_format.specs.declared.content.Record.{Record}
 use Rattle.bz_journal_format.specs.declared.content.Version.TheVariants.{Two}
 use Rattle.bz_journal_format.specs.Texts.{record_text}

@@ -1,7 +1,7 @@
 use Rattle.std.proofs.Common.{ap, length, arith, subst}
 use Rattle.std.proofs.lemmas.List.{length-map}
 use Rattle.sha2.specs.Sha256.{sha256}
-use Rattle.bz_history.specs.Shown.{texts_of}
+use Rattle.bz_edit.specs.Shown.{texts_of}
 use Rattle.bz_journal.specs.State.{SessionState, IsSession, session_trail}
 use Rattle.bz_journal.proofs.Kept.{session_counted}
 use Rattle.bz_journal.proofs.course.Course.listed.Goals as goal

@@ -1,0 +1,106 @@
+//! Over steps, from tree to tree.
+ghost use Rattle.std.specs.Prelude.{◌≡◌, ◌≤◌, true, drop, take, slice_range, reverse, length, ◌++◌, IfOk, OnOk, OnErr, IsOk};
+ghost use Rattle.bz_edit.specs.Steps.{all_even as even_edits, swap_node, turned_all};
+ghost use Rattle.bz_edit.specs.Trails.{IsTree, StepLeads, LeadOn, reached, crossed, are_even as even_steps};
+
+use crate::edit::EditFault;
+use crate::exchanging::{all_even, exchange};
+use crate::place::swap_each;
+use crate::step::Step;
+use bz_grammar::{Node, Tree};
+use bz_items::{Items, Memory};
+use std::alloc::{AllocError, Global};
+
+/// Whether each step is even.
+fn are_even(steps: &[Step]) -> bool
+    ensures { result ≡ even_steps steps.now }
+{
+    for step in steps {
+        if !all_even(step.edits.as_slice()) {
+            return false;
+        }
+    }
+    true
+}
+
+/// Equal steps. The error: a growth was refused.
+pub fn copy_steps(alloc: Global, steps: &[Step]) -> Result<Items<Step>, Memory>
+    ensures { IfOk result (λ copied. copied ≡ steps.now) }
+{
+    let mut copied = Items::new(alloc);
+    for step in steps {
+        copied.push(step.copy()?)?;
+    }
+    Ok(copied)
+}
+
+/// Over one step. An even one takes no memory. The error: a growth was refused; both are then as before.
+fn cross(tree: &mut Tree, step: &mut Step) -> Result<(), Memory>
+    requires { StepLeads step.old tree.old }
+    ensures tree { OnOk result (tree.new ≡ swap_node step.old tree.old) }
+    ensures step { OnOk result (step.new ≡ turned_all tree.old step.old) }
+    ensures err { OnErr result ((tree.new ≡ tree.old) × (step.new ≡ step.old)) }
+    ensures even { even_edits step.old ≡ true → IsOk result }
+{
+    match exchange(tree, step) {
+        Ok(()) => Ok(()),
+        Err(EditFault::Memory) => Err(AllocError),
+        Err(EditFault::BadPlace) => unreachable!(),
+    }
+}
+
+/// Over one step, whose edits may be uneven. Even ones take no memory. The error: a growth was refused; root and step are then
+/// somewhere between.
+fn cross_one(root: &mut Node, step: &mut Step) -> Result<(), Memory>
+    requires tree { IsTree root.old }
+    requires lead { StepLeads step.old root.old }
+    ensures root { OnOk result (root.new ≡ swap_node step.old root.old) }
+    ensures step { OnOk result (step.new ≡ turned_all root.old step.old) }
+    ensures even { even_edits step.old ≡ true → IsOk result }
+{
+    let none = Items::new(step.edits.alloc());
+    let mut edits = std::mem::replace(&mut step.edits, none);
+    swap_each(root, edits.as_mut_slice())?;
+    step.edits = edits;
+    Ok(())
+}
+
+/// Over steps, the first one first. Even ones take no memory. The error: a growth was refused; root and steps are then somewhere
+/// between.
+fn cross_each(root: &mut Node, steps: &mut [Step]) -> Result<(), Memory>
+    requires tree { IsTree root.old }
+    requires lead { LeadOn root.old steps.old }
+    ensures root { OnOk result (root.new ≡ reached root.old steps.old) }
+    ensures steps { OnOk result (steps.new ≡ crossed root.old steps.old) }
+    ensures even { even_steps steps.old ≡ true → IsOk result }
+{
+    for i in 0..steps.len() {
+        let step = &mut steps[i];
+        cross_one(root, step)?;
+    }
+    Ok(())
+}
+
+/// Over steps, the first one first. Even ones take no memory; if some are uneven, tree and steps are copied once, and the copies are
+/// then put in place. The error: a growth was refused; tree and steps are then as before.
+pub(crate) fn cross_all(tree: &mut Tree, steps: &mut [Step]) -> Result<(), Memory>
+    requires { LeadOn tree.old steps.old }
+    ensures tree { OnOk result (tree.new ≡ reached tree.old steps.old) }
+    ensures steps { OnOk result (steps.new ≡ crossed tree.old steps.old) }
+    ensures err { OnErr result ((tree.new ≡ tree.old) × (steps.new ≡ steps.old)) }
+    ensures even { even_steps steps.old ≡ true → IsOk result }
+{
+    if let [step] = steps {
+        return cross(tree, step);
+    }
+    if are_even(steps) {
+        let _ = cross_each(&mut tree.root, steps);
+        return Ok(());
+    }
+    let mut root = tree.root.copy()?;
+    let mut turned = copy_steps(tree.root.parts.alloc(), steps)?;
+    cross_each(&mut root, turned.as_mut_slice())?;
+    *tree = Tree { root };
+    steps.swap_with_slice(turned.as_mut_slice());
+    Ok(())
+}

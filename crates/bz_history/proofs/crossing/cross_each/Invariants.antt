@@ -1,6 +1,0 @@
-use Rattle.bz_history.specs.Trails.{IsTree}
-use Rattle.bz_history.proofs.Turn.{IsOver}
-use Rattle.bz_history.proofs.crossing.cross_each.Given as goal
-
-abbrev pub invariant-loop-i : goal.invariant-loop-i
-invariant-loop-i l = IsOver l.fn.root l.fn.steps l.i l.root l.steps × IsTree l.root

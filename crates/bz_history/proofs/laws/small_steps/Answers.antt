@@ -1,9 +1,0 @@
-use Rattle.bz_history.proofs.Keeps.{small_least}
-use Rattle.bz_history.proofs.Numbered.{steps_between}
-use Rattle.bz_history.proofs.laws.small_steps.Goals as goal
-
-pub returns-clause-between : goal.returns-clause-between
-returns-clause-between c = steps_between
-
-pub returns-clause-least : goal.returns-clause-least
-returns-clause-least c = small_least

@@ -1,5 +1,0 @@
-use Rattle.bz_history.proofs.Numbered as n
-use Rattle.bz_history.proofs.laws.steps_lead.Goals as goal
-
-pub returns : goal.returns
-returns c = n.steps_lead

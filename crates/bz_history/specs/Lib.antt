@@ -1,2 +1,0 @@
-pub mod Trails
-pub mod Shown
