@@ -16,7 +16,7 @@ use Rattle.bz_bzl_value.specs.declared.value.Statement.{Statement}
 use Rattle.bz_bzl_value.specs.declared.value.Statement.TheVariants as s
 use Rattle.bz_bzl_value.specs.declared.value.Branch.{Branch}
 use Rattle.bz_bzl_value.specs.View.{ReadStatements, Stated, stated, stated_row, indented_lines_before, end_comments, after_end, is_taken_line, line_read, walked, margin_of, suite_read, head, branches, with_suite, is_compound, compound_read, statement_read, suite_in}
-use Rattle.bz_bzl_value.proofs.KeptBranches.{Lines}
+use Rattle.bz_bzl_value.proofs.SuiteLines.{Lines}
 
 abbrev pub Blank : Lines → Type 0
 Blank lines = AllByRecursion (λ l. l.comment ≡ None) lines

@@ -4,14 +4,12 @@ use Rattle.bz_grammar.specs.declared.kind.Kind.{Kind}
 use Rattle.bz_grammar.specs.declared.tree.Part.{Part}
 use Rattle.bz_value.specs.declared.value.Form.{Form}
 use Rattle.bz_items.specs.Characters.{Bytes}
-use Rattle.bz_value.specs.Gaps.{GapLine, comments_in}
+use Rattle.bz_value.specs.Gaps.{comments_in}
 use Rattle.bz_hosts.specs.View.{Seen}
 use Rattle.bz_bzl_value.specs.declared.value.Statement.{Statement}
 use Rattle.bz_bzl_value.specs.declared.value.Branch.{Branch}
 use Rattle.bz_bzl_value.specs.View.{Stated, stated, branches, with_suite, head, indented_lines_before}
-
-abbrev Lines : Type 0
-Lines = List GapLine
+use Rattle.bz_bzl_value.proofs.SuiteLines.{Lines}
 
 pub branch_more : (kind : Kind) (parts : List Seen) (above above' : List Bytes) (left after following lines : Lines) (x : Part) (rest : List Stated) (form : Form) (suffix : Option Bytes)
     (statements : List Statement) (ends : List Bytes) (own own' all : List Branch) (left_of_all : Lines)

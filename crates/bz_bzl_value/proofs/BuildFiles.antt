@@ -1,7 +1,6 @@
 -- What the tree of a BUILD file says as a .bzl file is what it says as a BUILD file.
-use Rattle.std.proofs.Common.{◌≡◌, List, [], ◌∷◌, ◌++◌, inl, inr, None, refl, sym, ap, ◌∙◌, subst, map, append_assoc}
+use Rattle.std.proofs.Common.{◌≡◌, List, [], ◌∷◌, ◌++◌, inl, inr, refl, sym, ap, ◌∙◌, subst, map, append_assoc}
 use Rattle.std.proofs.lemmas.List.{map-append}
-use Rattle.bz_items.specs.Characters.{Bytes}
 use Rattle.bz_grammar.specs.declared.kind.Kind.TheVariants as k
 use Rattle.bz_grammar.specs.declared.tree.Part.{Part, Node', items-the_row-Part}
 use Rattle.bz_grammar.specs.declared.tree.Part.TheVariants as p
@@ -11,29 +10,21 @@ use Rattle.bz_grammar.specs.Legal.{IsNonterminal}
 use Rattle.bz_grammar.proofs.Balance.{no_such}
 use Rattle.bz_value.specs.declared.value.Item.{Item}
 use Rattle.bz_value.specs.Gaps.{GapLine, lines_of, after_first_line, groups_of, all_but_last, last_group}
-use Rattle.bz_hosts.specs.View.{Seen, seen, seen_row, first_seen_gap, last_gap, blocks, statement, statements_in, line_items, file_items}
+use Rattle.bz_hosts.specs.View.{Seen, seen, seen_row, first_seen_gap, last_gap, blocks, statements_in, line_items, file_items}
 use Rattle.bz_hosts.proofs.SeenParts.{seen_rows}
 use Rattle.bz_bzl_value.specs.declared.value.BzlItem.{BzlItem}
 use Rattle.bz_bzl_value.specs.declared.value.BzlItem.TheVariants as b
 use Rattle.bz_bzl_value.specs.Laws.{BuildFilesSayTheSame}
 use Rattle.bz_bzl_value.specs.View.{stated, stated_row, indented_lines_before, simple_statements, bzl_item, bzl_items}
-use Rattle.bz_bzl_value.proofs.KeptBranches.{Lines}
 use Rattle.bz_bzl_value.proofs.Parts.{lines_first, parts_seen, stated_rows}
+use Rattle.bz_bzl_value.proofs.SuiteLines.{Lines}
+use Rattle.bz_bzl_value.proofs.KeptValues.{all_simple}
 
 -- ---- lines
 
 -- the lines of the gap before the first of these parts
 abbrev first_lines : List Part → List GapLine
 first_lines xs = lines_of (first_seen_gap (map seen xs))
-
--- ---- the statements of a line are simple statements
-
-all_simple : (above : List Bytes) (ss : List Seen) → map b.Statement (simple_statements (statements_in above ss)) ≡ map bzl_item (statements_in above ss)
-all_simple above [] = refl
-all_simple above (s ∷ []) = refl
-all_simple above (s ∷ mark ∷ []) = refl
-all_simple above (s ∷ mark ∷ t ∷ []) = refl
-all_simple above (s ∷ mark ∷ t ∷ u ∷ ss) = ap (λ items. bzl_item (statement above None s) ∷ items) (all_simple [] (t ∷ u ∷ ss))
 
 -- ---- the file
 

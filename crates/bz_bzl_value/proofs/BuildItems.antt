@@ -1,9 +1,8 @@
 -- The items of a BUILD file as those of a .bzl file: they are proper exactly where those are and have none of the newer kinds,
 -- and have each comment as often.
-use Rattle.std.proofs.Common.{ℕ, Bool, ◌≡◌, ◌<◌, ◌+◌, List, [], ◌∷◌, true, inl, inr, refl, ap, ◌∙◌, map, arith}
+use Rattle.std.proofs.Common.{Bool, ◌≡◌, ◌<◌, List, [], ◌∷◌, true, inl, inr, refl, map, arith}
 use Rattle.std.specs.List.{AllByRecursion}
 use Rattle.std.proofs.lemmas.List.Elements.{All-from_recursion, recursion_from_All}
-use Rattle.bz_items.specs.Characters.{Bytes}
 use Rattle.bz_grammar.specs.declared.kind.Kind.{Kind}
 use Rattle.bz_grammar.specs.declared.kind.Kind.TheVariants as k
 use Rattle.bz_grammar.specs.declared.tree.Node.{Node}
@@ -19,7 +18,7 @@ use Rattle.bz_grammar.proofs.Newer.{AllBuild, build_node}
 use Rattle.bz_value.specs.declared.value.Expr.{Expr, Token, Form', Row_of-Expr, end_of-Expr, more_of-Expr}
 use Rattle.bz_value.specs.declared.value.Item.{Item}
 use Rattle.bz_value.specs.declared.value.Item.TheVariants as i
-use Rattle.bz_value.specs.Counted.{one_if, item_amount}
+use Rattle.bz_value.specs.Counted.{one_if}
 use Rattle.bz_value.specs.Frames.{Frame, row, sequence, frame, is_binary, is_statement}
 use Rattle.bz_value.specs.LineShapes.{line_shape}
 use Rattle.bz_value.specs.Proper.{IsEmptyRow, IsProperItem, ProperBy, ProperHeadBy, ProperItemsBy, ProperRowBy, after_expr, has_statement_kind, in_frame, roots}
@@ -28,9 +27,9 @@ use Rattle.bz_value.proofs.FormParts.{framed}
 use Rattle.bz_value.proofs.Wider.{line_expr}
 use Rattle.bz_bzl_value.specs.BuildValues.{AreBuildExprs, IsBuildExpr, IsBuildItem}
 use Rattle.bz_bzl_value.specs.Laws.{BuildItemsAreProper, BuildItemsHaveTheSameComments}
-use Rattle.bz_bzl_value.specs.Kept.{bzl_item_amount, bzl_times}
 use Rattle.bz_bzl_value.specs.Proper.{IsProperBzlItem, has_simple_kind, is_simple}
 use Rattle.bz_bzl_value.specs.View.{bzl_item}
+use Rattle.bz_bzl_value.proofs.KeptValues.{items_amount}
 
 -- ---- shapes
 
@@ -176,7 +175,7 @@ narrow_item : (item : Item) → IsProperBzlItem (bzl_item item) → IsBuildItem 
 narrow_item (i.Block lines) h b = h
 narrow_item (i.Stmt x) h b = (is_statement_one x h.0 b, narrow_expr Begins x h.1 b, h.2)
 
-all_wide : (items : List Item) → AllByRecursion IsProperItem items → AllByRecursion IsProperBzlItem (map bzl_item items) × AllByRecursion IsBuildItem items
+pub all_wide : (items : List Item) → AllByRecursion IsProperItem items → AllByRecursion IsProperBzlItem (map bzl_item items) × AllByRecursion IsBuildItem items
 all_wide [] h = (tt, tt)
 all_wide (item ∷ items) h = let one = wide_item item h.0 in let more = all_wide items h.1 in ((one.0, more.0), (one.1, more.1))
 
@@ -194,11 +193,5 @@ build_items_proper items = (
 
 -- ---- comments
 
-same_amount : (number : Bytes → ℕ) (item : Item) → bzl_item_amount number (bzl_item item) ≡ item_amount number item
-same_amount number (i.Block lines) = refl
-same_amount number (i.Stmt x) = refl
-
 pub build_items_comments : BuildItemsHaveTheSameComments
-build_items_comments text [] = refl
-build_items_comments text (item ∷ items) =
-    ap (λ one. one + bzl_times text (map bzl_item items)) (same_amount (one_if text) item) ∙ ap (λ more. item_amount (one_if text) item + more) (build_items_comments text items)
+build_items_comments text items = items_amount (one_if text) items

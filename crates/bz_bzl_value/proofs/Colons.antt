@@ -1,44 +1,31 @@
 -- The parts of a header, up to its colon.
-use Rattle.std.proofs.Common.{ℕ, zero, suc, Bool, true, false, ◌≡◌, ◌≤◌, ◌<◌, ◌+◌, ◌-◌, List, [], ◌∷◌, ◌++◌, refl, sym, ap, ◌∙◌, subst, map, take, drop, length, get_or, length-drop, if◌then◌else◌, arith}
+use Rattle.std.proofs.Common.{ℕ, suc, Bool, false, ◌≡◌, ◌≤◌, ◌<◌, ◌+◌, ◌-◌, List, [], ◌∷◌, ◌++◌, sym, ap, ◌∙◌, subst, map, take, drop, length, get_or, length-drop, arith}
+use Rattle.std.proofs.Math.Seq.{take-suc}
+use Rattle.std.proofs.lemmas.Bool.{cond-false}
+use Rattle.std.proofs.lemmas.List.{drop_more, get_or-drop, map-append}
 use Rattle.bz_grammar.specs.declared.kind.Kind.{Kind}
 use Rattle.bz_grammar.specs.declared.tree.Part.{Part}
 use Rattle.bz_items.specs.Characters.{Bytes}
 use Rattle.bz_value.specs.Gaps.{GapLine}
 use Rattle.bz_hosts.specs.View.{Seen, seen}
-use Rattle.bz_bzl_value.specs.View.{Stated, stated, branches, with_suite}
+use Rattle.bz_bzl_value.specs.View.{Stated, stated, branches}
 use Rattle.bz_bzl_value.proofs.Parts.{part_of}
 
 -- the part with an index, and those after it
 pub part_here : (ps : List Part) (at : ℕ) (y : Part) → at < length ps → y ≡ get_or ps at y → drop at ps ≡ y ∷ drop (at + 1) ps
-part_here [] at y l e = absurd (omega arith)
-part_here (x ∷ ps) zero y l e = ap (λ z. z ∷ ps) (sym e)
-part_here (x ∷ ps) (suc at) y l e =
-    let up : suc (at + 1) ≡ suc at + 1 = omega arith in
-    part_here ps at y (omega arith) e ∙ ap (λ n. y ∷ drop n (x ∷ ps)) up
+part_here ps at y l e = drop_more ps at y l ∙ ap (λ z. z ∷ drop (at + 1) ps) (sym e)
 
 taken_more : (ps : List Part) (n : ℕ) (y : Part) → n < length ps → y ≡ get_or ps n y → map seen (take n ps) ++ seen y ∷ [] ≡ map seen (take (suc n) ps)
-taken_more [] n y l e = absurd (omega arith)
-taken_more (x ∷ ps) zero y l e = ap (λ z. seen z ∷ []) e
-taken_more (x ∷ ps) (suc n) y l e = ap (λ t. seen x ∷ t) (taken_more ps n y (omega arith) e)
+taken_more ps n y l e = ap (λ z. map seen (take n ps) ++ seen z ∷ []) e ∙ sym (ap (map seen) (take-suc ps n y l) ∙ map-append seen (take n ps) (get_or ps n y ∷ []))
 
 got_after : (ps : List Part) (from n at : ℕ) (d : Part) → from + n ≡ at → get_or ps at d ≡ get_or (drop from ps) n d
-got_after ps zero n at d e = ap (λ k. get_or ps k d) (let o : at ≡ n = omega (arith, e) in o)
-got_after [] (suc from) zero zero d e = refl
-got_after [] (suc from) zero (suc at) d e = refl
-got_after [] (suc from) (suc n) zero d e = refl
-got_after [] (suc from) (suc n) (suc at) d e = refl
-got_after (x ∷ ps) (suc from) n zero d e = absurd (omega (arith, e))
-got_after (x ∷ ps) (suc from) n (suc at) d e = got_after ps from n at d (omega (arith, e))
+got_after ps from n at d e = ap (λ k. get_or ps k d) (sym e) ∙ sym (get_or-drop from ps n d)
 
 -- a part that is no colon belongs to the header
-not_colon : (b : Bool) → b ≡ false → {X : Type 0} → (x y : X) → (if b then x else y) ≡ y
-not_colon true e x y = absurd (cc)
-not_colon false e x y = refl
-
 one_more : (kind : Kind) (parts : List Seen) (above : List Bytes) (left after : List GapLine) (y : Part) (xs : List Stated) → (stated y).is_colon ≡ false
     → branches kind parts above left (stated y ∷ xs) after ≡ branches kind (parts ++ seen y ∷ []) above left xs after
 one_more kind parts above left after y xs e =
-    not_colon (stated y).is_colon e (with_suite kind parts above left xs after) (branches kind (parts ++ (stated y).part ∷ []) above left xs after)
+    cond-false (stated y).is_colon _ _ e
     ∙ ap (λ s. branches kind (parts ++ s ∷ []) above left xs after) (part_of y)
 
 pub no_colon_at : (ps : List Part) (from at : ℕ) (y : Part) (is : Bool) (kind : Kind) (above : List Bytes) (left after : List GapLine) → from ≤ at → at < length ps

@@ -3,9 +3,7 @@ use Rattle.std.proofs.Common.{ℕ, Bool, true, false, ◌≡◌, List, [], ◌�
 use Rattle.bz_items.specs.Characters.{Bytes}
 use Rattle.bz_value.specs.Gaps.{GapLine, comments_in}
 use Rattle.bz_bzl_value.specs.View.{end_comments, after_end, is_taken_line}
-
-abbrev Lines : Type 0
-Lines = List GapLine
+use Rattle.bz_bzl_value.proofs.SuiteLines.{Lines}
 
 no_line : (x : GapLine) (xs : Lines) → x ∷ xs ≡ [] → ⊥
 no_line x xs e = cc

@@ -13,12 +13,9 @@ use Rattle.bz_grammar.proofs.Balance.{no_such, inner_nonterminal}
 use Rattle.bz_value.specs.Roots.{each_with_comma}
 use Rattle.bz_value.specs.Roots as r
 use Rattle.bz_value.proofs.Rooted.{places}
-use Rattle.bz_hosts.specs.Hosts.{is_item_part}
-use Rattle.bz_hosts.proofs.Alternating.{IsMark, Alternating}
+use Rattle.bz_hosts.proofs.Alternating.{IsItem, IsMark, Alternating}
 use Rattle.bz_hosts.proofs.Cuts.{nonterminal_item, separator_mark, closing_mark}
-use Rattle.bz_hosts.proofs.InnerParts.{GoesOn, is_inner, inner_tokens, token_inner, nonterminal_inner, token_goes, token_opens, token_closes, nonterminal_goes}
-use Rattle.bz_hosts.proofs.Pairs.{Paired, token}
-use Rattle.bz_hosts.proofs.SequenceParts.{Alternate}
+use Rattle.bz_hosts.proofs.InnerParts.{is_inner, inner_tokens, token_inner, nonterminal_inner, token_goes, token_opens, token_closes, nonterminal_goes}
 use Rattle.bz_bzl_value.proofs.KeptGaps.{NoColon, no_colons, token_plain, nonterminal_plain}
 
 -- ---- after a suite and after a statement a line begins
@@ -90,7 +87,7 @@ cons P Q back y xs n f h = record {
   following = h.following;
 }
 
-weaker : (P Q : List Part → Type 0) (back xs : List Part) → ((front : List Part) → P front → Q front) → Headed P back xs → Headed Q back xs
+pub weaker : (P Q : List Part → Type 0) (back xs : List Part) → ((front : List Part) → P front → Q front) → Headed P back xs → Headed Q back xs
 weaker P Q back xs f h = record {
   front = h.front;
   mark = h.mark;
@@ -127,7 +124,7 @@ colon_headed mark own back h i at_ =
       following = moved back second at_.1.1;
     }
 
-owned_headed : (xs : List Part) → Fits IsNonterminal owned xs → AtParts BzlStands Begins Along xs → Headed None_before [] xs
+pub owned_headed : (xs : List Part) → Fits IsNonterminal owned xs → AtParts BzlStands Begins Along xs → Headed None_before [] xs
 owned_headed [] h at_ = absurd h
 owned_headed (mark ∷ []) h at_ = absurd h.1
 owned_headed (mark ∷ own ∷ []) h at_ = colon_headed mark own [] h.0 h.1.0 at_
@@ -175,7 +172,7 @@ module _ (q : Nonterminal) (inner : inner_nonterminal q ≡ true) (here : Spot) 
 
 -- ---- for
 
-abbrev in_shape : Shape
+abbrev pub in_shape : Shape
 in_shape = tok (s.one_keyword (codes "in")) (sub s.expr (tok s.colon_mark done))
 
 in_headed : (xs : List Part) → Fits IsNonterminal (tok (s.one_keyword (codes "in")) (sub s.expr owned)) xs → AtParts BzlStands Begins Along xs → Headed (FitsHeader in_shape) [] xs
@@ -212,8 +209,6 @@ close_shape = tok s.close_round (tok s.colon_mark done)
 
 -- parameters, commas and the closing bracket
 pub record AreParameterParts (shape : Shape) (front : List Part) : Type 0 where
-  pub paired : Paired front
-  pub alternate : Alternate front
   pub alternating : Alternating s.comma_mark front
   pub fits : Fits IsNonterminal shape (closed_row front)
 
@@ -227,11 +222,7 @@ Closing front = (x : Part) → IsNonterminal s.param x → Parameters (x ∷ fro
 abbrev Close : List Part → Type 0
 Close front = (y : Part) × (front ≡ y ∷ []) × (has_token s.close_round y ≡ true)
 
-alternate_more : (x y : Part) (front : List Part) → GoesOn x → GoesOn y → Alternate front → Alternate (x ∷ y ∷ front)
-alternate_more x y [] g i h = tt
-alternate_more x y (z ∷ front) g i h = (g, i, h)
-
-alternating_more : (x y : Part) (front : List Part) → is_item_part x ≡ true → IsMark s.comma_mark true y → Alternating s.comma_mark front → Alternating s.comma_mark (x ∷ y ∷ front)
+alternating_more : (x y : Part) (front : List Part) → IsItem x → IsMark s.comma_mark true y → Alternating s.comma_mark front → Alternating s.comma_mark (x ∷ y ∷ front)
 alternating_more x y [] i j h = absurd h
 alternating_more x y (z ∷ front) i j h = (i, j, h)
 
@@ -243,25 +234,19 @@ close_at y m = closing_mark s.comma_mark s.close_round refl refl refl y m
 
 comma_before : (y : Part) (front : List Part) → has_token s.comma_mark y ≡ true → Parameters front → Closing (y ∷ front)
 comma_before y front m w x h = record {
-  paired = (token s.comma_mark y m, w.paired);
-  alternate = alternate_more x y front (nonterminal_goes s.param x refl h) (token_goes s.comma_mark y refl m) w.alternate;
-  alternating = alternating_more x y front (nonterminal_item s.param x h) (comma_at y m) w.alternating;
+  alternating = alternating_more x y front (nonterminal_item s.param x refl h) (comma_at y m) w.alternating;
   fits = (h, inr (refl, inl w.fits));
 }
 
 comma_last : (y : Part) (front : List Part) → has_token s.comma_mark y ≡ true → Close front → Closing (y ∷ front)
 comma_last y front m w x h = subst (λ zs. Parameters (x ∷ y ∷ zs)) (sym w.1) (record {
-  paired = (token s.comma_mark y m, token s.close_round w.0 w.2);
-  alternate = (nonterminal_goes s.param x refl h, token_goes s.comma_mark y refl m, tt);
-  alternating = (nonterminal_item s.param x h, comma_at y m, close_at w.0 w.2);
+  alternating = (nonterminal_item s.param x refl h, comma_at y m, close_at w.0 w.2);
   fits = (h, inr (refl, inr (refl, (refl, (refl, tt)))));
 })
 
 close_after : (front : List Part) → Close front → Closing front
 close_after front w x h = subst (λ zs. Parameters (x ∷ zs)) (sym w.1) (record {
-  paired = (token s.close_round w.0 w.2, tt);
-  alternate = tt;
-  alternating = (nonterminal_item s.param x h, close_at w.0 w.2);
+  alternating = (nonterminal_item s.param x refl h, close_at w.0 w.2);
   fits = (h, inr (refl, inr (refl, (refl, (refl, tt)))));
 })
 
@@ -275,12 +260,12 @@ abbrev Enclosed : List Part → Type 0
 Enclosed front = AreParameterParts (enclosed s.param s.close_round (tok s.colon_mark done)) front
 
 no_parameters : (front : List Part) → Close front → Enclosed front
-no_parameters front w = subst Enclosed (sym w.1) (record { paired = token s.close_round w.0 w.2; alternate = tt; alternating = close_at w.0 w.2; fits = inl (refl, (refl, tt)) })
+no_parameters front w = subst Enclosed (sym w.1) (record { alternating = close_at w.0 w.2; fits = inl (refl, (refl, tt)) })
 
 params_headed : (xs : List Part) → Fits IsNonterminal (enclosed s.param s.close_round owned) xs → AtParts BzlStands Begins Within xs → Headed Enclosed [] xs
 params_headed xs (inl h) at_ = weaker Close Enclosed [] xs no_parameters (close_headed xs h at_)
 params_headed xs (inr h) at_ =
-    weaker Parameters Enclosed [] xs (λ front w. record { paired = w.paired; alternate = w.alternate; alternating = w.alternating; fits = inr w.fits })
+    weaker Parameters Enclosed [] xs (λ front w. record { alternating = w.alternating; fits = inr w.fits })
     (listed_headed s.param refl Within refl true (Fits IsNonterminal (tok s.close_round owned)) Parameters Closing Close (λ x front q w. w x q) comma_before (λ y front e m w. comma_last y front m w) close_after close_headed xs h at_)
 
 -- an opening bracket and parameters

@@ -9,7 +9,7 @@ use Rattle.bz_grammar.specs.declared.kind.Kind.TheVariants as k
 use Rattle.bz_grammar.specs.declared.tree.Part.{Part, Node'}
 use Rattle.bz_grammar.specs.declared.tree.Part.TheVariants as p
 use Rattle.bz_grammar.specs.Shapes as s
-use Rattle.bz_grammar.specs.Shapes.{Fits, Times, no_more, once_more, bzl_shape, has_token, is_kind}
+use Rattle.bz_grammar.specs.Shapes.{has_token, is_kind}
 use Rattle.bz_grammar.specs.Spell.{leaves_part}
 use Rattle.bz_grammar.specs.Legal.{IsNonterminal}
 use Rattle.bz_grammar.specs.Spots.{Along, BzlStands, AtLeaves}
@@ -25,12 +25,13 @@ use Rattle.bz_hosts.proofs.Insides.{insides, row_insides}
 use Rattle.bz_hosts.proofs.Nodes.{sizes_joined}
 use Rattle.bz_hosts.proofs.Parts.{size, Solid, after_parts}
 use Rattle.bz_hosts.proofs.QuietGaps.{Silent}
-use Rattle.bz_hosts.proofs.SeenParts.{all_parted}
+use Rattle.bz_hosts.proofs.SeenParts.{all_mapped, all_parted}
 use Rattle.bz_hosts.proofs.Texts.{InHost, row_inside}
 use Rattle.bz_hosts.proofs.Walked.{gap_of}
 use Rattle.bz_bzl_value.specs.declared.value.Branch.{Branch}
 use Rattle.bz_bzl_value.specs.BzlHosts.{Stretch, header, placed, SuitesAndLeaves, in_header, in_compound, suite_there, inside_statement, inside_head}
 use Rattle.bz_bzl_value.specs.View.{stated, branches, head, row_head, indented_lines_before}
+use Rattle.bz_bzl_value.proofs.Compounds.{Further}
 use Rattle.bz_bzl_value.proofs.HeadParts.{Headed, InHeader}
 use Rattle.bz_bzl_value.proofs.HostHeaders.{header_read, header_piece}
 use Rattle.bz_bzl_value.proofs.HostPieces.{Piece, same_piece, both_pieces}
@@ -53,15 +54,14 @@ module _ (page : SuitesAndLeaves) where
   abbrev pub BranchesPiece : Kind → List Part → Type 0
   BranchesPiece kind xs = (n : ℕ) (above : List Bytes) (left : Lines) → Piece page n (n + sizes (map measured xs)) (flat_map leaves_part xs) (in_compound kind n [] (map placed xs)) above (as_branches kind above left xs)
 
-  -- no header follows, or these do
-  abbrev pub Further : Kind → List Part → Type 0
-  Further kind [] = Unit {0}
-  Further kind (x ∷ xs) = BranchesPiece kind (x ∷ xs) × Solid x
+  -- of headers from one on, which begins with this part
+  abbrev pub PieceFrom : Kind → Part → List Part → Type 0
+  PieceFrom kind x xs = BranchesPiece kind (x ∷ xs) × Solid x
 
   abbrev more_read : Kind → List Part → List Hosted × Lines → PieceRead
   more_read kind back first after = with_left (first.0 ++ (as_branches kind (comments_in first.1) first.1 back after).0) (as_branches kind (comments_in first.1) first.1 back after).1
 
-  then_more : (kind : Kind) (n m : ℕ) (ls : List Leaf) (sts : List Stretch) (group : List Bytes) (read : PieceRead) (back : List Part) → Piece page n m ls sts group read → Further kind back
+  then_more : (kind : Kind) (n m : ℕ) (ls : List Leaf) (sts : List Stretch) (group : List Bytes) (read : PieceRead) (back : List Part) → Piece page n m ls sts group read → Further PieceFrom kind back
       → Piece page n (m + sizes (map measured back)) (ls ++ flat_map leaves_part back) (sts ++ in_compound kind m [] (map placed back)) group (λ after. more_read kind back (read (indented_lines_before (map stated back) after)) after)
   then_more kind n m ls sts group read [] h b =
       same_piece page n m (m + 0) ls (ls ++ []) sts (sts ++ []) group read (λ after. with_left ((read after).0 ++ []) (read after).1) (omega arith) (sym (append-nil ls)) (sym (append-nil sts)) (λ after. ap (λ (z : List Hosted). with_left z (read after).1) (append-nil (read after).0)) h
@@ -86,8 +86,8 @@ module _ (page : SuitesAndLeaves) where
     pub form_inside : inside_head (head kind (map seen hs) group suffix) ≡ there
 
   one_header : (kind : Kind) (x : Part) (xs : List Part) (c : Leaf) (own : Part) (back : List Part) → ((n : ℕ) (group : List Bytes) (suffix : Option Bytes) → HeaderFacts kind (x ∷ xs) n group suffix) → 0 < size x → AllByRecursion Solid (x ∷ xs) → AllByRecursion InHeader (x ∷ xs) → has_token s.colon_mark (p.Leaf c) ≡ true
-      → AllByRecursion (Silent BzlStands) (p.Leaf c ∷ []) → AtLeaves BzlStands Along (p.Leaf c)
-      → ((n : ℕ) → OwnPiece page n (n + size own) (leaves_part own) (suite_there n (measured own) own) ((placed own).stretches n) (stated own).suffix (stated own).suite) → Further kind back → BranchesPiece kind (x ∷ xs ++ p.Leaf c ∷ own ∷ back)
+      → AllByRecursion (Silent) (p.Leaf c ∷ []) → AtLeaves BzlStands Along (p.Leaf c)
+      → ((n : ℕ) → OwnPiece page n (n + size own) (leaves_part own) (suite_there n (measured own) own) ((placed own).stretches n) (stated own).suffix (stated own).suite) → Further PieceFrom kind back → BranchesPiece kind (x ∷ xs ++ p.Leaf c ∷ own ∷ back)
   one_header kind x xs c own back facts some solids inner i silent at_ q b n above left =
       let hs : List Part = x ∷ xs in
       let f : ℕ = suc (n + sizes (map measured hs)) in
@@ -117,31 +117,25 @@ module _ (page : SuitesAndLeaves) where
     pub solid : Solid x
     pub regions : Regions x
     pub texts : InHost page.regions x
-    pub silent : Silent BzlStands x
+    pub silent : Silent x
 
   pub all_solid : (xs : List Part) → AllByRecursion Parted xs → AllByRecursion Solid xs
-  all_solid [] g = tt
-  all_solid (x ∷ xs) g = (g.0.solid, all_solid xs g.1)
+  all_solid xs g = all_mapped Parted Solid (λ x h. h.solid) xs g
 
   pub all_regions : (xs : List Part) → AllByRecursion Parted xs → AllByRecursion Regions xs
-  all_regions [] g = tt
-  all_regions (x ∷ xs) g = (g.0.regions, all_regions xs g.1)
+  all_regions xs g = all_mapped Parted Regions (λ x h. h.regions) xs g
 
   pub all_texts : (xs : List Part) → AllByRecursion Parted xs → AllByRecursion (InHost page.regions) xs
-  all_texts [] g = tt
-  all_texts (x ∷ xs) g = (g.0.texts, all_texts xs g.1)
-
-  abbrev pub Branches : Kind → List Part → Type 0
-  Branches kind xs = AllByRecursion Parted xs → Further kind xs
+  all_texts xs g = all_mapped Parted (InHost page.regions) (λ x h. h.texts) xs g
 
   pub headed : (kind : Kind) (P : List Part → Type 0) (x : Part) (back xs : List Part) → Headed P back xs → InHeader x → AllByRecursion Parted (x ∷ xs)
-      → ((front : List Part) → P front → AllByRecursion Parted (x ∷ front) → (n : ℕ) (group : List Bytes) (suffix : Option Bytes) → HeaderFacts kind (x ∷ front) n group suffix) → Branches kind back → BranchesPiece kind (x ∷ xs)
+      → ((front : List Part) → P front → AllByRecursion Parted (x ∷ front) → (n : ℕ) (group : List Bytes) (suffix : Option Bytes) → HeaderFacts kind (x ∷ front) n group suffix) → Further PieceFrom kind back → BranchesPiece kind (x ∷ xs)
   headed kind P x back xs h n g facts b =
       let all = all_parted Parted h.front (h.mark ∷ h.own ∷ back) (subst (AllByRecursion Parted) h.cut g.1) in
-      subst (λ zs. BranchesPiece kind (x ∷ zs)) (sym h.cut) (at_mark h.mark h.colon h.gap all.1.0.silent (facts h.front h.such (g.0, all.0)) (g.0.solid, all_solid h.front all.0) (all.1.1.0.suite h.suite h.there) (b all.1.1.1))
+      subst (λ zs. BranchesPiece kind (x ∷ zs)) (sym h.cut) (at_mark h.mark h.colon h.gap all.1.0.silent (facts h.front h.such (g.0, all.0)) (g.0.solid, all_solid h.front all.0) (all.1.1.0.suite h.suite h.there) b)
     where
-      at_mark : (mark : Part) → has_token s.colon_mark mark ≡ true → AtLeaves BzlStands Along mark → Silent BzlStands mark → ((n : ℕ) (group : List Bytes) (suffix : Option Bytes) → HeaderFacts kind (x ∷ h.front) n group suffix) → AllByRecursion Solid (x ∷ h.front)
-          → ((n : ℕ) → OwnPiece page n (n + size h.own) (leaves_part h.own) (suite_there n (measured h.own) h.own) ((placed h.own).stretches n) (stated h.own).suffix (stated h.own).suite) → Further kind back → BranchesPiece kind (x ∷ h.front ++ mark ∷ h.own ∷ back)
+      at_mark : (mark : Part) → has_token s.colon_mark mark ≡ true → AtLeaves BzlStands Along mark → Silent mark → ((n : ℕ) (group : List Bytes) (suffix : Option Bytes) → HeaderFacts kind (x ∷ h.front) n group suffix) → AllByRecursion Solid (x ∷ h.front)
+          → ((n : ℕ) → OwnPiece page n (n + size h.own) (leaves_part h.own) (suite_there n (measured h.own) h.own) ((placed h.own).stretches n) (stated h.own).suffix (stated h.own).suite) → Further PieceFrom kind back → BranchesPiece kind (x ∷ h.front ++ mark ∷ h.own ∷ back)
       at_mark (p.Leaf c) i at_ silent w solids q b' = one_header kind x h.front c h.own back w g.0.regions.some solids (n, h.plain) i (silent, tt) at_ q b'
       at_mark (Node' kind' z r') i at_ silent w solids q b' = no_such i
 

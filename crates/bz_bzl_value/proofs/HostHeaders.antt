@@ -1,12 +1,12 @@
 -- Headers with their suites: what is read of them, with the hosts by their places.
-use Rattle.std.proofs.Common.{◌≡◌, ℕ, suc, ◌+◌, ◌<◌, List, [], ◌∷◌, ◌++◌, Option, Some, None, length, refl, sym, ap, ◌∙◌, subst, map, drop, append_assoc, length-append, arith}
+use Rattle.std.proofs.Common.{◌≡◌, ℕ, suc, ◌+◌, ◌<◌, List, [], ◌∷◌, ◌++◌, Option, Some, None, length, refl, sym, ap, ◌∙◌, subst, map, append_assoc, length-append, arith}
 use Rattle.std.specs.List.{AllByRecursion, flat_map}
 use Rattle.bz_lex.specs.declared.leaf.Leaf.{Leaf}
 use Rattle.bz_grammar.specs.declared.tree.Part.{Part}
 use Rattle.bz_grammar.specs.Spell.{leaves_part}
 use Rattle.bz_value.specs.declared.value.Form.{Form}
 use Rattle.bz_items.specs.Characters.{Bytes}
-use Rattle.bz_value.specs.Gaps.{all_in, as_list, lines_of, suffix_in}
+use Rattle.bz_value.specs.Gaps.{all_in, as_list, lines_of, suffix_in, after_first_line}
 use Rattle.bz_hosts.specs.View.{seen}
 use Rattle.bz_hosts.specs.Hosts.{Region, host, Comment, CommentPlace, suffix_of, above, outside, comments_at, comments_from, texts_at, Hosted, block, hosted, hosted_at, hosted_by, sizes, measured, leaf_gap}
 use Rattle.bz_hosts.proofs.Alternating.{inside_joined}
@@ -153,7 +153,7 @@ module _ (page : SuitesAndLeaves) (n e : ℕ) (group loose : List Bytes) (suffix
     starts = refl;
     left = λ a i after.
         o.left a (omega arith) after
-        ∙ (ap (λ (z : Bytes). left_by a e (own_list own ++ suites_in sts') (drop 1 (lines_of z) ++ after)) (sym last_there) ∙ ap (λ z. left_by a e z (drop 1 (lines_of (last_gap ls)) ++ after)) (sym (suites_headed n f rs own sts')));
+        ∙ (ap (λ (z : Bytes). left_by a e (own_list own ++ suites_in sts') (after_first_line (lines_of z) ++ after)) (sym last_there) ∙ ap (λ z. left_by a e z (after_first_line (lines_of (last_gap ls)) ++ after)) (sym (suites_headed n f rs own sts')));
     hosts = λ z.
         let l = far in
         let y : OwnAt page n f e ls' own sts' = own_at z in

@@ -1,21 +1,23 @@
 -- Pieces of a .bzl file: what is read of leaves that follow each other, with the hosts in it, and the hosts by their places.
-use Rattle.std.proofs.Common.{◌≡◌, ◌≢◌, ℕ, ◌+◌, ◌<◌, ◌≤◌, false, ◌||◌, List, [], ◌∷◌, ◌++◌, None, length, refl, sym, ap, ◌∙◌, subst, append_assoc, append-nil, length-append, drop, nat_eq, arith}
+use Rattle.std.proofs.Common.{◌≡◌, ◌≢◌, ℕ, ◌+◌, ◌<◌, ◌≤◌, false, ◌||◌, List, [], ◌∷◌, ◌++◌, None, length, refl, sym, ap, ◌∙◌, subst, append_assoc, append-nil, length-append, nat_eq, arith}
 use Rattle.std.specs.List.{AllByRecursion, flat_map}
 use Rattle.std.proofs.lemmas.Bool.{cond-false, ne_eqb}
 use Rattle.std.proofs.lemmas.Grind.{flat_map-append}
 use Rattle.bz_lex.specs.declared.leaf.Leaf.{Leaf}
 use Rattle.bz_items.specs.Characters.{Bytes}
-use Rattle.bz_value.specs.Gaps.{all_in, comments_in, lines_of}
-use Rattle.bz_hosts.specs.Hosts.{Region, Comment, CommentPlace, Hosted, comments_from, texts_at, leaf_gap}
+use Rattle.bz_value.specs.Gaps.{all_in, comments_in, lines_of, after_first_line}
+use Rattle.bz_hosts.specs.Hosts.{Region, Comment, CommentPlace, Hosted, comments_from, texts_at, leaf_gap, lines_before}
 use Rattle.bz_hosts.proofs.Alternating.{inside_joined}
 use Rattle.bz_hosts.proofs.Around as r
 use Rattle.bz_hosts.proofs.Gathered.{key, texts_joined}
 use Rattle.bz_hosts.proofs.Parts.{comments_joined}
 use Rattle.bz_hosts.proofs.Sequences.{From}
 use Rattle.bz_hosts.proofs.Walked.{gap_of, last_gap}
-use Rattle.bz_bzl_value.specs.BzlHosts.{Suite, Stretch, SuitesAndLeaves, regions_in, suites_in, first_leaf, left_by, lines_above, begins_suite, left_above, lines_of_leaf, stretch_hosts, statement_hosts}
-use Rattle.bz_bzl_value.proofs.SuiteLines.{Lines, AllBetween, all_wider, all_both, left_joined, past, beyond, gap_joined}
+use Rattle.bz_bzl_value.specs.BzlHosts.{Suite, Stretch, SuitesAndLeaves, regions_in, suites_in, first_leaf, left_by, begins_suite, left_above, lines_of_leaf, stretch_hosts, statement_hosts}
+use Rattle.bz_bzl_value.proofs.SuiteLines.{Lines, Between, AllBetween, all_wider, left_joined, past, beyond, gap_joined}
 use Rattle.bz_bzl_value.proofs.SuitePieces.{last_joined, suites_joined, PieceRead, with_left, lines_there}
+use Rattle.bz_hosts.proofs.SeenParts.{all_mapped}
+use Rattle.bz_value.proofs.GapComments.{all_joined}
 
 -- ---- where suites begin
 
@@ -32,12 +34,10 @@ begins_second m [] ys h = refl
 begins_second m (x ∷ xs) ys h = ap (λ t. t || begins_suite m (xs ++ ys)) (ne_eqb x.first m h.0) ∙ begins_second m xs ys h.1
 
 pub first_before : (lo hi m : ℕ) (xs : List Suite) → hi ≤ m → AllBetween lo hi xs → AllByRecursion (λ x. x.first ≢ m) xs
-first_before lo hi m [] l h = tt
-first_before lo hi m (x ∷ xs) l h = (λ e. omega (arith, h.0.1, h.0.2, e), first_before lo hi m xs l h.1)
+first_before lo hi m xs l h = all_mapped (Between lo hi) (λ x. x.first ≢ m) (λ x b e. omega (arith, b.1, b.2, e)) xs h
 
 pub first_after : (lo hi m : ℕ) (xs : List Suite) → m ≤ lo → AllBetween lo hi xs → AllByRecursion (λ x. x.first ≢ m) xs
-first_after lo hi m [] l h = tt
-first_after lo hi m (x ∷ xs) l h = (λ e. omega (arith, h.0.0, e), first_after lo hi m xs l h.1)
+first_after lo hi m xs l h = all_mapped (Between lo hi) (λ x. x.first ≢ m) (λ x b e. omega (arith, b.0, e)) xs h
 
 abbrev pub regions_of : List Stretch → List Region
 regions_of sts = flat_map regions_in sts
@@ -125,7 +125,7 @@ module _ (page : SuitesAndLeaves) where
           some = omega arith;
           up = omega arith;
           bounds = subst (AllBetween n e) (sym (suites_joined sts sts'))
-              (all_both n e (suites_in sts) (suites_in sts') (all_wider n m n e (omega arith) (omega arith) (suites_in sts) h.bounds) (all_wider m e n e (omega arith) (omega arith) (suites_in sts') h'.bounds));
+              (all_joined (Between n e) (suites_in sts) (suites_in sts') (all_wider n m n e (omega arith) (omega arith) (suites_in sts) h.bounds) (all_wider m e n e (omega arith) (omega arith) (suites_in sts') h'.bounds));
           within = subst (r.AllInside n e) (sym (flat_map-append regions_in sts sts'))
               (inside_joined n e (regions_of sts) (regions_of sts') (r.all_wider n m n e (omega arith) (omega arith) (regions_of sts) h.within) (r.all_wider m e n e (omega arith) (omega arith) (regions_of sts') h'.within));
           outer = λ s q d o.
@@ -179,7 +179,7 @@ module _ (page : SuitesAndLeaves) where
   pub record Piece (n e : ℕ) (ls : List Leaf) (sts : List Stretch) (group : List Bytes) (read : PieceRead) : Type 0 where
     pub extent : Extent n e ls sts
     pub starts : Starts n sts
-    pub left : (a : ℕ) → a ≤ n → (after : Lines) → (read after).1 ≡ left_by a e (suites_in sts) (drop 1 (lines_of (last_gap ls)) ++ after)
+    pub left : (a : ℕ) → a ≤ n → (after : Lines) → (read after).1 ≡ left_by a e (suites_in sts) (after_first_line (lines_of (last_gap ls)) ++ after)
     pub hosts : (x : At n e ls sts) → (read (lines_of (gap_of x.back))).0 ≡ statement_hosts page group sts
 
   pub same_piece : (n e e' : ℕ) (ls ls' : List Leaf) (sts sts' : List Stretch) (group : List Bytes) (read read' : PieceRead) → e ≡ e' → ls ≡ ls' → sts ≡ sts' → ((after : Lines) → read' after ≡ read after) → Piece n e ls sts group read → Piece n e' ls' sts' group read'
@@ -193,7 +193,7 @@ module _ (page : SuitesAndLeaves) where
 
   -- the lines that a piece leaves to what follows it
   module _ (n m e : ℕ) (ls ls' : List Leaf) (sts sts' : List Stretch) (group : List Bytes) (read : PieceRead) (h : Piece n m ls sts group read) (h' : Extent m e ls' sts') (x : At n e (ls ++ ls') (sts ++ sts')) where
-    pub left_there : (read (lines_of (gap_of ls'))).1 ≡ left_by 0 m page.suites (lines_above page.leaves m)
+    pub left_there : (read (lines_of (gap_of ls'))).1 ≡ left_by 0 m page.suites (lines_before page.leaves m)
     left_there =
         let some = h.extent.some in
         let some' = h'.some in
@@ -201,11 +201,11 @@ module _ (page : SuitesAndLeaves) where
         let up' = h'.up in
         let y : At n m ls sts = at_first n m e ls ls' sts sts' h.extent h' x in
         let s : Sees n e (suites_in sts ++ suites_in sts') = seen_suites n m e ls ls' sts sts' h.extent h' x in
-        let there : lines_above page.leaves m ≡ drop 1 (lines_of (last_gap ls)) ++ lines_of (gap_of ls') =
-        lines_there page n m y.front ls y.back some up y.leaves y.counted ∙ ap (λ (g : Bytes). drop 1 (lines_of (last_gap ls)) ++ lines_of g) (gap_joined ls' x.back some') in
+        let there : lines_before page.leaves m ≡ after_first_line (lines_of (last_gap ls)) ++ lines_of (gap_of ls') =
+        lines_there page n m y.front ls y.back some up y.leaves y.counted ∙ ap (λ (g : Bytes). after_first_line (lines_of (last_gap ls)) ++ lines_of g) (gap_joined ls' x.back some') in
         h.left 0 (omega arith) (lines_of (gap_of ls'))
         ∙ (ap (left_by 0 m (suites_in sts)) (sym there)
-        ∙ sym (s.inner 0 m (omega arith) (omega arith) (lines_above page.leaves m) ∙ (left_joined 0 m (suites_in sts) (suites_in sts') (lines_above page.leaves m) ∙ ap (left_by 0 m (suites_in sts)) (beyond 0 m m e (suites_in sts') (lines_above page.leaves m) (omega arith) h'.bounds))))
+        ∙ sym (s.inner 0 m (omega arith) (omega arith) (lines_before page.leaves m) ∙ (left_joined 0 m (suites_in sts) (suites_in sts') (lines_before page.leaves m) ∙ ap (left_by 0 m (suites_in sts)) (beyond 0 m m e (suites_in sts') (lines_before page.leaves m) (omega arith) h'.bounds))))
 
     -- and the comment lines above that
     group_there : comments_in (read (lines_of (gap_of ls'))).1 ≡ lines_of_leaf page m
@@ -242,9 +242,9 @@ module _ (page : SuitesAndLeaves) where
         extent = both_extents n m e ls ls' sts sts' h.extent h'.extent;
         starts = starts_joined n sts sts' h.starts;
         left = λ a l after.
-            let lines : Lines = drop 1 (lines_of (last_gap (ls ++ ls'))) ++ after in
+            let lines : Lines = after_first_line (lines_of (last_gap (ls ++ ls'))) ++ after in
             h'.left a (omega arith) after
-            ∙ (ap (λ (g : Bytes). left_by a e (suites_in sts') (drop 1 (lines_of g) ++ after)) (sym (last_joined ls ls' some'))
+            ∙ (ap (λ (g : Bytes). left_by a e (suites_in sts') (after_first_line (lines_of g) ++ after)) (sym (last_joined ls ls' some'))
             ∙ (sym (past a e n m (suites_in sts) (left_by a e (suites_in sts') lines) (omega arith) h.extent.bounds)
             ∙ (sym (left_joined a e (suites_in sts) (suites_in sts') lines) ∙ ap (λ z. left_by a e z lines) (sym joined))));
         hosts = λ x.

@@ -8,40 +8,46 @@ use Rattle.bz_grammar.specs.declared.tree.Part.TheVariants as p
 use Rattle.bz_grammar.specs.Shapes as s
 use Rattle.bz_grammar.specs.Spell.{leaves_part}
 use Rattle.bz_value.specs.declared.value.Expr.{Expr}
+use Rattle.bz_value.specs.declared.value.Item.{Item}
+use Rattle.bz_value.specs.declared.value.Item.TheVariants as i
 use Rattle.bz_items.specs.Characters.{Bytes}
 use Rattle.bz_value.specs.Gaps.{all_in, lines_of}
 use Rattle.bz_value.specs.Proper.{comments_of}
-use Rattle.bz_hosts.specs.View.{Seen, seen, statement, statements_in, statement_in, loose_in, items_in}
-use Rattle.bz_hosts.specs.Hosts.{Region, host, between, Comment, CommentPlace, above, outside, comments_at, comments_from, texts_at, Hosted, ended, hosted_at, hosted_by, with_group, sizes, measured, hosts_from, in_row, inside_expr, inside_item}
+use Rattle.bz_hosts.specs.View.{Seen, seen, statements_in, loose_in, items_in}
+use Rattle.bz_hosts.specs.Hosts.{Region, host, between, Comment, CommentPlace, above, outside, comments_at, comments_from, texts_at, Hosted, block, ended, hosted_at, hosted_by, with_group, sizes, measured, hosts_from, in_row, inside_expr, inside_item}
 use Rattle.bz_hosts.proofs.Alternating.{Alternating, Regions, hosts_inside}
 use Rattle.bz_hosts.proofs.Around as r
-use Rattle.bz_hosts.proofs.Cuts.{listed_alternating}
 use Rattle.bz_hosts.proofs.Files.{gap_outside, outside_none, group_above}
 use Rattle.bz_hosts.proofs.Gathered.{key, pick_same, pick_other, GapPlaces, texts_joined}
 use Rattle.bz_hosts.proofs.Insides.{inside_list, insides}
 use Rattle.bz_hosts.proofs.Nodes.{cut_regions, cut_inside, leaf_texts, sequence_hosts, cut_texts}
 use Rattle.bz_hosts.proofs.Parts.{Solid, after_parts, parts_from}
-use Rattle.bz_hosts.proofs.QuietGaps.{Quiet, Statements}
+use Rattle.bz_hosts.proofs.QuietGaps.{Quiet, Statements, line_alternating}
 use Rattle.bz_hosts.proofs.Sequences.{From}
 use Rattle.bz_hosts.proofs.Statements.{LineTexts, line_texts}
 use Rattle.bz_hosts.proofs.Texts.{Inner, Texts, InHost, row_inside, first_texts}
 use Rattle.bz_hosts.proofs.Walked.{gap_of}
-use Rattle.bz_bzl_value.specs.BzlHosts.{SuitesAndLeaves, Stretch, simple_line, in_header, inside_statement, inside_head, statement_hosts}
-use Rattle.bz_bzl_value.specs.View.{stated, line_read, simple_statements, def_head}
+use Rattle.bz_bzl_value.specs.declared.value.BzlItem.TheVariants as b
+use Rattle.bz_bzl_value.specs.declared.value.Statement.{Statement}
+use Rattle.bz_bzl_value.specs.BzlHosts.{SuitesAndLeaves, Stretch, simple_line, in_header, inside_statement, inside_head, inside_bzl_item, statement_hosts}
+use Rattle.bz_bzl_value.specs.View.{stated, line_read, simple_statements, def_head, bzl_item}
 use Rattle.bz_bzl_value.proofs.Parts.{parts_seen}
 use Rattle.bz_bzl_value.proofs.HostPieces.{comments, Extent, At}
+use Rattle.bz_bzl_value.proofs.KeptValues.{all_simple}
 
--- the statements of a line, as items and as statements
-mutual
-  pub simple_inside : (group : List Bytes) (ss : List Seen) → flat_map inside_statement (simple_statements (statements_in group ss)) ≡ flat_map inside_item (statements_in group ss)
-  simple_inside group [] = refl
-  simple_inside group (x ∷ ss) = simple_one group x ss
+-- ---- the hosts in items and in statements
 
-  simple_one : (group : List Bytes) (x : Seen) (ss : List Seen) → flat_map inside_statement (simple_statements (statement_in group x ss)) ≡ flat_map inside_item (statement_in group x ss)
-  simple_one group x [] = refl
-  simple_one group x (mark ∷ []) = refl
-  simple_one group x (mark ∷ t ∷ []) = refl
-  simple_one group x (mark ∷ t ∷ u ∷ ss) = ap (λ (z : List Hosted). inside_item (statement group None x) ++ z) (simple_one [] t (u ∷ ss))
+pub items_inside : (xs : List Item) → flat_map inside_bzl_item (map bzl_item xs) ≡ flat_map inside_item xs
+items_inside [] = refl
+items_inside (i.Block texts ∷ xs) = ap (λ (z : List Hosted). block texts ∷ z) (items_inside xs)
+items_inside (i.Stmt x ∷ xs) = ap (λ (z : List Hosted). inside_item (i.Stmt x) ++ z) (items_inside xs)
+
+pub items_alone : (xs : List Statement) → flat_map inside_bzl_item (map b.Statement xs) ≡ flat_map inside_statement xs
+items_alone [] = refl
+items_alone (x ∷ xs) = ap (λ (z : List Hosted). inside_statement x ++ z) (items_alone xs)
+
+pub simple_inside : (group : List Bytes) (ss : List Seen) → flat_map inside_statement (simple_statements (statements_in group ss)) ≡ flat_map inside_item (statements_in group ss)
+simple_inside group ss = sym (items_alone (simple_statements (statements_in group ss))) ∙ (ap (flat_map inside_bzl_item) (all_simple group ss) ∙ items_inside (statements_in group ss))
 
 module _ (page : SuitesAndLeaves) (n : ℕ) (group : List Bytes) (x : Part) (xs : List Part) (fits : Statements (x ∷ xs)) (quiet : Quiet (x ∷ xs)) (rs : AllByRecursion Regions (x ∷ xs)) (is : AllByRecursion (InHost page.regions) (x ∷ xs)) (solids : AllByRecursion Solid (x ∷ xs)) where
   abbrev ys : List Part
@@ -54,7 +60,7 @@ module _ (page : SuitesAndLeaves) (n : ℕ) (group : List Bytes) (x : Part) (xs 
   there = hosts_from s.semicolon n (map measured ys)
 
   alternating : Alternating s.semicolon ys
-  alternating = listed_alternating s.semicolon s.newline refl refl refl s.small ys fits
+  alternating = line_alternating ys fits
 
   pub within : r.AllInside n e there
   within = hosts_inside s.semicolon n ys alternating rs

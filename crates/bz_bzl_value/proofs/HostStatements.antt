@@ -1,6 +1,6 @@
 -- Statements as pieces with the hosts in them, and the law of hosts: in what a legal tree says each comment is where its place
 -- in the text says.
-use Rattle.std.proofs.Common.{◌≡◌, ℕ, suc, ◌+◌, ◌<◌, true, List, [], ◌∷◌, ◌++◌, inl, inr, Option, Some, None, length, refl, sym, ap, ◌∙◌, subst, map, take, drop, append-nil, append_assoc, codes, arith}
+use Rattle.std.proofs.Common.{◌≡◌, ℕ, suc, ◌+◌, true, List, [], ◌∷◌, ◌++◌, inl, inr, Option, Some, None, length, refl, sym, ap, ◌∙◌, subst, map, take, drop, append-nil, append_assoc, codes, arith}
 use Rattle.std.specs.List.{AllByRecursion, flat_map}
 use Rattle.std.proofs.lemmas.Grind.{flat_map-append}
 use Rattle.bz_lex.specs.declared.leaf.Leaf.{Leaf}
@@ -11,40 +11,41 @@ use Rattle.bz_grammar.specs.declared.tree.Part.{Part, Row_of-Part, end_of-Part, 
 use Rattle.bz_grammar.specs.declared.tree.Part.TheVariants as p
 use Rattle.bz_grammar.specs.Indents.{first_indent}
 use Rattle.bz_grammar.specs.Shapes as s
-use Rattle.bz_grammar.specs.Shapes.{Fits, Several, Times, no_more, once_more, bzl_shape, tok, done, nonterminal_has_kind, has_token, is_kind}
+use Rattle.bz_grammar.specs.Shapes.{Fits, Several, bzl_shape, tok, done, nonterminal_has_kind, has_token}
 use Rattle.bz_grammar.specs.Spell.{leaves_part, leaves_row, leaves_of}
 use Rattle.bz_grammar.specs.Legal.{IsNonterminal, LegalBzlPart, LegalBzlRow}
 use Rattle.bz_grammar.specs.Spots.{Begins, Along, BzlStands, AtLeaves, AtParts}
 use Rattle.bz_grammar.proofs.Balance.{no_such, parts_of_row}
 use Rattle.bz_items.specs.Characters.{Bytes}
 use Rattle.bz_value.specs.Gaps.{GapLine, all_but_last, comments_in, groups_of, last_group, lines_of}
-use Rattle.bz_hosts.specs.View.{seen, loose_in}
-use Rattle.bz_hosts.specs.Hosts.{Region, comments_at, texts_at, Measured, Hosted, block, hosted_by, hosts_alone, sizes, measured, measured_row, hosts_from, right_above, bare_lines}
+use Rattle.bz_hosts.specs.View.{blocks, seen, loose_in}
+use Rattle.bz_hosts.specs.Hosts.{Region, comments_at, texts_at, Measured, Hosted, block, hosted_by, hosts_alone, sizes, measured, measured_row, hosts_from, right_above, bare_lines, lines_before}
 use Rattle.bz_hosts.proofs.Alternating.{Alternating}
 use Rattle.bz_hosts.proofs.Claim.{part_texts}
-use Rattle.bz_hosts.proofs.Files.{gap_outside, outside_none}
+use Rattle.bz_hosts.proofs.Files.{blocks_alone, gap_outside, outside_none, all_solid}
 use Rattle.bz_hosts.proofs.InnerParts.{nonterminal_inner}
 use Rattle.bz_hosts.proofs.Nodes.{part_regions}
 use Rattle.bz_hosts.proofs.Numbered.{all_numbered, alone_numbered, last_numbered}
 use Rattle.bz_hosts.proofs.Parts.{size, measured_rows, leaves_rows, Solid, part_solid}
-use Rattle.bz_hosts.proofs.QuietGaps.{Quiet, Statements, Silent, quiet_where}
+use Rattle.bz_hosts.proofs.QuietGaps.{Quiet, Statements, Silent, part_silent, statements_quiet}
+use Rattle.bz_hosts.proofs.SeenParts.{all_mapped}
 use Rattle.bz_hosts.proofs.Walked.{gap_of}
 use Rattle.bz_bzl_value.specs.declared.value.Statement.{Statement, Row_of-Statement, end_of-Statement, more_of-Statement, Row_of-Branch, end_of-Branch, more_of-Branch, items-the_row-Branch, items_hidden-the_row-Branch-1, items-the_row-Statement, items_shown-the_row-Statement-0}
 use Rattle.bz_bzl_value.specs.declared.value.Statement.TheVariants as st
 use Rattle.bz_bzl_value.specs.declared.value.Branch.{Branch}
 use Rattle.bz_bzl_value.specs.declared.value.BzlItem.{BzlItem}
 use Rattle.bz_bzl_value.specs.declared.value.BzlItem.TheVariants as b
-use Rattle.bz_bzl_value.specs.BzlHosts.{Suite, Stretch, simple_line, Placed, placed, placed_row, in_statement, in_compound, one_by_one, regions_in, suites_in, SuitesAndLeaves, suite_there, left_by, lines_above, left_above, statement_hosts, bzl_hosted_from, inside_head, inside_statement, inside_branches, inside_statements, inside_bzl_item}
+use Rattle.bz_bzl_value.specs.BzlHosts.{Suite, Stretch, simple_line, Placed, placed, placed_row, in_statement, in_compound, one_by_one, regions_in, suites_in, SuitesAndLeaves, suite_there, left_by, left_above, statement_hosts, bzl_hosted_from, inside_head, inside_statement, inside_branches, inside_statements, inside_bzl_item}
 use Rattle.bz_bzl_value.specs.Laws.{BzlHostsByPlace}
 use Rattle.bz_bzl_value.specs.View.{ReadStatements, stated, stated_row, statement_read, suite_in, suffix_before, compound_read, branches, indented_lines_before, walked, margin_of, def_head, block_items, bzl_items}
-use Rattle.bz_bzl_value.proofs.HeadParts.{Named, token_in, colon_headed, test_headed, for_headed, def_headed, after_stmt}
-use Rattle.bz_bzl_value.proofs.HostBranches.{branch_hosts, BranchesPiece, Further, Branches, HeaderFacts, Parted, headed, row_facts, all_regions, all_texts}
+use Rattle.bz_bzl_value.proofs.Compounds.{Header, function, loop, branch, kind_of, IsHead, Turn, Further, Headers, if_statement, for_statement, def_statement}
+use Rattle.bz_bzl_value.proofs.HeadParts.{Headed, InHeader, Named, after_stmt}
+use Rattle.bz_bzl_value.proofs.HostBranches.{branch_hosts, PieceFrom, HeaderFacts, Parted, headed, row_facts, all_regions, all_texts}
 use Rattle.bz_bzl_value.proofs.HostBranches as hb
 use Rattle.bz_bzl_value.proofs.HostPieces.{At, at_first, at_second, Extent, both_extents, Piece, same_piece, both_pieces, left_there}
-use Rattle.bz_bzl_value.proofs.HostReads.{line_extent, line_piece_hosts, def_within, def_header}
+use Rattle.bz_bzl_value.proofs.HostReads.{items_alone, items_inside, line_extent, line_piece_hosts, def_within, def_header}
 use Rattle.bz_bzl_value.proofs.HostSuites.{OwnPiece, line_own, suite_own, as_walked}
-use Rattle.bz_bzl_value.proofs.KeptBranches.{Elif, Else, elif_word, else_word, after_word}
-use Rattle.bz_bzl_value.proofs.KeptGaps.{newline_ends, newline_comment, part_silent}
+use Rattle.bz_bzl_value.proofs.KeptGaps.{newline_ends, newline_comment}
 use Rattle.bz_bzl_value.proofs.KeptValues.{branches_in}
 use Rattle.bz_bzl_value.proofs.Parts.{stated_rows}
 use Rattle.bz_bzl_value.proofs.SuiteHeaders.{sizes_leaves}
@@ -62,22 +63,12 @@ indent_first : (ls : List Leaf) → first_indent ls ≡ indent (gap_of ls)
 indent_first [] = refl
 indent_first (l ∷ ls) = refl
 
-blocks_alone : (gs : List (List Bytes)) → flat_map inside_bzl_item (block_items gs) ≡ hosts_alone gs
-blocks_alone [] = refl
-blocks_alone ([] ∷ gs) = blocks_alone gs
-blocks_alone ((text ∷ group) ∷ gs) = ap (λ (z : List Hosted). block (text ∷ group) ∷ z) (blocks_alone gs)
-
-items_alone : (xs : List Statement) → flat_map inside_bzl_item (map b.Statement xs) ≡ flat_map inside_statement xs
-items_alone [] = refl
-items_alone (x ∷ xs) = ap (λ (z : List Hosted). inside_statement x ++ z) (items_alone xs)
+groups_alone : (gs : List (List Bytes)) → flat_map inside_bzl_item (block_items gs) ≡ hosts_alone gs
+groups_alone gs = items_inside (blocks gs) ∙ blocks_alone gs
 
 before_first : (xs : List Part) → AllByRecursion Solid xs → indented_lines_before (map stated xs) [] ≡ lines_of (gap_of (flat_map leaves_part xs))
 before_first [] g = refl
 before_first (x ∷ xs) g = ap lines_of (stated_gap x (flat_map leaves_part xs) g.0)
-
-all_solid : (xs : List Part) → AllByRecursion LegalBzlPart xs → AllByRecursion Solid xs
-all_solid [] h = tt
-all_solid (x ∷ xs) h = (part_solid x h.0, all_solid xs h.1)
 
 statements_listed : (m : _) (r' : Row_of-Statement m) → inside_statements r' ≡ flat_map inside_statement (items-the_row-Statement m r')
 statements_listed m end_of-Statement = refl
@@ -105,15 +96,6 @@ as_read r' = with_left (flat_map inside_statement r'.0) r'.1
 module _ (page : SuitesAndLeaves) where
   -- ---- if, elif, else, for and def
 
-  some_parts : (xs : List Part) (x : Part) → AllByRecursion (Parted page) (x ∷ xs) → 0 < sizes (map measured (x ∷ xs))
-  some_parts xs x g = let some = g.0.regions.some in omega arith
-
-  if_facts : (x : Part) (front : List Part) → AllByRecursion (Parted page) (x ∷ front) → (n : ℕ) (group : List Bytes) (suffix : Option Bytes) → HeaderFacts page k.IfStmt (x ∷ front) n group suffix
-  if_facts x front g = row_facts page k.IfStmt (x ∷ front) (λ n. refl) (λ group suffix. refl) refl (some_parts front x g) g
-
-  for_facts : (x : Part) (front : List Part) → AllByRecursion (Parted page) (x ∷ front) → (n : ℕ) (group : List Bytes) (suffix : Option Bytes) → HeaderFacts page k.ForStmt (x ∷ front) n group suffix
-  for_facts x front g = row_facts page k.ForStmt (x ∷ front) (λ n. refl) (λ group suffix. refl) refl (some_parts front x g) g
-
   named_facts : (word name opener : Part) (xs : List Part) → has_token (s.one_keyword (codes "def")) word ≡ true → has_token s.name name ≡ true → has_token s.open_round opener ≡ true → Alternating s.comma_mark xs → AllByRecursion (Parted page) (word ∷ name ∷ opener ∷ xs)
       → (n : ℕ) (group : List Bytes) (suffix : Option Bytes) → HeaderFacts page k.Def (word ∷ name ∷ opener ∷ xs) n group suffix
   named_facts (Node' kind z r') name opener xs i j l a g n group suffix = no_such i
@@ -139,47 +121,16 @@ module _ (page : SuitesAndLeaves) where
       subst (λ zs. HeaderFacts page k.Def (word ∷ zs) n group suffix) (sym w.cut)
       (named_facts word w.name w.opener w.following i w.named w.opens w.parameters.alternating (subst (λ zs. AllByRecursion (Parted page) (word ∷ zs)) w.cut g) n group suffix)
 
-  last_alternative : (xs : List Part) → Else xs → AtParts BzlStands Begins Begins xs → Branches page k.IfStmt xs
-  last_alternative [] h at_ g = tt
-  last_alternative (x ∷ xs) (inr h) at_ g = absurd h
-  last_alternative (x ∷ []) (inl h) at_ g = absurd h.1
-  last_alternative (x ∷ mark ∷ []) (inl h) at_ g = absurd h.1.1
-  last_alternative (x ∷ mark ∷ own ∷ []) (inl h) at_ g =
-      let there = colon_headed mark own [] h.1.0 h.1.1.0 (after_word else_word x (mark ∷ own ∷ []) refl h.0 at_) in
-      (headed page k.IfStmt _ x [] (mark ∷ own ∷ []) there (token_in else_word x refl refl h.0) g (λ front w. if_facts x front) (λ g'. tt), g.0.solid)
-  last_alternative (x ∷ mark ∷ own ∷ y ∷ xs) (inl h) at_ g = absurd h.1.1.1
+  facts : (h : Header) (word : Part) (front : List Part) → IsHead h (word ∷ front) → AllByRecursion (Parted page) (word ∷ front) → (n : ℕ) (group : List Bytes) (suffix : Option Bytes) → HeaderFacts page (kind_of h) (word ∷ front) n group suffix
+  facts function word front w g = def_facts word w.0 front w.1 g
+  facts loop word front w g = let some = g.0.regions.some in row_facts page k.ForStmt (word ∷ front) (λ n. refl) (λ group suffix. refl) refl (omega arith) g
+  facts (branch t) word front w g = let some = g.0.regions.some in row_facts page k.IfStmt (word ∷ front) (λ n. refl) (λ group suffix. refl) refl (omega arith) g
 
-  alternatives : (xs : List Part) → Times Elif Else xs → AtParts BzlStands Begins Begins xs → Branches page k.IfStmt xs
-  alternatives xs (no_more h) at_ g = last_alternative xs h at_ g
-  alternatives xs (once_more [] back e h t) at_ g = absurd h
-  alternatives xs (once_more (word ∷ []) back e h t) at_ g = absurd h.1
-  alternatives xs (once_more (word ∷ x ∷ []) back e h t) at_ g = absurd h.1.1
-  alternatives xs (once_more (word ∷ x ∷ mark ∷ []) back e h t) at_ g = absurd h.1.1.1
-  alternatives xs (once_more (word ∷ x ∷ mark ∷ own ∷ y ∷ front) back e h t) at_ g = absurd h.1.1.1.1
-  alternatives xs (once_more (word ∷ x ∷ mark ∷ own ∷ []) back e h t) at_ g =
-      let zs : List Part = word ∷ x ∷ mark ∷ own ∷ back in
-      let known : AllByRecursion (Parted page) zs = subst (AllByRecursion (Parted page)) e g in
-      let there = test_headed x mark own back h.1.0 h.1.1.0 h.1.1.1.0 (after_word elif_word word (x ∷ mark ∷ own ∷ back) refl h.0 (subst (AtParts BzlStands Begins Begins) e at_)) in
-      subst (Further page k.IfStmt) (sym e) (headed page k.IfStmt _ word back (x ∷ mark ∷ own ∷ back) there (token_in elif_word word refl refl h.0) known (λ front w. if_facts word front) (alternatives back t there.following), known.0.solid)
+  abbrev HeadersFrom : Turn → Kind → Part → List Part → Type 0
+  HeadersFrom turn = PieceFrom page
 
-  if_piece : (xs : List Part) → Fits IsNonterminal (bzl_shape k.IfStmt) xs → AtParts BzlStands Begins Begins xs → AllByRecursion (Parted page) xs → BranchesPiece page k.IfStmt xs
-  if_piece [] h at_ g = absurd h
-  if_piece (word ∷ []) h at_ g = absurd h.1
-  if_piece (word ∷ x ∷ []) h at_ g = absurd h.1.1
-  if_piece (word ∷ x ∷ mark ∷ []) h at_ g = absurd h.1.1.1
-  if_piece (word ∷ x ∷ mark ∷ own ∷ back) h at_ g =
-      let there = test_headed x mark own back h.1.0 h.1.1.0 h.1.1.1.0 (after_word (s.one_keyword (codes "if")) word (x ∷ mark ∷ own ∷ back) refl h.0 at_) in
-      headed page k.IfStmt _ word back (x ∷ mark ∷ own ∷ back) there (token_in (s.one_keyword (codes "if")) word refl refl h.0) g (λ front w. if_facts word front) (alternatives back h.1.1.1.1 there.following)
-
-  for_piece : (xs : List Part) → Fits IsNonterminal (bzl_shape k.ForStmt) xs → AtParts BzlStands Begins Begins xs → AllByRecursion (Parted page) xs → BranchesPiece page k.ForStmt xs
-  for_piece [] h at_ g = absurd h
-  for_piece (word ∷ xs) h at_ g =
-      headed page k.ForStmt _ word [] xs (for_headed xs h.1 (after_word (s.one_keyword (codes "for")) word xs refl h.0 at_)) (token_in (s.one_keyword (codes "for")) word refl refl h.0) g (λ front w. for_facts word front) (λ g'. tt)
-
-  def_piece : (xs : List Part) → Fits IsNonterminal (bzl_shape k.Def) xs → AtParts BzlStands Begins Begins xs → AllByRecursion (Parted page) xs → BranchesPiece page k.Def xs
-  def_piece [] h at_ g = absurd h
-  def_piece (word ∷ xs) h at_ g =
-      headed page k.Def Named word [] xs (def_headed xs h.1 (after_word (s.one_keyword (codes "def")) word xs refl h.0 at_)) (token_in (s.one_keyword (codes "def")) word refl refl h.0) g (def_facts word h.0) (λ g'. tt)
+  header_from : (h : Header) (word : Part) (back xs : List Part) → Headed (λ front. IsHead h (word ∷ front)) back xs → InHeader word → AllByRecursion (Parted page) (word ∷ xs) → AtParts BzlStands Begins Begins (word ∷ xs) → Further (PieceFrom page) (kind_of h) back → PieceFrom page (kind_of h) word xs
+  header_from h word back xs there n g at_ b = (headed page (kind_of h) (λ front. IsHead h (word ∷ front)) word back xs there n g (facts h word) b, g.0.solid)
 
   -- ---- nodes, by the lists of their parts
 
@@ -195,15 +146,16 @@ module _ (page : SuitesAndLeaves) where
   abbrev NodePiece : Kind → List Part → Type 0
   NodePiece kind xs = (n : ℕ) (group : List Bytes) → Piece page n (n + sizes (map measured xs)) (flat_map leaves_part xs) (in_statement kind n (map placed xs)) group (λ after. as_read (statement_read kind (map stated xs) group after))
 
-  compound_read_piece : (kind : Kind) (xs : List Part) → BranchesPiece page kind xs → (n : ℕ) (group : List Bytes) → Piece page n (n + sizes (map measured xs)) (flat_map leaves_part xs) (in_compound kind n [] (map placed xs)) group (λ after. as_read (compound_read kind (map stated xs) group after))
-  compound_read_piece kind xs h n group = record {
-    extent = (h n group []).extent;
-    starts = (h n group []).starts;
-    left = λ a l after. (h n group after).left a l after;
+  compound_read_piece : (kind : Kind) (xs : List Part) → Headers (PieceFrom page) kind xs → (n : ℕ) (group : List Bytes) → Piece page n (n + sizes (map measured xs)) (flat_map leaves_part xs) (in_compound kind n [] (map placed xs)) group (λ after. as_read (compound_read kind (map stated xs) group after))
+  compound_read_piece kind [] h n group = absurd h
+  compound_read_piece kind (x ∷ xs) h n group = record {
+    extent = (h.0 n group []).extent;
+    starts = (h.0 n group []).starts;
+    left = λ a l after. (h.0 n group after).left a l after;
     hosts = λ z.
         let after : Lines = lines_of (gap_of z.back) in
-        let own = (branches kind [] group after (map stated xs) after).0 in
-        append-nil (inside_statement (st.Compound own)) ∙ (compound_listed own ∙ (h n group after).hosts z);
+        let own = (branches kind [] group after (map stated (x ∷ xs)) after).0 in
+        append-nil (inside_statement (st.Compound own)) ∙ (compound_listed own ∙ (h.0 n group after).hosts z);
   }
 
   line_node : (xs : List Part) → Statements xs → Quiet xs → AllByRecursion (Parted page) xs → NodePiece k.Line xs
@@ -215,24 +167,23 @@ module _ (page : SuitesAndLeaves) where
       let solids = hb.all_solid page ys g in
       let regions = all_regions page ys g in
       let texts = all_texts page ys g in
-      let some = line_some ys fits in
+      let some = line_some x xs solids.0 in
       let h = sizes_leaves ys in
       subst (λ (ms : List Measured). Piece page n e (flat_map leaves_part ys) (simple_line n (hosts_from s.semicolon n ms) ∷ []) group (λ after. as_read (statement_read k.Line (map stated ys) group after))) (sym (measured_list ys)) (record {
         extent = line_extent page n group x xs fits quiet regions texts solids some (omega arith);
         starts = refl;
-        left = λ a l after. line_left group ys fits after;
+        left = λ a l after. line_left group ys fits solids after;
         hosts = λ z. line_piece_hosts page n group x xs fits quiet regions texts solids z;
       })
 
-  all_silent : (xs : List Part) → AllByRecursion (Parted page) xs → AllByRecursion (Silent BzlStands) xs
-  all_silent [] g = tt
-  all_silent (x ∷ xs) g = (g.0.silent, all_silent xs g.1)
+  all_silent : (xs : List Part) → AllByRecursion (Parted page) xs → AllByRecursion Silent xs
+  all_silent xs g = all_mapped (Parted page) Silent (λ x h. h.silent) xs g
 
   node_piece : (kind : Kind) (xs : List Part) → nonterminal_has_kind s.stmt kind ≡ true → Fits IsNonterminal (bzl_shape kind) xs → AtParts BzlStands Begins Begins xs → AllByRecursion (Parted page) xs → NodePiece kind xs
-  node_piece k.Line xs h f at_ g n group = line_node xs f (quiet_where BzlStands Begins Begins xs refl f (all_silent xs g) at_) g n group
-  node_piece k.Def xs h f at_ g n group = compound_read_piece k.Def xs (def_piece xs f at_ g) n group
-  node_piece k.IfStmt xs h f at_ g n group = compound_read_piece k.IfStmt xs (if_piece xs f at_ g) n group
-  node_piece k.ForStmt xs h f at_ g n group = compound_read_piece k.ForStmt xs (for_piece xs f at_ g) n group
+  node_piece k.Line xs h f at_ g n group = line_node xs f (statements_quiet Begins Begins xs refl f (all_silent xs g) at_) g n group
+  node_piece k.Def xs h f at_ g n group = compound_read_piece k.Def xs (def_statement (Parted page) HeadersFrom header_from xs f g at_) n group
+  node_piece k.IfStmt xs h f at_ g n group = compound_read_piece k.IfStmt xs (if_statement (Parted page) HeadersFrom header_from xs f g at_) n group
+  node_piece k.ForStmt xs h f at_ g n group = compound_read_piece k.ForStmt xs (for_statement (Parted page) HeadersFrom header_from xs f g at_) n group
   node_piece _ xs h f at_ g n group = no_such h
 
   -- ---- statements one after the other
@@ -284,7 +235,7 @@ module _ (page : SuitesAndLeaves) where
       let e : ℕ = n + sizes (measured_row r') in
       let same : sizes (map measured ys) ≡ sizes (measured_row r') = sym (ap sizes (measured_rows m r') ∙ ap (λ (z : List Part). sizes (map measured z)) i) in
       let h = sizes_leaves ys in
-      let line = line_own page n x xs fits (quiet_where BzlStands Along Along ys refl fits (all_silent ys g) at_) (all_regions page ys g) (all_texts page ys g) (hb.all_solid page ys g) (g.0.silent (nonterminal_inner s.small x refl fits.0) at_.0) (omega arith) in
+      let line = line_own page n x xs fits (statements_quiet Along Along ys refl fits (all_silent ys g) at_) (all_regions page ys g) (all_texts page ys g) (hb.all_solid page ys g) (g.0.silent (nonterminal_inner s.small x refl fits.0) at_.0) (omega arith) in
       own_rows k.Line m r' n e None ys i
       (subst (λ (ms : List Measured). OwnPiece page n e (flat_map leaves_part ys) None (simple_line n (hosts_from s.semicolon n ms) ∷ []) None (suite_in k.Line (map stated ys))) (sym (measured_list ys))
       (subst (λ z. OwnPiece page n (n + z) (flat_map leaves_part ys) None (simple_line n (hosts_from s.semicolon n (map measured ys)) ∷ []) None (suite_in k.Line (map stated ys))) same line))
@@ -382,12 +333,12 @@ module _ (page : SuitesAndLeaves) where
       (both_extents page n m (m + sizes (map measured xs)) (leaves_part x) (flat_map leaves_part xs) ((placed x).stretches n) (one_by_one m (map placed xs)) (g.0 h.0 at_.0 n []).extent (file_extent m xs h.1 g.1 (later_at x xs h.0 at_)))
 
   file_hosts : (n e : ℕ) (lines : Lines) (xs : List Part) → e ≡ n + sizes (map measured xs) → FileParts xs → AllByRecursion AsStatement xs → AllByRecursion Solid xs → AtParts BzlStands Begins Begins xs → At page n e (flat_map leaves_part xs) (one_by_one n (map placed xs))
-      → lines ≡ left_by 0 n page.suites (lines_above page.leaves n) → flat_map inside_bzl_item (bzl_items lines xs) ≡ bzl_hosted_from page n xs
+      → lines ≡ left_by 0 n page.suites (lines_before page.leaves n) → flat_map inside_bzl_item (bzl_items lines xs) ≡ bzl_hosted_from page n xs
   file_hosts n e lines [] u h g w at_ z i = absurd h
   file_hosts n e lines (p.Leaf l ∷ []) u (inl h) g w at_ z i =
       let gs : List GapLine = left_above page n in
       ap (λ (t : Lines). flat_map inside_bzl_item (block_items (groups_of t) ++ [])) i
-      ∙ (flat_map-append inside_bzl_item (block_items (groups_of gs)) [] ∙ ap (λ (t : List Hosted). t ++ []) (blocks_alone (groups_of gs) ∙ ap hosts_alone (all_numbered gs)))
+      ∙ (flat_map-append inside_bzl_item (block_items (groups_of gs)) [] ∙ ap (λ (t : List Hosted). t ++ []) (groups_alone (groups_of gs) ∙ ap hosts_alone (all_numbered gs)))
   file_hosts n e lines (p.Leaf l ∷ y ∷ xs) u (inl h) g w at_ z i = absurd h.1
   file_hosts n e lines (p.Leaf l ∷ xs) u (inr h) g w at_ z i = no_such h.0
   file_hosts n e lines (Node' kind s' r' ∷ xs) u (inl h) g w at_ z i = no_such h.0
@@ -409,29 +360,25 @@ module _ (page : SuitesAndLeaves) where
       let back : gap_of more ≡ gap_of (more ++ z.back) = sym (gap_joined more z.back after_it.some) in
       let own_hosts : flat_map inside_statement own.0 ≡ statement_hosts page group sts =
       ap (λ (t : Lines). flat_map inside_statement ((stated x).statement group t).0) (first ∙ ap lines_of back) ∙ piece.hosts (at_first page n m e (leaves_part x) more sts later piece.extent after_it z) in
-      let own_left : own.1 ≡ left_by 0 m page.suites (lines_above page.leaves m) = ap (λ (t : Lines). ((stated x).statement group t).1) first ∙ left_there page n m e (leaves_part x) more sts later group (as_statement x group) piece after_it z in
+      let own_left : own.1 ≡ left_by 0 m page.suites (lines_before page.leaves m) = ap (λ (t : Lines). ((stated x).statement group t).1) first ∙ left_there page n m e (leaves_part x) more sts later group (as_statement x group) piece after_it z in
       let tail : List BzlItem = bzl_items own.1 xs in
       let tail_hosts : flat_map inside_bzl_item tail ≡ bzl_hosted_from page m xs =
       file_hosts m e own.1 xs (sym up) h.1 g.1 w.1 rest_at (at_second page n m e (leaves_part x) more sts later piece.extent after_it z) own_left in
       let alone : hosts_alone (all_but_last (groups_of ls)) ≡ hosts_alone (map (right_above gs) (bare_lines 0 gs)) = ap (λ (t : Lines). hosts_alone (all_but_last (groups_of t))) i ∙ ap hosts_alone (alone_numbered gs) in
       let above : group ≡ right_above gs (length gs) = ap (λ (t : Lines). last_group (groups_of t)) i ∙ last_numbered gs in
       flat_map-append inside_bzl_item (block_items (all_but_last (groups_of ls))) (map b.Statement own.0 ++ tail)
-      ∙ (ap (λ (t : List Hosted). t ++ flat_map inside_bzl_item (map b.Statement own.0 ++ tail)) (blocks_alone (all_but_last (groups_of ls)) ∙ alone)
+      ∙ (ap (λ (t : List Hosted). t ++ flat_map inside_bzl_item (map b.Statement own.0 ++ tail)) (groups_alone (all_but_last (groups_of ls)) ∙ alone)
       ∙ (ap (λ (t : List Hosted). hosts_alone (map (right_above gs) (bare_lines 0 gs)) ++ t) (flat_map-append inside_bzl_item (map b.Statement own.0) tail
       ∙ (ap (λ (t : List Hosted). t ++ flat_map inside_bzl_item tail) (items_alone own.0 ∙ (own_hosts ∙ ap (λ (t : List Bytes). statement_hosts page t sts) above))
       ∙ ap (λ (t : List Hosted). statement_hosts page (right_above gs (length gs)) sts ++ t) tail_hosts))
       ∙ sym (append_assoc (hosts_alone (map (right_above gs) (bare_lines 0 gs))) (statement_hosts page (right_above gs (length gs)) sts) (bzl_hosted_from page m xs))))
-
-  all_pieces : (xs : List Part) → AllByRecursion LegalBzlPart xs → AllByRecursion AsStatement xs
-  all_pieces [] h = tt
-  all_pieces (x ∷ xs) h = ((part_piece x h.0).0, all_pieces xs h.1)
 
 pub bzl_hosts_by_place : BzlHostsByPlace
 bzl_hosts_by_place n h =
     let fits : Fits IsNonterminal (bzl_shape k.File) n.parts = subst (λ kd. Fits IsNonterminal (bzl_shape kd) n.parts) h.file.root h.file.shapes.0 in
     let sts : List Stretch = one_by_one 0 (map placed n.parts) in
     let page : SuitesAndLeaves = record { leaves = leaves_of n; regions = flat_map regions_in sts; suites = suites_in sts } in
-    let pieces = all_pieces page n.parts h.file.shapes.1 in
+    let pieces = all_mapped LegalBzlPart (AsStatement page) (λ x g. (part_piece page x g).0) n.parts h.file.shapes.1 in
     let solids : AllByRecursion Solid n.parts = all_solid n.parts h.file.shapes.1 in
     let e : ℕ = 0 + sizes (map measured n.parts) in
     let bounds : AllBetween 0 e (suites_in sts) = (file_extent page 0 n.parts fits pieces h.gaps).bounds in
@@ -445,4 +392,4 @@ bzl_hosts_by_place n h =
       texts = λ q f. refl;
     } in
     file_hosts page 0 e (indented_lines_before (map stated n.parts) []) n.parts refl fits pieces solids h.gaps all
-    (before_first n.parts solids ∙ (ap lines_of (sym (first_at (leaves_of n))) ∙ sym (beyond 0 0 0 e (suites_in sts) (lines_above (leaves_of n) 0) (omega arith) bounds)))
+    (before_first n.parts solids ∙ (ap lines_of (sym (first_at (leaves_of n))) ∙ sym (beyond 0 0 0 e (suites_in sts) (lines_before (leaves_of n) 0) (omega arith) bounds)))

@@ -2,14 +2,13 @@
 use Rattle.std.proofs.Common.{◌≡◌, ℕ, suc, ◌+◌, ◌<◌, ◌≤◌, true, false, ◌&&◌, ◌||◌, List, [], ◌∷◌, ◌++◌, Option, Some, None, length, refl, sym, ap, ◌∙◌, subst, map, take, drop, append-nil, append_assoc, length-append, nat_eq, nat_lt, arith}
 use Rattle.std.specs.List.{AllByRecursion, flat_map}
 use Rattle.std.proofs.lemmas.Bool.{cond-true, cond-false, eq-eqb, ne_eqb, lt-ltb, le-ltb}
-use Rattle.std.proofs.lemmas.List.{map-append}
 use Rattle.bz_lex.specs.declared.leaf.Leaf.{Leaf}
 use Rattle.bz_grammar.specs.declared.tree.Part.{Part}
 use Rattle.bz_grammar.specs.Spell.{leaves_part}
 use Rattle.bz_items.specs.Characters.{Bytes}
-use Rattle.bz_value.specs.Gaps.{all_in, as_list, comments_in, lines_of}
+use Rattle.bz_value.specs.Gaps.{all_in, as_list, comments_in, lines_of, after_first_line}
 use Rattle.bz_hosts.specs.View.{seen, statements_in}
-use Rattle.bz_hosts.specs.Hosts.{Region, CommentPlace, texts_at, Hosted, hosted_at, with_group, sizes, measured, hosts_from, leaf_gap, inside_item}
+use Rattle.bz_hosts.specs.Hosts.{Region, CommentPlace, texts_at, Hosted, hosted_at, with_group, sizes, measured, hosts_from, leaf_gap, inside_item, lines_before}
 use Rattle.bz_hosts.proofs.Around as r
 use Rattle.bz_hosts.proofs.Files.{group_above}
 use Rattle.bz_hosts.proofs.Gathered.{key}
@@ -21,7 +20,7 @@ use Rattle.bz_hosts.proofs.Texts.{InHost}
 use Rattle.bz_hosts.proofs.Walked.{gap_of, last_gap}
 use Rattle.bz_grammar.specs.Shapes as s
 use Rattle.bz_bzl_value.specs.declared.value.Statement.{Statement}
-use Rattle.bz_bzl_value.specs.BzlHosts.{Suite, Stretch, simple_line, header, placed, one_by_one, SuitesAndLeaves, suites_in, begins_suite, left_by, left_above, lines_above, lines_of_leaf, statement_hosts, reach, suite_end, inside_statement}
+use Rattle.bz_bzl_value.specs.BzlHosts.{Suite, Stretch, simple_line, header, placed, one_by_one, SuitesAndLeaves, suites_in, begins_suite, left_by, left_above, lines_of_leaf, statement_hosts, reach, suite_end, inside_statement}
 use Rattle.bz_bzl_value.specs.View.{ReadStatements, SuiteRead, stated, line_read, walked, suite_read, margin_of, only_comment, indented_lines_before}
 use Rattle.bz_bzl_value.proofs.HostPieces.{regions_of, comments, along, along_first, Sees, At, Piece}
 use Rattle.bz_bzl_value.proofs.HostReads.{line, within, simple_inside}
@@ -43,13 +42,13 @@ later_none : (a b : List Bytes) → a ++ b ≡ [] → b ≡ []
 later_none [] b h = h
 later_none (x ∷ a) b h = cc
 
-rest_silent : (lines : Lines) → comments_in lines ≡ [] → comments_in (drop 1 lines) ≡ []
+rest_silent : (lines : Lines) → comments_in lines ≡ [] → comments_in (after_first_line lines) ≡ []
 rest_silent [] h = refl
 rest_silent (l ∷ lines) h = later_none (as_list l.comment) (comments_in lines) h
 
-silent_lines : (g g' : Bytes) → all_in g ≡ [] → all_in g' ≡ [] → comments_in ((drop 1 (lines_of g) ++ lines_of g')) ≡ []
+silent_lines : (g g' : Bytes) → all_in g ≡ [] → all_in g' ≡ [] → comments_in ((after_first_line (lines_of g) ++ lines_of g')) ≡ []
 silent_lines g g' h h' =
-    comments_append (drop 1 (lines_of g)) (lines_of g')
+    comments_append (after_first_line (lines_of g)) (lines_of g')
     ∙ (ap (λ (z : List Bytes). z ++ comments_in (lines_of g')) (rest_silent (lines_of g) h) ∙ h')
 
 -- ---- suites
@@ -82,7 +81,7 @@ module _ (page : SuitesAndLeaves) where
     pub within : r.AllInside n e (regions_of sts)
     pub outer : r.SeesAt page.regions None (suc n) e (regions_of sts) → (q : CommentPlace) → 0 < key q → (From n e q → ⊥) → texts_at page.regions q (comments_after n ls) ≡ []
     pub suffix_is : as_list suffix ≡ all_in (gap_of ls)
-    pub left : (a : ℕ) → a ≤ n → (after : Lines) → (read after).1 ≡ left_by a e (own_list own ++ suites_in sts) (drop 1 (lines_of (last_gap ls)) ++ after)
+    pub left : (a : ℕ) → a ≤ n → (after : Lines) → (read after).1 ≡ left_by a e (own_list own ++ suites_in sts) (after_first_line (lines_of (last_gap ls)) ++ after)
     pub statements : (n0 : ℕ) (x : OwnAt n0 n e ls own sts) → flat_map inside_statement (read (lines_of (gap_of x.back))).0.0 ≡ along page sts
     pub ends : (n0 : ℕ) (x : OwnAt n0 n e ls own sts) → (read (lines_of (gap_of x.back))).0.1 ≡ suite_end page own
 
@@ -96,10 +95,10 @@ module _ (page : SuitesAndLeaves) where
       let before = x.before in
       let counted = x.counted in
       let begins : begins_suite n page.suites ≡ false = x.sees.begins n before l ∙ ap (begins_suite n) none in
-      let lines : lines_above page.leaves n ≡ drop 1 (lines_of (last_gap x.front)) ++ lines_of (gap_of ls) =
-      ap (λ (z : List Leaf). lines_above z n) x.leaves ∙ (ap (lines_above (x.front ++ (ls ++ x.back))) (sym counted) ∙ (lines_at x.front (ls ++ x.back) (omega arith) ∙ ap (λ (g : Bytes). drop 1 (lines_of (last_gap x.front)) ++ lines_of g) (gap_joined ls x.back some))) in
-      let left : left_by 0 n page.suites (lines_above page.leaves n) ≡ drop 1 (lines_of (last_gap x.front)) ++ lines_of (gap_of ls) =
-      x.sees.inner 0 n before l (lines_above page.leaves n) ∙ (ap (λ z. left_by 0 n z (lines_above page.leaves n)) none ∙ lines) in
+      let lines : lines_before page.leaves n ≡ after_first_line (lines_of (last_gap x.front)) ++ lines_of (gap_of ls) =
+      ap (λ (z : List Leaf). lines_before z n) x.leaves ∙ (ap (lines_before (x.front ++ (ls ++ x.back))) (sym counted) ∙ (lines_at x.front (ls ++ x.back) (omega arith) ∙ ap (λ (g : Bytes). after_first_line (lines_of (last_gap x.front)) ++ lines_of g) (gap_joined ls x.back some))) in
+      let left : left_by 0 n page.suites (lines_before page.leaves n) ≡ after_first_line (lines_of (last_gap x.front)) ++ lines_of (gap_of ls) =
+      x.sees.inner 0 n before l (lines_before page.leaves n) ∙ (ap (λ z. left_by 0 n z (lines_before page.leaves n)) none ∙ lines) in
       cond-false (begins_suite n page.suites) (all_in (leaf_gap page.leaves n)) (comments_in (left_above page n)) begins
       ∙ (ap (λ (z : Lines). comments_in z) left ∙ silent_lines (last_gap x.front) (gap_of ls) x.quiet silent)
 
@@ -112,7 +111,7 @@ module _ (page : SuitesAndLeaves) where
       let ls : List Leaf = flat_map leaves_part ys in
       let there : List Region = hosts_from s.semicolon n (map measured ys) in
       let sts : List Stretch = simple_line n there ∷ [] in
-      let some = line_some ys fits in
+      let some = line_some x xs solids.0 in
       let first : gap_of ls ≡ (seen x).gap = ap (λ (z : List Leaf). gap_of (z ++ flat_map leaves_part xs)) solids.0.leaves ∙ sym solids.0.gap in
       let quiet_gap : all_in (gap_of ls) ≡ [] = ap all_in first ∙ silent in
       let mine : comments_after n ls ≡ after_parts n ys = parts_after n ys solids in
@@ -123,7 +122,7 @@ module _ (page : SuitesAndLeaves) where
         within = subst (r.AllInside n e) (sym (append-nil there)) (within page n [] x xs fits quiet rs is solids);
         outer = λ sees q d o. ap (texts_at page.regions q) mine ∙ (line page n [] x xs fits quiet rs is solids (subst (r.SeesAt page.regions None (suc n) e) (append-nil there) sees)).outer q d o;
         suffix_is = sym quiet_gap;
-        left = λ a l after. line_left [] ys fits after;
+        left = λ a l after. line_left [] ys fits solids after;
         statements = λ n0 z.
             let found : map (hosted_at page.regions (comments page)) there ≡ flat_map inside_item (statements_in [] (map seen ys)) =
             (line page n [] x xs fits quiet rs is solids (subst (r.SeesAt page.regions None (suc n) e) (append-nil there) z.regions)).found (comments page) (λ q f. z.texts q f ∙ ap (texts_at page.regions q) mine) in
@@ -153,8 +152,8 @@ module _ (page : SuitesAndLeaves) where
       let all : Lines → ReadStatements (List Statement) = λ after. walked lines (map stated (x ∷ xs)) after in
       let M : ℕ = margin_of (map stated (x ∷ xs)) in
       let last : last_gap (l ∷ ls) ≡ last_gap ls = last_joined (l ∷ []) ls some in
-      let left : (a : ℕ) → a ≤ suc n → (after : Lines) → (all after).1 ≡ left_by a e suites (drop 1 (lines_of (last_gap (l ∷ ls))) ++ after) =
-      λ a j after. inner.left a j after ∙ ap (λ (g' : Bytes). left_by a e suites (drop 1 (lines_of g') ++ after)) (sym last) in
+      let left : (a : ℕ) → a ≤ suc n → (after : Lines) → (all after).1 ≡ left_by a e suites (after_first_line (lines_of (last_gap (l ∷ ls))) ++ after) =
+      λ a j after. inner.left a j after ∙ ap (λ (g' : Bytes). left_by a e suites (after_first_line (lines_of g') ++ after)) (sym last) in
       let others : (a m' : ℕ) → suc n ≤ a → (lines' : Lines) → left_by a m' (own ∷ suites) lines' ≡ left_by a m' suites lines' =
       λ a m' j lines'. cond-false (nat_lt a (suc n) && nat_eq e m') _ _ (ap (λ t. t && nat_eq e m') (le-ltb a (suc n) j)) in
       let ahead : (a m' : ℕ) → m' < e → (lines' : Lines) → left_by a m' (own ∷ suites) lines' ≡ left_by a m' suites lines' =
@@ -167,7 +166,7 @@ module _ (page : SuitesAndLeaves) where
         outer = λ sees q d o. inner.extent.outer sees q d (λ j. let j0 = j.0 in o (omega arith, j.1));
         suffix_is = sym suffix;
         left = λ a j after.
-            let there : Lines = left_by a e suites (drop 1 (lines_of (last_gap (l ∷ ls))) ++ after) in
+            let there : Lines = left_by a e suites (after_first_line (lines_of (last_gap (l ∷ ls))) ++ after) in
             let test : (nat_lt a (suc n) && nat_eq e e) ≡ true = ap (λ t. t && nat_eq e e) (lt-ltb a (suc n) (omega arith)) ∙ eq-eqb e e refl in
             rest_is M (all after).1 ∙ (ap (λ (z : Lines). drop (reach M z) z) (left a (omega arith) after)
             ∙ (ap (λ (z : ℕ). drop (reach z there) there) (sym i) ∙ sym (cond-true (nat_lt a (suc n) && nat_eq e e) (drop (reach m there) there) there test)));
@@ -199,10 +198,10 @@ module _ (page : SuitesAndLeaves) where
         ends = λ n0 z.
             let before = z.before in
             let after : Lines = lines_of (gap_of z.back) in
-            let found : Lines = left_by (suc n) e page.suites (lines_above page.leaves e) in
+            let found : Lines = left_by (suc n) e page.suites (lines_before page.leaves e) in
             let same : found ≡ (all after).1 =
-            z.sees.after (suc n) e (omega arith) (omega arith) (omega arith) (lines_above page.leaves e)
-            ∙ (others (suc n) e (omega arith) (lines_above page.leaves e)
+            z.sees.after (suc n) e (omega arith) (omega arith) (omega arith) (lines_before page.leaves e)
+            ∙ (others (suc n) e (omega arith) (lines_before page.leaves e)
             ∙ (ap (left_by (suc n) e suites) (lines_there page n e z.front (l ∷ ls) z.back (omega arith) (omega arith) z.leaves z.counted) ∙ sym (left (suc n) (omega arith) after))) in
             ends_are M (all after).1 ∙ (ap (λ (w : ℕ). comments_in ((take (reach w (all after).1) (all after).1))) (sym i)
             ∙ ap (λ (w : Lines). comments_in ((take (reach m w) w))) (sym same));

@@ -20,8 +20,8 @@ use Rattle.bz_bzl_value.specs.declared.value.Statement.{Statement}
 use Rattle.bz_bzl_value.specs.Joined.{lines_after, lines_at_end, first_lines, EndsWithStatement, BeginsBare, EndsInNewline, EndsInLine, BzlViewsJoin}
 use Rattle.bz_bzl_value.specs.View.{ReadStatements, stated, indented_lines_before, bzl_item, block_items, bzl_items, bzl_view_of}
 use Rattle.bz_bzl_value.proofs.BlankLines.{Blank, Alike, before_blank, none_blank}
-use Rattle.bz_bzl_value.proofs.KeptBranches.{Lines}
 use Rattle.bz_bzl_value.proofs.Parts.{lines_first}
+use Rattle.bz_bzl_value.proofs.SuiteLines.{Lines}
 
 -- ---- groups of blank lines
 

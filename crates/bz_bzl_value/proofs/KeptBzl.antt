@@ -13,7 +13,7 @@ use Rattle.bz_value.specs.Counted.{total, one_if}
 use Rattle.bz_items.specs.Characters.{Bytes}
 use Rattle.bz_value.specs.Gaps.{groups_of, all_but_last, last_group, GapLine}
 use Rattle.bz_value.proofs.Totals.{append_total}
-use Rattle.bz_hosts.specs.View.{seen}
+use Rattle.bz_hosts.proofs.SeenParts.{all_mapped}
 use Rattle.bz_hosts.proofs.Sums.{all_blocks, front_blocks, part_amount, leaf_amount, parts_leaves}
 use Rattle.bz_bzl_value.specs.declared.value.Statement.{Statement}
 use Rattle.bz_bzl_value.specs.declared.value.BzlItem.TheVariants as b
@@ -25,10 +25,6 @@ use Rattle.bz_bzl_value.proofs.KeptSuites.{AsStatement, part_read}
 use Rattle.bz_bzl_value.proofs.KeptValues.{lines_amount, block_amount, statements_as_items}
 
 module _ (number : Bytes → ℕ) where
-  all_read : (xs : List Part) → AllByRecursion LegalBzlPart xs → AllByRecursion (AsStatement number) xs
-  all_read [] h = tt
-  all_read (x ∷ xs) h = ((part_read number x h.0).0, all_read xs h.1)
-
   -- statements and the end, where these lines are before the first of them
   file_kept : (lines : List GapLine) (xs : List Part) → Several (IsNonterminal s.stmt) (Fits IsNonterminal (tok s.end done)) xs → AllByRecursion (AsStatement number) xs → AtParts BzlStands Begins Begins xs →
       before_amount number xs [] + total (bzl_item_amount number) (bzl_items lines xs) ≡ lines_amount number lines + total (part_amount number) xs
@@ -60,6 +56,6 @@ module _ (number : Bytes → ℕ) where
 pub bzl_comments_kept : BzlCommentsKept
 bzl_comments_kept n h text =
     let fits : Fits IsNonterminal (bzl_shape k.File) n.parts = subst (λ kd. Fits IsNonterminal (bzl_shape kd) n.parts) h.file.root h.file.shapes.0 in
-    let all = file_kept (one_if text) (indented_lines_before (map stated n.parts) []) n.parts fits (all_read (one_if text) n.parts h.file.shapes.1) h.gaps in
+    let all = file_kept (one_if text) (indented_lines_before (map stated n.parts) []) n.parts fits (all_mapped LegalBzlPart (AsStatement (one_if text)) (λ x g. (part_read (one_if text) x g).0) n.parts h.file.shapes.1) h.gaps in
     let leaves = parts_leaves (one_if text) n.parts in
     omega arith

@@ -1,5 +1,5 @@
 -- Sums of a number of each comment: of statements and headers by the lists that they hold, and of lines.
-use Rattle.std.proofs.Common.{◌≡◌, ℕ, ◌+◌, List, [], ◌∷◌, refl, sym, ap, ◌∙◌, map, arith}
+use Rattle.std.proofs.Common.{◌≡◌, ℕ, ◌+◌, List, [], ◌∷◌, refl, sym, ap, ◌∙◌, None, map, arith}
 use mathlib.Core.Former.{Count}
 use Rattle.bz_value.specs.declared.value.Expr.TheVariants as e
 use Rattle.bz_value.specs.declared.value.Item.{Item}
@@ -7,7 +7,7 @@ use Rattle.bz_value.specs.declared.value.Item.TheVariants as i
 use Rattle.bz_value.specs.Counted.{total, amount, item_amount}
 use Rattle.bz_items.specs.Characters.{Bytes}
 use Rattle.bz_value.specs.Gaps.{GapLine, comments_in}
-use Rattle.bz_hosts.specs.View.{Seen, statements_in, statement_in, blocks}
+use Rattle.bz_hosts.specs.View.{Seen, statement, statements_in, blocks}
 use Rattle.bz_bzl_value.specs.declared.value.Statement.{Statement, Simple, Compound', Row_of-Statement, end_of-Statement, more_of-Statement, Row_of-Branch, end_of-Branch, more_of-Branch, items-the_row-Branch, items_hidden-the_row-Branch-1, items-the_row-Statement, items_shown-the_row-Statement-0}
 use Rattle.bz_bzl_value.specs.declared.value.Statement.TheVariants as s
 use Rattle.bz_bzl_value.specs.declared.value.Branch.{Branch}
@@ -19,6 +19,14 @@ use Rattle.bz_bzl_value.specs.View.{simple_statements, bzl_item, block_items}
 abbrev pub branches_in : Statement → (m : Count) × Row_of-Branch m
 branches_in (Simple x) = (_, end_of-Branch)
 branches_in (Compound' size branches) = (_, branches)
+
+-- the statements of a line are simple statements
+pub all_simple : (above : List Bytes) (ss : List Seen) → map b.Statement (simple_statements (statements_in above ss)) ≡ map bzl_item (statements_in above ss)
+all_simple above [] = refl
+all_simple above (s ∷ []) = refl
+all_simple above (s ∷ mark ∷ []) = refl
+all_simple above (s ∷ mark ∷ t ∷ []) = refl
+all_simple above (s ∷ mark ∷ t ∷ u ∷ ss) = ap (λ items. bzl_item (statement above None s) ∷ items) (all_simple [] (t ∷ u ∷ ss))
 
 module _ (number : Bytes → ℕ) where
   -- ---- statements and headers
@@ -46,20 +54,9 @@ module _ (number : Bytes → ℕ) where
       let row = branches_in (s.Compound xs) in
       branches_total row.0 row.1 ∙ ap (total branch_amount) (items_hidden-the_row-Branch-1 xs)
 
-  -- ---- simple statements
+  -- ---- items of a file
 
-  mutual
-    pub simple_amount : (above : List Bytes) (ss : List Seen) → stated_amount (simple_statements (statements_in above ss)) ≡ total (item_amount number) (statements_in above ss)
-    simple_amount above [] = refl
-    simple_amount above (s ∷ ss) = simple_one above s ss
-
-    simple_one : (above : List Bytes) (s : Seen) (ss : List Seen) → stated_amount (simple_statements (statement_in above s ss)) ≡ total (item_amount number) (statement_in above s ss)
-    simple_one above s [] = refl
-    simple_one above s (mark ∷ []) = refl
-    simple_one above s (mark ∷ t ∷ []) = refl
-    simple_one above s (mark ∷ t ∷ u ∷ ss) = let h = simple_one [] t (u ∷ ss) in omega arith
-
-  items_amount : (xs : List Item) → total (bzl_item_amount number) (map bzl_item xs) ≡ total (item_amount number) xs
+  pub items_amount : (xs : List Item) → total (bzl_item_amount number) (map bzl_item xs) ≡ total (item_amount number) xs
   items_amount [] = refl
   items_amount (i.Block texts ∷ xs) = ap (λ a. total number texts + a) (items_amount xs)
   items_amount (i.Stmt x ∷ xs) = ap (λ a. amount number x + a) (items_amount xs)
@@ -71,6 +68,10 @@ module _ (number : Bytes → ℕ) where
   pub statements_as_items : (xs : List Statement) → total (bzl_item_amount number) (map b.Statement xs) ≡ stated_amount xs
   statements_as_items [] = refl
   statements_as_items (x ∷ xs) = ap (λ a. statement_amount number x + a) (statements_as_items xs)
+
+  -- the statements of a line
+  pub simple_amount : (above : List Bytes) (ss : List Seen) → stated_amount (simple_statements (statements_in above ss)) ≡ total (item_amount number) (statements_in above ss)
+  simple_amount above ss = sym (statements_as_items (simple_statements (statements_in above ss))) ∙ (ap (total (bzl_item_amount number)) (all_simple above ss) ∙ items_amount (statements_in above ss))
 
   -- ---- lines
 

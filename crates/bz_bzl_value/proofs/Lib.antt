@@ -3,6 +3,7 @@ pub mod Branches
 pub mod BuildFiles
 pub mod BuildItems
 pub mod Colons
+pub mod Compounds
 pub mod Ends
 pub mod Groups
 pub mod HeadParts

@@ -1,5 +1,5 @@
 -- Headers of a legal .bzl file with their suites are proper.
-use Rattle.std.proofs.Common.{◌≡◌, true, false, List, [], ◌∷◌, ◌++◌, inl, inr, refl, sym, ap, subst, map, codes}
+use Rattle.std.proofs.Common.{◌≡◌, true, List, [], ◌∷◌, ◌++◌, inl, inr, refl, sym, ap, subst, map}
 use Rattle.std.specs.List.{AllByRecursion}
 use Rattle.std.proofs.lemmas.List.Elements.{All-from_recursion}
 use Rattle.bz_items.specs.Characters.{Bytes}
@@ -7,11 +7,10 @@ use Rattle.bz_grammar.specs.declared.kind.Kind.{Kind}
 use Rattle.bz_grammar.specs.declared.kind.Kind.TheVariants as k
 use Rattle.bz_grammar.specs.declared.tree.Part.{Part}
 use Rattle.bz_grammar.specs.Shapes as s
-use Rattle.bz_grammar.specs.Shapes.{Terminal, Shape, Fits, Times, nonterminal_has_kind, has_token, is_kind, no_more, once_more, tok, sub, done, bzl_shape}
+use Rattle.bz_grammar.specs.Shapes.{Shape, Fits, bzl_shape}
 use Rattle.bz_grammar.specs.Legal.{IsNonterminal}
 use Rattle.bz_grammar.specs.Spots.{Begins, Along, BzlStands, AtLeaves, AtParts}
-use Rattle.bz_grammar.specs.Suites.{def_header, for_header, test_header, else_header}
-use Rattle.bz_grammar.proofs.Balance.{no_such, parts_split}
+use Rattle.bz_grammar.proofs.Balance.{parts_split}
 use Rattle.bz_value.specs.declared.value.Form.{Form}
 use Rattle.bz_value.specs.LineShapes.{line_shape}
 use Rattle.bz_value.specs.Proper.{IsComment, MaybeComment}
@@ -25,12 +24,14 @@ use Rattle.bz_bzl_value.specs.declared.value.Branch.{Branch}
 use Rattle.bz_bzl_value.specs.declared.value.Statement.{Statement}
 use Rattle.bz_bzl_value.specs.Proper.{IsHeader, AreAlternatives, AreHeaders}
 use Rattle.bz_bzl_value.specs.View.{ReadStatements, SuiteRead, stated, branches, with_suite, indented_lines_before}
-use Rattle.bz_bzl_value.proofs.HeadParts.{Headed, InHeader, None_before, Named, FitsHeader, colon_alone, token_in, colon_headed, test_headed, for_headed, def_headed}
-use Rattle.bz_bzl_value.proofs.KeptBranches.{Lines, Else, Elif, elif_word, else_word, after_word, header_ends}
+use Rattle.bz_bzl_value.proofs.Compounds.{Header, function, loop, branch, condition, alternative, otherwise, kind_of, shape_of, IsHead, Turn, first, further, over, turn_of, next_of, Further, Headers, if_statement, for_statement, def_statement}
+use Rattle.bz_bzl_value.proofs.HeadParts.{Headed, InHeader}
+use Rattle.bz_bzl_value.proofs.KeptBranches.{header_ends}
 use Rattle.bz_bzl_value.proofs.KeptGaps.{colon_is}
 use Rattle.bz_bzl_value.proofs.Parts.{part_of}
-use Rattle.bz_bzl_value.proofs.ProperHeads.{HeadProper, HeadKnown, if_proper, for_proper, def_proper}
+use Rattle.bz_bzl_value.proofs.ProperHeads.{HeadProper, HeadKnown, head_proper}
 use Rattle.bz_bzl_value.proofs.ProperValues.{AreSome, HasSuite}
+use Rattle.bz_bzl_value.proofs.SuiteLines.{Lines}
 
 -- ---- what is read of a part
 
@@ -112,106 +113,52 @@ headed_branch kind shape P F word back xs h n g at_ w b =
 branches_as : (kind : Kind) (P Q : List Form → Type 0) (xs : List Part) → ((fs : List Form) → P fs → Q fs) → Branches P kind xs → Branches Q kind xs
 branches_as kind P Q xs f h above left after a l b = let w = h above left after a l b in (f (map (λ x. x.head) (branches kind [] above left (map stated xs) after).0) w.0, w.1)
 
-abbrev IsOver : List Form → Type 0
-IsOver fs = fs ≡ []
+-- ---- the headers of a statement
 
-none_left : (kind : Kind) → Branches IsOver kind []
-none_left kind above left after a l f = (refl, (tt, l))
+-- the headers from one that is here on
+abbrev HeadsAt : Turn → List Form → Type 0
+HeadsAt first fs = AreHeaders fs
+HeadsAt further fs = AreAlternatives fs
+HeadsAt over fs = fs ≡ []
 
--- ---- if, elif, else
+in_order : (h : Header) (fs : List Form) → HeadThen (kind_of h) (shape_of h) (HeadsAt (next_of h)) fs → HeadsAt (turn_of h) fs
+in_order h [] w = absurd w
+in_order function (f ∷ fs) w = inl w
+in_order loop (f ∷ fs) w = inr (inl w)
+in_order (branch condition) (f ∷ fs) w = inr (inr w)
+in_order (branch alternative) (f ∷ fs) w = inl w
+in_order (branch otherwise) (f ∷ fs) w = inr w
 
-abbrev Tested : List Terminal → List Form → Type 0
-Tested word fs = HeadThen k.IfStmt (test_header word) AreAlternatives fs
+none_next : (h : Header) → HeadsAt (next_of h) []
+none_next function = refl
+none_next loop = refl
+none_next (branch condition) = tt
+none_next (branch alternative) = tt
+none_next (branch otherwise) = refl
 
-as_elif : (fs : List Form) → Tested elif_word fs → AreAlternatives fs
-as_elif [] h = absurd h
-as_elif (f ∷ fs) h = inl h
+abbrev BranchesFrom : Turn → Kind → Part → List Part → Type 0
+BranchesFrom turn kind x xs = Branches (HeadsAt turn) kind (x ∷ xs)
 
-as_else : (fs : List Form) → HeadThen k.IfStmt else_header IsOver fs → AreAlternatives fs
-as_else [] h = absurd h
-as_else (f ∷ fs) h = inr h
+further_branches : (h : Header) (xs : List Part) → Further (BranchesFrom (next_of h)) (kind_of h) xs → Branches (HeadsAt (next_of h)) (kind_of h) xs
+further_branches h [] b = λ above left after a l f. (none_next h, (tt, l))
+further_branches h (x ∷ xs) b = b
 
-test_branch : (ts : List Terminal) (word x mark own : Part) (back : List Part) → InHeader word → has_token ts word ≡ true → IsNonterminal s.test x → has_token s.colon_mark mark ≡ true → IsNonterminal s.suite own → AllKnown (word ∷ x ∷ mark ∷ own ∷ back)
-    → AtParts BzlStands Begins Begins (word ∷ x ∷ mark ∷ own ∷ back) → AtParts BzlStands Begins Along (x ∷ mark ∷ own ∷ back) → Branches AreAlternatives k.IfStmt back → Branches (Tested ts) k.IfStmt (word ∷ x ∷ mark ∷ own ∷ back)
-test_branch ts word x mark own back n t h i j g at_ there b =
-    let headed : Headed (FitsHeader (sub s.test (tok s.colon_mark done))) back (x ∷ mark ∷ own ∷ back) = test_headed x mark own back h i j there in
-    headed_branch k.IfStmt (test_header ts) AreAlternatives (FitsHeader (sub s.test (tok s.colon_mark done))) word back (x ∷ mark ∷ own ∷ back) headed n g at_ (λ w. if_proper (test_header ts) (word ∷ headed.front) (t, headed.such) w) b
-
-last_branch : (xs : List Part) → Else xs → AllKnown xs → AtParts BzlStands Begins Begins xs → Branches AreAlternatives k.IfStmt xs
-last_branch [] h g at_ = λ above left after a l f. (tt, (tt, l))
-last_branch (x ∷ xs) (inr h) g at_ = absurd h
-last_branch (x ∷ []) (inl h) g at_ = absurd h.1
-last_branch (x ∷ mark ∷ []) (inl h) g at_ = absurd h.1.1
-last_branch (x ∷ mark ∷ own ∷ []) (inl h) g at_ =
-    let headed : Headed None_before [] (mark ∷ own ∷ []) = colon_headed mark own [] h.1.0 h.1.1.0 (after_word else_word x (mark ∷ own ∷ []) refl h.0 at_) in
-    branches_as k.IfStmt (HeadThen k.IfStmt else_header IsOver) AreAlternatives (x ∷ mark ∷ own ∷ []) as_else
-    (headed_branch k.IfStmt else_header IsOver None_before x [] (mark ∷ own ∷ []) headed (token_in else_word x refl refl h.0) g at_ (λ w. if_proper else_header (x ∷ headed.front) (h.0, colon_alone headed.front headed.such) w) (none_left k.IfStmt))
-last_branch (x ∷ mark ∷ own ∷ y ∷ xs) (inl h) g at_ = absurd h.1.1.1
-
-alternatives : (xs : List Part) → Times Elif Else xs → AllKnown xs → AtParts BzlStands Begins Begins xs → Branches AreAlternatives k.IfStmt xs
-alternatives xs (no_more h) g at_ = last_branch xs h g at_
-alternatives xs (once_more [] back e h t) g at_ = absurd h
-alternatives xs (once_more (word ∷ []) back e h t) g at_ = absurd h.1
-alternatives xs (once_more (word ∷ x ∷ []) back e h t) g at_ = absurd h.1.1
-alternatives xs (once_more (word ∷ x ∷ mark ∷ []) back e h t) g at_ = absurd h.1.1.1
-alternatives xs (once_more (word ∷ x ∷ mark ∷ own ∷ y ∷ front) back e h t) g at_ = absurd h.1.1.1.1
-alternatives xs (once_more (word ∷ x ∷ mark ∷ own ∷ []) back e h t) g at_ =
-    let zs : List Part = word ∷ x ∷ mark ∷ own ∷ back in
-    let known : AllKnown zs = subst AllKnown e g in
-    let here : AtParts BzlStands Begins Begins zs = subst (AtParts BzlStands Begins Begins) e at_ in
-    let there : AtParts BzlStands Begins Along (x ∷ mark ∷ own ∷ back) = after_word elif_word word (x ∷ mark ∷ own ∷ back) refl h.0 here in
-    let rest : Branches AreAlternatives k.IfStmt back = alternatives back t known.1.1.1.1 (test_headed x mark own back h.1.0 h.1.1.0 h.1.1.1.0 there).following in
-    subst (Branches AreAlternatives k.IfStmt) (sym e)
-    (branches_as k.IfStmt (Tested elif_word) AreAlternatives zs as_elif (test_branch elif_word word x mark own back (token_in elif_word word refl refl h.0) h.0 h.1.0 h.1.1.0 h.1.1.1.0 known here there rest))
+header_branch : (h : Header) (word : Part) (back xs : List Part) → Headed (λ front. IsHead h (word ∷ front)) back xs → InHeader word → AllKnown (word ∷ xs) → AtParts BzlStands Begins Begins (word ∷ xs) → Further (BranchesFrom (next_of h)) (kind_of h) back
+    → BranchesFrom (turn_of h) (kind_of h) word xs
+header_branch h word back xs headed n g at_ b =
+    branches_as (kind_of h) (HeadThen (kind_of h) (shape_of h) (HeadsAt (next_of h))) (HeadsAt (turn_of h)) (word ∷ xs) (in_order h)
+    (headed_branch (kind_of h) (shape_of h) (HeadsAt (next_of h)) (λ front. IsHead h (word ∷ front)) word back xs headed n g at_ (λ w. head_proper h (word ∷ headed.front) headed.such w) (further_branches h back b))
 
 -- ---- statements with suites
 
 abbrev pub Compound : Kind → List Part → Type 0
-Compound kind xs = Branches AreHeaders kind xs
+Compound kind xs = Headers (BranchesFrom first) kind xs
 
-as_def : (fs : List Form) → HeadThen k.Def def_header IsOver fs → AreHeaders fs
-as_def [] h = absurd h
-as_def (f ∷ fs) h = inl h
+pub if_proper : (xs : List Part) → Fits IsNonterminal (bzl_shape k.IfStmt) xs → AllKnown xs → AtParts BzlStands Begins Begins xs → Compound k.IfStmt xs
+if_proper xs f g at_ = if_statement Known BranchesFrom header_branch xs f g at_
 
-as_for : (fs : List Form) → HeadThen k.ForStmt for_header IsOver fs → AreHeaders fs
-as_for [] h = absurd h
-as_for (f ∷ fs) h = inr (inl h)
+pub for_proper : (xs : List Part) → Fits IsNonterminal (bzl_shape k.ForStmt) xs → AllKnown xs → AtParts BzlStands Begins Begins xs → Compound k.ForStmt xs
+for_proper xs f g at_ = for_statement Known BranchesFrom header_branch xs f g at_
 
-as_if : (fs : List Form) → Tested (s.one_keyword (codes "if")) fs → AreHeaders fs
-as_if [] h = absurd h
-as_if (f ∷ fs) h = inr (inr h)
-
-if_statement : (xs : List Part) → Fits IsNonterminal (bzl_shape k.IfStmt) xs → AllKnown xs → AtParts BzlStands Begins Begins xs → Compound k.IfStmt xs
-if_statement [] h g at_ = absurd h
-if_statement (word ∷ []) h g at_ = absurd h.1
-if_statement (word ∷ x ∷ []) h g at_ = absurd h.1.1
-if_statement (word ∷ x ∷ mark ∷ []) h g at_ = absurd h.1.1.1
-if_statement (word ∷ x ∷ mark ∷ own ∷ back) h g at_ =
-    let there : AtParts BzlStands Begins Along (x ∷ mark ∷ own ∷ back) = after_word (s.one_keyword (codes "if")) word (x ∷ mark ∷ own ∷ back) refl h.0 at_ in
-    let rest : Branches AreAlternatives k.IfStmt back = alternatives back h.1.1.1.1 g.1.1.1.1 (test_headed x mark own back h.1.0 h.1.1.0 h.1.1.1.0 there).following in
-    branches_as k.IfStmt (Tested (s.one_keyword (codes "if"))) AreHeaders (word ∷ x ∷ mark ∷ own ∷ back) as_if
-    (test_branch (s.one_keyword (codes "if")) word x mark own back (token_in (s.one_keyword (codes "if")) word refl refl h.0) h.0 h.1.0 h.1.1.0 h.1.1.1.0 g at_ there rest)
-
-abbrev ForParts : List Part → Type 0
-ForParts front = FitsHeader (s.list s.primary s.comma_mark false (tok (s.one_keyword (codes "in")) (sub s.expr (tok s.colon_mark done)))) front
-
-for_statement : (xs : List Part) → Fits IsNonterminal (bzl_shape k.ForStmt) xs → AllKnown xs → AtParts BzlStands Begins Begins xs → Compound k.ForStmt xs
-for_statement [] h g at_ = absurd h
-for_statement (word ∷ xs) h g at_ =
-    let headed : Headed ForParts [] xs = for_headed xs h.1 (after_word (s.one_keyword (codes "for")) word xs refl h.0 at_) in
-    branches_as k.ForStmt (HeadThen k.ForStmt for_header IsOver) AreHeaders (word ∷ xs) as_for
-    (headed_branch k.ForStmt for_header IsOver ForParts word [] xs headed (token_in (s.one_keyword (codes "for")) word refl refl h.0) g at_ (λ w. for_proper for_header (word ∷ headed.front) (h.0, headed.such) w) (none_left k.ForStmt))
-
-def_statement : (xs : List Part) → Fits IsNonterminal (bzl_shape k.Def) xs → AllKnown xs → AtParts BzlStands Begins Begins xs → Compound k.Def xs
-def_statement [] h g at_ = absurd h
-def_statement (word ∷ xs) h g at_ =
-    let headed : Headed Named [] xs = def_headed xs h.1 (after_word (s.one_keyword (codes "def")) word xs refl h.0 at_) in
-    branches_as k.Def (HeadThen k.Def def_header IsOver) AreHeaders (word ∷ xs) as_def
-    (headed_branch k.Def def_header IsOver Named word [] xs headed (token_in (s.one_keyword (codes "def")) word refl refl h.0) g at_ (λ w. def_proper word headed.front h.0 headed.such w) (none_left k.Def))
-
-pub compound_statement : (kind : Kind) (xs : List Part) → nonterminal_has_kind s.stmt kind ≡ true → is_kind kind k.Line ≡ false → Fits IsNonterminal (bzl_shape kind) xs → AllKnown xs → AtParts BzlStands Begins Begins xs → Compound kind xs
-compound_statement k.Def xs h i f g at_ = def_statement xs f g at_
-compound_statement k.IfStmt xs h i f g at_ = if_statement xs f g at_
-compound_statement k.ForStmt xs h i f g at_ = for_statement xs f g at_
-compound_statement k.Line xs h i f g at_ = no_such (sym i)
-compound_statement _ xs h i f g at_ = no_such h
+pub def_proper : (xs : List Part) → Fits IsNonterminal (bzl_shape k.Def) xs → AllKnown xs → AtParts BzlStands Begins Begins xs → Compound k.Def xs
+def_proper xs f g at_ = def_statement Known BranchesFrom header_branch xs f g at_

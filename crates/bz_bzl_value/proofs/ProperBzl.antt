@@ -15,7 +15,8 @@ use Rattle.bz_grammar.specs.Spots.{Begins, BzlStands, AtParts}
 use Rattle.bz_grammar.proofs.Balance.{no_such}
 use Rattle.bz_value.specs.Gaps.{groups_of, all_but_last, last_group}
 use Rattle.bz_value.proofs.GapComments.{AreFine, Groups, all_joined, groups_fine, groups_front, groups_last}
-use Rattle.bz_hosts.proofs.ProperFiles.{lexed}
+use Rattle.bz_hosts.specs.View.{blocks}
+use Rattle.bz_hosts.proofs.ProperFiles.{blocks_proper, lexed}
 use Rattle.bz_hosts.proofs.ProperParts.{IsLexed}
 use Rattle.bz_hosts.proofs.SeenParts.{all_parted}
 use Rattle.bz_bzl_value.specs.declared.value.Statement.{Statement}
@@ -25,24 +26,27 @@ use Rattle.bz_bzl_value.specs.Laws.{BzlViewIsProper}
 use Rattle.bz_bzl_value.specs.Proper.{IsProperBzlItem}
 use Rattle.bz_bzl_value.specs.View.{ReadStatements, stated, indented_lines_before, block_items, bzl_items, bzl_view_of}
 use Rattle.bz_bzl_value.proofs.HeadParts.{after_stmt}
-use Rattle.bz_bzl_value.proofs.KeptBranches.{Lines}
 use Rattle.bz_bzl_value.proofs.ProperBranches.{AllKnown, before_lines}
 use Rattle.bz_bzl_value.proofs.ProperSuites.{part_known}
-use Rattle.bz_bzl_value.proofs.ProperValues.{AreSome, blocks_proper, statements_proper}
-
--- ---- the leaves
+use Rattle.bz_bzl_value.proofs.ProperValues.{AreSome, statements_proper}
+use Rattle.bz_bzl_value.proofs.SuiteLines.{Lines}
+use Rattle.bz_bzl_value.proofs.BuildItems.{all_wide}
 
 -- ---- the file
 
 abbrev AreProperItems : List BzlItem → Type 0
 AreProperItems items = AllByRecursion IsProperBzlItem items
 
+-- comment lines on their own
+alone_proper : (groups : List (List Bytes)) → Groups groups → AreProperItems (block_items groups)
+alone_proper groups h = (all_wide (blocks groups) (blocks_proper groups h)).0
+
 -- statements and the end, where these lines are before the first of them
 items_proper : (lines : Lines) (xs : List Part) → AreFine lines → Several (IsNonterminal s.stmt) (Fits IsNonterminal (tok s.end done)) xs → AllKnown xs → AtParts BzlStands Begins Begins xs → AreProperItems (bzl_items lines xs)
 items_proper lines [] f h g at_ = tt
 items_proper lines (p.Leaf l ∷ []) f (inl h) g at_ =
     let groups : List (List Bytes) = groups_of lines in
-    all_joined IsProperBzlItem (block_items groups) [] (blocks_proper groups (groups_fine lines f)) tt
+    all_joined IsProperBzlItem (block_items groups) [] (alone_proper groups (groups_fine lines f)) tt
 items_proper lines (p.Leaf l ∷ y ∷ xs) f (inl h) g at_ = absurd h.1
 items_proper lines (p.Leaf l ∷ xs) f (inr h) g at_ = no_such h.0
 items_proper lines (Node' kind n r ∷ xs) f (inl h) g at_ = no_such h.0
@@ -53,7 +57,7 @@ items_proper lines (Node' kind n r ∷ xs) f (inr h) g at_ =
     let read : ReadStatements (List Statement) = (stated (Node' kind n r)).statement (last_group groups) after in
     let there : AtParts BzlStands Begins Begins xs = subst (λ z. AtParts BzlStands Begins z xs) (after_stmt (Node' kind n r) Begins Begins h.0) at_.1 in
     let one : AreSome read.0 × AreFine read.1 = g.0.statement h.0 at_.0 (last_group groups) after (groups_last groups fine) (before_lines xs [] g.1 tt) in
-    all_joined IsProperBzlItem (block_items (all_but_last groups)) (map b.Statement read.0 ++ bzl_items read.1 xs) (blocks_proper (all_but_last groups) (groups_front groups fine))
+    all_joined IsProperBzlItem (block_items (all_but_last groups)) (map b.Statement read.0 ++ bzl_items read.1 xs) (alone_proper (all_but_last groups) (groups_front groups fine))
     (all_joined IsProperBzlItem (map b.Statement read.0) (bzl_items read.1 xs) (statements_proper read.0 one.0.1) (items_proper read.1 xs one.1 h.1 g.1 there))
 
 all_known : (xs : List Part) → AllByRecursion LegalBzlPart xs → AllByRecursion IsLexed (flat_map leaves_part xs) → AllByRecursion IsCodedLeaf (flat_map leaves_part xs) → AllKnown xs

@@ -11,7 +11,7 @@ use Rattle.bz_grammar.specs.Shapes as s
 use Rattle.bz_grammar.specs.Shapes.{Shape, Fits, has_token, is_kind}
 use Rattle.bz_grammar.specs.Legal.{IsNonterminal}
 use Rattle.bz_grammar.specs.Spots.{Spot, Begins, Within, after_part, BzlStands, AtParts}
-use Rattle.bz_grammar.specs.Suites.{def_header}
+use Rattle.bz_grammar.specs.Suites.{def_header, for_header}
 use Rattle.bz_grammar.proofs.Balance.{no_such}
 use Rattle.bz_value.specs.declared.value.Expr.{Expr}
 use Rattle.bz_value.specs.declared.value.Form.{Form}
@@ -19,19 +19,20 @@ use Rattle.bz_value.specs.Comments.{no_comments}
 use Rattle.bz_value.specs.Gaps.{has_newline}
 use Rattle.bz_value.specs.LineShapes.{line_shape}
 use Rattle.bz_value.specs.Proper.{IsComment, MaybeComment}
-use Rattle.bz_value.specs.Roots.{root, each_with_comma}
+use Rattle.bz_value.specs.Roots.{root}
 use Rattle.bz_value.specs.Roots as r
 use Rattle.bz_value.proofs.FormParts.{AreItemsBy}
 use Rattle.bz_value.proofs.GapComments.{Group, all_joined}
 use Rattle.bz_value.proofs.Rooted.{Same, more, fits_same, itself, same_itself, commas_same, after_same_parts, places}
 use Rattle.bz_hosts.specs.View.{Seen, seen, loose_in, row_exprs}
+use Rattle.bz_hosts.proofs.Alternating.{Alternating}
 use Rattle.bz_hosts.proofs.InnerParts.{token_opens}
 use Rattle.bz_hosts.proofs.SeenParts.{AllDecoded, in_decoded, comments_made, no_break_made, root_made, after_made}
 use Rattle.bz_hosts.proofs.ProperParts.{FoundProper, found_proper, row_roots}
 use Rattle.bz_hosts.proofs.RowParts.{AllFit}
-use Rattle.bz_hosts.proofs.SequenceParts.{Alternate}
 use Rattle.bz_bzl_value.specs.Proper.{AreHeaderParts, AreParameters, IsHeader, header_end}
 use Rattle.bz_bzl_value.specs.View.{head, def_head, row_head}
+use Rattle.bz_bzl_value.proofs.Compounds.{Header, function, loop, branch, kind_of, shape_of, IsHead}
 use Rattle.bz_bzl_value.proofs.HeadParts.{FitsHeader, with_colon, closed_row, Named}
 
 -- ---- comments in the parts of a header
@@ -82,12 +83,6 @@ row_proper kind shape xs e h g above suffix a m =
       comments = (before_fine above (map seen xs) a g.decoded, m);
     }
 
-pub if_proper : (shape : Shape) (xs : List Part) → FitsHeader shape xs → HeadKnown xs → HeadProper k.IfStmt shape xs
-if_proper shape xs h g = row_proper k.IfStmt shape xs refl h g
-
-pub for_proper : (shape : Shape) (xs : List Part) → FitsHeader shape xs → HeadKnown xs → HeadProper k.ForStmt shape xs
-for_proper shape xs h g = row_proper k.ForStmt shape xs refl h g
-
 -- ---- parameters
 
 parameters_of : (xs : List Expr) → AreItemsBy line_shape xs → AreParameters xs
@@ -96,12 +91,12 @@ parameters_of (x ∷ xs) h = (h.0, h.1, h.2, parameters_of xs h.3)
 
 -- def, a name and parameters
 named_proper : (word name opener : Part) (ps : List Part) → has_token (s.one_keyword (codes "def")) word ≡ true → has_token s.name name ≡ true → has_token s.open_round opener ≡ true
-    → Alternate ps → Fits IsNonterminal (s.enclosed s.param s.close_round (s.tok s.colon_mark s.done)) (closed_row ps) → HeadKnown (word ∷ name ∷ opener ∷ ps) → HeadProper k.Def def_header (word ∷ name ∷ opener ∷ ps)
-named_proper word name opener ps h i j alternate fits g above suffix a m =
+    → Alternating s.comma_mark ps → Fits IsNonterminal (s.enclosed s.param s.close_round (s.tok s.colon_mark s.done)) (closed_row ps) → HeadKnown (word ∷ name ∷ opener ∷ ps) → HeadProper k.Def def_header (word ∷ name ∷ opener ∷ ps)
+named_proper word name opener ps h i j alternating fits g above suffix a m =
     let ss : List Seen = map seen (word ∷ name ∷ opener ∷ ps) in
     let f : Form = def_head ss above suffix in
     let there : AtParts BzlStands Begins Within ps = subst (λ z. AtParts BzlStands Begins z ps) (token_opens s.open_round opener Begins _ refl j) g.there.1.1.1 in
-    let inside : FoundProper line_shape ps (map seen ps) = found_proper line_shape Begins ps g.decoded.1.1.1 g.fit.1.1.1 there alternate in
+    let inside : FoundProper line_shape ps (map seen ps) = found_proper line_shape Begins ps g.decoded.1.1.1 g.fit.1.1.1 there alternating in
     let same : Same (word ∷ name ∷ r.mark_leaf 40 ∷ closed_row ps) (map root f.parts ++ header_end f) =
     more word _ _ _ (root_made word no_comments false) (
     more name _ _ _ (root_made name no_comments false) (
@@ -117,7 +112,13 @@ named_proper word name opener ps h i j alternate fits g above suffix a m =
       comments = (before_fine above (take 3 ss) a (g.decoded.0, (g.decoded.1.0, (g.decoded.1.1.0, tt))), m);
     }
 
-pub def_proper : (word : Part) (front : List Part) → has_token (s.one_keyword (codes "def")) word ≡ true → Named front → HeadKnown (word ∷ front) → HeadProper k.Def def_header (word ∷ front)
+def_proper : (word : Part) (front : List Part) → has_token (s.one_keyword (codes "def")) word ≡ true → Named front → HeadKnown (word ∷ front) → HeadProper k.Def def_header (word ∷ front)
 def_proper word front h w g =
     subst (λ xs. HeadProper k.Def def_header (word ∷ xs)) (sym w.cut)
-    (named_proper word w.name w.opener w.following h w.named w.opens w.parameters.alternate w.parameters.fits (subst (λ xs. HeadKnown (word ∷ xs)) w.cut g))
+    (named_proper word w.name w.opener w.following h w.named w.opens w.parameters.alternating w.parameters.fits (subst (λ xs. HeadKnown (word ∷ xs)) w.cut g))
+
+pub head_proper : (h : Header) (hs : List Part) → IsHead h hs → HeadKnown hs → HeadProper (kind_of h) (shape_of h) hs
+head_proper function [] w g = absurd w
+head_proper function (word ∷ front) w g = def_proper word front w.0 w.1 g
+head_proper loop hs w g = row_proper k.ForStmt for_header hs refl w g
+head_proper (branch t) hs w g = row_proper k.IfStmt (shape_of (branch t)) hs refl w g

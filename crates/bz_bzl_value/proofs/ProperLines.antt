@@ -1,22 +1,21 @@
 -- What a suite takes of the lines of gaps is comments.
-use Rattle.std.proofs.Common.{ℕ, Bool, true, false, List, [], ◌∷◌, ◌++◌, if◌then◌else◌}
+use Rattle.std.proofs.Common.{ℕ, List, [], ◌∷◌, sym, subst, take, drop}
+use Rattle.std.proofs.lemmas.List.{take-append-drop}
 use Rattle.bz_items.specs.Characters.{Bytes}
-use Rattle.bz_value.specs.Proper.{IsComment, MaybeComment}
-use Rattle.bz_value.proofs.GapComments.{AreFine, Group, all_joined, fine_comments}
-use Rattle.bz_value.specs.Gaps.{GapLine, comments_in}
-use Rattle.bz_bzl_value.specs.View.{end_comments, after_end, is_taken_line, only_comment}
-use Rattle.bz_bzl_value.proofs.KeptBranches.{Lines}
+use Rattle.bz_value.specs.Proper.{MaybeComment}
+use Rattle.bz_value.proofs.GapComments.{AreFine, Group, fine_comments}
+use Rattle.bz_hosts.proofs.SeenParts.{all_parted}
+use Rattle.bz_bzl_value.specs.BzlHosts.{reach}
+use Rattle.bz_bzl_value.specs.View.{end_comments, after_end, only_comment}
+use Rattle.bz_bzl_value.proofs.SuiteLines.{Lines, ends_are, rest_is}
 
 pub only_fine : (texts : List Bytes) → Group texts → MaybeComment (only_comment texts)
 only_fine [] h = tt
 only_fine (text ∷ texts) h = h.0
 
-ends_step : (b : Bool) (m : ℕ) (x : GapLine) (lines : Lines) → AreFine (x ∷ lines) → Group (end_comments m lines) × AreFine (after_end m lines)
-    → Group (if b then comments_in (x ∷ []) ++ end_comments m lines else []) × AreFine (if b then after_end m lines else x ∷ lines)
-ends_step true m x lines h w = (all_joined IsComment (comments_in (x ∷ [])) (end_comments m lines) (fine_comments (x ∷ []) (h.0, tt)) w.0, w.1)
-ends_step false m x lines h w = (tt, h)
-
 -- the end comments of a suite, and what is left after them
 pub ends_fine : (m : ℕ) (lines : Lines) → AreFine lines → Group (end_comments m lines) × AreFine (after_end m lines)
-ends_fine m [] h = (tt, tt)
-ends_fine m (x ∷ lines) h = ends_step (is_taken_line m x.indent x.comment) m x lines h (ends_fine m lines h.1)
+ends_fine m lines h =
+    let front : Lines = take (reach m lines) lines in
+    let w = all_parted (λ line. MaybeComment line.comment) front (drop (reach m lines) lines) (subst AreFine (sym (take-append-drop (reach m lines) lines)) h) in
+    (subst Group (sym (ends_are m lines)) (fine_comments front w.0), subst AreFine (sym (rest_is m lines)) w.1)

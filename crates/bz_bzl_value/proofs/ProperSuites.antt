@@ -9,7 +9,7 @@ use Rattle.bz_grammar.specs.declared.kind.Kind.TheVariants as k
 use Rattle.bz_grammar.specs.declared.tree.Part.{Part, Row_of-Part, end_of-Part, more_of-Part, Node', items-the_row-Part}
 use Rattle.bz_grammar.specs.declared.tree.Part.TheVariants as p
 use Rattle.bz_grammar.specs.Shapes as s
-use Rattle.bz_grammar.specs.Shapes.{Fits, Several, done, bzl_shape, nonterminal_has_kind, has_token}
+use Rattle.bz_grammar.specs.Shapes.{Fits, bzl_shape, nonterminal_has_kind}
 use Rattle.bz_grammar.specs.Legal.{IsNonterminal, LegalBzlPart, LegalBzlRow}
 use Rattle.bz_grammar.specs.Spell.{leaves_part, leaves_row}
 use Rattle.bz_grammar.specs.Spots.{Spot, Begins, Along, onward, after_part, BzlStands, AtLeaves, AtParts}
@@ -33,12 +33,13 @@ use Rattle.bz_bzl_value.specs.declared.value.Statement.TheVariants as st
 use Rattle.bz_bzl_value.specs.Proper.{is_simple, has_simple_kind, IsProperStatement}
 use Rattle.bz_bzl_value.specs.View.{ReadStatements, stated, simple_statements, line_read, indented_lines_before, walked, margin_of, suite_read, suite_in, suffix_before, only_comment, statement_read, compound_read, branches}
 use Rattle.bz_bzl_value.proofs.HeadParts.{after_stmt}
-use Rattle.bz_bzl_value.proofs.KeptBranches.{Lines}
 use Rattle.bz_bzl_value.proofs.KeptGaps.{newline_ends}
+use Rattle.bz_bzl_value.proofs.KeptSuites.{StatementParts, several_statements}
 use Rattle.bz_bzl_value.proofs.Parts.{part_of, parts_seen, stated_rows}
-use Rattle.bz_bzl_value.proofs.ProperBranches.{Reads, Ends, Known, AllKnown, all_decoded, before_lines, Compound, compound_statement}
+use Rattle.bz_bzl_value.proofs.ProperBranches.{Reads, Ends, Known, AllKnown, all_decoded, before_lines, Compound, if_proper, for_proper, def_proper}
 use Rattle.bz_bzl_value.proofs.ProperLines.{only_fine, ends_fine}
 use Rattle.bz_bzl_value.proofs.ProperValues.{HasSome, AreSome, some_joined, compound_proper}
+use Rattle.bz_bzl_value.proofs.SuiteLines.{Lines}
 
 -- ---- simple statements
 
@@ -92,9 +93,6 @@ line_reads outer here xs e h g at_ above after a f =
 
 -- ---- statements one after the other
 
-abbrev pub StatementParts : List Part → Type 0
-StatementParts xs = AllByRecursion (λ x. IsNonterminal s.stmt x) xs
-
 -- the statements are proper, and what the lines left say is comments
 abbrev Walks : ReadStatements (List Statement) → Type 0
 Walks read = AllByRecursion IsProperStatement read.0 × AreFine read.1
@@ -123,11 +121,6 @@ suite_reads outer x xs h g at_ after f =
     let fine : AreFine lines = before_lines (x ∷ xs) [] g tt in
     let all : Walks (walked lines (map stated (x ∷ xs)) after) = walked_proper outer lines (x ∷ xs) after fine h g at_ f in
     ((walked_some lines x xs after fine h.0 g.0 g.1 at_.0 f, all.0), ends_fine (margin_of (map stated (x ∷ xs))) (walked lines (map stated (x ∷ xs)) after).1 all.1)
-
-several_statements : (xs : List Part) → Several (IsNonterminal s.stmt) (Fits IsNonterminal done) xs → StatementParts xs
-several_statements [] h = tt
-several_statements (x ∷ xs) (inl h) = absurd h
-several_statements (x ∷ xs) (inr h) = (h.0, several_statements xs h.1)
 
 -- ---- nodes
 
@@ -159,15 +152,16 @@ node_suite k.Suite xs h f g at_ = suite_node xs f g at_
 node_suite _ xs h f g at_ = no_such h
 
 compound_reads : (kind : Kind) (xs : List Part) → Compound kind xs → Reads (compound_read kind (map stated xs))
-compound_reads kind xs h above after a f =
+compound_reads kind [] h above after a f = absurd h
+compound_reads kind (x ∷ xs) h above after a f =
     let all = h above after after a f f in
-    ((tt, (compound_proper (branches kind [] above after (map stated xs) after).0 all.0 all.1.0, tt)), all.1.1)
+    ((tt, (compound_proper (branches kind [] above after (map stated (x ∷ xs)) after).0 all.0 all.1.0, tt)), all.1.1)
 
 node_statement : (kind : Kind) (xs : List Part) → nonterminal_has_kind s.stmt kind ≡ true → Fits IsNonterminal (bzl_shape kind) xs → AllKnown xs → AtParts BzlStands Begins Begins xs → Reads (statement_read kind (map stated xs))
 node_statement k.Line xs h f g at_ = subst (λ ss. Reads (line_read ss)) (sym (parts_seen xs)) (line_reads Begins Begins xs refl f g at_)
-node_statement k.Def xs h f g at_ = compound_reads k.Def xs (compound_statement k.Def xs refl refl f g at_)
-node_statement k.IfStmt xs h f g at_ = compound_reads k.IfStmt xs (compound_statement k.IfStmt xs refl refl f g at_)
-node_statement k.ForStmt xs h f g at_ = compound_reads k.ForStmt xs (compound_statement k.ForStmt xs refl refl f g at_)
+node_statement k.Def xs h f g at_ = compound_reads k.Def xs (def_proper xs f g at_)
+node_statement k.IfStmt xs h f g at_ = compound_reads k.IfStmt xs (if_proper xs f g at_)
+node_statement k.ForStmt xs h f g at_ = compound_reads k.ForStmt xs (for_proper xs f g at_)
 node_statement _ xs h f g at_ = no_such h
 
 -- ---- parts

@@ -1,17 +1,13 @@
 -- Statements and headers are proper where the lists that they hold are.
 use Rattle.std.proofs.Common.{◌≡◌, List, [], ◌∷◌, ◌++◌, refl, sym, ap, ◌∙◌, subst, map}
 use Rattle.std.specs.List.{All, AllByRecursion}
-use Rattle.std.proofs.lemmas.List.Elements.{All-from_recursion}
-use Rattle.bz_items.specs.Characters.{Bytes}
 use Rattle.bz_value.specs.declared.value.Form.{Form}
 use Rattle.bz_value.specs.Proper.{IsComment}
-use Rattle.bz_value.proofs.GapComments.{Groups}
 use Rattle.bz_bzl_value.specs.declared.value.Statement.{Statement, Row_of-Statement, end_of-Statement, more_of-Statement, Row_of-Branch, end_of-Branch, more_of-Branch, items-the_row-Branch, items_hidden-the_row-Branch-1, items-the_row-Statement, items_shown-the_row-Statement-0}
 use Rattle.bz_bzl_value.specs.declared.value.Statement.TheVariants as s
 use Rattle.bz_bzl_value.specs.declared.value.Branch.{Branch}
 use Rattle.bz_bzl_value.specs.declared.value.BzlItem.TheVariants as b
 use Rattle.bz_bzl_value.specs.Proper.{IsProperStatement, AreProperStatements, AreProperBranches, AreHeaders, IsSome, heads, IsProperBzlItem}
-use Rattle.bz_bzl_value.specs.View.{block_items}
 use Rattle.bz_bzl_value.proofs.KeptValues.{branches_in}
 
 -- ---- lists that aren't empty
@@ -59,12 +55,6 @@ compound_proper xs h i =
     (subst AreHeaders (sym (heads_row row.0 row.1 ∙ ap (map (λ x. x.head)) same)) h, branches_row row.0 row.1 (subst (AllByRecursion HasSuite) (sym same) i))
 
 -- ---- items of a file
-
--- comment lines on their own
-pub blocks_proper : (groups : List (List Bytes)) → Groups groups → AllByRecursion IsProperBzlItem (block_items groups)
-blocks_proper [] h = tt
-blocks_proper ([] ∷ groups) h = blocks_proper groups h.1
-blocks_proper ((text ∷ group) ∷ groups) h = (((λ e. cc), All-from_recursion IsComment (text ∷ group) h.0), blocks_proper groups h.1)
 
 pub statements_proper : (xs : List Statement) → AllByRecursion IsProperStatement xs → AllByRecursion IsProperBzlItem (map b.Statement xs)
 statements_proper [] h = tt

@@ -7,7 +7,7 @@ use Rattle.bz_grammar.specs.declared.kind.Kind.{Kind}
 use Rattle.bz_grammar.specs.declared.tree.Part.{Part, Node'}
 use Rattle.bz_grammar.specs.declared.tree.Part.TheVariants as p
 use Rattle.bz_grammar.specs.Shapes as s
-use Rattle.bz_grammar.specs.Shapes.{Terminal, Fits, Times, no_more, once_more, tok, sub, owned, done, bzl_shape, has_token}
+use Rattle.bz_grammar.specs.Shapes.{has_token}
 use Rattle.bz_grammar.specs.Spell.{leaves_part}
 use Rattle.bz_hosts.specs.Hosts.{Measured, sizes, measured}
 use Rattle.bz_hosts.proofs.Parts.{size, size_leaves, measured_part}

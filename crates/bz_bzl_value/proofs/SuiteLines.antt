@@ -1,15 +1,16 @@
 -- The lines that suites leave before a leaf, by the numbers of their leaves.
-use Rattle.std.proofs.Common.{◌≡◌, ◌≢◌, ℕ, zero, suc, ◌<◌, ◌≤◌, Bool, true, false, not, ◌&&◌, List, [], ◌∷◌, ◌++◌, inl, inr, Option, Some, None, length, refl, sym, ap, ◌∙◌, map, take, drop, append-nil, nat_eq, nat_lt, nat_le, if◌then◌else◌, arith}
+use Rattle.std.proofs.Common.{◌≡◌, ◌≢◌, ℕ, zero, suc, ◌<◌, ◌≤◌, Bool, true, false, not, ◌&&◌, List, [], ◌∷◌, ◌++◌, inl, inr, Option, Some, None, length, refl, sym, ap, ◌∙◌, take, drop, append-nil, nat_eq, nat_lt, nat_le, if◌then◌else◌, arith}
 use Rattle.std.specs.List.{AllByRecursion}
 use Rattle.std.proofs.lemmas.Bool.{cases_Bool, cond-false, ne_eqb}
 use Rattle.std.proofs.lemmas.Bool.Decides.{nat_tests}
 use Rattle.bz_lex.specs.declared.leaf.Leaf.{Leaf}
 use Rattle.bz_items.specs.Characters.{Bytes}
-use Rattle.bz_value.specs.Gaps.{GapLine, as_list, comments_in, lines_of}
-use Rattle.bz_hosts.specs.Hosts.{leaf_gap}
+use Rattle.bz_value.specs.Gaps.{GapLine, as_list, comments_in, lines_of, after_first_line}
+use Rattle.bz_hosts.specs.Hosts.{leaf_gap, lines_before}
 use Rattle.bz_hosts.proofs.Walked.{gap_of, last_gap}
-use Rattle.bz_bzl_value.specs.BzlHosts.{Suite, is_further_out, reach, left_by, lines_above}
+use Rattle.bz_bzl_value.specs.BzlHosts.{Suite, is_further_out, reach, left_by}
 use Rattle.bz_bzl_value.specs.View.{is_taken_line, end_comments, after_end}
+use Rattle.bz_hosts.proofs.SeenParts.{all_mapped}
 
 abbrev pub Lines : Type 0
 Lines = List GapLine
@@ -66,27 +67,20 @@ none_leave a n (x ∷ xs) lines h =
     ∙ none_leave a n xs lines h.1
 
 -- suites among the leaves after lo, which end at hi or before
-abbrev Between : ℕ → ℕ → Suite → Type 0
+abbrev pub Between : ℕ → ℕ → Suite → Type 0
 Between lo hi x = (lo < x.first) × (x.first < x.following) × (x.following ≤ hi)
 
 abbrev pub AllBetween : ℕ → ℕ → List Suite → Type 0
 AllBetween lo hi xs = AllByRecursion (Between lo hi) xs
 
 pub all_wider : (lo hi lo' hi' : ℕ) → lo' ≤ lo → hi ≤ hi' → (xs : List Suite) → AllBetween lo hi xs → AllBetween lo' hi' xs
-all_wider lo hi lo' hi' l u [] h = tt
-all_wider lo hi lo' hi' l u (x ∷ xs) h = ((omega (arith, h.0.0), h.0.1, omega (arith, h.0.2)), all_wider lo hi lo' hi' l u xs h.1)
-
-pub all_both : (lo hi : ℕ) (xs ys : List Suite) → AllBetween lo hi xs → AllBetween lo hi ys → AllBetween lo hi (xs ++ ys)
-all_both lo hi [] ys h i = i
-all_both lo hi (x ∷ xs) ys h i = (h.0, all_both lo hi xs ys h.1 i)
+all_wider lo hi lo' hi' l u xs h = all_mapped (Between lo hi) (Between lo' hi') (λ x b. (omega (arith, b.0), b.1, omega (arith, b.2))) xs h
 
 passed : (lo hi n : ℕ) → hi < n → (xs : List Suite) → AllBetween lo hi xs → AllByRecursion (Apart n) xs
-passed lo hi n l [] h = tt
-passed lo hi n l (x ∷ xs) h = (λ e. omega (arith, h.0.2, e), passed lo hi n l xs h.1)
+passed lo hi n l xs h = all_mapped (Between lo hi) (Apart n) (λ x b e. omega (arith, b.2, e)) xs h
 
 ahead : (lo hi n : ℕ) → n ≤ lo → (xs : List Suite) → AllBetween lo hi xs → AllByRecursion (Apart n) xs
-ahead lo hi n l [] h = tt
-ahead lo hi n l (x ∷ xs) h = (λ e. omega (arith, h.0.0, h.0.1, e), ahead lo hi n l xs h.1)
+ahead lo hi n l xs h = all_mapped (Between lo hi) (Apart n) (λ x b e. omega (arith, b.0, b.1, e)) xs h
 
 pub past : (a n lo hi : ℕ) (xs : List Suite) (lines : Lines) → hi < n → AllBetween lo hi xs → left_by a n xs lines ≡ lines
 past a n lo hi xs lines l h = none_leave a n xs lines (passed lo hi n l xs h)
@@ -100,9 +94,9 @@ pub first_at : (back : List Leaf) → leaf_gap back zero ≡ gap_of back
 first_at [] = refl
 first_at (l ∷ ls) = refl
 
-pub lines_at : (ls back : List Leaf) → 0 < length ls → lines_above (ls ++ back) (length ls) ≡ drop 1 (lines_of (last_gap ls)) ++ lines_of (gap_of back)
+pub lines_at : (ls back : List Leaf) → 0 < length ls → lines_before (ls ++ back) (length ls) ≡ after_first_line (lines_of (last_gap ls)) ++ lines_of (gap_of back)
 lines_at [] back h = absurd (omega arith)
-lines_at (l ∷ []) back h = ap (λ (g : Bytes). drop 1 (lines_of l.gap) ++ lines_of g) (first_at back)
+lines_at (l ∷ []) back h = ap (λ (g : Bytes). after_first_line (lines_of l.gap) ++ lines_of g) (first_at back)
 lines_at (l ∷ m ∷ ls) back h = lines_at (m ∷ ls) back (omega arith)
 
 pub gap_joined : (ls back : List Leaf) → 0 < length ls → gap_of (ls ++ back) ≡ gap_of ls

@@ -1,11 +1,11 @@
 -- What is read of leaves, and the lines before the leaf after them.
-use Rattle.std.proofs.Common.{◌≡◌, ℕ, ◌+◌, ◌<◌, List, [], ◌∷◌, ◌++◌, Some, None, length, refl, sym, ap, ◌∙◌, append_assoc, length-append, drop, arith}
+use Rattle.std.proofs.Common.{◌≡◌, ℕ, ◌+◌, ◌<◌, List, [], ◌∷◌, ◌++◌, Some, None, length, refl, sym, ap, ◌∙◌, append_assoc, length-append, arith}
 use Rattle.bz_lex.specs.declared.leaf.Leaf.{Leaf}
 use Rattle.bz_items.specs.Characters.{Bytes}
-use Rattle.bz_value.specs.Gaps.{lines_of}
-use Rattle.bz_hosts.specs.Hosts.{Hosted}
+use Rattle.bz_value.specs.Gaps.{lines_of, after_first_line}
+use Rattle.bz_hosts.specs.Hosts.{Hosted, lines_before}
 use Rattle.bz_hosts.proofs.Walked.{gap_of, last_gap, last_after}
-use Rattle.bz_bzl_value.specs.BzlHosts.{Suite, Stretch, simple_line, header, suites_in, SuitesAndLeaves, lines_above}
+use Rattle.bz_bzl_value.specs.BzlHosts.{Suite, Stretch, simple_line, header, suites_in, SuitesAndLeaves}
 use Rattle.bz_bzl_value.proofs.SuiteLines.{Lines, lines_at}
 
 pub last_joined : (ls ms : List Leaf) → 0 < length ms → last_gap (ls ++ ms) ≡ last_gap ms
@@ -27,10 +27,10 @@ with_left hs lines = (hs, lines)
 
 module _ (page : SuitesAndLeaves) where
   -- the lines before the leaf after it
-  pub lines_there : (n e : ℕ) (front ls back : List Leaf) → 0 < length ls → n + length ls ≡ e → page.leaves ≡ front ++ (ls ++ back) → length front ≡ n → lines_above page.leaves e ≡ drop 1 (lines_of (last_gap ls)) ++ lines_of (gap_of back)
+  pub lines_there : (n e : ℕ) (front ls back : List Leaf) → 0 < length ls → n + length ls ≡ e → page.leaves ≡ front ++ (ls ++ back) → length front ≡ n → lines_before page.leaves e ≡ after_first_line (lines_of (last_gap ls)) ++ lines_of (gap_of back)
   lines_there n e front ls back some up i d =
       let len = length-append front ls in
       let there : e ≡ length (front ++ ls) = omega arith in
-      ap (λ (z : List Leaf). lines_above z e) (i ∙ sym (append_assoc front ls back))
-      ∙ (ap (lines_above ((front ++ ls) ++ back)) there
-      ∙ (lines_at (front ++ ls) back (omega arith) ∙ ap (λ (g : Bytes). drop 1 (lines_of g) ++ lines_of (gap_of back)) (last_joined front ls some)))
+      ap (λ (z : List Leaf). lines_before z e) (i ∙ sym (append_assoc front ls back))
+      ∙ (ap (lines_before ((front ++ ls) ++ back)) there
+      ∙ (lines_at (front ++ ls) back (omega arith) ∙ ap (λ (g : Bytes). after_first_line (lines_of g) ++ lines_of (gap_of back)) (last_joined front ls some)))

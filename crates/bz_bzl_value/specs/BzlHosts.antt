@@ -1,7 +1,7 @@
 -- Hosts of comments in a .bzl file by their places in the whole text. The leaves of a tree are numbered from 0, in the order of
 -- the text. The simple statements of a line and the items of a sequence are hosts as in a BUILD file; so is each header, up to
 -- its colon, and the parameters of a function are a sequence. A suite is given by the numbers of its leaves and by its margin.
-use Rattle.std.specs.Prelude.{ℕ, zero, suc, ◌+◌, Bool, false, ◌&&◌, ◌||◌, List, [], ◌∷◌, ◌++◌, Option, Some, None, length, map, take, drop, nat_eq, nat_lt, if◌then◌else◌}
+use Rattle.std.specs.Prelude.{ℕ, suc, ◌+◌, Bool, false, ◌&&◌, ◌||◌, List, [], ◌∷◌, ◌++◌, Option, Some, None, length, map, take, drop, nat_eq, nat_lt, if◌then◌else◌}
 use Rattle.std.specs.List.{flat_map}
 use Rattle.bz_lex.specs.declared.leaf.Leaf.{Leaf}
 use Rattle.bz_grammar.specs.declared.kind.Kind.{Kind}
@@ -16,9 +16,9 @@ use Rattle.bz_grammar.specs.Shapes.{has_token, is_kind}
 use Rattle.bz_value.specs.declared.value.Expr.{Expr}
 use Rattle.bz_value.specs.declared.value.Form.{Form}
 use Rattle.bz_items.specs.Characters.{Bytes}
-use Rattle.bz_value.specs.Gaps.{GapLine, all_in, comments_in, lines_of}
+use Rattle.bz_value.specs.Gaps.{GapLine, all_in, comments_in}
 use Rattle.bz_value.specs.Proper.{comments_of}
-use Rattle.bz_hosts.specs.Hosts.{Comment, comments_from, Region, host, between, Measured, sizes, measured, in_row, hosts_from, above, texts_at, Hosted, block, hosted, ended, hosted_at, hosts_alone, with_group, leaf_gap, right_above, bare_lines, hosted_by, inside_expr}
+use Rattle.bz_hosts.specs.Hosts.{Comment, comments_from, Region, host, between, Measured, sizes, measured, in_row, hosts_from, above, texts_at, Hosted, block, hosted, ended, hosted_at, hosts_alone, with_group, leaf_gap, lines_before, right_above, bare_lines, hosted_by, inside_expr}
 use Rattle.bz_bzl_value.specs.declared.value.Statement.{Statement, Simple, Compound', Row_of-Statement, end_of-Statement, more_of-Statement, Row_of-Branch, end_of-Branch, more_of-Branch}
 use Rattle.bz_bzl_value.specs.declared.value.BzlItem.{BzlItem}
 use Rattle.bz_bzl_value.specs.declared.value.BzlItem.TheVariants as b
@@ -104,12 +104,6 @@ pub record SuitesAndLeaves : Type 0 where
 
 -- ---- comment lines between statements
 
--- The lines before a leaf that begins a statement or a header, or is the end: those of its gap, and before them those in the gap
--- of the Newline before it, but for that gap's first.
-abbrev pub lines_above : List Leaf → ℕ → List GapLine
-lines_above leaves zero = lines_of (leaf_gap leaves zero)
-lines_above leaves (suc n) = drop 1 (lines_of (leaf_gap leaves n)) ++ lines_of (leaf_gap leaves (suc n))
-
 abbrev pub is_further_out : ℕ → ℕ → Option Bytes → Bool
 is_further_out margin indent None = false
 is_further_out margin indent (Some comment) = nat_lt indent margin
@@ -131,7 +125,7 @@ left_by after n (own ∷ suites) lines =
 abbrev pub suite_end : SuitesAndLeaves → Option Suite → List Bytes
 suite_end page None = []
 suite_end page (Some own) =
-    let lines : List GapLine = left_by own.first own.following page.suites (lines_above page.leaves own.following) in
+    let lines : List GapLine = left_by own.first own.following page.suites (lines_before page.leaves own.following) in
     comments_in ((take (reach own.margin lines) lines))
 
 abbrev pub begins_suite : ℕ → List Suite → Bool
@@ -140,7 +134,7 @@ begins_suite n (own ∷ suites) = nat_eq own.first n || begins_suite n suites
 
 -- the lines before a leaf that are left by all suites that end there
 abbrev pub left_above : SuitesAndLeaves → ℕ → List GapLine
-left_above page n = (left_by 0 n page.suites (lines_above page.leaves n))
+left_above page n = (left_by 0 n page.suites (lines_before page.leaves n))
 
 -- The comment lines above a statement in a suite or a header: all that are left; above the first statement of a suite those of
 -- its gap, since what is in the gap of the newline before it is the header's.

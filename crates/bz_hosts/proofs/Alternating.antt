@@ -7,7 +7,13 @@ use Rattle.bz_grammar.specs.declared.tree.Part.TheVariants as p
 use Rattle.bz_grammar.specs.Shapes.{Terminal, is_one_of}
 use Rattle.bz_hosts.specs.Hosts.{Region, host, sizes, measured, is_word_class, is_item_part, hosts_from}
 use Rattle.bz_hosts.proofs.Around.{AllInside, all_wider}
+use Rattle.bz_hosts.proofs.InnerParts.{inner_kind}
 use Rattle.bz_hosts.proofs.Parts.{size, measured_part}
+
+-- a node inside a line, a name, a number or a string
+abbrev pub IsItem : Part → Type 0
+IsItem (p.Leaf l) = is_word_class l.class ≡ true
+IsItem (Node' kind n r) = inner_kind kind ≡ true
 
 -- a token that is no item; whether it is a separator
 abbrev pub IsMark : List Terminal → Bool → Part → Type 0
@@ -17,23 +23,27 @@ IsMark separators b (Node' kind n r) = ⊥
 abbrev pub Alternating : List Terminal → List Part → Type 0
 Alternating separators [] = ⊥
 Alternating separators (z ∷ []) = IsMark separators false z
-Alternating separators (x ∷ z ∷ []) = (is_item_part x ≡ true) × IsMark separators false z
-Alternating separators (x ∷ y ∷ z ∷ xs) = (is_item_part x ≡ true) × IsMark separators true y × Alternating separators (z ∷ xs)
+Alternating separators (x ∷ z ∷ []) = IsItem x × IsMark separators false z
+Alternating separators (x ∷ y ∷ z ∷ xs) = IsItem x × IsMark separators true y × Alternating separators (z ∷ xs)
+
+item_part : (x : Part) → IsItem x → is_item_part x ≡ true
+item_part (p.Leaf l) h = h
+item_part (Node' kind n r) h = refl
 
 module _ (separators : List Terminal) (n : ℕ) where
   pub hosts_closed : (z : Part) → IsMark separators false z → hosts_from separators n (map measured (z ∷ [])) ≡ []
   hosts_closed (p.Leaf l) h = rw h.0 refl
   hosts_closed (Node' kind s r) h = absurd h
 
-  pub hosts_last : (x : Part) (l : Leaf) → is_item_part x ≡ true → IsMark separators false (p.Leaf l) →
+  pub hosts_last : (x : Part) (l : Leaf) → IsItem x → IsMark separators false (p.Leaf l) →
       hosts_from separators n (map measured (x ∷ p.Leaf l ∷ [])) ≡ host n (n + size x) (n + size x) ∷ ((measured x).inside n ++ [])
-  hosts_last x l i h = rw (measured_part x, i, h.1, h.0) refl
+  hosts_last x l i h = rw (measured_part x, item_part x i, h.1, h.0) refl
 
-  pub hosts_more : (x : Part) (l : Leaf) (xs : List Part) → is_item_part x ≡ true → IsMark separators true (p.Leaf l) →
+  pub hosts_more : (x : Part) (l : Leaf) (xs : List Part) → IsItem x → IsMark separators true (p.Leaf l) →
       hosts_from separators n (map measured (x ∷ p.Leaf l ∷ xs)) ≡ host n (n + size x) (suc (n + size x)) ∷ ((measured x).inside n ++ hosts_from separators (suc (n + size x)) (map measured xs))
   hosts_more x l xs i h =
       let e : n + size x + 1 ≡ suc (n + size x) = omega arith in
-      let first : hosts_from separators n (map measured (x ∷ p.Leaf l ∷ xs)) ≡ host n (n + size x) (suc (n + size x)) ∷ ((measured x).inside n ++ hosts_from separators (n + size x + 1) (map measured xs)) = rw (measured_part x, i, h.1, h.0) refl in
+      let first : hosts_from separators n (map measured (x ∷ p.Leaf l ∷ xs)) ≡ host n (n + size x) (suc (n + size x)) ∷ ((measured x).inside n ++ hosts_from separators (n + size x + 1) (map measured xs)) = rw (measured_part x, item_part x i, h.1, h.0) refl in
       first ∙ ap (λ z. host n (n + size x) (suc (n + size x)) ∷ ((measured x).inside n ++ hosts_from separators z (map measured xs))) e
 
 -- ---- regions are where the parts are

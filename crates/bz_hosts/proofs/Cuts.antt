@@ -1,20 +1,25 @@
--- A node with a sequence is cut at its opening bracket; after it items and commas alternate.
-use Rattle.std.proofs.Common.{◌≡◌, ℕ, suc, Bool, true, false, not, ◌&&◌, List, [], ◌∷◌, ◌++◌, inl, inr, refl, ap, ◌∙◌, subst, take, drop}
-use Rattle.std.proofs.lemmas.Bool.{and_parts, or_cases, not-true}
+-- Where single tokens are in a legal tree: a node with a sequence is cut at its opening bracket; after it items and commas
+-- alternate, as statements and semicolons do in a line.
+use Rattle.std.proofs.Common.{◌≡◌, ℕ, zero, suc, Bool, true, false, not, List, [], ◌∷◌, ◌++◌, inl, inr, refl, subst, take, drop}
+use Rattle.std.specs.List.{list_all}
+use Rattle.std.proofs.lemmas.Bool.{not-true}
 use Rattle.bz_token.specs.declared.class.Class.{Class}
+use Rattle.bz_token.specs.declared.class.Class.TheVariants as c
 use Rattle.bz_lex.specs.declared.leaf.Leaf.{Leaf}
 use Rattle.bz_grammar.specs.declared.kind.Kind.{Kind}
 use Rattle.bz_grammar.specs.declared.kind.Kind.TheVariants as k
 use Rattle.bz_grammar.specs.declared.tree.Part.{Part, Node'}
 use Rattle.bz_grammar.specs.declared.tree.Part.TheVariants as p
 use Rattle.bz_grammar.specs.Shapes as s
-use Rattle.bz_grammar.specs.Shapes.{Nonterminal, Terminal, Fits, Listed, bzl_shape, items, tok, done, has_token, is_one_of, is_terminal, leaves_at}
+use Rattle.bz_grammar.specs.Shapes.{Nonterminal, Terminal, Fits, Listed, bzl_shape, items, tok, done, has_token, is_one_of, leaves_at}
 use Rattle.bz_grammar.specs.Legal.{IsNonterminal}
-use Rattle.bz_grammar.proofs.Balance.{no_such, same_class}
+use Rattle.bz_grammar.specs.Spots.{Spot, Within, opens, plain, role, after_part}
+use Rattle.bz_grammar.proofs.Balance.{no_such, inner_nonterminal}
 use Rattle.bz_grammar.proofs.Terminals.{disjoint, disjoint-one_of}
 use Rattle.bz_value.specs.Frames.{Frame, row, sequence, frame, lead}
-use Rattle.bz_hosts.specs.Hosts.{is_word_class, is_item_part}
-use Rattle.bz_hosts.proofs.Alternating.{IsMark, Alternating}
+use Rattle.bz_hosts.specs.Hosts.{is_word_class}
+use Rattle.bz_hosts.proofs.Alternating.{IsItem, IsMark, Alternating}
+use Rattle.bz_hosts.proofs.InnerParts.{GoesOn, all_turn, kind_goes, leaf_goes, nonterminal_inner, of_terminals, token_goes, token_opens}
 
 -- ---- tokens that are words, and tokens that are none
 
@@ -22,41 +27,71 @@ abbrev class_in : Terminal → Class
 class_in (s.any class) = class
 class_in (s.this class token) = class
 
-terminal_class : (x : Terminal) (l : Leaf) → is_terminal x l ≡ true → l.class ≡ class_in x
-terminal_class (s.any class) l h = same_class l.class class h
-terminal_class (s.this class token) l h = same_class l.class class (and_parts _ _ h).0
-
-abbrev all_words : List Terminal → Bool
-all_words [] = true
-all_words (x ∷ xs) = is_word_class (class_in x) && all_words xs
+abbrev is_word : Terminal → Bool
+is_word x = is_word_class (class_in x)
 
 abbrev pub no_words : List Terminal → Bool
-no_words [] = true
-no_words (x ∷ xs) = not (is_word_class (class_in x)) && no_words xs
+no_words ts = list_all (λ x. not (is_word x)) ts
 
-words : (xs : List Terminal) (l : Leaf) → all_words xs ≡ true → is_one_of xs l ≡ true → is_word_class l.class ≡ true
-words [] l h i = no_such i
-words (x ∷ xs) l h i =
-    let w = and_parts (is_word_class (class_in x)) (all_words xs) h in
-    elim (or_cases (is_terminal x l) (is_one_of xs l) i) [ inl e ↦ ap is_word_class (terminal_class x l e) ∙ w.0 | inr e ↦ words xs l w.1 e ]
+words : (xs : List Terminal) (l : Leaf) → list_all is_word xs ≡ true → is_one_of xs l ≡ true → is_word_class l.class ≡ true
+words xs l h i = of_terminals (λ class token. is_word_class class ≡ true) is_word (λ class token e. e) (λ class token e. e) xs l h i
 
 wordless : (xs : List Terminal) (l : Leaf) → no_words xs ≡ true → is_one_of xs l ≡ true → is_word_class l.class ≡ false
-wordless [] l h i = no_such i
-wordless (x ∷ xs) l h i =
-    let w = and_parts (not (is_word_class (class_in x))) (no_words xs) h in
-    elim (or_cases (is_terminal x l) (is_one_of xs l) i) [ inl e ↦ ap is_word_class (terminal_class x l e) ∙ not-true (is_word_class (class_in x)) w.0 | inr e ↦ wordless xs l w.1 e ]
+wordless xs l h i =
+    let none = λ (class : Class) (token : List ℕ) (e : not (is_word_class class) ≡ true). not-true (is_word_class class) e in
+    of_terminals (λ class token. is_word_class class ≡ false) (λ x. not (is_word x)) none none xs l h i
 
-leaves_words : (a : Nonterminal) → all_words (leaves_at a) ≡ true
+leaves_words : (a : Nonterminal) → list_all is_word (leaves_at a) ≡ true
 leaves_words (s.level n) = refl
 leaves_words _ = refl
 
-pub nonterminal_item : (a : Nonterminal) (x : Part) → IsNonterminal a x → is_item_part x ≡ true
-nonterminal_item a (p.Leaf l) h = words (leaves_at a) l (leaves_words a) h
-nonterminal_item a (Node' kind n r) h = refl
+pub nonterminal_item : (a : Nonterminal) (x : Part) → inner_nonterminal a ≡ true → IsNonterminal a x → IsItem x
+nonterminal_item a (p.Leaf l) i h = words (leaves_at a) l (leaves_words a) h
+nonterminal_item a (Node' kind n r) i h = nonterminal_inner a (Node' kind n r) i h
 
-token_item : (ts : List Terminal) (x : Part) → all_words ts ≡ true → has_token ts x ≡ true → is_item_part x ≡ true
+token_item : (ts : List Terminal) (x : Part) → list_all is_word ts ≡ true → has_token ts x ≡ true → IsItem x
 token_item ts (p.Leaf l) w h = words ts l w h
-token_item ts (Node' kind n r) w h = refl
+token_item ts (Node' kind n r) w h = no_such h
+
+-- neither items nor commas open or close brackets
+
+word_plain : (class : Class) (token : List ℕ) → is_word_class class ≡ true → role class token ≡ plain
+word_plain c.Name token h = refl
+word_plain c.Number token h = refl
+word_plain c.String token h = refl
+word_plain _ token h = no_such h
+
+pub item_goes : (x : Part) → IsItem x → GoesOn x
+item_goes (p.Leaf l) h = leaf_goes l (word_plain l.class l.token h)
+item_goes (Node' kind n r) h = λ outer here. kind_goes kind here h
+
+pub comma_goes : (y : Part) → IsMark s.comma_mark true y → GoesOn y
+comma_goes (p.Leaf l) h = token_goes s.comma_mark (p.Leaf l) refl h.1
+comma_goes (Node' kind n r) h = absurd h
+
+-- ---- tokens
+
+-- a token
+abbrev pub is_token : Part → Bool
+is_token (p.Leaf l) = true
+is_token (Node' kind n r) = false
+
+pub token : (ts : List Terminal) (x : Part) → has_token ts x ≡ true → is_token x ≡ true
+token ts (p.Leaf l) h = refl
+token ts (Node' kind n r) h = no_such h
+
+pub mark_token : (separators : List Terminal) (b : Bool) (x : Part) → IsMark separators b x → is_token x ≡ true
+mark_token separators b (p.Leaf l) h = refl
+mark_token separators b (Node' kind n r) h = absurd h
+
+-- the part at this index is an opening bracket
+abbrev pub BracketAt : ℕ → List Part → Type 0
+BracketAt n [] = ⊥
+BracketAt zero (x ∷ xs) = (is_token x ≡ true) × ((outer here : Spot) → after_part outer here x ≡ Within)
+BracketAt (suc n) (x ∷ xs) = BracketAt n xs
+
+pub bracket : (ts : List Terminal) (x : Part) → all_turn opens ts ≡ true → has_token ts x ≡ true → (is_token x ≡ true) × ((outer here : Spot) → after_part outer here x ≡ Within)
+bracket ts x o h = (token ts x h, λ outer here. token_opens ts x outer here o h)
 
 -- ---- items, separators and a closing token
 
@@ -73,81 +108,82 @@ module _ (separators close : List Terminal) (none : no_words separators ≡ true
   ends_alternating z [] h = closing_mark z h.0
   ends_alternating z (x ∷ xs) h = absurd h.1
 
-  pub listed_alternating : (q : Nonterminal) (xs : List Part) → Listed (IsNonterminal q) separators true (Fits IsNonterminal (tok close done)) xs → Alternating separators xs
-  listed_alternating q [] h = absurd h
-  listed_alternating q (x ∷ []) h = absurd h.1
-  listed_alternating q (x ∷ y ∷ []) (h, inl i) = (nonterminal_item q x h, closing_mark y i.0)
-  listed_alternating q (x ∷ y ∷ []) (h, inr (m, inl i)) = absurd i
-  listed_alternating q (x ∷ y ∷ []) (h, inr (m, inr i)) = absurd i.1
-  listed_alternating q (x ∷ y ∷ z ∷ xs) (h, inl i) = absurd i.1
-  listed_alternating q (x ∷ y ∷ z ∷ xs) (h, inr (m, inl i)) = (nonterminal_item q x h, separator_mark y m, listed_alternating q (z ∷ xs) i)
-  listed_alternating q (x ∷ y ∷ z ∷ xs) (h, inr (m, inr i)) = (nonterminal_item q x h, separator_mark y m, ends_alternating z xs i.1)
+  pub listed_alternating : (q : Nonterminal) → inner_nonterminal q ≡ true → (xs : List Part) → Listed (IsNonterminal q) separators true (Fits IsNonterminal (tok close done)) xs → Alternating separators xs
+  listed_alternating q o [] h = absurd h
+  listed_alternating q o (x ∷ []) h = absurd h.1
+  listed_alternating q o (x ∷ y ∷ []) (h, inl i) = (nonterminal_item q x o h, closing_mark y i.0)
+  listed_alternating q o (x ∷ y ∷ []) (h, inr (m, inl i)) = absurd i
+  listed_alternating q o (x ∷ y ∷ []) (h, inr (m, inr i)) = absurd i.1
+  listed_alternating q o (x ∷ y ∷ z ∷ xs) (h, inl i) = absurd i.1
+  listed_alternating q o (x ∷ y ∷ z ∷ xs) (h, inr (m, inl i)) = (nonterminal_item q x o h, separator_mark y m, listed_alternating q o (z ∷ xs) i)
+  listed_alternating q o (x ∷ y ∷ z ∷ xs) (h, inr (m, inr i)) = (nonterminal_item q x o h, separator_mark y m, ends_alternating z xs i.1)
 
 -- ---- sequences
 
 module _ (close : List Terminal) (none' : no_words close ≡ true) (apart : disjoint close s.comma_mark ≡ true) where
-  items_alternating : (q : Nonterminal) (xs : List Part) → Fits IsNonterminal (items q close) xs → Alternating s.comma_mark xs
-  items_alternating q [] (inl h) = absurd h
-  items_alternating q [] (inr h) = absurd h
-  items_alternating q (x ∷ xs) (inl h) = ends_alternating s.comma_mark close refl none' apart x xs h
-  items_alternating q (x ∷ xs) (inr h) = listed_alternating s.comma_mark close refl none' apart q (x ∷ xs) h
+  items_alternating : (q : Nonterminal) → inner_nonterminal q ≡ true → (xs : List Part) → Fits IsNonterminal (items q close) xs → Alternating s.comma_mark xs
+  items_alternating q o [] (inl h) = absurd h
+  items_alternating q o [] (inr h) = absurd h
+  items_alternating q o (x ∷ xs) (inl h) = ends_alternating s.comma_mark close refl none' apart x xs h
+  items_alternating q o (x ∷ xs) (inr h) = listed_alternating s.comma_mark close refl none' apart q o (x ∷ xs) h
 
   -- an item, a comma, and then items; or the item alone
-  one_alternating : (q : Nonterminal) (x : Part) (xs : List Part) → is_item_part x ≡ true → Fits IsNonterminal (s.alt (tok close done) (tok s.comma_mark (items q close))) xs → Alternating s.comma_mark (x ∷ xs)
-  one_alternating q x [] i (inl h) = absurd h
-  one_alternating q x [] i (inr h) = absurd h
-  one_alternating q x (z ∷ []) i (inl h) = (i, closing_mark s.comma_mark close refl none' apart z h.0)
-  one_alternating q x (z ∷ y ∷ xs) i (inl h) = absurd h.1
-  one_alternating q x (y ∷ []) i (inr (m, inl h)) = absurd h
-  one_alternating q x (y ∷ []) i (inr (m, inr h)) = absurd h
-  one_alternating q x (y ∷ z ∷ xs) i (inr h) = (i, separator_mark s.comma_mark close refl none' apart y h.0, items_alternating q (z ∷ xs) h.1)
+  one_alternating : (q : Nonterminal) → inner_nonterminal q ≡ true → (x : Part) (xs : List Part) → IsItem x → Fits IsNonterminal (s.alt (tok close done) (tok s.comma_mark (items q close))) xs → Alternating s.comma_mark (x ∷ xs)
+  one_alternating q o x [] i (inl h) = absurd h
+  one_alternating q o x [] i (inr h) = absurd h
+  one_alternating q o x (z ∷ []) i (inl h) = (i, closing_mark s.comma_mark close refl none' apart z h.0)
+  one_alternating q o x (z ∷ y ∷ xs) i (inl h) = absurd h.1
+  one_alternating q o x (y ∷ []) i (inr (m, inl h)) = absurd h
+  one_alternating q o x (y ∷ []) i (inr (m, inr h)) = absurd h
+  one_alternating q o x (y ∷ z ∷ xs) i (inr h) = (i, separator_mark s.comma_mark close refl none' apart y h.0, items_alternating q o (z ∷ xs) h.1)
 
 -- the parts of a node before its opening bracket, and those after it
 pub record Cut (kind : Kind) (xs : List Part) : Type 0 where
   pub opener : Leaf
   pub parts : xs ≡ take (lead kind) xs ++ p.Leaf opener ∷ drop (suc (lead kind)) xs
   pub front : take (suc (lead kind)) xs ≡ take (lead kind) xs ++ p.Leaf opener ∷ []
+  pub bracket_at : BracketAt (lead kind) xs
   pub alternating : Alternating s.comma_mark (drop (suc (lead kind)) xs)
 
 call_cut : (xs : List Part) → Fits IsNonterminal (bzl_shape k.Call) xs → Cut k.Call xs
 call_cut [] h = absurd h
 call_cut (x ∷ []) h = absurd h.1
-call_cut (x ∷ p.Leaf l ∷ xs) h = record { opener = l; parts = refl; front = refl; alternating = items_alternating s.close_round refl refl s.argument xs h.1.1 }
+call_cut (x ∷ p.Leaf l ∷ xs) h = record { opener = l; parts = refl; front = refl; bracket_at = bracket s.open_round (p.Leaf l) refl h.1.0; alternating = items_alternating s.close_round refl refl s.argument refl xs h.1.1 }
 call_cut (x ∷ Node' kind n r ∷ xs) h = no_such h.1.0
 
 load_cut : (xs : List Part) → Fits IsNonterminal (bzl_shape k.Load) xs → Cut k.Load xs
 load_cut [] h = absurd h
 load_cut (x ∷ []) h = absurd h.1
 load_cut (x ∷ p.Leaf l ∷ []) h = absurd h.1.1
-load_cut (x ∷ p.Leaf l ∷ y ∷ xs) h = record { opener = l; parts = refl; front = refl; alternating = one_alternating s.close_round refl refl s.loaded y xs (token_item s.string y refl h.1.1.0) h.1.1.1 }
+load_cut (x ∷ p.Leaf l ∷ y ∷ xs) h = record { opener = l; parts = refl; front = refl; bracket_at = bracket s.open_round (p.Leaf l) refl h.1.0; alternating = one_alternating s.close_round refl refl s.loaded refl y xs (token_item s.string y refl h.1.1.0) h.1.1.1 }
 load_cut (x ∷ Node' kind n r ∷ xs) h = no_such h.1.0
 
 tuple_cut : (xs : List Part) → Fits IsNonterminal (bzl_shape k.Tuple) xs → Cut k.Tuple xs
 tuple_cut [] h = absurd h
-tuple_cut (p.Leaf l ∷ xs) h = record { opener = l; parts = refl; front = refl; alternating = first xs h.1 }
+tuple_cut (p.Leaf l ∷ xs) h = record { opener = l; parts = refl; front = refl; bracket_at = bracket s.open_round (p.Leaf l) refl h.0; alternating = first xs h.1 }
   where
     first : (xs : List Part) → Fits IsNonterminal (s.alt (tok s.close_round done) (s.sub s.test (tok s.comma_mark (items s.test s.close_round)))) xs → Alternating s.comma_mark xs
     first [] (inl i) = absurd i
     first [] (inr i) = absurd i
     first (x ∷ xs) (inl i) = ends_alternating s.comma_mark s.close_round refl refl refl x xs i
-    first (x ∷ xs) (inr i) = one_alternating s.close_round refl refl s.test x xs (nonterminal_item s.test x i.0) (inr i.1)
+    first (x ∷ xs) (inr i) = one_alternating s.close_round refl refl s.test refl x xs (nonterminal_item s.test x refl i.0) (inr i.1)
 tuple_cut (Node' kind n r ∷ xs) h = no_such h.0
 
 list_cut : (xs : List Part) → Fits IsNonterminal (bzl_shape k.List) xs → Cut k.List xs
 list_cut [] h = absurd h
-list_cut (p.Leaf l ∷ xs) h = record { opener = l; parts = refl; front = refl; alternating = items_alternating s.close_square refl refl s.test xs h.1 }
+list_cut (p.Leaf l ∷ xs) h = record { opener = l; parts = refl; front = refl; bracket_at = bracket s.open_square (p.Leaf l) refl h.0; alternating = items_alternating s.close_square refl refl s.test refl xs h.1 }
 list_cut (Node' kind n r ∷ xs) h = no_such h.0
 
 dict_cut : (xs : List Part) → Fits IsNonterminal (bzl_shape k.Dict) xs → Cut k.Dict xs
 dict_cut [] h = absurd h
-dict_cut (p.Leaf l ∷ xs) h = record { opener = l; parts = refl; front = refl; alternating = items_alternating s.close_curly refl refl s.entry xs h.1 }
+dict_cut (p.Leaf l ∷ xs) h = record { opener = l; parts = refl; front = refl; bracket_at = bracket s.open_curly (p.Leaf l) refl h.0; alternating = items_alternating s.close_curly refl refl s.entry refl xs h.1 }
 dict_cut (Node' kind n r ∷ xs) h = no_such h.0
 
-abbrev CutIn : Frame → Kind → List Part → Type 0
+abbrev pub CutIn : Frame → Kind → List Part → Type 0
 CutIn row kind xs = Unit {0}
 CutIn (sequence opener closer) kind xs = Cut kind xs
 
-kind_cut : (kind : Kind) (xs : List Part) → Fits IsNonterminal (bzl_shape kind) xs → CutIn (frame kind) kind xs
+pub kind_cut : (kind : Kind) (xs : List Part) → Fits IsNonterminal (bzl_shape kind) xs → CutIn (frame kind) kind xs
 kind_cut k.Call xs h = call_cut xs h
 kind_cut k.Load xs h = load_cut xs h
 kind_cut k.Tuple xs h = tuple_cut xs h

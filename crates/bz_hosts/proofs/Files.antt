@@ -9,12 +9,12 @@ use Rattle.bz_grammar.specs.declared.kind.Kind.TheVariants as k
 use Rattle.bz_grammar.specs.declared.tree.Part.{Part, Row_of-Part, Node', items-the_row-Part}
 use Rattle.bz_grammar.specs.declared.tree.Part.TheVariants as p
 use Rattle.bz_grammar.specs.Shapes as s
-use Rattle.bz_grammar.specs.Shapes.{Fits, Several, shape, tok, done, nonterminal_has_kind}
+use Rattle.bz_grammar.specs.Shapes.{Fits, Several, shape, bzl_shape, tok, done, nonterminal_has_kind}
 use Rattle.bz_grammar.specs.Spell.{leaves_part, leaves_row, leaves_of}
-use Rattle.bz_grammar.specs.Legal.{IsNonterminal, LegalPart, LegalRow, LegalBzlPart, LegalBzlRow}
-use Rattle.bz_grammar.specs.Spots.{Begins, after_node, Stands, AtRow, AtParts}
+use Rattle.bz_grammar.specs.Legal.{IsNonterminal, LegalBzlPart, LegalBzlRow}
+use Rattle.bz_grammar.specs.Spots.{Begins, after_node, BzlStands, AtRow, AtParts}
 use Rattle.bz_grammar.proofs.Balance.{no_such, parts_of_row}
-use Rattle.bz_grammar.proofs.Build.{wide_part}
+use Rattle.bz_grammar.proofs.Build.{legal_by_lines}
 use Rattle.bz_grammar.proofs.Numbers.{same_kind}
 use Rattle.bz_value.specs.Comments.{HostComments}
 use Rattle.bz_value.specs.Frames.{frame}
@@ -23,7 +23,7 @@ use Rattle.bz_value.specs.Gaps.{GapLine, lines_of, after_first_line, groups_of, 
 use Rattle.bz_hosts.specs.View as v
 use Rattle.bz_hosts.specs.View.{Seen, seen, seen_row, first_seen_gap, blocks, statement, statements_in, file_items, view_of}
 use Rattle.bz_hosts.proofs.SeenParts.{seen_rows, node_gap, comments_made}
-use Rattle.bz_hosts.proofs.QuietGaps.{Quiet, Statements, statements_quiet, row_legal}
+use Rattle.bz_hosts.proofs.QuietGaps.{Quiet, Statements, parts_silent, statements_quiet, line_alternating}
 use Rattle.bz_hosts.specs.Hosts.{Region, Comment, comments_at, comments_from, Measured, sizes, measured, measured_row, hosts_from, in_line, regions_from, CommentPlace, outside, texts_at, Hosted, block, hosted_at, hosted_by, hosts_alone, with_group, hosted_in, inside_expr, inside_item}
 use Rattle.bz_hosts.specs.HostLaws.{HostsByPlace}
 use Rattle.bz_hosts.proofs.Around.{AllInside, all_wider, Sees, SeesAt, sees_after, sees_before}
@@ -31,7 +31,6 @@ use Rattle.bz_hosts.proofs.Gathered.{key, pick_other, GapPlaces, texts_joined, g
 use Rattle.bz_hosts.proofs.Parts.{size, measured_rows, leaves_rows, size_leaves, Solid, some_leaf, part_solid, comments_after, inner, in_parts, after_parts, parts_from, parts_after}
 use Rattle.bz_hosts.proofs.Alternating.{Alternating, inside_joined, hosts_inside}
 use Rattle.bz_hosts.proofs.Insides.{inside_made}
-use Rattle.bz_hosts.proofs.Cuts.{listed_alternating}
 use Rattle.bz_hosts.proofs.Nodes.{row_regions, row_solid}
 use Rattle.bz_hosts.proofs.Claim.{row_in_host}
 use Rattle.bz_hosts.proofs.Sequences.{From}
@@ -40,7 +39,7 @@ use Rattle.bz_hosts.proofs.Walked.{gap_of, last_gap, walked, last_after, LeafLas
 
 -- ---- comment lines
 
-blocks_alone : (gs : List (List Bytes)) → flat_map inside_item (blocks gs) ≡ hosts_alone gs
+pub blocks_alone : (gs : List (List Bytes)) → flat_map inside_item (blocks gs) ≡ hosts_alone gs
 blocks_alone [] = refl
 blocks_alone ([] ∷ gs) = blocks_alone gs
 blocks_alone ((text ∷ group) ∷ gs) = ap (λ (z : List Hosted). block (text ∷ group) ∷ z) (blocks_alone gs)
@@ -66,7 +65,7 @@ group_above group (x ∷ y ∷ z ∷ u ∷ xs) = statement_group group None x (f
 last_further : (ks ls ms : List Leaf) (m : Leaf) → ms ≡ m ∷ ls → last_gap (ks ++ ms) ≡ last_gap ms
 last_further ks ls ms m e = rw e (last_after ks m ls)
 
-last_same : (separators : List s.Terminal) (xs : List Part) → Alternating separators xs → AllByRecursion Solid xs → last_gap (flat_map leaves_part xs) ≡ v.last_gap (map seen xs)
+pub last_same : (separators : List s.Terminal) (xs : List Part) → Alternating separators xs → AllByRecursion Solid xs → last_gap (flat_map leaves_part xs) ≡ v.last_gap (map seen xs)
 last_same separators [] a h = absurd a
 last_same separators (p.Leaf l ∷ []) a h = refl
 last_same separators (Node' kind n r ∷ []) a h = absurd a
@@ -103,26 +102,23 @@ record LineIn (x : Part) : Type 0 where
   some : 0 < size x
   within : (n : ℕ) → AllInside n (n + size x) (in_line n x)
 
-statements_of : (kind : Kind) (ys : List Part) → nonterminal_has_kind s.line kind ≡ true → Fits IsNonterminal (shape kind) ys → Statements ys
+statements_of : (kind : Kind) (ys : List Part) → nonterminal_has_kind s.line kind ≡ true → Fits IsNonterminal (bzl_shape kind) ys → Statements ys
 statements_of kind ys h g =
     let e : kind ≡ k.Line = same_kind kind k.Line (eqb-true _ _ h) in
-    subst (λ kd. Fits IsNonterminal (shape kd) ys) e g
+    subst (λ kd. Fits IsNonterminal (bzl_shape kd) ys) e g
 
-line_alternating : (ys : List Part) → Statements ys → Alternating s.semicolon ys
-line_alternating ys h = listed_alternating s.semicolon s.newline refl refl refl s.small ys h
-
-line_in : (x : Part) → IsNonterminal s.line x → LegalPart x → LineIn x
+line_in : (x : Part) → IsNonterminal s.line x → LegalBzlPart x → LineIn x
 line_in (p.Leaf l) h g = no_such h
 line_in (Node' kind z r) h g = record {
-  some = some_leaf (Node' kind z r) (part_solid (Node' kind z r) (wide_part (Node' kind z r) g).0);
+  some = some_leaf (Node' kind z r) (part_solid (Node' kind z r) g);
   within = λ n. subst (λ (ms : List Measured). AllInside n (n + sizes ms) (hosts_from s.semicolon n ms)) (sym (measured_rows _ r))
-      (hosts_inside s.semicolon n (items-the_row-Part _ r) (line_alternating (items-the_row-Part _ r) (statements_of kind (items-the_row-Part _ r) h g.0)) (row_regions _ r (wide_part (Node' kind z r) g).0.1));
+      (hosts_inside s.semicolon n (items-the_row-Part _ r) (line_alternating (items-the_row-Part _ r) (statements_of kind (items-the_row-Part _ r) h g.0)) (row_regions _ r g.1));
 }
 
 leaf_in : (l : Leaf) → LineIn (p.Leaf l)
 leaf_in l = record { some = omega arith; within = λ n. tt }
 
-lines_in : (xs : List Part) → LinesOf xs → AllByRecursion LegalPart xs → AllByRecursion LineIn xs
+lines_in : (xs : List Part) → LinesOf xs → AllByRecursion LegalBzlPart xs → AllByRecursion LineIn xs
 lines_in [] h g = tt
 lines_in (p.Leaf l ∷ []) (inl h) g = (leaf_in l, tt)
 lines_in (p.Leaf l ∷ y ∷ xs) (inl h) g = absurd h.1
@@ -139,18 +135,18 @@ regions_inside n (x ∷ xs) h =
     (all_wider m (m + sizes (map measured xs)) n up (omega arith) (omega arith) (regions_from m xs) (regions_inside m xs h.1))
 
 -- the texts of a line
-line_found : (all : List Region) (n : ℕ) (kind : Kind) (m : _) (r : Row_of-Part m) → Statements (items-the_row-Part m r) → LegalRow r → LegalBzlRow r → AtRow Stands Begins Begins r →
+line_found : (all : List Region) (n : ℕ) (kind : Kind) (m : _) (r : Row_of-Part m) → Statements (items-the_row-Part m r) → LegalBzlRow r → AtRow BzlStands Begins Begins r →
     SeesAt all None (suc n) (n + sizes (measured_row r)) (hosts_from s.semicolon n (measured_row r)) →
     LineTexts all n (n + sizes (measured_row r)) (comments_after n (leaves_row r)) (hosts_from s.semicolon n (measured_row r)) (statements_in [] (seen_row r))
-line_found all n kind m r h g wide at_ sees =
+line_found all n kind m r h g at_ sees =
     let ys : List Part = items-the_row-Part m r in
-    let comments : comments_after n (leaves_row r) ≡ after_parts n ys = ap (comments_after n) (leaves_rows m r) ∙ parts_after n ys (row_solid m r wide) in
-    let quiet : Quiet ys = statements_quiet Begins Begins ys refl h (row_legal m r g) (parts_of_row Stands Begins Begins m r at_) in
+    let comments : comments_after n (leaves_row r) ≡ after_parts n ys = ap (comments_after n) (leaves_rows m r) ∙ parts_after n ys (row_solid m r g) in
+    let quiet : Quiet ys = statements_quiet Begins Begins ys refl h (parts_silent m r g) (parts_of_row BzlStands Begins Begins m r at_) in
     subst (λ (ms : List Measured). SeesAt all None (suc n) (n + sizes ms) (hosts_from s.semicolon n ms) → LineTexts all n (n + sizes ms) (comments_after n (leaves_row r)) (hosts_from s.semicolon n ms) (statements_in [] (seen_row r)))
     (sym (measured_rows m r))
     (λ sees'. subst (λ (cs : List Comment). LineTexts all n (n + sizes (map measured ys)) cs (hosts_from s.semicolon n (map measured ys)) (statements_in [] (seen_row r))) (sym comments)
     (subst (λ (ss : List Seen). LineTexts all n (n + sizes (map measured ys)) (after_parts n ys) (hosts_from s.semicolon n (map measured ys)) (statements_in [] ss)) (sym (seen_rows m r))
-    (line_texts all n (n + sizes (map measured ys)) ys refl (line_alternating ys h) quiet (row_regions m r wide) (row_in_host all m r wide) sees')))
+    (line_texts all n (n + sizes (map measured ys)) ys refl (line_alternating ys h) quiet (row_regions m r g) (row_in_host all m r g) sees')))
     sees
 
 -- the parts of a line, as they are seen
@@ -203,7 +199,7 @@ line_step all n up (Node' kind size_ r) xs is some u gap there rest e e' above_i
           ∙ sym (flat_map-append inside_item (v.line_items lines seen_there) (file_items next xs)))))))));
     }
 
-lines_texts : (all : List Region) (n up : ℕ) (xs : List Part) → up ≡ n + sizes (map measured xs) → LinesOf xs → AllByRecursion LegalPart xs → AtParts Stands Begins Begins xs → SeesAt all None n up (regions_from n xs) → FileTexts all n up xs
+lines_texts : (all : List Region) (n up : ℕ) (xs : List Part) → up ≡ n + sizes (map measured xs) → LinesOf xs → AllByRecursion LegalBzlPart xs → AtParts BzlStands Begins Begins xs → SeesAt all None n up (regions_from n xs) → FileTexts all n up xs
 lines_texts all n up [] u h g at_ sees = record { outer = λ q d o. refl; found = λ cs left f. refl }
 lines_texts all n up (p.Leaf l ∷ []) u (inl h) g at_ sees =
     let gap : GapPlaces all n outside outside = gap_outside all n up (sees n (omega arith) (omega arith)) in
@@ -222,27 +218,26 @@ lines_texts all n up (Node' kind z r ∷ xs) u (inr h) g at_ sees =
     let m : ℕ = n + size x in
     let e : kind ≡ k.Line = same_kind kind k.Line (eqb-true _ _ h.0) in
     let there : LineIn x = line_in x h.0 g.0 in
-    let wide : LegalBzlPart x = (wide_part x g.0).0 in
     let some = there.some in
     let rest_in : AllByRecursion LineIn xs = lines_in xs h.1 g.1 in
     let statements : Statements ys = statements_of kind ys h.0 g.0.0 in
     let gap : GapPlaces all n outside outside = gap_outside all n n
     (sees_before all n None up n (n + sizes (map measured (x ∷ xs))) n [] (in_line n x ++ regions_from m xs) (regions_inside n (x ∷ xs) (there, rest_in)) (omega arith) (omega arith) (omega arith)
     (sees n (omega arith) (omega arith))) in
-    let texts : LineTexts all n m (inner n x) (in_line n x) (statements_in [] (seen_row r)) = line_found all n kind _ r statements g.0.1 wide.1 at_.0
+    let texts : LineTexts all n m (inner n x) (in_line n x) (statements_in [] (seen_row r)) = line_found all n kind _ r statements g.0.1 at_.0
     (λ q a b. sees_before all q None up m (m + sizes (map measured xs)) m (in_line n x) (regions_from m xs) (regions_inside m xs rest_in) (omega arith) (omega arith) (omega arith)
     (sees q (omega arith) (omega arith))) in
-    let at_rest : AtParts Stands Begins Begins xs = subst (λ kd. AtParts Stands Begins (after_node kd Begins) xs) e at_.1 in
+    let at_rest : AtParts BzlStands Begins Begins xs = subst (λ kd. AtParts BzlStands Begins (after_node kd Begins) xs) e at_.1 in
     let rest : FileTexts all m up xs = lines_texts all m up xs (omega arith) h.1 g.1 at_rest (λ q a b. sees_after all q None up n m (in_line n x) (regions_from m xs) (there.within n) a (sees q (omega arith) b)) in
-    let solid : Solid x = part_solid x wide in
+    let solid : Solid x = part_solid x g.0 in
     let first : gap_of (leaves_row r) ≡ first_seen_gap (seen_row r) = first_gap_of (leaves_row r) solid.first solid.rest (first_seen_gap (seen_row r)) solid.leaves (sym (node_gap kind (seen_row r) (frame kind)) ∙ solid.gap) in
-    let last : last_gap (leaves_row r) ≡ v.last_gap (seen_row r) = ap last_gap (leaves_rows _ r) ∙ (last_same s.semicolon ys (line_alternating ys statements) (row_solid _ r wide.1) ∙ ap v.last_gap (sym (seen_rows _ r))) in
+    let last : last_gap (leaves_row r) ≡ v.last_gap (seen_row r) = ap last_gap (leaves_rows _ r) ∙ (last_same s.semicolon ys (line_alternating ys statements) (row_solid _ r g.0.1) ∙ ap v.last_gap (sym (seen_rows _ r))) in
     line_step all n up x xs h.0 some (omega arith) gap texts rest first last
     (λ group. subst (λ (ss : List Seen). with_group group (flat_map inside_item (statements_in [] ss)) ≡ flat_map inside_item (statements_in group ss)) (sym (seen_rows _ r)) (group_above group ys))
 
-all_solid : (xs : List Part) → AllByRecursion LegalPart xs → AllByRecursion Solid xs
+pub all_solid : (xs : List Part) → AllByRecursion LegalBzlPart xs → AllByRecursion Solid xs
 all_solid [] g = tt
-all_solid (x ∷ xs) g = (part_solid x (wide_part x g.0).0, all_solid xs g.1)
+all_solid (x ∷ xs) g = (part_solid x g.0, all_solid xs g.1)
 
 leaf_last : (xs : List Part) → LinesOf xs → LeafLast xs
 leaf_last [] h = tt
@@ -257,8 +252,9 @@ hosts_by_place n h =
     let fits : Fits IsNonterminal (shape k.File) n.parts = subst (λ kd. Fits IsNonterminal (shape kd) n.parts) h.file.root h.file.shapes.0 in
     let all : List Region = regions_from 0 n.parts in
     let cs : List Comment = comments_from 0 (leaves_of n) in
-    let solid : AllByRecursion Solid n.parts = all_solid n.parts h.file.shapes.1 in
-    let texts : FileTexts all 0 (0 + sizes (map measured n.parts)) n.parts = lines_texts all 0 (0 + sizes (map measured n.parts)) n.parts refl fits h.file.shapes.1 h.gaps (λ q a b. record { inner = refl; ends = refl; begins = λ z d. refl }) in
+    let wide = ((legal_by_lines n).0 h).0 in
+    let solid : AllByRecursion Solid n.parts = all_solid n.parts wide.file.shapes.1 in
+    let texts : FileTexts all 0 (0 + sizes (map measured n.parts)) n.parts = lines_texts all 0 (0 + sizes (map measured n.parts)) n.parts refl fits wide.file.shapes.1 wide.gaps (λ q a b. record { inner = refl; ends = refl; begins = λ z d. refl }) in
     let there : walked all cs [] 0 n.parts ≡ flat_map inside_item (view_of n) = texts.found cs [] (λ q j. ap (texts_at all q) (parts_from 0 n.parts solid)) in
     let numbered : hosted_in n ≡ walked all cs [] 0 n.parts = by_number all cs [] 0 n.parts solid (leaf_last n.parts fits) refl in
     sym (numbered ∙ there)

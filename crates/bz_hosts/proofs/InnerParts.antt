@@ -1,7 +1,7 @@
 -- What the table of shapes says of each part of a node: no part of a line ends it, and the operators of a binary operation
 -- are no brackets.
-use Rattle.std.proofs.Common.{◌≡◌, ℕ, Bool, true, false, not, ◌&&◌, List, [], ◌∷◌, inl, inr, refl, sym, ap, ◌∙◌}
-use Rattle.std.specs.List.{AllByRecursion}
+use Rattle.std.proofs.Common.{◌≡◌, ℕ, Bool, true, false, not, ◌&&◌, List, [], ◌∷◌, inl, inr, refl, sym, ap, ◌∙◌, subst}
+use Rattle.std.specs.List.{AllByRecursion, list_all}
 use Rattle.std.proofs.lemmas.Bool.{and_parts, or_cases, not-true}
 use Rattle.std.proofs.lemmas.Slice.Eq.{bytes_eq-Decides}
 use Rattle.bz_token.specs.declared.class.Class.{Class}
@@ -12,7 +12,7 @@ use Rattle.bz_grammar.specs.declared.kind.Kind.TheVariants as k
 use Rattle.bz_grammar.specs.declared.tree.Part.{Part, Node'}
 use Rattle.bz_grammar.specs.declared.tree.Part.TheVariants as p
 use Rattle.bz_grammar.specs.Shapes as s
-use Rattle.bz_grammar.specs.Shapes.{Nonterminal, Terminal, Shape, Fits, Listed, After, Several, shape, has_token, is_one_of, is_terminal, nonterminal_has_kind, leaves_at}
+use Rattle.bz_grammar.specs.Shapes.{Nonterminal, Terminal, Shape, Fits, Listed, After, Several, shape, bzl_shape, has_token, is_one_of, is_terminal, nonterminal_has_kind, leaves_at}
 use Rattle.bz_grammar.specs.Legal.{IsNonterminal}
 use Rattle.bz_grammar.specs.Spots.{Spot, Within, onward, Role, opens, closes, ends, plain, role, following_token, after_node, after_part}
 use Rattle.bz_grammar.proofs.Balance.{no_such, same_class, inner_nonterminal, not_file, not_lines}
@@ -68,6 +68,22 @@ module _ (P : Part → Type 0) (t : List Terminal → Bool) (q : Nonterminal →
   every_part (s.each a r) b xs h = let v = and_parts (q a) _ b in several_all a v.0 (Fits IsNonterminal r) (every_part r v.1) xs h
   every_part (s.times group r) b xs h = no_such b
 
+-- ---- leaves by the terminals that they are
+
+-- What holds of each leaf that is a terminal which passes t: the same of its class and its token.
+module _ (Q : Class → List ℕ → Type 0) (t : Terminal → Bool) (of_class : (class : Class) (token : List ℕ) → t (s.any class) ≡ true → Q class token) (of_token : (class : Class) (token : List ℕ) → t (s.this class token) ≡ true → Q class token) where
+  of_terminal : (x : Terminal) (l : Leaf) → t x ≡ true → is_terminal x l ≡ true → Q l.class l.token
+  of_terminal (s.any class) l h i = subst (λ z. Q z l.token) (sym (same_class l.class class i)) (of_class class l.token h)
+  of_terminal (s.this class token) l h i =
+      let w = and_parts _ _ i in
+      subst (λ z. Q z l.token) (sym (same_class l.class class w.0)) (subst (Q class) (sym ((bytes_eq-Decides l.token token).0 w.1)) (of_token class token h))
+
+  pub of_terminals : (xs : List Terminal) (l : Leaf) → list_all t xs ≡ true → is_one_of xs l ≡ true → Q l.class l.token
+  of_terminals [] l h i = no_such i
+  of_terminals (x ∷ xs) l h i =
+      let w = and_parts (t x) (list_all t xs) h in
+      elim (or_cases (is_terminal x l) (is_one_of xs l) i) [ inl e ↦ of_terminal x l w.0 e | inr e ↦ of_terminals xs l w.1 e ]
+
 -- ---- parts inside a line
 
 abbrev pub ends_line : Class → Bool
@@ -94,18 +110,10 @@ inner_terminal (s.any class) = not (ends_line class)
 inner_terminal (s.this class token) = not (ends_line class)
 
 abbrev pub inner_tokens : List Terminal → Bool
-inner_tokens [] = true
-inner_tokens (x ∷ xs) = inner_terminal x && inner_tokens xs
-
-terminal_inner : (x : Terminal) (l : Leaf) → inner_terminal x ≡ true → is_terminal x l ≡ true → not (ends_line l.class) ≡ true
-terminal_inner (s.any class) l h i = ap (λ z. not (ends_line z)) (same_class l.class class i) ∙ h
-terminal_inner (s.this class token) l h i = ap (λ z. not (ends_line z)) (same_class l.class class (and_parts _ _ i).0) ∙ h
+inner_tokens ts = list_all inner_terminal ts
 
 tokens_inner : (xs : List Terminal) (l : Leaf) → inner_tokens xs ≡ true → is_one_of xs l ≡ true → not (ends_line l.class) ≡ true
-tokens_inner [] l h i = no_such i
-tokens_inner (x ∷ xs) l h i =
-    let w = and_parts (inner_terminal x) (inner_tokens xs) h in
-    elim (or_cases (is_terminal x l) (is_one_of xs l) i) [ inl e ↦ terminal_inner x l w.0 e | inr e ↦ tokens_inner xs l w.1 e ]
+tokens_inner xs l h i = of_terminals (λ class token. not (ends_line class) ≡ true) inner_terminal (λ class token e. e) (λ class token e. e) xs l h i
 
 pub token_inner : (ts : List Terminal) (x : Part) → inner_tokens ts ≡ true → has_token ts x ≡ true → is_inner x ≡ true
 token_inner ts (p.Leaf l) h i = tokens_inner ts l h i
@@ -130,7 +138,7 @@ pub nonterminal_inner : (a : Nonterminal) (x : Part) → inner_nonterminal a ≡
 nonterminal_inner a (p.Leaf l) h i = tokens_inner (leaves_at a) l (leaves_inner a h) i
 nonterminal_inner a (Node' kind z r) h i = nonterminal_kind a kind h i
 
-kind_inner : (kind : Kind) → inner_kind kind ≡ true → every inner_tokens inner_nonterminal (line_shape kind) ≡ true
+kind_inner : (kind : Kind) → inner_kind kind ≡ true → every inner_tokens inner_nonterminal (bzl_shape kind) ≡ true
 kind_inner k.File h = no_such h
 kind_inner k.Line h = no_such h
 kind_inner k.Def h = no_such h
@@ -140,8 +148,16 @@ kind_inner k.Suite h = no_such h
 kind_inner _ h = refl
 
 -- so are all parts of a node inside a line
-pub inner_parts : (kind : Kind) → inner_kind kind ≡ true → (xs : List Part) → Fits IsNonterminal (line_shape kind) xs → AllByRecursion (λ x. is_inner x ≡ true) xs
-inner_parts kind h xs i = every_part (λ x. is_inner x ≡ true) inner_tokens inner_nonterminal token_inner nonterminal_inner (line_shape kind) (kind_inner kind h) xs i
+pub inner_parts : (kind : Kind) → inner_kind kind ≡ true → (xs : List Part) → Fits IsNonterminal (bzl_shape kind) xs → AllByRecursion (λ x. is_inner x ≡ true) xs
+inner_parts kind h xs i = every_part (λ x. is_inner x ≡ true) inner_tokens inner_nonterminal token_inner nonterminal_inner (bzl_shape kind) (kind_inner kind h) xs i
+
+-- and all by the grammar of lines
+pub lines_bzl : (kind : Kind) (xs : List Part) → Fits IsNonterminal (line_shape kind) xs → Fits IsNonterminal (bzl_shape kind) xs
+lines_bzl k.Def xs h = absurd h
+lines_bzl k.IfStmt xs h = absurd h
+lines_bzl k.ForStmt xs h = absurd h
+lines_bzl k.Suite xs h = absurd h
+lines_bzl _ xs h = h
 
 -- ---- parts that neither open nor close brackets
 
@@ -166,55 +182,42 @@ turns t (s.any class) = is_turn (role class []) t
 turns t (s.this class token) = is_turn (role class token) t
 
 abbrev pub all_turn : Role → List Terminal → Bool
-all_turn t [] = true
-all_turn t (x ∷ xs) = turns t x && all_turn t xs
+all_turn t ts = list_all (turns t) ts
 
-of_class : (t : Role) (class : Class) (token : List ℕ) → turns t (s.any class) ≡ true → role class token ≡ t
-of_class t c.Mark token h = no_such h
-of_class t c.Newline token h = turn_is ends t h
-of_class t c.End token h = turn_is ends t h
-of_class t _ token h = turn_is plain t h
+class_turns : (t : Role) (class : Class) (token : List ℕ) → turns t (s.any class) ≡ true → role class token ≡ t
+class_turns t c.Mark token h = no_such h
+class_turns t c.Newline token h = turn_is ends t h
+class_turns t c.End token h = turn_is ends t h
+class_turns t _ token h = turn_is plain t h
 
-of_terminal : (t : Role) (x : Terminal) (l : Leaf) → turns t x ≡ true → is_terminal x l ≡ true → role l.class l.token ≡ t
-of_terminal t (s.any class) l h i = ap (λ z. role z l.token) (same_class l.class class i) ∙ of_class t class l.token h
-of_terminal t (s.this class token) l h i =
-    let w = and_parts _ _ i in
-    ap (λ z. role z l.token) (same_class l.class class w.0) ∙ (ap (role class) ((bytes_eq-Decides l.token token).0 w.1) ∙ turn_is (role class token) t h)
-
-of_terminals : (t : Role) (xs : List Terminal) (l : Leaf) → all_turn t xs ≡ true → is_one_of xs l ≡ true → role l.class l.token ≡ t
-of_terminals t [] l h i = no_such i
-of_terminals t (x ∷ xs) l h i =
-    let w = and_parts (turns t x) (all_turn t xs) h in
-    elim (or_cases (is_terminal x l) (is_one_of xs l) i) [ inl e ↦ of_terminal t x l w.0 e | inr e ↦ of_terminals t xs l w.1 e ]
+tokens_turn : (t : Role) (xs : List Terminal) (l : Leaf) → all_turn t xs ≡ true → is_one_of xs l ≡ true → role l.class l.token ≡ t
+tokens_turn t xs l h i = of_terminals (λ class token. role class token ≡ t) (turns t) (class_turns t) (λ class token e. turn_is (role class token) t e) xs l h i
 
 abbrev pub plain_tokens : List Terminal → Bool
 plain_tokens ts = all_turn plain ts
 
-tokens_plain : (xs : List Terminal) (l : Leaf) → plain_tokens xs ≡ true → is_one_of xs l ≡ true → role l.class l.token ≡ plain
-tokens_plain xs l h i = of_terminals plain xs l h i
-
 -- after an opening bracket
 pub token_opens : (ts : List Terminal) (x : Part) (outer here : Spot) → all_turn opens ts ≡ true → has_token ts x ≡ true → after_part outer here x ≡ Within
-token_opens ts (p.Leaf l) outer here h i = ap (λ t. following_token t outer here) (of_terminals opens ts l h i)
+token_opens ts (p.Leaf l) outer here h i = ap (λ t. following_token t outer here) (tokens_turn opens ts l h i)
 token_opens ts (Node' kind z r) outer here h i = no_such i
 
 -- after a closing one
 pub token_closes : (ts : List Terminal) (x : Part) (outer here : Spot) → all_turn closes ts ≡ true → has_token ts x ≡ true → after_part outer here x ≡ onward outer
-token_closes ts (p.Leaf l) outer here h i = ap (λ t. following_token t outer here) (of_terminals closes ts l h i)
+token_closes ts (p.Leaf l) outer here h i = ap (λ t. following_token t outer here) (tokens_turn closes ts l h i)
 token_closes ts (Node' kind z r) outer here h i = no_such i
 
 -- what follows the part is where the part is, but for the first place of a line
 abbrev pub GoesOn : Part → Type 0
 GoesOn x = (outer here : Spot) → after_part outer here x ≡ onward here
 
-leaf_goes : (l : Leaf) → role l.class l.token ≡ plain → GoesOn (p.Leaf l)
+pub leaf_goes : (l : Leaf) → role l.class l.token ≡ plain → GoesOn (p.Leaf l)
 leaf_goes l e outer here = ap (λ t. following_token t outer here) e
 
 pub token_goes : (ts : List Terminal) (x : Part) → plain_tokens ts ≡ true → has_token ts x ≡ true → GoesOn x
-token_goes ts (p.Leaf l) h i = leaf_goes l (tokens_plain ts l h i)
+token_goes ts (p.Leaf l) h i = leaf_goes l (tokens_turn plain ts l h i)
 token_goes ts (Node' kind z r) h i = no_such i
 
-kind_goes : (kind : Kind) (here : Spot) → inner_kind kind ≡ true → after_node kind here ≡ onward here
+pub kind_goes : (kind : Kind) (here : Spot) → inner_kind kind ≡ true → after_node kind here ≡ onward here
 kind_goes k.Line here h = no_such h
 kind_goes k.Def here h = no_such h
 kind_goes k.IfStmt here h = no_such h
@@ -227,7 +230,7 @@ leaves_plain (s.level n) = refl
 leaves_plain _ = refl
 
 pub nonterminal_goes : (a : Nonterminal) (x : Part) → inner_nonterminal a ≡ true → IsNonterminal a x → GoesOn x
-nonterminal_goes a (p.Leaf l) h i = leaf_goes l (tokens_plain (leaves_at a) l (leaves_plain a) i)
+nonterminal_goes a (p.Leaf l) h i = leaf_goes l (tokens_turn plain (leaves_at a) l (leaves_plain a) i)
 nonterminal_goes a (Node' kind z r) h i = λ outer here. kind_goes kind here (nonterminal_kind a kind h i)
 
 -- ---- binary operations
@@ -260,27 +263,19 @@ binary_begins kind h x xs i = front (line_shape kind) (and_parts _ _ (kind_binar
     front (s.sub a r) b j = (a, j.0)
     front _ b j = no_such b
 
-abbrev unsigned : List Terminal → Bool
-unsigned [] = true
-unsigned (s.any class ∷ xs) = not (is_operator_class class) && unsigned xs
-unsigned (s.this class token ∷ xs) = not (is_operator_class class) && unsigned xs
+abbrev unsigned : Terminal → Bool
+unsigned (s.any class) = not (is_operator_class class)
+unsigned (s.this class token) = not (is_operator_class class)
 
-leaf_unsigned : (xs : List Terminal) (l : Leaf) → unsigned xs ≡ true → is_one_of xs l ≡ true → is_operator_class l.class ≡ false
-leaf_unsigned [] l h i = no_such i
-leaf_unsigned (s.any class ∷ xs) l h i =
-    let w = and_parts (not (is_operator_class class)) (unsigned xs) h in
-    elim (or_cases (is_terminal (s.any class) l) (is_one_of xs l) i) [ inl e ↦ ap is_operator_class (same_class l.class class e) ∙ not-true (is_operator_class class) w.0 | inr e ↦ leaf_unsigned xs l w.1 e ]
-leaf_unsigned (s.this class token ∷ xs) l h i =
-    let w = and_parts (not (is_operator_class class)) (unsigned xs) h in
-    elim (or_cases (is_terminal (s.this class token) l) (is_one_of xs l) i) [ inl e ↦ ap is_operator_class (same_class l.class class (and_parts _ _ e).0) ∙ not-true (is_operator_class class) w.0 | inr e ↦ leaf_unsigned xs l w.1 e ]
-
-leaves_unsigned : (a : Nonterminal) → unsigned (leaves_at a) ≡ true
+leaves_unsigned : (a : Nonterminal) → list_all unsigned (leaves_at a) ≡ true
 leaves_unsigned (s.level n) = refl
 leaves_unsigned _ = refl
 
 -- a leaf that has a sort is no sign
 pub nonterminal_unsigned : (a : Nonterminal) (l : Leaf) → IsNonterminal a (p.Leaf l) → is_operator_class l.class ≡ false
-nonterminal_unsigned a l i = leaf_unsigned (leaves_at a) l (leaves_unsigned a) i
+nonterminal_unsigned a l i =
+    let none = λ (class : Class) (token : List ℕ) (e : not (is_operator_class class) ≡ true). not-true (is_operator_class class) e in
+    of_terminals (λ class token. is_operator_class class ≡ false) unsigned none none (leaves_at a) l (leaves_unsigned a) i
 
 -- ---- statements
 

@@ -1,24 +1,26 @@
 -- No comment of a legal tree is lost or doubled by its view.
-use Rattle.std.proofs.Common.{◌≡◌, ℕ, ◌+◌, List, [], ◌∷◌, ◌++◌, inl, inr, None, refl, ap, ◌∙◌, subst, map, arith}
+use Rattle.std.proofs.Common.{◌≡◌, ℕ, ◌+◌, true, false, List, [], ◌∷◌, ◌++◌, inl, inr, None, refl, ap, ◌∙◌, subst, map, arith}
 use Rattle.std.specs.List.{AllByRecursion}
 use Rattle.std.proofs.lemmas.Bool.{eqb-true}
 use Rattle.bz_grammar.specs.declared.kind.Kind.TheVariants as k
 use Rattle.bz_grammar.specs.declared.tree.Part.{Part, Row_of-Part, Node', items-the_row-Part}
 use Rattle.bz_grammar.specs.declared.tree.Part.TheVariants as p
 use Rattle.bz_grammar.specs.Shapes as s
-use Rattle.bz_grammar.specs.Shapes.{Fits, Several, shape, tok, done}
-use Rattle.bz_grammar.specs.Legal.{IsNonterminal, LegalPart, LegalRow}
-use Rattle.bz_grammar.specs.Spots.{Begins, after_node, Stands, AtRow, AtParts}
+use Rattle.bz_grammar.specs.Shapes.{Fits, Several, shape, bzl_shape, tok, done}
+use Rattle.bz_grammar.specs.Legal.{IsNonterminal, LegalBzlPart, LegalBzlRow}
+use Rattle.bz_grammar.specs.Spots.{Begins, after_node, BzlStands, AtRow, AtParts}
 use Rattle.bz_grammar.proofs.Balance.{no_such, parts_of_row}
+use Rattle.bz_grammar.proofs.Build.{legal_by_lines}
 use Rattle.bz_grammar.proofs.Numbers.{same_kind}
 use Rattle.bz_value.specs.Counted.{total, item_amount, one_if}
 use Rattle.bz_items.specs.Characters.{Bytes}
 use Rattle.bz_value.specs.Gaps.{GapLine, lines_of, comments_in, after_first_line, groups_of, all_but_last, last_group, suffix_in}
 use Rattle.bz_hosts.specs.Kept.{CommentsKept}
 use Rattle.bz_hosts.specs.View.{seen, seen_row, first_seen_gap, last_gap, blocks, statements_in, line_items, file_items}
+use Rattle.bz_hosts.proofs.Alternating.{Alternating}
+use Rattle.bz_hosts.proofs.Cuts.{mark_token}
 use Rattle.bz_hosts.proofs.KeptParts.{AllKept, host_kept, token_part, parts_kept}
-use Rattle.bz_hosts.proofs.Pairs.{Paired, listed_paired}
-use Rattle.bz_hosts.proofs.QuietGaps.{Quiet, Statements, statements_quiet, row_legal}
+use Rattle.bz_hosts.proofs.QuietGaps.{Quiet, Statements, parts_silent, statements_quiet, line_alternating}
 use Rattle.bz_hosts.proofs.SeenParts.{seen_rows}
 use Rattle.bz_hosts.proofs.Sums.{gap_amount, gap_parts, lines_joined, all_blocks, front_blocks, part_amount, leaf_amount, row_leaves, parts_leaves}
 use Rattle.bz_value.proofs.Totals.{append_total}
@@ -30,29 +32,29 @@ module _ (number : Bytes → ℕ) where
 
   -- Statements of a line: the gap before the first is among the comments above it, and what is in the newline's gap after
   -- its first line belongs to the lines below.
-  pub statements_kept : (above : List Bytes) (x y : Part) (xs : List Part) → AllKept number (x ∷ y ∷ xs) → Paired (x ∷ y ∷ xs) → Quiet (x ∷ y ∷ xs) →
+  pub statements_kept : (above : List Bytes) (x y : Part) (xs : List Part) → AllKept number (x ∷ y ∷ xs) → Alternating s.semicolon (x ∷ y ∷ xs) → Quiet (x ∷ y ∷ xs) →
       gap_amount number (seen x).gap + (total (item_amount number) (statements_in above (map seen (x ∷ y ∷ xs))) + left_amount (last_gap (map seen (x ∷ y ∷ xs)))) ≡ total number above + total (part_amount number) (x ∷ y ∷ xs)
   statements_kept above x y [] h t q =
       let here = h.0 in
-      let newline = token_part number y t.0 in
+      let newline = token_part number y (mark_token s.semicolon false y t.1) in
       let made = host_kept number x above (suffix_in (seen y).gap) in
       let gap = gap_parts number (seen y).gap in
       omega arith
   statements_kept above x y (z ∷ []) h t q =
       let here = h.0 in
-      let mark = token_part number y t.0 in
+      let mark = token_part number y (mark_token s.semicolon true y t.1) in
       let none = ap (total number) q in
-      let newline = token_part number z t.1 in
+      let newline = token_part number z (mark_token s.semicolon false z t.2) in
       let made = host_kept number x above (suffix_in (seen z).gap) in
       let gap = gap_parts number (seen z).gap in
       omega arith
   statements_kept above x y (z ∷ u ∷ xs) h t q =
       let here = h.0 in
-      let mark = token_part number y t.0 in
+      let mark = token_part number y (mark_token s.semicolon true y t.1) in
       let none = ap (total number) q.0 in
       let none' = ap (total number) q.1 in
       let made = host_kept number x above None in
-      let rest = statements_kept [] z u xs h.1.1 t.1 q.2 in
+      let rest = statements_kept [] z u xs h.1.1 t.2 q.2 in
       omega arith
 
   -- ---- lines
@@ -63,18 +65,18 @@ module _ (number : Bytes → ℕ) where
   line_kept lines (x ∷ []) h g q = absurd h.1
   line_kept lines (x ∷ y ∷ xs) h g q =
       let above : List Bytes = last_group (groups_of lines) in
-      let made = statements_kept above x y xs g (listed_paired s.semicolon s.newline s.small (x ∷ y ∷ xs) h) q in
+      let made = statements_kept above x y xs g (line_alternating (x ∷ y ∷ xs) h) q in
       let groups = front_blocks number lines in
       let both = append_total (item_amount number) (blocks (all_but_last (groups_of lines))) (statements_in above (map seen (x ∷ y ∷ xs))) in
       omega arith
 
   -- a line of a file, where these lines are left of the gap before
-  row_kept : (left : List GapLine) (m : _) (r : Row_of-Part m) → Statements (items-the_row-Part m r) → LegalRow r → AtRow Stands Begins Begins r →
+  row_kept : (left : List GapLine) (m : _) (r : Row_of-Part m) → Statements (items-the_row-Part m r) → LegalBzlRow r → AtRow BzlStands Begins Begins r →
       total (item_amount number) (line_items (left ++ lines_of (first_seen_gap (seen_row r))) (seen_row r)) + left_amount (last_gap (seen_row r)) ≡ total number (comments_in left) + total (part_amount number) (items-the_row-Part m r)
   row_kept left m r h g at_ =
       let ys : List Part = items-the_row-Part m r in
       let lines : List GapLine = left ++ lines_of (first_seen_gap (map seen ys)) in
-      let quiet : Quiet ys = statements_quiet Begins Begins ys refl h (row_legal m r g) (parts_of_row Stands Begins Begins m r at_) in
+      let quiet : Quiet ys = statements_quiet Begins Begins ys refl h (parts_silent m r g) (parts_of_row BzlStands Begins Begins m r at_) in
       let made = line_kept lines ys h (parts_kept number m r g) quiet in
       let both = lines_joined number left (lines_of (first_seen_gap (map seen ys))) in
       let found : total (item_amount number) (line_items lines (map seen ys)) + left_amount (last_gap (map seen ys)) ≡ total number (comments_in left) + total (part_amount number) ys = omega arith in
@@ -85,7 +87,7 @@ module _ (number : Bytes → ℕ) where
   abbrev Lines : List Part → Type 0
   Lines xs = Several (IsNonterminal s.line) (Fits IsNonterminal (tok s.end done)) xs
 
-  file_kept : (left : List GapLine) (xs : List Part) → Lines xs → AllByRecursion LegalPart xs → AtParts Stands Begins Begins xs →
+  file_kept : (left : List GapLine) (xs : List Part) → Lines xs → AllByRecursion LegalBzlPart xs → AtParts BzlStands Begins Begins xs →
       total (item_amount number) (file_items left xs) ≡ total number (comments_in left) + total (part_amount number) xs
   file_kept left [] h g at_ = absurd h
   file_kept left (p.Leaf l ∷ []) (inl h) g at_ =
@@ -101,8 +103,8 @@ module _ (number : Bytes → ℕ) where
   file_kept left (Node' kind n r ∷ xs) (inr h) g at_ =
       let ys : List Part = items-the_row-Part _ r in
       let e : kind ≡ k.Line = same_kind kind k.Line (eqb-true _ _ h.0) in
-      let statements : Statements ys = subst (λ kd. Fits IsNonterminal (shape kd) ys) e g.0.0 in
-      let there : AtParts Stands Begins Begins xs = subst (λ kd. AtParts Stands Begins (after_node kd Begins) xs) e at_.1 in
+      let statements : Statements ys = subst (λ kd. Fits IsNonterminal (bzl_shape kd) ys) e g.0.0 in
+      let there : AtParts BzlStands Begins Begins xs = subst (λ kd. AtParts BzlStands Begins (after_node kd Begins) xs) e at_.1 in
       let here = row_kept left _ r statements g.0.1 at_.0 in
       let rest = file_kept (after_first_line (lines_of (last_gap (seen_row r)))) xs h.1 g.1 there in
       let leaves = row_leaves number _ r in
@@ -112,6 +114,7 @@ module _ (number : Bytes → ℕ) where
 pub comments_kept : CommentsKept
 comments_kept n h text =
     let fits : Fits IsNonterminal (shape k.File) n.parts = subst (λ kd. Fits IsNonterminal (shape kd) n.parts) h.file.root h.file.shapes.0 in
-    let all = file_kept (one_if text) [] n.parts fits h.file.shapes.1 h.gaps in
+    let wide = ((legal_by_lines n).0 h).0 in
+    let all = file_kept (one_if text) [] n.parts fits wide.file.shapes.1 wide.gaps in
     let leaves = parts_leaves (one_if text) n.parts in
     omega arith

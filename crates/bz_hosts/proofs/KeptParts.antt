@@ -6,7 +6,8 @@ use Rattle.std.proofs.lemmas.List.{drop-map}
 use Rattle.bz_grammar.specs.declared.kind.Kind.{Kind}
 use Rattle.bz_grammar.specs.declared.tree.Part.{Part, Row_of-Part, end_of-Part, more_of-Part, Node', items-the_row-Part}
 use Rattle.bz_grammar.specs.declared.tree.Part.TheVariants as p
-use Rattle.bz_grammar.specs.Legal.{LegalPart, LegalRow}
+use Rattle.bz_grammar.specs.Shapes as s
+use Rattle.bz_grammar.specs.Legal.{LegalBzlPart, LegalBzlRow}
 use Rattle.bz_value.specs.Comments.{no_comments}
 use Rattle.bz_value.specs.Counted.{total, suffix_amount, amount}
 use Rattle.bz_value.specs.Frames.{Frame, row, sequence, frame, lead, is_binary}
@@ -15,7 +16,8 @@ use Rattle.bz_value.specs.Gaps.{suffix_in, others_in, all_in, has_newline}
 use Rattle.bz_value.specs.Proper.{is_operator}
 use Rattle.bz_hosts.specs.View.{Seen, seen, seen_node, plain, first_seen_gap, begins_seen_operator, loose_in, loose_after, row_exprs, items_in}
 use Rattle.bz_hosts.specs.Walks.{form_of_frame, loose_of}
-use Rattle.bz_hosts.proofs.Pairs.{is_token, Paired, TokenAt, BracketedIn, node_bracketed}
+use Rattle.bz_hosts.proofs.Alternating.{Alternating}
+use Rattle.bz_hosts.proofs.Cuts.{is_token, mark_token, BracketAt, CutIn, kind_cut}
 use Rattle.bz_hosts.proofs.ProperParts.{dropped}
 use Rattle.bz_hosts.proofs.SeenParts.{seen_rows}
 use Rattle.bz_hosts.proofs.Sums.{gap_amount, gap_parts, node_amount, made_amount, part_amount, leaf_amount, row_leaves}
@@ -79,13 +81,12 @@ module _ (number : Bytes → ℕ) where
   token_holds (Node' kind n r) h = cc
 
   -- after the first part, up to the bracket
-  head_after : (n : ℕ) (xs : List Part) → AllKept xs → TokenAt n xs →
+  head_after : (n : ℕ) (xs : List Part) → AllKept xs → BracketAt n xs →
       total number (loose_after (take (suc n) (map seen xs))) + total (amount number) (map plain (take n (map seen xs))) ≡ total (part_amount number) (take (suc n) xs)
-  head_after zero [] h t = refl
-  head_after (suc n) [] h t = refl
+  head_after n [] h t = absurd t
   head_after zero (x ∷ xs) h t =
       let here = h.0 in
-      let none = token_holds x t in
+      let none = token_holds x t.0 in
       let loose = loose_more (seen x) [] in
       omega arith
   head_after (suc n) (x ∷ xs) h t =
@@ -94,10 +95,9 @@ module _ (number : Bytes → ℕ) where
       let loose = loose_more (seen x) (take (suc n) (map seen xs)) in
       omega arith
 
-  pub head_kept : (n : ℕ) (xs : List Part) → AllKept xs → TokenAt n xs →
+  pub head_kept : (n : ℕ) (xs : List Part) → AllKept xs → BracketAt n xs →
       gap_amount number (first_seen_gap (map seen xs)) + (total number (loose_in (take (suc n) (map seen xs))) + total (amount number) (map plain (take n (map seen xs)))) ≡ total (part_amount number) (take (suc n) xs)
-  head_kept zero [] h t = refl
-  head_kept (suc n) [] h t = refl
+  head_kept n [] h t = absurd t
   head_kept n (x ∷ xs) h t =
       let rest = head_after n (x ∷ xs) h t in
       let loose = loose_more (seen x) (take n (map seen xs)) in
@@ -113,27 +113,27 @@ module _ (number : Bytes → ℕ) where
       omega arith
 
   -- items and end comments: the gap before the first item is among the comments above it
-  items_kept : (above : List Bytes) (xs : List Part) → AllKept xs → Paired xs →
+  items_kept : (above : List Bytes) (xs : List Part) → AllKept xs → Alternating s.comma_mark xs →
       gap_amount number (first_seen_gap (map seen xs)) + (total (amount number) (items_in above (map seen xs)).0 + total number (items_in above (map seen xs)).1) ≡ total number above + total (part_amount number) xs
-  items_kept above [] h t = omega arith
+  items_kept above [] h t = absurd t
   items_kept above (x ∷ []) h t =
       let here = h.0 in
-      let none = token_holds x t in
+      let none = token_holds x (mark_token s.comma_mark false x t) in
       omega arith
   items_kept above (x ∷ y ∷ []) h t =
       let here = h.0 in
-      let mark = token_part y t.0 in
+      let mark = token_part y (mark_token s.comma_mark false y t.1) in
       let made = host_kept x above (suffix_in (seen y).gap) in
       let gap = gap_parts number (seen y).gap in
       omega arith
   items_kept above (x ∷ y ∷ z ∷ xs) h t =
       let here = h.0 in
-      let mark = token_part y t.0 in
+      let mark = token_part y (mark_token s.comma_mark true y t.1) in
       let made = host_kept x above (suffix_in (seen z).gap) in
       let gap = gap_parts number (seen z).gap in
       let next : List Bytes = all_in (seen y).gap ++ others_in (seen z).gap in
       let both = append_total number (all_in (seen y).gap) (others_in (seen z).gap) in
-      let rest = items_kept next (z ∷ xs) h.1.1 t.1 in
+      let rest = items_kept next (z ∷ xs) h.1.1 t.2 in
       omega arith
 
   -- ---- nodes
@@ -145,25 +145,27 @@ module _ (number : Bytes → ℕ) where
   cut_total (suc n) (x ∷ xs) = let h = cut_total n xs in omega arith
 
   -- what is found after the opening bracket
-  pub found_kept : (xs : List Part) → AllKept xs → Paired xs →
-      total (amount number) (items_in (all_in (first_seen_gap (map seen xs))) (map seen xs)).0 + total number (items_in (all_in (first_seen_gap (map seen xs))) (map seen xs)).1 ≡ total (part_amount number) xs
-  found_kept xs h t = let all = items_kept (all_in (first_seen_gap (map seen xs))) xs h t in omega arith
+  abbrev pub found_amount : List Seen → ℕ
+  found_amount ss = total (amount number) (items_in (all_in (first_seen_gap ss)) ss).0 + total number (items_in (all_in (first_seen_gap ss)) ss).1
 
-  form_kept : (f : Frame) (kind : Kind) (xs : List Part) → AllKept xs → BracketedIn f kind xs →
+  pub found_kept : (n : ℕ) (xs : List Part) → AllKept xs → Alternating s.comma_mark (drop n xs) → found_amount (drop n (map seen xs)) ≡ total (part_amount number) (drop n xs)
+  found_kept n xs h t =
+      let body : List Part = drop n xs in
+      let all = items_kept (all_in (first_seen_gap (map seen body))) body (dropped KeptPart n xs h) t in
+      let same = ap found_amount (drop-map seen n xs) in
+      omega arith
+
+  form_kept : (f : Frame) (kind : Kind) (xs : List Part) → AllKept xs → CutIn f kind xs →
       gap_amount number (first_seen_gap (map seen xs)) + (total number (loose_of f kind (map seen xs)) + inner_amount number (form_of_frame f kind (map seen xs) no_comments)) ≡ total (part_amount number) xs
   form_kept row kind xs h b = let all = row_kept (is_binary kind) false false xs h in omega arith
   form_kept (sequence opener closer) kind xs h b =
       let n : ℕ = lead kind in
-      let body : List Part = drop (suc n) xs in
-      let head = head_kept n xs h b.opener in
-      let found = found_kept body (dropped KeptPart (suc n) xs h) b.body in
-      let same : total (amount number) (items_in (all_in (first_seen_gap (drop (suc n) (map seen xs)))) (drop (suc n) (map seen xs))).0 + total number (items_in (all_in (first_seen_gap (drop (suc n) (map seen xs)))) (drop (suc n) (map seen xs))).1
-      ≡ total (amount number) (items_in (all_in (first_seen_gap (map seen body))) (map seen body)).0 + total number (items_in (all_in (first_seen_gap (map seen body))) (map seen body)).1 =
-      ap (λ ss. total (amount number) (items_in (all_in (first_seen_gap ss)) ss).0 + total number (items_in (all_in (first_seen_gap ss)) ss).1) (drop-map seen (suc n) xs) in
+      let head = head_kept n xs h b.bracket_at in
+      let found = found_kept (suc n) xs h b.alternating in
       let cut = cut_total (suc n) xs in
       omega arith
 
-  pub node_kept : (f : Frame) (kind : Kind) (xs : List Part) → AllKept xs → BracketedIn f kind xs → gap_amount number (seen_node f kind (map seen xs)).gap + held (seen_node f kind (map seen xs)) ≡ total (part_amount number) xs
+  pub node_kept : (f : Frame) (kind : Kind) (xs : List Part) → AllKept xs → CutIn f kind xs → gap_amount number (seen_node f kind (map seen xs)).gap + held (seen_node f kind (map seen xs)) ≡ total (part_amount number) xs
   node_kept row kind xs h b =
       let made = node_amount number row kind (map seen xs) no_comments false in
       let all = form_kept row kind xs h b in
@@ -174,13 +176,13 @@ module _ (number : Bytes → ℕ) where
       omega arith
 
   mutual
-    pub part_kept : (x : Part) → LegalPart x → KeptPart x
+    pub part_kept : (x : Part) → LegalBzlPart x → KeptPart x
     part_kept (p.Leaf l) h = let all = leaf_amount number l in omega arith
     part_kept (Node' kind n r) h =
         let xs : List Part = items-the_row-Part _ r in
         ap (λ ss. gap_amount number (seen_node (frame kind) kind ss).gap + held (seen_node (frame kind) kind ss)) (seen_rows _ r)
-        ∙ (node_kept (frame kind) kind xs (parts_kept _ r h.1) (node_bracketed kind xs h.0) ∙ sym (row_leaves number _ r))
+        ∙ (node_kept (frame kind) kind xs (parts_kept _ r h.1) (kind_cut kind xs h.0) ∙ sym (row_leaves number _ r))
 
-    pub parts_kept : (m : _) (r : Row_of-Part m) → LegalRow r → AllKept (items-the_row-Part m r)
+    pub parts_kept : (m : _) (r : Row_of-Part m) → LegalBzlRow r → AllKept (items-the_row-Part m r)
     parts_kept m end_of-Part h = tt
     parts_kept m (more_of-Part x rest) h = (part_kept x h.0, parts_kept _ rest h.1)

@@ -17,7 +17,6 @@ pub mod LineSteps
 pub mod NodeViews
 pub mod Nodes
 pub mod Numbered
-pub mod Pairs
 pub mod Parts
 pub mod ProperFiles
 pub mod ProperParts

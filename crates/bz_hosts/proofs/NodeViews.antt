@@ -1,9 +1,9 @@
 -- What is seen of a node, by the list of its parts.
-use Rattle.std.proofs.Common.{ℕ, zero, suc, Bool, true, false, ◌≡◌, List, [], ◌∷◌, ◌<◌, ◌≤◌, refl, sym, ap, ◌∙◌, map, take, drop, length, get_or, ◌+◌, add-one, arith}
+use Rattle.std.proofs.Common.{ℕ, zero, suc, Bool, true, false, ◌≡◌, List, [], ◌∷◌, refl, sym, ap, ◌∙◌, map, take, drop, ◌+◌, add-one}
 use Rattle.std.proofs.lemmas.List.{drop-map}
 use Rattle.bz_grammar.specs.declared.kind.Kind.{Kind}
 use Rattle.bz_grammar.specs.declared.tree.Node.{Node}
-use Rattle.bz_grammar.specs.declared.tree.Part.{Part, Row_of-Part, end_of-Part, more_of-Part, Node', items-the_row-Part}
+use Rattle.bz_grammar.specs.declared.tree.Part.{Part, Node'}
 use Rattle.bz_grammar.specs.declared.tree.Part.TheVariants as p
 use Rattle.bz_grammar.proofs.Nested.{row_of, items_of_row}
 use Rattle.bz_value.specs.declared.value.Expr.{Expr}
@@ -13,14 +13,10 @@ use Rattle.bz_value.specs.declared.value.Seq.{Seq}
 use Rattle.bz_value.specs.Commented.{with_comments}
 use Rattle.bz_value.specs.Comments.{HostComments, no_comments}
 use Rattle.bz_value.specs.Frames.{Frame, row, sequence, frame, has_brackets, lead}
-use Rattle.bz_items.specs.Characters.{Bytes}
 use Rattle.bz_value.specs.Gaps.{has_newline}
 use Rattle.bz_hosts.specs.View.{Seen, seen, seen_row, seen_node, plain, first_seen_gap, is_open, is_split}
 use Rattle.bz_hosts.specs.Walks.{form_of_frame, loose_of, seq_in}
-
-pub seen_rows : (m : _) (r : Row_of-Part m) → seen_row r ≡ map seen (items-the_row-Part m r)
-seen_rows m end_of-Part = refl
-seen_rows m (more_of-Part x rest) = ap (λ t. seen x ∷ t) (seen_rows _ rest)
+use Rattle.bz_hosts.proofs.SeenParts.{seen_rows, node_gap}
 
 pub seen_parts : (n : Node) → seen_row (row_of n).1 ≡ map seen n.parts
 seen_parts n = seen_rows _ (row_of n).1 ∙ ap (map seen) (items_of_row n)
@@ -29,10 +25,6 @@ pub seen_Node : (n : Node) → seen (p.Node n) ≡ seen_node (frame n.kind) n.ki
 seen_Node n = ap (seen_node (frame n.kind) n.kind) (seen_parts n)
 
 -- ---- a node by its frame
-
-node_gap : (f : Frame) (kind : Kind) (ss : List Seen) → (seen_node f kind ss).gap ≡ first_seen_gap ss
-node_gap row kind ss = refl
-node_gap (sequence opener closer) kind ss = refl
 
 node_made : (f : Frame) (kind : Kind) (ss : List Seen) (b : Bool) → e.Form (form_of_frame f kind ss no_comments) ≡ (seen_node f kind ss).make no_comments b
 node_made row kind ss b = refl
@@ -54,22 +46,13 @@ seen_comments (Node' kind _ parts) b cs = node_comments (frame kind) kind (seen_
 -- ---- the same of a part that is a node
 
 pub gap_of_node : (x : Part) (n : Node) → x ≡ p.Node n → first_seen_gap (map seen n.parts) ≡ (seen x).gap
-gap_of_node x n i = sym (ap (λ y. (seen y).gap) i ∙ (ap (λ s. s.gap) (seen_Node n) ∙ node_gap (frame n.kind) n.kind (map seen n.parts)))
+gap_of_node x n i = sym (ap (λ y. (seen y).gap) i ∙ (ap (λ s. s.gap) (seen_Node n) ∙ node_gap n.kind (map seen n.parts) (frame n.kind)))
 
 pub made_of_node : (x : Part) (n : Node) (b : Bool) → x ≡ p.Node n → e.Form (form_of_frame (frame n.kind) n.kind (map seen n.parts) no_comments) ≡ (seen x).make no_comments b
 made_of_node x n b i = node_made (frame n.kind) n.kind (map seen n.parts) b ∙ sym (ap (λ y. (seen y).make no_comments b) i ∙ ap (λ s. s.make no_comments b) (seen_Node n))
 
 pub loose_of_node : (x : Part) (n : Node) → x ≡ p.Node n → loose_of (frame n.kind) n.kind (map seen n.parts) ≡ (seen x).loose
 loose_of_node x n i = node_loose (frame n.kind) n.kind (map seen n.parts) ∙ sym (ap (λ y. (seen y).loose) i ∙ ap (λ s. s.loose) (seen_Node n))
-
--- the gap before a node is the one before its first part
-pub gap_none : (x : Part) (n : Node) (ps : List Part) → x ≡ p.Node n → ps ≡ n.parts → length ps < 1 → [] ≡ (seen x).gap
-gap_none x n [] i f l = ap (λ qs. first_seen_gap (map seen qs)) f ∙ gap_of_node x n i
-gap_none x n (q ∷ qs) i f l = absurd (omega arith)
-
-pub gap_first : (x : Part) (n : Node) (ps : List Part) (y : Part) (g : Bytes) → x ≡ p.Node n → ps ≡ n.parts → 1 ≤ length ps → y ≡ get_or ps 0 y → g ≡ (seen y).gap → g ≡ (seen x).gap
-gap_first x n [] y g i f l j h = absurd (omega arith)
-gap_first x n (q ∷ qs) y g i f l j h = h ∙ (ap (λ z. (seen z).gap) j ∙ (ap (λ rs. first_seen_gap (map seen rs)) f ∙ gap_of_node x n i))
 
 -- ---- a sequence
 

@@ -9,12 +9,13 @@ use Rattle.bz_grammar.specs.declared.tree.Part.TheVariants as p
 use Rattle.bz_grammar.specs.Shapes as s
 use Rattle.bz_grammar.specs.Shapes.{Fits, bzl_shape}
 use Rattle.bz_grammar.specs.Legal.{IsNonterminal, LegalBzlPart, LegalBzlRow}
+use Rattle.bz_grammar.proofs.Balance.{legal_row}
 use Rattle.bz_value.specs.Frames.{Frame, row, sequence, frame, lead}
 use Rattle.bz_items.specs.Characters.{Bytes}
 use Rattle.bz_value.specs.Gaps.{all_in}
 use Rattle.bz_value.proofs.GapComments.{all_joined}
 use Rattle.bz_hosts.specs.View.{Seen, seen, plain, loose_in, items_in}
-use Rattle.bz_hosts.proofs.SeenParts.{all_parted}
+use Rattle.bz_hosts.proofs.SeenParts.{all_mapped, all_parted}
 use Rattle.bz_hosts.specs.Hosts.{Region, host, between, Comment, comments_at, Measured, sizes, measured, in_row, in_node, hosts_from, CommentPlace, above, texts_at, Hosted, ended, hosted_at, inside_expr}
 use Rattle.bz_hosts.proofs.Around.{AllInside, all_wider, Sees, SeesAt, sees_after, sees_before_bracket, sees_in_sequence}
 use Rattle.bz_hosts.proofs.Gathered.{key, pick, pick_other, pick_none, GapPlaces, texts_joined, gap_all}
@@ -124,8 +125,7 @@ mutual
   row_regions m (more_of-Part x rest) h = (part_regions x h.0, row_regions _ rest h.1)
 
 pub row_solid : (m : _) (r : Row_of-Part m) → LegalBzlRow r → AllByRecursion Solid (items-the_row-Part m r)
-row_solid m end_of-Part h = tt
-row_solid m (more_of-Part x rest) h = (part_solid x h.0, row_solid _ rest h.1)
+row_solid m r h = all_mapped LegalBzlPart Solid part_solid (items-the_row-Part m r) (legal_row m r h)
 
 -- ---- texts
 

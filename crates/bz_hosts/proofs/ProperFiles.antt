@@ -17,7 +17,7 @@ use Rattle.bz_grammar.specs.declared.tree.Part.{Part, Node', items-the_row-Part}
 use Rattle.bz_grammar.specs.declared.tree.Part.TheVariants as p
 use Rattle.bz_grammar.specs.Spell.{leaves_part, leaves_row, leaves_of}
 use Rattle.bz_grammar.specs.Shapes as s
-use Rattle.bz_grammar.specs.Shapes.{Fits, Listed, After, Several, shape, tok, done}
+use Rattle.bz_grammar.specs.Shapes.{Fits, Listed, Several, shape, tok, done}
 use Rattle.bz_grammar.specs.Legal.{IsNonterminal, LegalPart, Legal}
 use Rattle.bz_grammar.proofs.Build.{legal_by_lines}
 use Rattle.bz_grammar.specs.Spots.{Spot, Begins, onward, after_part, after_node, BzlStands, AtLeaves, AtParts, TokenStands, AreTokens}
@@ -46,7 +46,7 @@ AreProper items = AllByRecursion IsProperItem items
 
 -- ---- comment lines on their own
 
-blocks_proper : (gs : List (List Bytes)) → Groups gs → AreProper (blocks gs)
+pub blocks_proper : (gs : List (List Bytes)) → Groups gs → AreProper (blocks gs)
 blocks_proper [] h = tt
 blocks_proper ([] ∷ gs) h = blocks_proper gs h.1
 blocks_proper ((text ∷ group) ∷ gs) h = (((λ e. cc), All-from_recursion IsComment (text ∷ group) h.0), blocks_proper gs h.1)

@@ -12,6 +12,7 @@ use Rattle.bz_grammar.specs.declared.tree.Part.{Part, Row_of-Part, end_of-Part, 
 use Rattle.bz_grammar.specs.declared.tree.Part.TheVariants as p
 use Rattle.bz_grammar.specs.Spell.{leaves_part, leaves_row}
 use Rattle.bz_grammar.specs.declared.kind.Kind.TheVariants as k
+use Rattle.bz_grammar.specs.Shapes as s
 use Rattle.bz_grammar.specs.Shapes.{Shape, Fits, bzl_shape}
 use Rattle.bz_grammar.specs.Legal.{IsNonterminal, LegalBzlPart, LegalBzlRow}
 use Rattle.bz_grammar.specs.Spots.{Spot, Within, BzlStands, AtParts}
@@ -31,10 +32,12 @@ use Rattle.bz_value.proofs.Rooted.{Same, over, more, fits_same, row_same, places
 use Rattle.bz_value.proofs.LegalBy.{LegalBy, LegalRowBy}
 use Rattle.bz_value.proofs.Wider.{IsWider}
 use Rattle.bz_hosts.specs.View.{Seen, seen, seen_node, plain, first_seen_gap, row_exprs, items_in, is_split, is_open}
-use Rattle.bz_hosts.proofs.InnerParts.{ends_line, is_inner, inner_kind, inner_parts}
+use Rattle.bz_hosts.proofs.Alternating.{Alternating}
+use Rattle.bz_hosts.proofs.Cuts.{Cut, sequence_cut}
+use Rattle.bz_hosts.proofs.InnerParts.{ends_line, is_inner, inner_kind, inner_parts, lines_bzl}
 use Rattle.bz_hosts.proofs.SeenParts.{seen_rows, Decoded, AllDecoded, gap_decoded, all_parted, root_made, row_decoded}
 use Rattle.bz_hosts.proofs.RowParts.{Fit, AllFit, row_proper}
-use Rattle.bz_hosts.proofs.SequenceParts.{SequenceStands, sequence_stands, head_proper, head_roots, Alternate, ItemsProper, items_proper, items_roots}
+use Rattle.bz_hosts.proofs.SequenceParts.{sequence_stands, head_proper, head_roots, ItemsProper, items_proper, items_roots}
 
 -- ---- a node, by its parts
 
@@ -62,7 +65,7 @@ module _ (grammar : Kind → Shape) where
     pub roots : Same (places xs) (map root (items_in (all_in (first_seen_gap body)) body).0)
     pub items : ItemsProper grammar (items_in (all_in (first_seen_gap body)) body)
 
-  pub found_proper : (outer : Spot) (xs : List Part) → AllDecoded (map seen xs) → AllFit grammar xs → AtParts BzlStands outer Within xs → Alternate xs → FoundProper xs (map seen xs)
+  pub found_proper : (outer : Spot) (xs : List Part) → AllDecoded (map seen xs) → AllFit grammar xs → AtParts BzlStands outer Within xs → Alternating s.comma_mark xs → FoundProper xs (map seen xs)
   found_proper outer xs t h at_ g = record {
     roots = items_roots (all_in (first_seen_gap (map seen xs))) xs;
     items = items_proper grammar (all_in (first_seen_gap (map seen xs))) outer xs (all_fine (first_seen_gap (map seen xs)) (gap_decoded (map seen xs) t)) t h at_ g;
@@ -95,12 +98,13 @@ module _ (grammar : Kind → Shape) where
         let body : List Seen = drop (suc n) (map seen xs) in
         let found : List Expr × List Bytes = items_in (all_in (first_seen_gap body)) body in
         let es : List Expr = map plain (take n (map seen xs)) in
-        let stands : SequenceStands here kind xs = sequence_stands kind opener closer here xs e (wider kind xs h) at_ in
+        let cut : Cut kind xs = sequence_cut kind opener closer xs e (lines_bzl kind xs (wider kind xs h)) in
+        let stands = sequence_stands kind here xs cut at_ in
         let same : body ≡ map seen (drop (suc n) xs) = drop-map seen (suc n) xs in
         let decoded : AllDecoded (map seen (drop (suc n) xs)) = subst AllDecoded same (dropped Decoded (suc n) (map seen xs) t) in
-        let inside : FoundProper (drop (suc n) xs) body = subst (FoundProper (drop (suc n) xs)) (sym same) (found_proper here (drop (suc n) xs) decoded (dropped (Fit grammar) (suc n) xs g) stands.body stands.alternate) in
+        let inside : FoundProper (drop (suc n) xs) body = subst (FoundProper (drop (suc n) xs)) (sym same) (found_proper here (drop (suc n) xs) decoded (dropped (Fit grammar) (suc n) xs g) stands.1 cut.alternating) in
         let form : Form = record { kind = kind; parts = es; seq = record { items = found.0; end = found.1; split = is_split body }; open_break = false; comments = cs } in
-        let as_sequence : AsSequenceBy grammar here form = (head_proper grammar here n xs g stands.head, inside.items.0, All-from_recursion IsComment found.1 inside.items.1, refl) in
+        let as_sequence : AsSequenceBy grammar here form = (head_proper grammar here n xs g stands.0, inside.items.0, All-from_recursion IsComment found.1 inside.items.1, refl) in
         form_proper_by grammar here form (kept_fits kind (sequence opener closer) e xs (map root es) (map root found.0) h (head_roots n xs) inside.roots) (subst (λ z. in_frame z (AsRowBy grammar here form) (AsSequenceBy grammar here form)) (sym e) as_sequence)
 
     -- ---- parts of a tree
@@ -115,7 +119,7 @@ module _ (grammar : Kind → Shape) where
       part_proper (Node' kind n r) g i here at_ cs b =
           let xs : List Part = items-the_row-Part _ r in
           let decoded : AllDecoded (map seen xs) = subst AllDecoded (seen_rows _ r) (row_decoded _ r g.2) in
-          let fit : AllFit grammar xs = ready_fit xs (inner_parts kind i xs (wider kind xs g.0.0)) (row_ready _ r g.0.1 g.1 g.2) in
+          let fit : AllFit grammar xs = ready_fit xs (inner_parts kind i xs (lines_bzl kind xs (wider kind xs g.0.0))) (row_ready _ r g.0.1 g.1 g.2) in
           subst (λ ss. ProperBy grammar here ((seen_node (frame kind) kind ss).make cs b)) (sym (seen_rows _ r)) (node_proper kind (frame kind) refl here xs g.0.0 decoded fit (parts_of_row BzlStands here here _ r at_) cs b)
 
       pub row_ready : (m : _) (r : Row_of-Part m) → LegalRowBy grammar r → AllByRecursion IsLexed (leaves_row r) → AllByRecursion IsCodedLeaf (leaves_row r) → AllByRecursion Ready (items-the_row-Part m r)
@@ -140,7 +144,7 @@ mutual
   inner_legal (p.Leaf l) i h = tt
   inner_legal (Node' kind n r) i h =
       let fits : Fits IsNonterminal (line_shape kind) (items-the_row-Part _ r) = inner_shape kind (items-the_row-Part _ r) i h.0 in
-      (fits, inner_row _ r (inner_parts kind i (items-the_row-Part _ r) fits) h.1)
+      (fits, inner_row _ r (inner_parts kind i (items-the_row-Part _ r) h.0) h.1)
 
   inner_row : (m : _) (r : Row_of-Part m) → AllByRecursion (λ x. is_inner x ≡ true) (items-the_row-Part m r) → LegalBzlRow r → LegalRowBy line_shape r
   inner_row m end_of-Part i h = tt

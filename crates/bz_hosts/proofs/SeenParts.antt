@@ -112,6 +112,10 @@ pub all_parted : {X : Type 0} (P : X → Type 0) (xs ys : List X) → AllByRecur
 all_parted P [] ys h = (tt, h)
 all_parted P (x ∷ xs) ys h = let w = all_parted P xs ys h.1 in ((h.0, w.0), w.1)
 
+pub all_mapped : {X : Type 0} (P Q : X → Type 0) → ((x : X) → P x → Q x) → (xs : List X) → AllByRecursion P xs → AllByRecursion Q xs
+all_mapped P Q f [] h = tt
+all_mapped P Q f (x ∷ xs) h = (f x h.0, all_mapped P Q f xs h.1)
+
 pub gap_decoded : (ss : List Seen) → AllDecoded ss → IsUtf8 (first_seen_gap ss)
 gap_decoded [] h = IsUtf8-nil
 gap_decoded (s ∷ ss) h = h.0.coded

@@ -8,7 +8,6 @@ use Rattle.bz_lex.specs.declared.leaf.Leaf.{Leaf}
 use Rattle.bz_grammar.specs.declared.tree.Part.{Part, Node'}
 use Rattle.bz_grammar.specs.declared.tree.Part.TheVariants as p
 use Rattle.bz_grammar.specs.Shapes as s
-use Rattle.bz_grammar.specs.Shapes.{Terminal}
 use Rattle.bz_value.specs.declared.value.Expr.{Expr}
 use Rattle.bz_value.specs.Comments.{HostComments}
 use Rattle.bz_items.specs.Characters.{Bytes}
@@ -16,12 +15,12 @@ use Rattle.bz_value.specs.Gaps.{as_list, suffix_in, others_in, all_in}
 use Rattle.bz_value.specs.Proper.{comments_of}
 use Rattle.bz_hosts.specs.View.{seen, plain, items_in}
 use Rattle.bz_hosts.proofs.SeenParts.{comments_made}
-use Rattle.bz_hosts.specs.Hosts.{Region, host, between, beginning_in, place_at_end, Comment, comments_at, sizes, measured, is_item_part, hosts_from, CommentPlace, suffix_of, above, end_of, texts_at, Hosted, hosted, hosted_at, hosted_by, inside_expr}
+use Rattle.bz_hosts.specs.Hosts.{Region, host, between, beginning_in, place_at_end, Comment, comments_at, sizes, measured, hosts_from, CommentPlace, suffix_of, above, end_of, texts_at, Hosted, hosted, hosted_at, hosted_by, inside_expr}
 use Rattle.bz_hosts.proofs.Around.{AllInside, Sees, SeesAt, Ended, sees_after, sees_before, sees_in_host, sees_past_host, sees_ended}
 use Rattle.bz_hosts.proofs.Gathered.{key, pick, pick_same, pick_other, pick_joined, GapPlaces, texts_joined, gap_texts, gap_all}
 use Rattle.bz_hosts.proofs.HostsJoined.{Lines, three_none, three_first, three_second, three_third, five_none, five_first, five_third, five_rest}
 use Rattle.bz_hosts.proofs.Parts.{size, inner, in_parts, after_parts}
-use Rattle.bz_hosts.proofs.Alternating.{IsMark, Alternating, Regions, hosts_closed, hosts_last, hosts_more, hosts_inside}
+use Rattle.bz_hosts.proofs.Alternating.{IsItem, IsMark, Alternating, Regions, hosts_closed, hosts_last, hosts_more, hosts_inside}
 use Rattle.bz_hosts.proofs.Insides.{inside_list, inside_made}
 use Rattle.bz_hosts.proofs.Texts.{Inner, PartTexts, InHost}
 
@@ -104,7 +103,7 @@ pub record BodyTexts (all : List Region) (o hi n : ℕ) (xs : List Part) : Type 
       (map (hosted_at all cs) (hosts_from s.comma_mark n (map measured xs)) ≡ inside_list (items_in before (map seen xs)).0) × (texts_at all (end_of o) cs ≡ (items_in before (map seen xs)).1)
 
 -- the last item, with the closing bracket after it
-module _ (all : List Region) (o hi n : ℕ) (x : Part) (l : Leaf) (opened : o < n) (up : hi ≡ suc (n + size x)) (item : is_item_part x ≡ true) (mark : IsMark s.comma_mark false (p.Leaf l)) (r : Regions x) (i : InHost all x)
+module _ (all : List Region) (o hi n : ℕ) (x : Part) (l : Leaf) (opened : o < n) (up : hi ≡ suc (n + size x)) (item : IsItem x) (mark : IsMark s.comma_mark false (p.Leaf l)) (r : Regions x) (i : InHost all x)
     (s' : SeesAt all (Some (between o hi)) (suc n) hi (hosts_from s.comma_mark n (map measured (x ∷ p.Leaf l ∷ [])))) where
   last_texts : BodyTexts all o hi n (x ∷ p.Leaf l ∷ [])
   last_texts =
@@ -144,7 +143,7 @@ module _ (all : List Region) (o hi n : ℕ) (x : Part) (l : Leaf) (opened : o < 
       }
 
 -- an item, its comma, and those after it
-module _ (all : List Region) (o hi n : ℕ) (x : Part) (l : Leaf) (z : Part) (xs : List Part) (opened : o < n) (up : hi ≡ suc (n + size x) + sizes (map measured (z ∷ xs))) (item : is_item_part x ≡ true)
+module _ (all : List Region) (o hi n : ℕ) (x : Part) (l : Leaf) (z : Part) (xs : List Part) (opened : o < n) (up : hi ≡ suc (n + size x) + sizes (map measured (z ∷ xs))) (item : IsItem x)
     (mark : IsMark s.comma_mark true (p.Leaf l)) (a : Alternating s.comma_mark (z ∷ xs)) (r : Regions x) (r' : AllByRecursion Regions (z ∷ xs)) (i : InHost all x)
     (s' : SeesAt all (Some (between o hi)) (suc n) hi (hosts_from s.comma_mark n (map measured (x ∷ p.Leaf l ∷ z ∷ xs)))) where
   more_texts : (SeesAt all (Some (between o hi)) (suc (suc (n + size x))) hi (hosts_from s.comma_mark (suc (n + size x)) (map measured (z ∷ xs))) → BodyTexts all o hi (suc (n + size x)) (z ∷ xs)) → BodyTexts all o hi n (x ∷ p.Leaf l ∷ z ∷ xs)

@@ -10,11 +10,11 @@ use Rattle.bz_items.specs.Characters.{Bytes}
 use Rattle.bz_value.specs.Gaps.{GapLine, lines_of, as_list, after_first_line, comments_in, first_comment, suffix_in, others_in, all_in}
 use Rattle.bz_hosts.specs.View.{seen, plain, statement, statements_in}
 use Rattle.bz_hosts.proofs.QuietGaps.{Quiet}
-use Rattle.bz_hosts.specs.Hosts.{Region, host, Comment, comments_at, sizes, measured, is_item_part, hosts_from, CommentPlace, suffix_of, above, outside, texts_at, hosted_at, inside_expr, inside_item}
+use Rattle.bz_hosts.specs.Hosts.{Region, host, Comment, comments_at, sizes, measured, hosts_from, CommentPlace, suffix_of, above, outside, texts_at, hosted_at, inside_expr, inside_item}
 use Rattle.bz_hosts.proofs.Around.{AllInside, Sees, SeesAt, Ended, sees_after, sees_before, sees_in_host, sees_past_host, sees_ended}
 use Rattle.bz_hosts.proofs.Gathered.{key, pick, pick_same, pick_other, pick_none, GapPlaces, texts_joined, gap_texts}
 use Rattle.bz_hosts.proofs.Parts.{size, inner, in_parts, after_parts}
-use Rattle.bz_hosts.proofs.Alternating.{IsMark, Alternating, Regions, hosts_closed, hosts_last, hosts_more, hosts_inside}
+use Rattle.bz_hosts.proofs.Alternating.{IsItem, IsMark, Alternating, Regions, hosts_closed, hosts_last, hosts_more, hosts_inside}
 use Rattle.bz_hosts.proofs.Texts.{PartTexts, InHost}
 use Rattle.bz_hosts.proofs.HostsJoined.{Lines, three_none, three_first, three_second, three_third}
 use Rattle.bz_hosts.proofs.Sequences.{From, host_with}
@@ -85,7 +85,7 @@ module _ (all : List Region) (n n' hi next : ℕ) (x : Part) (suffix : Option By
 
 module _ (all : List Region) (n hi : ℕ) (x : Part) (l : Leaf) (r : Regions x) (i : InHost all x) where
   -- no semicolon after the last statement
-  bare_end : hi ≡ suc (n + size x) → is_item_part x ≡ true → IsMark s.semicolon false (p.Leaf l) → SeesAt all None (suc n) hi (hosts_from s.semicolon n (map measured (x ∷ p.Leaf l ∷ []))) →
+  bare_end : hi ≡ suc (n + size x) → IsItem x → IsMark s.semicolon false (p.Leaf l) → SeesAt all None (suc n) hi (hosts_from s.semicolon n (map measured (x ∷ p.Leaf l ∷ []))) →
       LineTexts all n hi (after_parts n (x ∷ p.Leaf l ∷ [])) (hosts_from s.semicolon n (map measured (x ∷ p.Leaf l ∷ []))) (statements_in [] (map seen (x ∷ p.Leaf l ∷ [])))
   bare_end up item mark s' =
       let b : ℕ = n + size x in
@@ -101,7 +101,7 @@ module _ (all : List Region) (n hi : ℕ) (x : Part) (l : Leaf) (r : Regions x) 
       subst (λ (z : List Region). LineTexts all n hi whole z (statements_in [] (map seen (x ∷ p.Leaf l ∷ [])))) (sym (hosts_last s.semicolon n x l item mark))
       (statement_texts all n hi hi b x (suffix_in l.gap) whole [] [] [] some (omega arith) (omega arith) part collected (nothing_there all hi hi))
 
-  module _ (z : Part) (xs : List Part) (item : is_item_part x ≡ true) (mark : IsMark s.semicolon true (p.Leaf l)) (up : hi ≡ suc (n + size x) + sizes (map measured (z ∷ xs))) (a : Alternating s.semicolon (z ∷ xs))
+  module _ (z : Part) (xs : List Part) (item : IsItem x) (mark : IsMark s.semicolon true (p.Leaf l)) (up : hi ≡ suc (n + size x) + sizes (map measured (z ∷ xs))) (a : Alternating s.semicolon (z ∷ xs))
       (r' : AllByRecursion Regions (z ∷ xs)) (silent : all_in l.gap ≡ []) (s' : SeesAt all None (suc n) hi (hosts_from s.semicolon n (map measured (x ∷ p.Leaf l ∷ z ∷ xs)))) where
     abbrev after_it : ℕ
     after_it = suc (n + size x)
@@ -131,7 +131,7 @@ module _ (all : List Region) (n hi : ℕ) (x : Part) (l : Leaf) (r : Regions x) 
         let one : n + size x + 1 ≡ after_it = omega arith in
         ap (λ (y : List Comment). inner n x ++ (y ++ in_parts (n + size x + 1) (z ∷ xs))) (silent_gap (n + size x) l.gap silent) ∙ ap (λ (y : ℕ). inner n x ++ in_parts y (z ∷ xs)) one
 
-  semicolon_end : (l' : Leaf) → is_item_part x ≡ true → IsMark s.semicolon true (p.Leaf l) → hi ≡ suc (n + size x) + 1 → IsMark s.semicolon false (p.Leaf l') → all_in l.gap ≡ [] →
+  semicolon_end : (l' : Leaf) → IsItem x → IsMark s.semicolon true (p.Leaf l) → hi ≡ suc (n + size x) + 1 → IsMark s.semicolon false (p.Leaf l') → all_in l.gap ≡ [] →
       SeesAt all None (suc n) hi (hosts_from s.semicolon n (map measured (x ∷ p.Leaf l ∷ p.Leaf l' ∷ []))) →
       LineTexts all n hi (after_parts n (x ∷ p.Leaf l ∷ p.Leaf l' ∷ [])) (hosts_from s.semicolon n (map measured (x ∷ p.Leaf l ∷ p.Leaf l' ∷ []))) (statements_in [] (map seen (x ∷ p.Leaf l ∷ p.Leaf l' ∷ [])))
   semicolon_end l' item mark up mark' silent s' =
@@ -154,7 +154,7 @@ module _ (all : List Region) (n hi : ℕ) (x : Part) (l : Leaf) (r : Regions x) 
       subst (λ (y : List Region). LineTexts all n hi whole y (statements_in [] (map seen (x ∷ p.Leaf l ∷ z ∷ [])))) (sym there)
       (statement_texts all n hi hi n' x (suffix_in l'.gap) whole [] [] [] some (omega arith) (omega arith) part collected (nothing_there all hi hi))
 
-  before_others : (z u : Part) (xs : List Part) → is_item_part x ≡ true → IsMark s.semicolon true (p.Leaf l) → hi ≡ suc (n + size x) + sizes (map measured (z ∷ u ∷ xs)) → Alternating s.semicolon (z ∷ u ∷ xs) →
+  before_others : (z u : Part) (xs : List Part) → IsItem x → IsMark s.semicolon true (p.Leaf l) → hi ≡ suc (n + size x) + sizes (map measured (z ∷ u ∷ xs)) → Alternating s.semicolon (z ∷ u ∷ xs) →
       AllByRecursion Regions (z ∷ u ∷ xs) → all_in l.gap ≡ [] → all_in (seen z).gap ≡ [] →
       SeesAt all None (suc n) hi (hosts_from s.semicolon n (map measured (x ∷ p.Leaf l ∷ z ∷ u ∷ xs))) →
       (SeesAt all None (suc (suc (n + size x))) hi (hosts_from s.semicolon (suc (n + size x)) (map measured (z ∷ u ∷ xs))) → LineTexts all (suc (n + size x)) hi (after_parts (suc (n + size x)) (z ∷ u ∷ xs))
