@@ -1,13 +1,16 @@
 -- Items after others.
 use Rattle.std.proofs.Common.{ℕ, zero, suc, ◌≤◌, ◌≡◌, List, [], ◌∷◌, ◌++◌, sym, ap, ◌∙◌, append_assoc, append-nil, arith}
 use Rattle.bz_items.specs.Characters.{Bytes}
+use Rattle.bz_grammar.specs.Spell.{depth_of}
 use Rattle.bz_value.specs.declared.value.Item.{Item}
 use Rattle.bz_value.specs.declared.value.Item.TheVariants as i
 use Rattle.bz_layout.specs.Appended.{LayoutsJoin, DepthsJoin}
 use Rattle.bz_layout.specs.Depths.{depth_items}
+use Rattle.bz_layout.specs.LaidOut.{laid_out}
 use Rattle.bz_layout.specs.Written.{item_text, gap_between, past_item, layout}
 use Rattle.bz_layout.proofs.Deep.{laid_out_depth}
 use Rattle.bz_layout.proofs.Spelled.{next_after}
+use Rattle.bz_layout.proofs.LineWindows.{depth_append}
 
 both_after : (above : Item) (front : List Item) (item : Item) (items : List Item) → past_item above ((front ++ item ∷ []) ++ items) ≡ past_item above (front ++ item ∷ []) ++ past_item item items
 both_after above [] item items =
@@ -27,19 +30,9 @@ both_laid (x ∷ front) item items =
 pub layouts_join : LayoutsJoin
 layouts_join front item items = both_laid front item items ∙ ap (λ t. layout (front ++ item ∷ []) ++ t) (sym (next_after item items))
 
-both_depths : (front items : List Item) (depth : ℕ) → depth_items front ≤ depth → depth_items items ≤ depth → depth_items (front ++ items) ≤ depth
-both_depths [] items depth h k = k
-both_depths (i.Block lines ∷ front) items depth h k = both_depths front items depth h k
-both_depths (i.Stmt x ∷ front) items depth h k = let w = both_depths front items depth (omega (arith, h)) k in omega (arith, h, w)
-
-one_less : (a b depth : ℕ) → a ≡ suc b → a ≤ suc depth → b ≤ depth
-one_less a b depth e h = omega (arith, e, h)
-
-no_depth : (a b : ℕ) → a ≡ suc b → a ≤ 0 → ⊥
-no_depth a b e h = omega (arith, e, h)
-
 pub depths_join : DepthsJoin
-depths_join front items zero h k = absurd (no_depth _ _ (laid_out_depth front) h)
-depths_join front items (suc depth) h k =
-    let w = both_depths front items depth (one_less _ _ depth (laid_out_depth front) h) (one_less _ _ depth (laid_out_depth items) k) in
-    omega (arith, laid_out_depth (front ++ items), w)
+depths_join front items depth h k =
+    let one : depth_of (laid_out front) ≡ suc (depth_items front) = laid_out_depth front in
+    let two : depth_of (laid_out items) ≡ suc (depth_items items) = laid_out_depth items in
+    let all : depth_of (laid_out (front ++ items)) ≡ suc (depth_items (front ++ items)) = laid_out_depth (front ++ items) in
+    omega (arith, one, two, all, depth_append front items, h, k)

@@ -27,14 +27,6 @@ lines_before before parts lines l e =
     let all : length parts ≡ suc (line_count_in before) = ap length (sym l) ∙ length_lines [] before in
     omega (arith, all, e)
 
--- what is said of the items and the parts that the code has
-pub handed : (Q : List Part → List Item → Type 0) (tree : Node) (file items : List Item) (parts : List Part) (windows : List Window) → items ≡ file → parts ≡ tree.parts → IsProper file →
-    ((before : List Item) → IsProper items → lines_from [] before ≡ parts → AreOver windows before items → Q parts items) → (before : List Item) → IsLayoutOf before tree → AreOver windows before file → Q tree.parts file
-handed Q tree file items parts windows e f proper step before l h =
-    subst (λ ps. Q ps file) f
-    (subst (λ ys. Q parts ys) e
-    (step before (subst (λ ys. IsProper ys) (sym e) proper) (ap (λ n. n.parts) l.laid_out ∙ sym f) (subst (λ ys. AreOver windows before ys) (sym e) h)))
-
 pub parts_put : (tree : Node) (before items : List Item) (made : List TextWindow) (bytes done : ℕ) → IsLayoutOf before tree → IsPut tree.parts (lines_from [] items) made bytes done →
     (new : List PartWindow) × AreTextsOf made new × AreThere new tree.parts × (with_windows new tree ≡ laid_out items)
 parts_put tree before items made bytes done l p =
@@ -60,21 +52,13 @@ of_some P Q found w is h = subst (λ o. MatchOption o P Q) is h
 pub of_none : (P : Type 0) (Q : Writer → Type 0) (found : Option Writer) → found ≡ None → MatchOption found P Q → P
 of_none P Q found is h = subst (λ o. MatchOption o P Q) is h
 
--- a made window of each, from the file and the tree that the code has
-pub made_of : (tree : Node) (file items : List Item) (parts : List Part) (windows : List Window) (found : Option Writer) (w : Writer) → items ≡ file → parts ≡ tree.parts → IsProper file → found ≡ Some w →
+-- what is said of the items and the parts that the code has, of the file and the tree
+pub windows_of : (tree : Node) (file items : List Item) (parts : List Part) (windows : List Window) (found : Option Writer) → items ≡ file → parts ≡ tree.parts → IsProper file →
     ((before : List Item) → IsProper items → lines_from [] before ≡ parts → AreOver windows before items →
     MatchOption found (limit < length (flat_map spell_part (lines_from [] items))) (λ v. IsPut parts (lines_from [] items) v.made v.bytes v.done)) →
-    (before : List Item) → IsLayoutOf before tree → AreOver windows before file → IsPut tree.parts (lines_from [] file) w.made w.bytes w.done
-made_of tree file items parts windows found w e f proper is step =
-    handed (λ ps ys. IsPut ps (lines_from [] ys) w.made w.bytes w.done) tree file items parts windows e f proper
-    (λ before p l h. of_some (limit < length (flat_map spell_part (lines_from [] items))) (λ v. IsPut parts (lines_from [] items) v.made v.bytes v.done) found w is (step before p l h))
-
-pub long_of : (tree : Node) (file items : List Item) (parts : List Part) (windows : List Window) (found : Option Writer) → items ≡ file → parts ≡ tree.parts → IsProper file → found ≡ None →
-    ((before : List Item) → IsProper items → lines_from [] before ≡ parts → AreOver windows before items →
-    MatchOption found (limit < length (flat_map spell_part (lines_from [] items))) (λ v. IsPut parts (lines_from [] items) v.made v.bytes v.done)) →
-    (before : List Item) → IsLayoutOf before tree → AreOver windows before file → limit < length (layout file)
-long_of tree file items parts windows found e f proper is step before l h =
-    let long : limit < length (flat_map spell_part (lines_from [] file)) =
-    handed (λ ps ys. limit < length (flat_map spell_part (lines_from [] ys))) tree file items parts windows e f proper
-    (λ before p l h. of_none (limit < length (flat_map spell_part (lines_from [] items))) (λ v. IsPut parts (lines_from [] items) v.made v.bytes v.done) found is (step before p l h)) before l h in
-    subst (λ n. limit < n) (layout_length file proper) long
+    (before : List Item) → IsLayoutOf before tree → AreOver windows before file → MatchOption found (limit < length (layout file)) (λ v. IsPut tree.parts (lines_from [] file) v.made v.bytes v.done)
+windows_of tree file items parts windows found e f proper step before l h =
+    let here = step before (subst (λ ys. IsProper ys) (sym e) proper) (ap (λ n. n.parts) l.laid_out ∙ sym f) (subst (λ ys. AreOver windows before ys) (sym e) h) in
+    subst (λ n. MatchOption found (limit < n) (λ v. IsPut tree.parts (lines_from [] file) v.made v.bytes v.done)) (layout_length file proper)
+    (subst (λ ps. MatchOption found (limit < length (flat_map spell_part (lines_from [] file))) (λ v. IsPut ps (lines_from [] file) v.made v.bytes v.done)) f
+    (subst (λ ys. MatchOption found (limit < length (flat_map spell_part (lines_from [] ys))) (λ v. IsPut parts (lines_from [] ys) v.made v.bytes v.done)) e here))

@@ -1,5 +1,5 @@
 -- What is laid out of a value is as deep as the value says.
-use Rattle.std.proofs.Common.{ℕ, suc, max, Bool, true, false, not, ◌&&◌, ◌≡◌, ◌<◌, List, [], ◌∷◌, ◌++◌, ◌+◌, if◌then◌else◌, length, get_or, drop, map, refl, ap, ◌∙◌, arith}
+use Rattle.std.proofs.Common.{ℕ, suc, max, Bool, true, false, not, ◌&&◌, ◌≡◌, ◌<◌, List, [], ◌∷◌, ◌++◌, ◌+◌, if◌then◌else◌, length, get_or, drop, map, refl, ap, ◌∙◌, arith, sym}
 use Rattle.std.specs.Prelude.{Option, None, nat_eq}
 use Rattle.std.proofs.lemmas.List.{drop_more}
 use Rattle.bz_grammar.specs.declared.kind.Kind.{Kind}
@@ -20,7 +20,7 @@ use Rattle.bz_value.specs.Empty.{is_empty}
 use Rattle.bz_layout.specs.LaidOut.{part_of, parts_of, piece_part, line_part, before_next, lines_from, laid_out}
 use Rattle.bz_layout.specs.Written.{comment_lines}
 use Rattle.bz_layout.specs.Depths.{depth_in, depth_expr, depth_exprs, deepest_of, depth_inside, depth_items}
-use Rattle.bz_layout.proofs.Made.{parts_row, items_row, parts_of_row, items_of_row, two}
+use Rattle.bz_layout.proofs.Made.{parts_row, items_row, parts_of_row, items_of_row, two, parts_values}
 
 abbrev pub LayingOut : Type 0
 LayingOut = Expr × (Bytes → ℕ → Part)
@@ -71,9 +71,12 @@ laid_depth (sequence opener closer) kind split open_break gap m hs xs end a b =
     headed_depth m gap opener hs _ a ∙
     ap (λ n. max (deepest_of (firsts hs)) n) (body_depth (is_broken kind split (firsts xs) end) (is_tuple kind && nat_eq (length xs) 1) m closer end xs b)
 
+exprs_row : (n : _) (r : Row_of-Expr n) → depth_exprs r ≡ deepest_of (items-the_row-Expr n r)
+exprs_row n end_of-Expr = refl
+exprs_row n (more_of-Expr x rest) = ap (λ d. max (depth_expr x) d) (exprs_row _ rest)
+
 row_values : (n : _) (r : Row_of-Expr n) → deepest_of (firsts (parts_of r)) ≡ depth_exprs r
-row_values n end_of-Expr = refl
-row_values n (more_of-Expr x rest) = ap (λ d. max (depth_expr x) d) (row_values _ rest)
+row_values n r = ap deepest_of (parts_values n r) ∙ sym (exprs_row n r)
 
 mutual
   pub depth_laid_out : (x : Expr) (gap : Bytes) (m : ℕ) → depth_part (part_of x gap m) ≡ depth_expr x
@@ -104,10 +107,6 @@ pub laid_out_depth : (xs : List Item) → depth_of (laid_out xs) ≡ suc (depth_
 laid_out_depth xs = ap suc (lines_depth [] xs)
 
 -- ---- forms
-
-exprs_row : (n : _) (r : Row_of-Expr n) → depth_exprs r ≡ deepest_of (items-the_row-Expr n r)
-exprs_row n end_of-Expr = refl
-exprs_row n (more_of-Expr x rest) = ap (λ d. max (depth_expr x) d) (exprs_row _ rest)
 
 pub depth_Form : (f : Form) → depth_expr (e.Form f) ≡ suc (depth_inside f)
 depth_Form f =

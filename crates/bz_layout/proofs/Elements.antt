@@ -1,8 +1,8 @@
 -- What a part of a node is, known by its neighbours in the shape: the items of sequences, what is before a bracket, and
 -- what is in a comprehension.
-use Rattle.std.proofs.Common.{◌≡◌, ℕ, Bool, true, false, not, ◌||◌, List, [], ◌∷◌, ◌++◌, inl, inr, Some, None, refl, sym, subst, codes}
+use Rattle.std.proofs.Common.{◌≡◌, ℕ, Bool, true, false, not, ◌||◌, List, [], ◌∷◌, ◌++◌, inl, inr, Some, None, refl, sym, subst, codes, ◌&&◌, ap, ◌∙◌}
 use Rattle.std.specs.List.{AllByRecursion}
-use Rattle.std.proofs.lemmas.Bool.{and_parts, or_cases, both_ways, not-true}
+use Rattle.std.proofs.lemmas.Bool.{and_parts, or_cases, both_ways, not-true, and_from, or_left, or_right}
 use Rattle.std.proofs.lemmas.Slice.Eq.{bytes_eq-Decides}
 use Rattle.bz_token.specs.declared.class.Class.{Class}
 use Rattle.bz_token.specs.declared.class.Class.TheVariants as c
@@ -12,7 +12,7 @@ use Rattle.bz_grammar.specs.declared.kind.Kind.TheVariants as k
 use Rattle.bz_grammar.specs.declared.tree.Part.{Part, Node'}
 use Rattle.bz_grammar.specs.declared.tree.Part.TheVariants as p
 use Rattle.bz_grammar.specs.Shapes as s
-use Rattle.bz_grammar.specs.Shapes.{Nonterminal, Terminal, Shape, Fits, has_nonterminal, has_token, is_one_of, is_terminal}
+use Rattle.bz_grammar.specs.Shapes.{Nonterminal, Terminal, Shape, Fits, has_nonterminal, has_token, is_one_of, is_terminal, leaves_at}
 use Rattle.bz_grammar.specs.Legal.{IsNonterminal}
 use Rattle.bz_grammar.specs.Spots.{opens, role}
 use Rattle.bz_grammar.proofs.Balance.{same_class, no_such}
@@ -21,9 +21,71 @@ use Rattle.bz_value.specs.Frames.{Frame, row, sequence, frame, has_brackets, is_
 use Rattle.bz_value.specs.LineShapes.{line_shape}
 use Rattle.bz_value.specs.Proper.{in_frame}
 use Rattle.bz_value.specs.Roots.{mark_leaf, each_with_comma, row_in}
-use Rattle.bz_layout.specs.Spaces.{is_value}
-use Rattle.bz_layout.proofs.Neighbours.{Element, T, S, Is, passes, Pair, Links, links, all_in, in_a_line}
-use Rattle.bz_layout.proofs.Spacing.{word_terminal, word_leaf, value_of}
+use Rattle.bz_hosts.proofs.InnerParts.{inner_kind}
+use Rattle.bz_layout.specs.Spaces.{is_value, lone, space_after, space_before, is_word, is_spaced_after, is_spaced_before, is_lone, apart}
+use Rattle.bz_layout.proofs.Neighbours.{Element, T, S, Is, passes, Pair, Links, links, all_in, one_leaf, never_lone, spaced}
+
+-- ---- the spaces of the layout: what the elements of a shape require, the parts show
+
+lone_word : (class : Class) (t : List ℕ) → is_word class ≡ true → lone (s.this class t) ≡ false
+lone_word c.Mark t h = no_such h
+lone_word _ t h = refl
+
+never_any : (class : Class) (t : List ℕ) → never_lone (s.any class) ≡ true → lone (s.this class t) ≡ false
+never_any c.Mark t h = no_such h
+never_any _ t h = refl
+
+-- the leaves that have a sort are names, numbers and strings
+abbrev pub word_terminal : Terminal → Bool
+word_terminal (s.any class) = is_word class
+word_terminal (s.this class t) = false
+
+nonterminal_words : (a : Nonterminal) → all_in word_terminal (leaves_at a) ≡ true
+nonterminal_words (s.level n) = refl
+nonterminal_words _ = refl
+
+pub word_leaf : (ts : List Terminal) (l : Leaf) → all_in word_terminal ts ≡ true → is_one_of ts l ≡ true → is_word l.class ≡ true
+word_leaf ts l h i = one_leaf word_terminal (λ class t. is_word class ≡ true) (λ class t w. w) (λ class t f. no_such f) ts l h i
+
+pub value_of : (a : Nonterminal) (x : Part) → IsNonterminal a x → is_value x ≡ true
+value_of a (p.Leaf l) h = word_leaf (leaves_at a) l (nonterminal_words a) h
+value_of a (Node' k z r) h = refl
+
+not_lone : (y : Part) → is_value y ≡ true → is_lone y ≡ false
+not_lone (p.Leaf l) h = lone_word l.class l.token h
+not_lone (Node' k z r) h = refl
+
+after_of : (kind : Kind) (ts : List Terminal) (x : Part) → all_in (space_after kind) ts ≡ true → Is (T ts) x → is_spaced_after kind x ≡ true
+after_of kind ts (p.Leaf l) h i = one_leaf (space_after kind) (λ class t. space_after kind (s.this class t) ≡ true) (λ class t f. no_such f) (λ class t w. w) ts l h i
+after_of kind ts (Node' k z r) h i = no_such i
+
+before_of : (kind : Kind) (us : List Terminal) (y : Part) → all_in (space_before kind) us ≡ true → Is (T us) y → is_spaced_before kind y ≡ true
+before_of kind us (p.Leaf l) h i = one_leaf (space_before kind) (λ class t. space_before kind (s.this class t) ≡ true) (λ class t f. no_such f) (λ class t w. w) us l h i
+before_of kind us (Node' k z r) h i = no_such i
+
+never_of : (us : List Terminal) (y : Part) → all_in never_lone us ≡ true → Is (T us) y → is_lone y ≡ false
+never_of us (p.Leaf l) h i = one_leaf never_lone (λ class t. lone (s.this class t) ≡ false) never_any (λ class t w. not-true _ w) us l h i
+never_of us (Node' k z r) h i = no_such i
+
+by_after : (a b d : Bool) → a ≡ true → b ≡ false → ((a && not b) || d) ≡ true
+by_after a b d h i = rw (h, i) refl
+
+by_before : (a b d : Bool) → b ≡ true → (a || (b || d)) ≡ true
+by_before a b d h = or_right a (b || d) (or_left b d h)
+
+by_values : (a b d e : Bool) → d ≡ true → e ≡ true → (a || (b || (d && e))) ≡ true
+by_values a b d e h i = or_right a (b || (d && e)) (or_right b (d && e) (and_from d e h i))
+
+-- where the elements require a space, the parts show that they do
+pub spaced_apart : (kind : Kind) (a b : Element) (x y : Part) → Is a x → Is b y → spaced kind a b ≡ true → apart kind x y ≡ true
+spaced_apart kind (S a) (S b) x y i j h = by_values _ _ _ _ (value_of a x i) (value_of b y j)
+spaced_apart kind (S a) (T us) x y i j h = by_before _ _ _ (before_of kind us y h j)
+spaced_apart kind (T ts) (S b) x y i j h = by_after _ _ _ (after_of kind ts x h i) (not_lone y (value_of b y j))
+spaced_apart kind (T ts) (T us) x y i j h =
+    elim (or_cases (all_in (space_after kind) ts && all_in never_lone us) _ h) [
+      | inl e ↦ let w = and_parts (all_in (space_after kind) ts) _ e in by_after _ _ _ (after_of kind ts x w.0 i) (never_of us y w.1 j)
+      | inr e ↦ by_before _ _ _ (before_of kind us y e j)
+    ]
 
 abbrev pub is : Element → Part → Bool
 is (T ts) x = has_token ts x
@@ -167,7 +229,7 @@ in_line_part (Node' kind z r) = true
 abbrev pub InLine : List Part → Type 0
 InLine xs = AllByRecursion (λ x. in_line_part x ≡ true) xs
 
-abbrev any_two : Element → Element → Bool
+abbrev pub any_two : Element → Element → Bool
 any_two a b = true
 
 abbrev ends_line : Terminal → Bool
@@ -179,14 +241,7 @@ line_last (T ts) = all_in ends_line ts
 line_last (S a) = false
 
 line_end : (ts : List Terminal) (l : Leaf) → all_in ends_line ts ≡ true → is_one_of ts l ≡ true → in_line_class l.class ≡ false
-line_end [] l h i = no_such i
-line_end (t ∷ ts) l h i =
-    let w = and_parts (ends_line t) _ h in
-    elim (or_cases (is_terminal t l) (is_one_of ts l) i) [ inl e ↦ of_class t l w.0 e | inr e ↦ line_end ts l w.1 e ]
-  where
-    of_class : (t : Terminal) (l : Leaf) → ends_line t ≡ true → is_terminal t l ≡ true → in_line_class l.class ≡ false
-    of_class (s.any class) l h i = subst (λ z. in_line_class z ≡ false) (sym (same_class l.class class i)) (not-true _ h)
-    of_class (s.this class t) l h i = no_such h
+line_end ts l h i = one_leaf ends_line (λ class t. in_line_class class ≡ false) (λ class t w. not-true _ w) (λ class t f. no_such f) ts l h i
 
 last_ends : (x : Part) (xs : List Part) → Links any_two line_last x xs → InLine (x ∷ xs) → ⊥
 last_ends (p.Leaf l) [] (T ts, i, o) h = both_ways (in_line_class l.class) (line_end ts l o i) h.0
@@ -198,7 +253,7 @@ no_line : (r : Shape) → passes any_two line_last None r ≡ true → (Fits IsN
 no_line r t e [] h i = e h
 no_line r t e (x ∷ xs) h i = last_ends x xs (links any_two line_last r None x tt t (x ∷ xs) h) i
 
-pub within_line : (kind : Kind) (xs : List Part) → Fits IsNonterminal (line_shape kind) xs → InLine xs → in_a_line kind ≡ true
+pub within_line : (kind : Kind) (xs : List Part) → Fits IsNonterminal (line_shape kind) xs → InLine xs → inner_kind kind ≡ true
 within_line k.File xs h i = absurd (no_line (line_shape k.File) refl (some_part k.File) xs h i)
 within_line k.Line xs h i = absurd (no_line (line_shape k.Line) refl (some_part k.Line) xs h i)
 within_line k.Def xs h i = absurd h

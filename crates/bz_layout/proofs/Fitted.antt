@@ -19,6 +19,8 @@ use Rattle.bz_layout.specs.Layout.{Piece, mark, is_broken, is_tuple, gap_after, 
 use Rattle.bz_value.specs.Empty.{is_empty}
 use Rattle.bz_layout.specs.LaidOut.{piece_part, part_of, parts_of, layouts}
 use Rattle.bz_layout.proofs.Joined.{row_joined, without_last, HasSequences, fits_joined}
+use Rattle.std.proofs.lemmas.List.{length-map}
+use Rattle.bz_layout.proofs.Made.{none_mapped}
 
 -- ---- the table sees no difference
 
@@ -119,8 +121,7 @@ abbrev pub Child : Type 0
 Child = Expr × (Bytes → ℕ → Part)
 
 abbrev pub rooted : List Child → List Part
-rooted [] = []
-rooted (x ∷ xs) = root x.0 ∷ rooted xs
+rooted xs = map (λ x. root x.0) xs
 
 -- it is laid out as its root
 abbrev pub IsRooted : Child → Type 0
@@ -149,17 +150,13 @@ maybe_comma : (b : Bool) (rest : List Part) (after : Pieces) → AllSame rest (m
 maybe_comma true rest after h = h
 maybe_comma false rest after h = (leaf_same c.Mark [] [] (comma ∷ []), h)
 
-none_rooted : (xs : List Child) → is_empty (rooted xs) ≡ is_empty xs
-none_rooted [] = refl
-none_rooted (x ∷ xs) = refl
-
 pub joined_same : (m : ℕ) (gap : Bytes) (closer : ℕ) (one : Bool) (xs : List Child) → AreRooted xs → AllSame (without_last one (bare_mark closer) (rooted xs)) (map piece_part (joined m gap closer one xs))
 joined_same m gap closer one [] h = (leaf_same c.Mark [] [] (closer ∷ []), tt)
 joined_same m gap closer one (x ∷ xs) h = (
   h.0 gap m,
   subst
       (λ b. AllSame ((if b && not one then [] else (bare_mark comma ∷ [])) ++ without_last false (bare_mark closer) (rooted xs)) (map piece_part ((if is_empty xs && not one then [] else (mark [] (comma ∷ []) ∷ [])) ++ joined m (32 ∷ []) closer false xs)))
-      (sym (none_rooted xs))
+      (sym (none_mapped xs (λ x. root x.0)))
       (maybe_comma (is_empty xs && not one) (without_last false (bare_mark closer) (rooted xs)) (joined m (32 ∷ []) closer false xs) (joined_same m (32 ∷ []) closer false xs h.1)),
 )
 
@@ -177,17 +174,13 @@ module _ (r : Shape) (m : ℕ) (gap : Bytes) (parts items : List Child) (h : Are
   fits_in row kind split open_break end g k = same_fits r _ _ (rowed_same kind open_break m gap m parts h) g
   fits_in (sequence opener closer) kind split open_break end g k = sequence_fits (is_broken kind split (firsts items) end) (is_tuple kind && nat_eq (length items) 1) opener closer end g k
 
-as_many : (xs : List Child) → length (rooted xs) ≡ length xs
-as_many [] = refl
-as_many (x ∷ xs) = ap suc (as_many xs)
-
 -- what is laid of a form has the shape of its kind where its roots have it
 module _ (grammar : Kind → Shape) (sequences : HasSequences grammar) where
   pub laid_fits : (kind : Kind) (split open_break : Bool) (gap : Bytes) (m : ℕ) (parts items : List Child) (end : List Bytes) → AreRooted parts → AreRooted items →
       Fits IsNonterminal (grammar kind) (row_in (frame kind) (rooted parts) (rooted items)) → Fits IsNonterminal (grammar kind) (map piece_part (laid kind split open_break gap m parts items end))
   laid_fits kind split open_break gap m parts items end h i g =
       fits_in (grammar kind) m gap parts items h i (frame kind) kind split open_break end g
-      (subst (λ n. Fits IsNonterminal (grammar kind) (row_joined (frame kind) (is_tuple kind && nat_eq n 1) (rooted parts) (rooted items))) (as_many items) (fits_joined grammar sequences kind (rooted parts) (rooted items) g))
+      (subst (λ n. Fits IsNonterminal (grammar kind) (row_joined (frame kind) (is_tuple kind && nat_eq n 1) (rooted parts) (rooted items))) (length-map items (λ x. root x.0)) (fits_joined grammar sequences kind (rooted parts) (rooted items) g))
 
 -- ---- rows of expressions
 

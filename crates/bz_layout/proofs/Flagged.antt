@@ -1,5 +1,5 @@
 -- Settling the flags changes neither the layout nor its tree.
-use Rattle.std.proofs.Common.{ℕ, suc, Bool, true, false, not, ◌&&◌, ◌||◌, ◌≡◌, List, [], ◌∷◌, ◌++◌, ◌+◌, if◌then◌else◌, refl, ap, ◌∙◌, map}
+use Rattle.std.proofs.Common.{ℕ, suc, Bool, true, false, not, ◌&&◌, ◌||◌, ◌≡◌, List, [], ◌∷◌, ◌++◌, ◌+◌, if◌then◌else◌, refl, ap, ◌∙◌, map, sym}
 use Rattle.std.specs.Prelude.{Option, None, nat_eq, nat_le, length}
 use Rattle.std.specs.List.{flat_map}
 use mathlib.Core.Path.{fun_ext}
@@ -23,7 +23,8 @@ use Rattle.bz_layout.specs.Written.{text_of, texts_of, piece_text, comment_lines
 use Rattle.bz_layout.specs.LaidOut.{part_of, parts_of, layouts, piece_part, before_next, line_part, lines_from, laid_out}
 use Rattle.bz_layout.specs.Flags.{settled_split, with_flags, each_with_flags, item_with_flags, flags}
 use Rattle.bz_layout.specs.Writings.{writings}
-use Rattle.bz_layout.proofs.Made.{two, text_Form, part_Form}
+use Rattle.bz_layout.proofs.Made.{two, text_Form, part_Form, parts_values, values_of, written_row, none_mapped}
+use Rattle.std.proofs.lemmas.List.{length-map}
 
 -- ---- what the flags leave as it is
 
@@ -70,21 +71,11 @@ module _ {X : Type 0} where
   abbrev pub flagged : Expr × X → Expr × X
   flagged x = (with_flags x.0, x.1)
 
-  same_empty : (xs : List (Expr × X)) → is_empty (map flagged xs) ≡ is_empty xs
-  same_empty [] = refl
-  same_empty (x ∷ xs) = refl
-
   same_no_value : (xs : List (Expr × X)) → is_empty (firsts (map flagged xs)) ≡ is_empty (firsts xs)
-  same_no_value [] = refl
-  same_no_value (x ∷ xs) = refl
-
-  same_length : (xs : List (Expr × X)) → length (map flagged xs) ≡ length xs
-  same_length [] = refl
-  same_length (x ∷ xs) = ap suc (same_length xs)
+  same_no_value xs = none_mapped (map flagged xs) (λ x. x.0) ∙ (none_mapped xs flagged ∙ sym (none_mapped xs (λ x. x.0)))
 
   same_count : (xs : List (Expr × X)) → length (firsts (map flagged xs)) ≡ length (firsts xs)
-  same_count [] = refl
-  same_count (x ∷ xs) = ap suc (same_count xs)
+  same_count xs = length-map (map flagged xs) (λ x. x.0) ∙ (length-map xs flagged ∙ sym (length-map xs (λ x. x.0)))
 
   same_has_comments : (xs : List (Expr × X)) → has_comments (firsts (map flagged xs)) ≡ has_comments (firsts xs)
   same_has_comments [] = refl
@@ -118,7 +109,7 @@ module _ {X : Type 0} where
   same_joined : (m : ℕ) (g : Bytes) (closer : ℕ) (one : Bool) (xs : List (Expr × X)) → joined m g closer one (map flagged xs) ≡ joined m g closer one xs
   same_joined m g closer one [] = refl
   same_joined m g closer one (x ∷ xs) =
-      rw (same_empty xs) (ap (λ ps. part g m x.1 ∷ ((if is_empty xs && not one then [] else (mark [] (comma ∷ []) ∷ [])) ++ ps)) (same_joined m (space ∷ []) closer false xs))
+      rw (none_mapped xs flagged) (ap (λ ps. part g m x.1 ∷ ((if is_empty xs && not one then [] else (mark [] (comma ∷ []) ∷ [])) ++ ps)) (same_joined m (space ∷ []) closer false xs))
 
   same_stacked : (m : ℕ) (suffix : Option Bytes) (closer : ℕ) (end : List Bytes) (xs : List (Expr × X)) → stacked m suffix closer end (map flagged xs) ≡ stacked m suffix closer end xs
   same_stacked m suffix closer end [] = refl
@@ -134,7 +125,7 @@ module _ {X : Type 0} where
       laid_in f kind (settled_split f kind split (firsts xs) end) open_break g m (map flagged hs) (map flagged xs) end ≡ laid_in f kind split open_break g m hs xs end
   same_laid row kind split open_break g m hs xs end = same_rowed kind open_break m g m hs
   same_laid (sequence opener closer) kind split open_break g m hs xs end =
-      rw (same_broken kind split xs end, same_length xs)
+      rw (same_broken kind split xs end, length-map xs flagged)
       (same_headed m g opener hs _ ∙
       ap (λ ps. headed m g opener hs ps) (same_body (is_broken kind split (firsts xs) end) (is_tuple kind && nat_eq (length xs) 1) m closer end xs))
 
@@ -147,10 +138,6 @@ module _ {X : Type 0} where
 
 -- ---- the text of an expression
 
-texts_values : (m : _) (r : Row_of-Expr m) → items-the_row-Expr m r ≡ firsts (texts_of r)
-texts_values m end_of-Expr = refl
-texts_values m (more_of-Expr x rest) = ap (λ t. x ∷ t) (texts_values _ rest)
-
 -- a form with its flags settled, by its fields
 abbrev pub made : Kind → List Expr → List Expr → List Bytes → Bool → Bool → HostComments → Form
 made kind parts items end split open_break comments = record { kind = kind; parts = parts; seq = record { items = items; end = end; split = split }; open_break = open_break; comments = comments }
@@ -161,17 +148,13 @@ mutual
   text_flags (Form' kind s parts s' items end split open_break comments) =
       fun_ext
       (λ m. text_Form (made kind (each_with_flags parts) (each_with_flags items) end (settled_split (frame kind) kind split (items-the_row-Expr _ items) end) open_break comments) m ∙
-      ap (λ ps. flat_map piece_text ps) (same_pieces kind split open_break [] m (texts_of parts) (texts_of items) _ _ _ end (texts_flags _ parts) (texts_flags _ items) (texts_values _ items)))
+      ap (λ ps. flat_map piece_text ps) (same_pieces kind split open_break [] m (texts_of parts) (texts_of items) _ _ _ end (texts_flags _ parts) (texts_flags _ items) (sym (ap firsts (written_row _ items) ∙ values_of text_of _))))
 
   texts_flags : (n : _) (r : Row_of-Expr n) → writings (each_with_flags r) ≡ map flagged (texts_of r)
   texts_flags n end_of-Expr = refl
   texts_flags n (more_of-Expr x rest) = two (λ t ts. (with_flags x, t) ∷ ts) (text_flags x) (texts_flags _ rest)
 
 -- ---- what is laid out of an expression
-
-parts_values : (m : _) (r : Row_of-Expr m) → items-the_row-Expr m r ≡ firsts (parts_of r)
-parts_values m end_of-Expr = refl
-parts_values m (more_of-Expr x rest) = ap (λ t. x ∷ t) (parts_values _ rest)
 
 mutual
   part_flags : (a : Expr) → part_of (with_flags a) ≡ part_of a
@@ -180,7 +163,7 @@ mutual
       fun_ext
       (λ g. fun_ext
       (λ m. part_Form (made kind (each_with_flags parts) (each_with_flags items) end (settled_split (frame kind) kind split (items-the_row-Expr _ items) end) open_break comments) g m ∙
-      ap (λ ps. p.Node (record { kind = kind; parts = map piece_part ps })) (same_pieces kind split open_break g m (parts_of parts) (parts_of items) _ _ _ end (parts_flags _ parts) (parts_flags _ items) (parts_values _ items))))
+      ap (λ ps. p.Node (record { kind = kind; parts = map piece_part ps })) (same_pieces kind split open_break g m (parts_of parts) (parts_of items) _ _ _ end (parts_flags _ parts) (parts_flags _ items) (sym (parts_values _ items)))))
 
   parts_flags : (n : _) (r : Row_of-Expr n) → layouts (each_with_flags r) ≡ map flagged (parts_of r)
   parts_flags n end_of-Expr = refl

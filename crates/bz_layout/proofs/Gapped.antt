@@ -4,10 +4,12 @@ use Rattle.std.specs.Prelude.{Option, None, Some, replicate}
 use Rattle.std.specs.List.{AllByRecursion}
 use Rattle.std.proofs.lemmas.Bool.{ne_eqb}
 use Rattle.std.proofs.lemmas.List.Elements.{recursion_from_All}
+use Rattle.bz_lex.specs.Gaps.{IsOneLine}
 use Rattle.bz_items.specs.Characters.{Bytes, line_feed, number_sign, space}
 use Rattle.bz_value.specs.Gaps.{GapLine, LineRest, trimmed, lines_from, lines_of, rest_of_line, comments_in}
 use Rattle.bz_value.specs.Proper.{IsComment, MaybeComment}
 use Rattle.bz_layout.specs.Layout.{new_line_at, ended, margin_lines, suffix_text}
+use Rattle.bz_layout.proofs.Margins.{rest_one_line}
 
 -- a line that a newline ends
 abbrev pub ended_line : ℕ → Option Bytes → GapLine
@@ -24,19 +26,12 @@ commented_back m (text ∷ texts) = ap (λ z. text ∷ z) (commented_back m text
 
 -- ---- comments
 
-abbrev pub OneLine : Bytes → Type 0
-OneLine w = AllByRecursion (λ c. c ≢ line_feed) w
-
--- after its sign a comment has no newline
-pub words_of : (text : Bytes) (h : IsComment text) → OneLine h.begins.0
-words_of text h = let own : OneLine (number_sign ∷ h.begins.0) = subst (λ z. OneLine z) h.begins.1 (recursion_from_All (λ (c : ℕ). c ≢ line_feed) text h.one_line) in own.1
-
-words_before_newline : (w rest : Bytes) → OneLine w → rest_of_line (w ++ (line_feed ∷ rest)) ≡ record { words = w; newline = true; lines = lines_of rest }
+words_before_newline : (w rest : Bytes) → IsOneLine w → rest_of_line (w ++ (line_feed ∷ rest)) ≡ record { words = w; newline = true; lines = lines_of rest }
 words_before_newline [] rest h = refl
 words_before_newline (c ∷ w) rest h =
     rw (ne_eqb c line_feed h.0) (ap (λ z. let r : LineRest = record { words = c ∷ z.words; newline = z.newline; lines = z.lines } in r) (words_before_newline w rest h.1))
 
-words_at_end : (w : Bytes) → OneLine w → rest_of_line w ≡ record { words = w; newline = false; lines = [] }
+words_at_end : (w : Bytes) → IsOneLine w → rest_of_line w ≡ record { words = w; newline = false; lines = [] }
 words_at_end [] h = refl
 words_at_end (c ∷ w) h = rw (ne_eqb c line_feed h.0) (ap (λ z. let r : LineRest = record { words = c ∷ z.words; newline = z.newline; lines = z.lines } in r) (words_at_end w h.1))
 
@@ -49,12 +44,12 @@ kept text h = ap trimmed (sym h.begins.1) ∙ h.no_blank_end
 
 pub comment_line : (m : ℕ) (text rest : Bytes) → IsComment text → lines_from m (text ++ (line_feed ∷ rest)) ≡ ended_line m (Some text) ∷ lines_of rest
 comment_line m text rest h =
-    ap (λ z. lines_from m (z ++ (line_feed ∷ rest))) h.begins.1 ∙ (ap (lines_after_sign m) (words_before_newline h.begins.0 rest (words_of text h)) ∙ ap (λ z. ended_line m (Some z) ∷ lines_of rest) (kept text h))
+    ap (λ z. lines_from m (z ++ (line_feed ∷ rest))) h.begins.1 ∙ (ap (lines_after_sign m) (words_before_newline h.begins.0 rest (rest_one_line text h)) ∙ ap (λ z. ended_line m (Some z) ∷ lines_of rest) (kept text h))
 
 last_comment : (m : ℕ) (text : Bytes) → IsComment text → lines_from m text ≡ record { indent = m; comment = Some text; newline = false } ∷ []
 last_comment m text h =
     ap (lines_from m) h.begins.1 ∙
-    (ap (lines_after_sign m) (words_at_end h.begins.0 (words_of text h)) ∙ ap (λ z. let l : GapLine = record { indent = m; comment = Some z; newline = false } in l ∷ []) (kept text h))
+    (ap (lines_after_sign m) (words_at_end h.begins.0 (rest_one_line text h)) ∙ ap (λ z. let l : GapLine = record { indent = m; comment = Some z; newline = false } in l ∷ []) (kept text h))
 
 -- ---- margins
 

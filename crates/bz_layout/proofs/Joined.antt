@@ -1,6 +1,6 @@
 -- A sequence that fits with a comma after each item fits without the last comma, but for a tuple of one; and at most one
 -- part is before its bracket.
-use Rattle.std.proofs.Common.{◌≡◌, Bool, true, false, not, ◌&&◌, List, [], ◌∷◌, ◌++◌, inl, inr, if◌then◌else◌, length, refl, sym, subst, append-nil}
+use Rattle.std.proofs.Common.{◌≡◌, Bool, true, false, not, ◌&&◌, List, [], ◌∷◌, ◌++◌, inl, inr, if◌then◌else◌, length, refl, sym, subst, append-nil, arith}
 use Rattle.std.specs.Prelude.{nat_eq}
 use Rattle.std.proofs.lemmas.Bool.{both_ways}
 use Rattle.bz_grammar.specs.declared.kind.Kind.{Kind}
@@ -11,14 +11,14 @@ use Rattle.bz_grammar.specs.Shapes.{Nonterminal, Terminal, Shape, Fits, Listed, 
 use Rattle.bz_grammar.specs.Legal.{IsNonterminal}
 use Rattle.bz_grammar.proofs.Balance.{no_such}
 use Rattle.bz_items.specs.Characters.{comma}
-use Rattle.bz_value.specs.Frames.{Frame, row, sequence, frame, has_brackets}
+use Rattle.bz_value.specs.Frames.{Frame, row, sequence, frame, has_brackets, lead}
 use Rattle.bz_value.specs.LineShapes.{line_shape}
 use Rattle.bz_value.specs.Proper.{in_frame}
 use Rattle.bz_value.specs.Roots.{mark_leaf, each_with_comma, row_in}
 use Rattle.bz_layout.specs.Layout.{is_tuple}
 use Rattle.bz_value.specs.Empty.{is_empty}
-use Rattle.bz_layout.proofs.Neighbours.{T}
-use Rattle.bz_layout.proofs.Elements.{none_is}
+use Rattle.bz_value.proofs.FormParts.{framed}
+use Rattle.bz_value.proofs.LeadParts.{lead_before}
 
 -- the items with commas between them, one after the last where `one`, and then the closing bracket
 abbrev pub without_last : Bool → Part → List Part → List Part
@@ -72,42 +72,22 @@ tuples_fit (x ∷ []) h = h
 tuples_fit (x ∷ y ∷ ys) (inl h) = absurd h.1
 tuples_fit (x ∷ y ∷ ys) (inr (g, h)) = inr (g, (h.0, items_fit s.test s.close_round (mark_leaf 41) refl refl (y ∷ ys) h.1))
 
-abbrev one_of : Kind → List Part → Bool
-one_of kind xs = is_tuple kind && nat_eq (length xs) 1
-
-abbrev Drops : Kind → List Part → List Part → Type 0
-Drops kind parts xs = Fits IsNonterminal (line_shape kind) (row_in (frame kind) parts xs) → Fits IsNonterminal (line_shape kind) (row_joined (frame kind) (one_of kind xs) parts xs)
-
-drops_call : (parts xs : List Part) → Drops k.Call parts xs
-drops_call [] xs h = no_such h.0
-drops_call (x ∷ []) xs h = (h.0, (h.1.0, items_fit s.argument s.close_round (mark_leaf 41) refl refl xs h.1.1))
-drops_call (x ∷ y ∷ ps) xs h = absurd (none_is (mark_leaf 40) (items s.argument s.close_round) (T s.open_round) y h.1.0 refl ps (each_with_comma xs ++ (mark_leaf 41 ∷ [])) h.1.1)
-
-drops_load : (parts xs : List Part) → Drops k.Load parts xs
-drops_load [] xs h = no_such h.0
-drops_load (x ∷ []) xs h = (h.0, (h.1.0, loads_fit xs h.1.1))
-drops_load (x ∷ y ∷ ps) xs h = absurd (none_is (mark_leaf 40) loads (T s.open_round) y h.1.0 refl ps (each_with_comma xs ++ (mark_leaf 41 ∷ [])) h.1.1)
-
-drops_tuple : (parts xs : List Part) → Drops k.Tuple parts xs
-drops_tuple [] xs h = (h.0, tuples_fit xs h.1)
-drops_tuple (x ∷ ps) xs h = absurd (none_is (mark_leaf 40) tuples (T s.open_round) x h.0 refl ps (each_with_comma xs ++ (mark_leaf 41 ∷ [])) h.1)
-
-drops_list : (parts xs : List Part) → Drops k.List parts xs
-drops_list [] xs h = (h.0, items_fit s.test s.close_square (mark_leaf 93) refl refl xs h.1)
-drops_list (x ∷ ps) xs h = absurd (none_is (mark_leaf 91) (items s.test s.close_square) (T s.open_square) x h.0 refl ps (each_with_comma xs ++ (mark_leaf 93 ∷ [])) h.1)
-
-drops_dict : (parts xs : List Part) → Drops k.Dict parts xs
-drops_dict [] xs h = (h.0, items_fit s.entry s.close_curly (mark_leaf 125) refl refl xs h.1)
-drops_dict (x ∷ ps) xs h = absurd (none_is (mark_leaf 123) (items s.entry s.close_curly) (T s.open_curly) x h.0 refl ps (each_with_comma xs ++ (mark_leaf 125 ∷ [])) h.1)
-
 -- each kind fits with its last comma dropped
-line_joined : (kind : Kind) (parts xs : List Part) → Fits IsNonterminal (line_shape kind) (row_in (frame kind) parts xs) → Fits IsNonterminal (line_shape kind) (row_joined (frame kind) (is_tuple kind && nat_eq (length xs) 1) parts xs)
-line_joined k.Call parts xs h = drops_call parts xs h
-line_joined k.Load parts xs h = drops_load parts xs h
-line_joined k.Tuple parts xs h = drops_tuple parts xs h
-line_joined k.List parts xs h = drops_list parts xs h
-line_joined k.Dict parts xs h = drops_dict parts xs h
-line_joined _ parts xs h = h
+line_joined : (kind : Kind) (parts xs : List Part) → in_frame (frame kind) (Unit {0}) (length parts ≡ lead kind) → Fits IsNonterminal (line_shape kind) (row_in (frame kind) parts xs) →
+    Fits IsNonterminal (line_shape kind) (row_joined (frame kind) (is_tuple kind && nat_eq (length xs) 1) parts xs)
+line_joined k.Call (x ∷ []) xs n h = (h.0, (h.1.0, items_fit s.argument s.close_round (mark_leaf 41) refl refl xs h.1.1))
+line_joined k.Call [] xs n h = absurd (omega (arith, n))
+line_joined k.Call (x ∷ y ∷ ps) xs n h = absurd (omega (arith, n))
+line_joined k.Load (x ∷ []) xs n h = (h.0, (h.1.0, loads_fit xs h.1.1))
+line_joined k.Load [] xs n h = absurd (omega (arith, n))
+line_joined k.Load (x ∷ y ∷ ps) xs n h = absurd (omega (arith, n))
+line_joined k.Tuple [] xs n h = (h.0, tuples_fit xs h.1)
+line_joined k.Tuple (x ∷ ps) xs n h = absurd (omega (arith, n))
+line_joined k.List [] xs n h = (h.0, items_fit s.test s.close_square (mark_leaf 93) refl refl xs h.1)
+line_joined k.List (x ∷ ps) xs n h = absurd (omega (arith, n))
+line_joined k.Dict [] xs n h = (h.0, items_fit s.entry s.close_curly (mark_leaf 125) refl refl xs h.1)
+line_joined k.Dict (x ∷ ps) xs n h = absurd (omega (arith, n))
+line_joined _ parts xs n h = h
 
 -- a grammar in which sequences have the shapes that they have in lines
 abbrev pub HasSequences : (Kind → Shape) → Type 0
@@ -122,7 +102,7 @@ module _ (grammar : Kind → Shape) (sequences : HasSequences grammar) where
       subst (λ z. Fits IsNonterminal z (row_joined (sequence opener closer) one parts xs)) (sym (e refl)) (g (subst (λ z. Fits IsNonterminal z (row_in (sequence opener closer) parts xs)) (e refl) h))
 
   pub fits_joined : (kind : Kind) (parts xs : List Part) → Fits IsNonterminal (grammar kind) (row_in (frame kind) parts xs) → Fits IsNonterminal (grammar kind) (row_joined (frame kind) (is_tuple kind && nat_eq (length xs) 1) parts xs)
-  fits_joined kind parts xs h = by_frame (frame kind) (is_tuple kind && nat_eq (length xs) 1) (grammar kind) (line_shape kind) (sequences kind) parts xs (line_joined kind parts xs) h
+  fits_joined kind parts xs h = by_frame (frame kind) (is_tuple kind && nat_eq (length xs) 1) (grammar kind) (line_shape kind) (sequences kind) parts xs (λ g. line_joined kind parts xs (lead_before kind parts xs g) g) h
 
 -- the grammars of lines and of BUILD files
 pub line_sequences : HasSequences line_shape
@@ -143,32 +123,12 @@ AtMostOne [] = Unit {0}
 AtMostOne (x ∷ []) = Unit {0}
 AtMostOne (x ∷ y ∷ ys) = ⊥
 
-head_call : (parts rest : List Part) → Fits IsNonterminal (line_shape k.Call) (parts ++ (mark_leaf 40 ∷ rest)) → AtMostOne parts
-head_call [] rest h = tt
-head_call (x ∷ []) rest h = tt
-head_call (x ∷ y ∷ ps) rest h = absurd (none_is (mark_leaf 40) (items s.argument s.close_round) (T s.open_round) y h.1.0 refl ps rest h.1.1)
-
-head_load : (parts rest : List Part) → Fits IsNonterminal (line_shape k.Load) (parts ++ (mark_leaf 40 ∷ rest)) → AtMostOne parts
-head_load [] rest h = tt
-head_load (x ∷ []) rest h = tt
-head_load (x ∷ y ∷ ps) rest h = absurd (none_is (mark_leaf 40) loads (T s.open_round) y h.1.0 refl ps rest h.1.1)
-
-head_tuple : (parts rest : List Part) → Fits IsNonterminal (line_shape k.Tuple) (parts ++ (mark_leaf 40 ∷ rest)) → AtMostOne parts
-head_tuple [] rest h = tt
-head_tuple (x ∷ ps) rest h = absurd (none_is (mark_leaf 40) tuples (T s.open_round) x h.0 refl ps rest h.1)
-
-head_list : (parts rest : List Part) → Fits IsNonterminal (line_shape k.List) (parts ++ (mark_leaf 91 ∷ rest)) → AtMostOne parts
-head_list [] rest h = tt
-head_list (x ∷ ps) rest h = absurd (none_is (mark_leaf 91) (items s.test s.close_square) (T s.open_square) x h.0 refl ps rest h.1)
-
-head_dict : (parts rest : List Part) → Fits IsNonterminal (line_shape k.Dict) (parts ++ (mark_leaf 123 ∷ rest)) → AtMostOne parts
-head_dict [] rest h = tt
-head_dict (x ∷ ps) rest h = absurd (none_is (mark_leaf 123) (items s.entry s.close_curly) (T s.open_curly) x h.0 refl ps rest h.1)
+at_most_one : (kind : Kind) (parts : List Part) → length parts ≡ lead kind → AtMostOne parts
+at_most_one kind [] n = tt
+at_most_one kind (x ∷ []) n = tt
+at_most_one k.Call (x ∷ y ∷ ps) n = absurd (omega (arith, n))
+at_most_one k.Load (x ∷ y ∷ ps) n = absurd (omega (arith, n))
+at_most_one _ (x ∷ y ∷ ps) n = absurd (omega (arith, n))
 
 pub head_fits : (kind : Kind) (parts xs : List Part) → Fits IsNonterminal (line_shape kind) (row_in (frame kind) parts xs) → in_frame (frame kind) (Unit {0}) (AtMostOne parts)
-head_fits k.Call parts xs h = head_call parts (each_with_comma xs ++ (mark_leaf 41 ∷ [])) h
-head_fits k.Load parts xs h = head_load parts (each_with_comma xs ++ (mark_leaf 41 ∷ [])) h
-head_fits k.Tuple parts xs h = head_tuple parts (each_with_comma xs ++ (mark_leaf 41 ∷ [])) h
-head_fits k.List parts xs h = head_list parts (each_with_comma xs ++ (mark_leaf 93 ∷ [])) h
-head_fits k.Dict parts xs h = head_dict parts (each_with_comma xs ++ (mark_leaf 125 ∷ [])) h
-head_fits _ parts xs h = tt
+head_fits kind parts xs h = framed (frame kind) (λ u. u) (at_most_one kind parts) (lead_before kind parts xs h)

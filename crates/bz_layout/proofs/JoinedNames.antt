@@ -2,7 +2,7 @@
 use Rattle.std.proofs.Common.{ℕ, suc, Bool, true, ◌≡◌, ◌<◌, ◌≤◌, List, [], ◌∷◌, ◌++◌, ◌+◌, length, get_or, take, drop, ◌-◌, map, refl, sym, ap, ◌∙◌, append_assoc, append-nil, arith}
 use Rattle.std.specs.List.{list_all}
 use Rattle.std.proofs.lemmas.Bool.{and_parts}
-use Rattle.std.proofs.lemmas.List.{drop_more, take_all, length-drop}
+use Rattle.std.proofs.lemmas.List.{drop_more, take_all, length-drop, map-append}
 use Rattle.bz_grammar.specs.declared.kind.Kind.{Kind}
 use Rattle.bz_grammar.specs.declared.kind.Kind.TheVariants as k
 use Rattle.bz_value.specs.declared.value.Expr.{Expr, Token, Form'}
@@ -110,12 +110,8 @@ after_pushed m [] form = sym (append-nil (past_front m form))
 after_pushed m (outer ∷ forms) form = ap (λ t. t ++ past_front m outer) (after_pushed m forms form) ∙ append_assoc (past_front m form) (after_all m forms) (past_front m outer)
 
 module _ {R : Type 0} (now : R → Form) (m : ℕ) where
-  map_pushed : (xs : List R) (x : R) → map now (xs ++ x ∷ []) ≡ map now xs ++ now x ∷ []
-  map_pushed [] x = refl
-  map_pushed (y ∷ xs) x = ap (λ zs. now y ∷ zs) (map_pushed xs x)
-
   all_pushed : (xs : List R) (x : R) → after_all m (map now (xs ++ x ∷ [])) ≡ past_front m (now x) ++ after_all m (map now xs)
-  all_pushed xs x = ap (after_all m) (map_pushed xs x) ∙ after_pushed m (map now xs) (now x)
+  all_pushed xs x = ap (after_all m) (map-append now xs (x ∷ [])) ∙ after_pushed m (map now xs) (now x)
 
   pub front_turn : (form front : Form) (old new : List R) (x : R) → new ≡ old ++ x ∷ [] → row_written m form ≡ row_written m (now x) ++ after_all m (map now old) →
       row_written m (now x) ≡ row_written m front ++ past_front m (now x) → row_written m form ≡ row_written m front ++ after_all m (map now new)

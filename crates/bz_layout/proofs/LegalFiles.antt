@@ -1,5 +1,5 @@
 -- What the layout makes of a proper file value is legal.
-use Rattle.std.proofs.Common.{◌≡◌, ◌≤◌, Bool, true, false, List, [], ◌∷◌, ◌++◌, inl, inr, Option, Some, None, if◌then◌else◌, append_assoc, refl, sym, subst, arith}
+use Rattle.std.proofs.Common.{◌≡◌, ◌≤◌, Bool, true, false, List, [], ◌∷◌, ◌++◌, inl, inr, Option, Some, None, if◌then◌else◌, append_assoc, refl, sym, subst, arith, ◌∙◌}
 use Rattle.std.specs.Prelude.{IsUtf8}
 use Rattle.std.specs.List.{AllByRecursion, flat_map}
 use Rattle.std.proofs.lemmas.List.Elements.{recursion_from_All}
@@ -20,15 +20,15 @@ use Rattle.bz_grammar.specs.Spell.{spell_node, leaves_part, leaves_row, depth_of
 use Rattle.bz_grammar.specs.Shapes as s
 use Rattle.bz_grammar.specs.Shapes.{Fits, shape, has_nonterminal, nonterminal_has_kind}
 use Rattle.bz_grammar.specs.Legal.{IsNonterminal, LegalPart, Legal}
-use Rattle.bz_grammar.specs.Spots.{Spot, Begins, Along, after_node, after_part, AtLeaves, AtRow, AtParts, Stands, TokenStands, AreTokens}
+use Rattle.bz_grammar.specs.Spots.{Spot, Begins, Along, after_node, after_part, AtLeaves, AtRow, AtParts, Stands, TokenStands, AreTokens, Within, GapStands, BzlGapStands}
 use Rattle.bz_grammar.proofs.Nested.{row_of, items_of_row}
 use Rattle.bz_grammar.proofs.Spells.{leaves_Node}
 use Rattle.bz_grammar.proofs.Trees.{of_shapes}
 use Rattle.bz_grammar.proofs.Balance.{no_such, row_of_parts}
+use Rattle.bz_items.specs.Characters.{Bytes, line_feed}
 use Rattle.bz_value.specs.declared.value.Expr.{Expr, Token, Form'}
 use Rattle.bz_value.specs.declared.value.Item.{Item}
 use Rattle.bz_value.specs.declared.value.Item.TheVariants as i
-use Rattle.bz_items.specs.Characters.{Bytes, line_feed}
 use Rattle.bz_value.specs.Frames.{is_statement}
 use Rattle.bz_value.specs.LineShapes.{line_shape}
 use Rattle.bz_value.specs.Proper.{IsComment, comments_of, has_statement_kind, IsProperItem, IsProper}
@@ -39,11 +39,51 @@ use Rattle.bz_layout.specs.Layout.{suffix_text}
 use Rattle.bz_layout.specs.Written.{comment_lines, gap_between, layout}
 use Rattle.bz_layout.specs.LaidOut.{part_of, line_part, before_next, lines_from, laid_out}
 use Rattle.bz_layout.specs.Laws.{LayoutIsAccepted}
-use Rattle.bz_layout.proofs.Touching.{Airy, Toks, IsLex, FollowsAs, ends_plain, tokens}
-use Rattle.bz_layout.proofs.Margins.{FitsFlush, coded_byte, first_append, first_nothing, first_blank, lines_fit, newline_gap}
-use Rattle.bz_layout.proofs.FirstGaps.{FirstFlush, flush_stands}
-use Rattle.bz_layout.proofs.Standing.{Placed, laid_out_stands}
+use Rattle.bz_layout.proofs.Touching.{Airy, Toks, IsLex, FollowsAs, ends_plain, tokens, AiryRow}
+use Rattle.bz_layout.proofs.Margins.{FitsFlush, coded_byte, first_append, first_nothing, first_blank, lines_fit, newline_gap, is_begins}
+use Rattle.bz_layout.proofs.Standing.{Placed, laid_out_stands, at_node}
 use Rattle.bz_layout.proofs.LegalParts.{IsGood, build_good}
+use Rattle.bz_layout.proofs.Spelled.{laid_out_spelled}
+use Rattle.bz_layout.proofs.Elements.{in_line_class}
+use Rattle.bz_layout.proofs.Spots.{lexeme_in_line, token_goes_on, node_goes_on}
+
+-- ---- only the first leaf of what is laid out of an expression may begin a line: where its gap is flush, all leaves are placed as in a BUILD file
+
+build_gap : (class : Class) (here : Spot) (gap : Bytes) → in_line_class class ≡ true → (is_begins here ≡ true → is_flush gap ≡ true) → BzlGapStands class here gap → GapStands class here gap
+build_gap c.Newline here gap h f g = no_such h
+build_gap c.End here gap h f g = no_such h
+build_gap _ Begins gap h f g = (g, f refl)
+build_gap _ Within gap h f g = g
+build_gap _ Along gap h f g = g
+
+placed_stands : (here : Spot) (l : Leaf) → (is_begins here ≡ true → is_flush l.gap ≡ true) → Placed here l → Stands here l
+placed_stands here l f h = build_gap l.class here l.gap (lexeme_in_line l.class l.token h.lexeme) f h.stands
+
+-- no line begins after a part
+part_goes_on : (outer here : Spot) (x : Part) → Airy x → AtLeaves Placed here x → is_begins (after_part outer here x) ≡ false
+part_goes_on outer here (p.Leaf l) a h = token_goes_on l.class l.token outer here (lexeme_in_line l.class l.token h.lexeme)
+part_goes_on outer here (Node' kind z r) a h = node_goes_on kind here a.0
+
+-- the first leaf's gap is flush, where there is a leaf
+abbrev pub FirstFlush : List Leaf → Type 0
+FirstFlush [] = Unit {0}
+FirstFlush (l ∷ ls) = is_flush l.gap ≡ true
+
+first_of : (a b : List Leaf) → FirstFlush (a ++ b) → FirstFlush a
+first_of [] b h = tt
+first_of (l ∷ a) b h = h
+
+mutual
+  pub flush_stands : (here : Spot) (x : Part) → (is_begins here ≡ true → FirstFlush (leaves_part x)) → Airy x → AtLeaves Placed here x → AtLeaves Stands here x
+  flush_stands here (p.Leaf l) f a h = placed_stands here l f h
+  flush_stands here (Node' kind z r) f a h = flush_row here here _ r f a.2 h
+
+  flush_row : (outer here : Spot) (m : _) (r : Row_of-Part m) → (is_begins here ≡ true → FirstFlush (leaves_row r)) → AiryRow r → AtRow Placed outer here r → AtRow Stands outer here r
+  flush_row outer here m end_of-Part f a h = tt
+  flush_row outer here m (more_of-Part x rest) f a h = (
+    flush_stands here x (λ e. first_of (leaves_part x) (leaves_row rest) (f e)) a.0 h.0,
+    flush_row outer (after_part outer here x) _ rest (λ e. no_such (sym (part_goes_on outer here x a.0 h.0) ∙ e)) a.1 h.1,
+  )
 
 -- ---- what holds of each leaf of a part
 
@@ -144,9 +184,6 @@ record IsLine (x : Part) : Type 0 where
   tokens_then : (rest : List Leaf) → AreTokens rest → AreTokens (leaves_part x ++ rest)
   coded : AreCoded (leaves_part x)
 
-at_node : (here : Spot) (n : Node) → AtParts Stands here here n.parts → AtLeaves Stands here (p.Node n)
-at_node here n h = row_of_parts Stands here here _ (row_of n).1 (subst (AtParts Stands here here) (sym (items_of_row n)) h)
-
 line_stands : (gap : Bytes) (x : Expr) → IsProperItem (i.Stmt x) → FitsFlush gap → IsLine (line_part gap x)
 line_stands gap x h g =
     let front : Bytes = gap ++ comment_lines (comments_of x).before in
@@ -166,7 +203,7 @@ line_stands gap x h g =
       legal = of_shapes node ((is_small x h.0 front, inl (refl, tt)), (as_build statement (good.legal front 0), (tt, tt)));
       is_line = refl;
       begins = refl;
-      gaps = at_node Begins node (flush_stands Begins statement flush airy placed, (subst (λ z. AtLeaves Stands z (p.Leaf newline)) (sym (goes_along x h.0 front)) (true, (newline_gap suffix h.2.1).0), tt));
+      gaps = at_node Stands Begins node (flush_stands Begins statement (λ _. flush) airy placed, (subst (λ z. AtLeaves Stands z (p.Leaf newline)) (sym (goes_along x h.0 front)) (true, (newline_gap suffix h.2.1).0), tt));
       tokens_then = λ rest r. subst (λ z. AreTokens (z ++ rest)) (sym leaves) (line_tokens statement newline rest refl refl
           (tokens statement (wider_part shape line_shape lines_wider statement (good.legal front 0)) lexed airy (spell_leaves (newline ∷ rest)) (newline_follows (ends_plain statement) suffix (spell_leaves rest))) r);
       coded = subst AreCoded (sym leaves) (all_joined IsCodedLeaf (leaves_part statement) (newline ∷ []) (leaves_hold Placed IsCodedLeaf (λ here l q. q.coded) Begins statement placed) ((ending, coded_byte line_feed (omega arith)), tt));
@@ -210,6 +247,6 @@ laid_out_legal items h d =
       depth = d;
     }
 
--- so the layout is accepted, where it is what the tree spells
-pub accepted : ((items : List Item) → IsProper items → spell_node (laid_out items) ≡ layout items) → LayoutIsAccepted
-accepted spelled items h n d = (laid_out_legal items h d, spelled items h, n)
+-- so the layout is accepted
+pub accepted : LayoutIsAccepted
+accepted items h n d = (laid_out_legal items h d, laid_out_spelled items h, n)

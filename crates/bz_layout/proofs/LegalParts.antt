@@ -23,16 +23,16 @@ use Rattle.bz_value.specs.Proper.{comments_of, after_expr, roots, IsEmptyRow, in
 use Rattle.bz_value.specs.Roots.{row_in}
 use Rattle.bz_value.proofs.LegalBy.{LegalBy, node_legal}
 use Rattle.bz_value.proofs.Wider.{IsWider, wider_expr, lines_wider}
+use Rattle.bz_hosts.proofs.InnerParts.{inner_kind}
 use Rattle.bz_layout.specs.Layout.{mark, is_broken, is_tuple, gap_after, margin_after, firsts, rowed, headed, joined, stacked, laid_in, laid}
 use Rattle.bz_value.specs.Empty.{is_empty}
 use Rattle.bz_layout.specs.LaidOut.{piece_part, part_of, parts_of}
-use Rattle.bz_layout.proofs.Neighbours.{in_a_line}
 use Rattle.bz_layout.proofs.Touching.{Apart, Airy, AiryRow}
 use Rattle.bz_layout.proofs.Elements.{items_values, some_part}
 use Rattle.bz_layout.proofs.Joined.{HasSequences, line_sequences, build_sequences, head_fits}
 use Rattle.bz_layout.proofs.Fitted.{root_same, Child, rooted, roots_of_row, AreRooted, Pieces, laid_fits}
 use Rattle.bz_layout.proofs.Rows.{root_spaced, IsAfter, AreAfter, laid_apart}
-use Rattle.bz_layout.proofs.Spots.{AsRow, AsSequence, no_line}
+use Rattle.bz_layout.proofs.Spots.{AsRow, AsSequence, no_line, EachProper, both_each}
 
 -- ---- a node by its list of parts
 
@@ -40,7 +40,7 @@ pub airy_row : (m : _) (r : Row_of-Part m) → AllByRecursion Airy (items-the_ro
 airy_row m end_of-Part h = tt
 airy_row m (more_of-Part x rest) h = (h.0, airy_row _ rest h.1)
 
-pub airy_node : (n : Node) → in_a_line n.kind ≡ true → Apart n.kind n.parts → AllByRecursion Airy n.parts → Airy (p.Node n)
+pub airy_node : (n : Node) → inner_kind n.kind ≡ true → Apart n.kind n.parts → AllByRecursion Airy n.parts → Airy (p.Node n)
 airy_node n h a e =
     (h, subst (Apart n.kind) (sym (items_of_row n)) a, airy_row _ (row_of n).1 (subst (AllByRecursion Airy) (sym (items_of_row n)) e))
 
@@ -136,7 +136,7 @@ module _ (grammar : Kind → Shape) where
   airy_so (x ∷ xs) h = (h.0.airy, airy_so xs h.1)
 
 module _ (grammar : Kind → Shape) (sequences : HasSequences grammar) (wider : IsWider grammar line_shape) where
-  module _ (kind : Kind) (split open_break : Bool) (parts items : List Child) (end : List Bytes) (g : AreGood grammar parts) (i : AreGood grammar items) (line : in_a_line kind ≡ true) (fits : Fits IsNonterminal (grammar kind) (row_in (frame kind) (rooted parts) (rooted items))) where
+  module _ (kind : Kind) (split open_break : Bool) (parts items : List Child) (end : List Bytes) (g : AreGood grammar parts) (i : AreGood grammar items) (line : inner_kind kind ≡ true) (fits : Fits IsNonterminal (grammar kind) (row_in (frame kind) (rooted parts) (rooted items))) where
     abbrev laid_out_node : Bytes → ℕ → Node
     laid_out_node gap m = record { kind = kind; parts = map piece_part (laid kind split open_break gap m parts items end) }
 
@@ -156,16 +156,6 @@ module _ (grammar : Kind → Shape) (sequences : HasSequences grammar) (wider : 
 
   -- any proper expression
 
-  none_good : (n : _) (items : Row_of-Expr n) → IsEmptyRow items → AreGood grammar (parts_of items)
-  none_good n end_of-Expr h = tt
-  none_good n (more_of-Expr x rest) h = absurd h
-
-  rows_good : (f : Frame) (kind : Kind) (split open_break : Bool) (here : Spot) (m n : _) (parts : Row_of-Expr m) (items : Row_of-Expr n) (end : List Bytes) →
-      (ProperRowBy grammar (is_binary kind) here here parts → AreGood grammar (parts_of parts)) → (ProperHeadBy grammar here parts → AreGood grammar (parts_of parts)) → (ProperItemsBy grammar items → AreGood grammar (parts_of items)) →
-      in_frame f (AsRow grammar kind here parts items end split open_break) (AsSequence grammar here parts items end open_break) → AreGood grammar (parts_of parts) × AreGood grammar (parts_of items)
-  rows_good row kind split open_break here m n parts items end a b d h = (a h.0, none_good n items h.1)
-  rows_good (sequence opener closer) kind split open_break here m n parts items end a b d h = (b h.0, d h.1)
-
   roots_fit : (kind : Kind) (m n : _) (parts : Row_of-Expr m) (items : Row_of-Expr n) → Fits IsNonterminal (grammar kind) (row_in (frame kind) (roots parts) (roots items)) → Fits IsNonterminal (grammar kind) (row_in (frame kind) (rooted (parts_of parts)) (rooted (parts_of items)))
   roots_fit kind m n parts items h =
       subst (λ xs. Fits IsNonterminal (grammar kind) (row_in (frame kind) xs (rooted (parts_of items)))) (sym (roots_of_row m parts))
@@ -183,30 +173,24 @@ module _ (grammar : Kind → Shape) (sequences : HasSequences grammar) (wider : 
       airy = λ gap m. tt;
     }
     good_by here (Form' kind z parts z' items end split open_break comments) h =
-        let w : AreGood grammar (parts_of parts) × AreGood grammar (parts_of items) = rows_good (frame kind) kind split open_break here _ _ parts items end (row_good (is_binary kind) here here _ parts) (head_good here _ parts) (items_good _ items) h.1 in
-        let line : in_a_line kind ≡ true = no_line here (Form' kind z parts z' items end split open_break comments) (wider_expr grammar line_shape wider here (Form' kind z parts z' items end split open_break comments) h) in
+        let inner = both_each grammar (frame kind) kind here _ _ parts items end split open_break h.1 in
+        let ps : AreGood grammar (parts_of parts) = each_good _ parts inner.0 in
+        let is : AreGood grammar (parts_of items) = each_good _ items inner.1 in
+        let line : inner_kind kind ≡ true = no_line here (Form' kind z parts z' items end split open_break comments) (wider_expr grammar line_shape wider here (Form' kind z parts z' items end split open_break comments) h) in
         let fits : Fits IsNonterminal (grammar kind) (row_in (frame kind) (rooted (parts_of parts)) (rooted (parts_of items))) = roots_fit kind _ _ parts items h.0 in
         record {
           stands = record {
-            starts = node_starts kind split open_break (parts_of parts) (parts_of items) end w.0 w.1 line fits;
+            starts = node_starts kind split open_break (parts_of parts) (parts_of items) end ps is line fits;
             rooted_as = root_same (Form' kind z parts z' items end split open_break comments);
             spaced_as = root_spaced (Form' kind z parts z' items end split open_break comments);
           };
-          legal = laid_out_legal kind split open_break (parts_of parts) (parts_of items) end w.0 w.1 line fits;
-          airy = node_airy kind split open_break (parts_of parts) (parts_of items) end w.0 w.1 line fits;
+          legal = laid_out_legal kind split open_break (parts_of parts) (parts_of items) end ps is line fits;
+          airy = node_airy kind split open_break (parts_of parts) (parts_of items) end ps is line fits;
         }
 
-    pub row_good : (binary : Bool) (outer here : Spot) (m : _) (r : Row_of-Expr m) → ProperRowBy grammar binary outer here r → AreGood grammar (parts_of r)
-    row_good binary outer here m end_of-Expr h = tt
-    row_good binary outer here m (more_of-Expr x rest) h = (good_by here x h.0, row_good binary outer (after_expr outer here x) _ rest h.3)
-
-    pub head_good : (here : Spot) (m : _) (r : Row_of-Expr m) → ProperHeadBy grammar here r → AreGood grammar (parts_of r)
-    head_good here m end_of-Expr h = tt
-    head_good here m (more_of-Expr x rest) h = (good_by here x h.0, head_good here _ rest h.2)
-
-    pub items_good : (m : _) (r : Row_of-Expr m) → ProperItemsBy grammar r → AreGood grammar (parts_of r)
-    items_good m end_of-Expr h = tt
-    items_good m (more_of-Expr x rest) h = (good_by Within x h.0, items_good _ rest h.3)
+    pub each_good : (m : _) (r : Row_of-Expr m) → EachProper grammar r → AreGood grammar (parts_of r)
+    each_good m end_of-Expr h = tt
+    each_good m (more_of-Expr x rest) h = (good_by h.0.0 x h.0.1, each_good _ rest h.1)
 
 -- ---- in lines, and in BUILD files
 

@@ -1,9 +1,7 @@
 pub mod Appending
-pub mod Assignments
 pub mod Changes
 pub mod Deep
 pub mod Elements
-pub mod FirstGaps
 pub mod Fitted
 pub mod Flagged
 pub mod FlaggedProper
@@ -27,17 +25,14 @@ pub mod Reaching
 pub mod ReadBack
 pub mod Readable
 pub mod Rows
-pub mod Spacing
 pub mod Spelled
 pub mod Spots
 pub mod Standing
 pub mod Staying
 pub mod Stops
-pub mod Terminals
 pub mod Touching
 pub mod Viewed
 pub mod ViewedItems
 pub mod Waiting
-pub mod WindowLimits
 pub mod Windows
 pub mod Writing

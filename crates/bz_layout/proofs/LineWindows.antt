@@ -1,12 +1,18 @@
--- How many lines give way to windows of items.
-use Rattle.std.proofs.Common.{ℕ, zero, suc, ◌≡◌, ◌<◌, ◌≤◌, ◌-◌, List, [], ◌∷◌, ◌++◌, ◌+◌, length, get_or, take, drop, refl, sym, ap, ◌∙◌, subst, arith, length-drop}
-use Rattle.std.proofs.lemmas.List.{drop-drop, drop_more}
+-- Windows of items: how many lines give way to them, and how deep the layout is.
+use Rattle.std.proofs.Common.{ℕ, zero, suc, ◌≡◌, ◌<◌, ◌≤◌, ◌-◌, List, [], ◌∷◌, ◌++◌, ◌+◌, length, get_or, take, drop, refl, sym, ap, ◌∙◌, subst, arith, length-drop, max, false, true, true≢false}
+use Rattle.std.proofs.lemmas.List.{drop-drop, drop_more, take-append-drop}
+use Rattle.std.specs.Prelude.{◌↔◌, IsTrue, Bool}
+use Rattle.bz_grammar.specs.Spell.{depth_of, depth_limit}
 use Rattle.bz_value.specs.declared.value.Item.{Item}
 use Rattle.bz_value.specs.declared.value.Item.TheVariants as i
 use Rattle.bz_value.specs.declared.windows.Window.{Window}
 use Rattle.bz_value.specs.Windows.{AreOver, AreWithin}
 use Rattle.bz_layout.specs.private.Windows.{line_count_in, come_items, gone_count, come_end, first_from, AreLinesOver}
-use Rattle.bz_layout.proofs.Windows.{lines_in_cut}
+use Rattle.bz_layout.proofs.Windows.{cut_window}
+use Rattle.bz_layout.specs.Depths.{depth_items}
+use Rattle.bz_layout.specs.LaidOut.{laid_out}
+use Rattle.bz_layout.proofs.Deep.{laid_out_depth}
+use Rattle.bz_layout.proofs.Measured.{depth_first}
 
 count_append : (xs ys : List Item) → line_count_in (xs ++ ys) ≡ line_count_in xs + line_count_in ys
 count_append [] ys = omega arith
@@ -35,11 +41,12 @@ within_past ws k d items at h l w =
     (omega (arith, next.0, size, l), subst (λ zs. AreWithin (drop (k + 1) ws) zs) (drop-drop (x.from + x.come) at items ∙ ap (λ n. drop n items) sum) next.1)
 
 -- what came first, and the rest of it
-come_count : (ws : List Window) (k : ℕ) (d : Window) (xs : List Item) → k < length ws →
-    line_count_in (come_items (drop k ws) xs) ≡ line_count_in (take (get_or ws k d).come (drop (get_or ws k d).from xs)) + line_count_in (come_items (drop (k + 1) ws) (drop ((get_or ws k d).from + (get_or ws k d).come) xs))
-come_count ws k d xs h =
-    ap (λ vs. line_count_in (come_items vs xs)) (drop_more ws k d h) ∙
-    count_append (take (get_or ws k d).come (drop (get_or ws k d).from xs)) (come_items (drop (k + 1) ws) (drop ((get_or ws k d).from + (get_or ws k d).come) xs))
+module _ (size : List Item → ℕ) (joined : ℕ → ℕ → ℕ) (append : (xs ys : List Item) → size (xs ++ ys) ≡ joined (size xs) (size ys)) where
+  pub come_first : (ws : List Window) (k : ℕ) (d : Window) (xs : List Item) → k < length ws →
+      size (come_items (drop k ws) xs) ≡ joined (size (take (get_or ws k d).come (drop (get_or ws k d).from xs))) (size (come_items (drop (k + 1) ws) (drop ((get_or ws k d).from + (get_or ws k d).come) xs)))
+  come_first ws k d xs h =
+      ap (λ vs. size (come_items vs xs)) (drop_more ws k d h) ∙
+      append (take (get_or ws k d).come (drop (get_or ws k d).from xs)) (come_items (drop (k + 1) ws) (drop ((get_or ws k d).from + (get_or ws k d).come) xs))
 
 -- a turn of the loop that counts them
 pub come_turn : (ws : List Window) (k : ℕ) (d : Window) (xs come past : List Item) (count here all most : ℕ) → k < length ws → AreWithin (drop k ws) xs →
@@ -52,49 +59,44 @@ come_turn ws k d xs come past count here all most h w is_come is_past is_here le
     let few : line_count_in (take v.come (drop v.from xs)) ≤ v.come = count_most v.come (drop v.from xs) in
     let own : here ≡ line_count_in (take v.come (drop v.from xs)) = is_here ∙ ap line_count_in is_come in
     let less : length past ≡ length xs - (v.from + v.come) = ap length is_past ∙ length-drop (v.from + v.come) xs in
-    let cut : line_count_in (come_items (drop k ws) xs) ≡ line_count_in (take v.come (drop v.from xs)) + line_count_in (come_items (drop (k + 1) ws) (drop (v.from + v.come) xs)) = come_count ws k d xs h in
+    let cut : line_count_in (come_items (drop k ws) xs) ≡ line_count_in (take v.come (drop v.from xs)) + line_count_in (come_items (drop (k + 1) ws) (drop (v.from + v.come) xs)) = come_first line_count_in (λ a b. a + b) count_append ws k d xs h in
     let rest : line_count_in (come_items (drop (k + 1) ws) past) ≡ line_count_in (come_items (drop (k + 1) ws) (drop (v.from + v.come) xs)) = ap (λ ys. line_count_in (come_items (drop (k + 1) ws) ys)) is_past in
     (subst (λ ys. AreWithin (drop (k + 1) ws) ys) (sym is_past) next.1, omega (arith, le, few, own, less, next.0), omega (arith, cut, rest, own, e))
 
 -- a window: what stays before it, what it has, and what follows
 count_window : (from n : ℕ) (xs : List Item) → line_count_in xs ≡ line_count_in (take from xs) + (line_count_in (take n (drop from xs)) + line_count_in (drop (from + n) xs))
-count_window from n xs =
-    let one : line_count_in xs ≡ line_count_in (take from xs) + line_count_in (drop from xs) = lines_in_cut from xs in
-    let two : line_count_in (drop from xs) ≡ line_count_in (take n (drop from xs)) + line_count_in (drop n (drop from xs)) = lines_in_cut n (drop from xs) in
-    let past : line_count_in (drop n (drop from xs)) ≡ line_count_in (drop (from + n) xs) = ap line_count_in (drop-drop n from xs) in
-    omega (arith, one, two, past)
+count_window from n xs = cut_window line_count_in (λ a b. a + b) count_append from n xs
+
+-- what one window says: no more of its lines give way than items, and the lines that it takes are those of what came and what follows
+abbrev OneLess : Window → List Window → List Item → List Item → Type 0
+OneLess w ws xs ys =
+    (line_count_in (take w.gone (drop w.from xs)) ≤ w.gone)
+    × (line_count_in (come_items (w ∷ ws) ys) + line_count_in xs + line_count_in (drop (w.from + w.come) ys)
+    ≡ line_count_in ys + line_count_in (come_items ws (drop (w.from + w.come) ys)) + (line_count_in (take w.gone (drop w.from xs)) + line_count_in (drop (w.from + w.gone) xs)))
+
+one_less : (w : Window) (ws : List Window) (xs ys : List Item) → take w.from ys ≡ take w.from xs → OneLess w ws xs ys
+one_less w ws xs ys same =
+    let new = count_window w.from w.come ys in
+    let before = count_window w.from w.gone xs in
+    let front : line_count_in (take w.from ys) ≡ line_count_in (take w.from xs) = ap line_count_in same in
+    let own = count_append (take w.come (drop w.from ys)) (come_items ws (drop (w.from + w.come) ys)) in
+    (count_most w.gone (drop w.from xs), omega (arith, new, before, front, own))
 
 -- no more lines give way than items
 lines_most : (ws : List Window) (xs ys : List Item) → AreOver ws xs ys → line_count_in (come_items ws ys) + line_count_in xs ≤ gone_count ws + line_count_in ys
 lines_most [] xs ys h = let same : line_count_in xs ≡ line_count_in ys = ap line_count_in h in omega (arith, same)
 lines_most (w ∷ ws) xs ys h =
-    let here : List Item = take w.come (drop w.from ys) in
-    let past : List Item = drop (w.from + w.come) ys in
-    let old : List Item = drop (w.from + w.gone) xs in
-    let new : line_count_in ys ≡ line_count_in (take w.from ys) + (line_count_in here + line_count_in past) = count_window w.from w.come ys in
-    let before : line_count_in xs ≡ line_count_in (take w.from xs) + (line_count_in (take w.gone (drop w.from xs)) + line_count_in old) = count_window w.from w.gone xs in
-    let same : line_count_in (take w.from ys) ≡ line_count_in (take w.from xs) = ap line_count_in h.2 in
-    let own : line_count_in (here ++ come_items ws past) ≡ line_count_in here + line_count_in (come_items ws past) = count_append here (come_items ws past) in
-    let most : line_count_in (take w.gone (drop w.from xs)) ≤ w.gone = count_most w.gone (drop w.from xs) in
-    let rest : line_count_in (come_items ws past) + line_count_in old ≤ gone_count ws + line_count_in past = lines_most ws old past h.3 in
-    omega (arith, new, before, same, own, most, rest)
+    let one : OneLess w ws xs ys = one_less w ws xs ys h.2 in
+    let rest = lines_most ws (drop (w.from + w.gone) xs) (drop (w.from + w.come) ys) h.3 in
+    omega (arith, one.0, one.1, rest)
 
 -- where as many lines give way as items, each window counts lines
 pub all_lines : (ws : List Window) (xs ys : List Item) → line_count_in (come_items ws ys) + line_count_in xs ≡ gone_count ws + line_count_in ys → AreOver ws xs ys → AreLinesOver ws xs ys
 all_lines [] xs ys e h = h
 all_lines (w ∷ ws) xs ys e h =
-    let here : List Item = take w.come (drop w.from ys) in
-    let past : List Item = drop (w.from + w.come) ys in
-    let old : List Item = drop (w.from + w.gone) xs in
-    let new : line_count_in ys ≡ line_count_in (take w.from ys) + (line_count_in here + line_count_in past) = count_window w.from w.come ys in
-    let before : line_count_in xs ≡ line_count_in (take w.from xs) + (line_count_in (take w.gone (drop w.from xs)) + line_count_in old) = count_window w.from w.gone xs in
-    let same : line_count_in (take w.from ys) ≡ line_count_in (take w.from xs) = ap line_count_in h.2 in
-    let own : line_count_in (here ++ come_items ws past) ≡ line_count_in here + line_count_in (come_items ws past) = count_append here (come_items ws past) in
-    let most : line_count_in (take w.gone (drop w.from xs)) ≤ w.gone = count_most w.gone (drop w.from xs) in
-    let rest : line_count_in (come_items ws past) + line_count_in old ≤ gone_count ws + line_count_in past = lines_most ws old past h.3 in
-    let here_all : line_count_in (take w.gone (drop w.from xs)) ≡ w.gone = omega (arith, new, before, same, own, most, rest, e) in
-    let rest_all : line_count_in (come_items ws past) + line_count_in old ≡ gone_count ws + line_count_in past = omega (arith, new, before, same, own, most, rest, e) in
-    (w.gone, h.0, h.1, h.2, here_all, all_lines ws old past rest_all h.3)
+    let one : OneLess w ws xs ys = one_less w ws xs ys h.2 in
+    let rest = lines_most ws (drop (w.from + w.gone) xs) (drop (w.from + w.come) ys) h.3 in
+    (w.gone, h.0, h.1, h.2, omega (arith, one.0, one.1, rest, e), all_lines ws (drop (w.from + w.gone) xs) (drop (w.from + w.come) ys) (omega (arith, one.0, one.1, rest, e)) h.3)
 
 -- ---- all windows as one
 
@@ -156,3 +158,75 @@ one_over (w ∷ ws) xs ys from end lines gone come f e l g c h =
       omega (arith, took, same, after, l, g),
       ap (λ n. drop n xs) all_gone ∙ (past.2 ∙ ap (λ n. drop n ys) (sym (all_come ∙ e))),
     )
+
+-- ---- how deep the layout is of items of which some came in the place of others
+
+pub depth_append : (xs ys : List Item) → depth_items (xs ++ ys) ≡ max (depth_items xs) (depth_items ys)
+depth_append [] ys = omega arith
+depth_append (x ∷ xs) ys =
+    let all : depth_items (x ∷ (xs ++ ys)) ≡ max (depth_items (x ∷ [])) (depth_items (xs ++ ys)) = depth_first x (xs ++ ys) in
+    let front : depth_items (x ∷ xs) ≡ max (depth_items (x ∷ [])) (depth_items xs) = depth_first x xs in
+    let rest : depth_items (xs ++ ys) ≡ max (depth_items xs) (depth_items ys) = depth_append xs ys in
+    omega (arith, all, front, rest)
+
+-- a window: what stays before it, what it has, and what follows
+depth_window : (from n : ℕ) (xs : List Item) → depth_items xs ≡ max (depth_items (take from xs)) (max (depth_items (take n (drop from xs))) (depth_items (drop (from + n) xs)))
+depth_window from n xs = cut_window depth_items max depth_append from n xs
+
+-- a turn of the loop that looks at them
+pub depth_turn : (ws : List Window) (k : ℕ) (d : Window) (xs come past : List Item) → k < length ws → AreWithin (drop k ws) xs →
+    come ≡ take (get_or ws k d).come (drop (get_or ws k d).from xs) → past ≡ drop ((get_or ws k d).from + (get_or ws k d).come) xs →
+    AreWithin (drop (k + 1) ws) past × (depth_items (come_items (drop k ws) xs) ≡ max (depth_items come) (depth_items (come_items (drop (k + 1) ws) past)))
+depth_turn ws k d xs come past h w is_come is_past =
+    rw (is_come, is_past) ((within_next ws k d xs h w).1, come_first depth_items max depth_append ws k d xs h)
+
+-- what came is among all
+come_below : (ws : List Window) (xs : List Item) → depth_items (come_items ws xs) ≤ depth_items xs
+come_below [] xs = omega arith
+come_below (w ∷ ws) xs =
+    let here : List Item = take w.come (drop w.from xs) in
+    let past : List Item = drop (w.from + w.come) xs in
+    let all : depth_items xs ≡ max (depth_items (take w.from xs)) (max (depth_items here) (depth_items past)) = depth_window w.from w.come xs in
+    let own : depth_items (here ++ come_items ws past) ≡ max (depth_items here) (depth_items (come_items ws past)) = depth_append here (come_items ws past) in
+    let rest : depth_items (come_items ws past) ≤ depth_items past = come_below ws past in
+    omega (arith, all, own, rest)
+
+-- all else was there before
+over_depth : (ws : List Window) (xs ys : List Item) → AreOver ws xs ys → depth_items ys ≤ max (depth_items xs) (depth_items (come_items ws ys))
+over_depth [] xs ys h = let same : depth_items xs ≡ depth_items ys = ap depth_items h in omega (arith, same)
+over_depth (w ∷ ws) xs ys h =
+    let here : List Item = take w.come (drop w.from ys) in
+    let past : List Item = drop (w.from + w.come) ys in
+    let old : List Item = drop (w.from + w.gone) xs in
+    let all : depth_items ys ≡ max (depth_items (take w.from ys)) (max (depth_items here) (depth_items past)) = depth_window w.from w.come ys in
+    let before : depth_items xs ≡ max (depth_items (take w.from xs)) (max (depth_items (take w.gone (drop w.from xs))) (depth_items old)) = depth_window w.from w.gone xs in
+    let same : depth_items (take w.from ys) ≡ depth_items (take w.from xs) = ap depth_items h.2 in
+    let own : depth_items (here ++ come_items ws past) ≡ max (depth_items here) (depth_items (come_items ws past)) = depth_append here (come_items ws past) in
+    let rest : depth_items past ≤ max (depth_items old) (depth_items (come_items ws past)) = over_depth ws old past h.3 in
+    omega (arith, all, before, same, own, rest)
+
+pub shallow_over : (ws : List Window) (before items : List Item) → depth_items (come_items ws items) ≤ depth_limit - 1 → AreOver ws before items →
+    depth_of (laid_out before) ≤ depth_limit → depth_of (laid_out items) ≤ depth_limit
+shallow_over ws before items within h shallow =
+    let old : depth_of (laid_out before) ≡ suc (depth_items before) = laid_out_depth before in
+    let new : depth_of (laid_out items) ≡ suc (depth_items items) = laid_out_depth items in
+    let most : depth_items items ≤ max (depth_items before) (depth_items (come_items ws items)) = over_depth ws before items h in
+    omega (arith, old, new, most, within, shallow)
+
+pub deep_over : (ws : List Window) (items : List Item) → (depth_items (come_items ws items) ≤ depth_limit - 1 → false ≡ true) → depth_limit < depth_of (laid_out items)
+deep_over ws items deep =
+    let deeper : depth_items (come_items ws items) ≤ depth_limit - 1 → ⊥ = λ shallow. let no_ : false ≡ true = deep shallow in cc in
+    let new : depth_of (laid_out items) ≡ suc (depth_items items) = laid_out_depth items in
+    let less : depth_items (come_items ws items) ≤ depth_items items = come_below ws items in
+    omega (arith, new, less, deeper)
+
+-- what one test of the loop says of all that is left
+pub deeper_first : (left here rest all depth : ℕ) {answer : Bool} → left ≡ max here rest → (IsTrue answer ↔ (here ≤ depth)) → answer ≡ false → ((left ≤ depth) ↔ (all ≤ depth)) → IsTrue false ↔ (all ≤ depth)
+deeper_first left here rest all depth e i no_ h =
+    let not_here : here ≤ depth → IsTrue false = λ le. subst IsTrue no_ (i.1 le) in
+    (λ f. absurd (true≢false (sym f)), λ le. let less : left ≤ depth = h.1 le in not_here (omega (arith, e, less)))
+
+pub both_less : (left here rest all depth : ℕ) {answer : Bool} → left ≡ max here rest → (IsTrue answer ↔ (here ≤ depth)) → answer ≡ true → ((left ≤ depth) ↔ (all ≤ depth)) → (rest ≤ depth) ↔ (all ≤ depth)
+both_less left here rest all depth e i yes_ h =
+    let le : here ≤ depth = i.0 (subst IsTrue (sym yes_) refl) in
+    (λ r. h.0 (omega (arith, e, le, r)), λ a. let less : left ≤ depth = h.1 a in omega (arith, e, less))

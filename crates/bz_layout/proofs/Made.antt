@@ -1,5 +1,5 @@
 -- What each reading by rows is at a form by lists.
-use Rattle.std.proofs.Common.{ℕ, [], ◌∷◌, ◌≡◌, refl, ap, ◌∙◌, map}
+use Rattle.std.proofs.Common.{ℕ, [], ◌∷◌, ◌≡◌, refl, ap, ◌∙◌, map, List}
 use mathlib.Core.Former.{Count}
 use Rattle.std.specs.List.{flat_map}
 use Rattle.bz_grammar.specs.declared.tree.Part.TheVariants as p
@@ -7,9 +7,10 @@ use Rattle.bz_value.specs.declared.value.Form.{Form}
 use Rattle.bz_value.specs.declared.value.Expr.{Expr, Token, Form', Row_of-Expr, end_of-Expr, more_of-Expr, items-the_row-Expr, items_hidden-the_row-Expr-0}
 use Rattle.bz_value.specs.declared.value.Expr.TheVariants as e
 use Rattle.bz_items.specs.Characters.{Bytes}
+use Rattle.bz_value.specs.Empty.{is_empty}
 use Rattle.bz_value.specs.Proper.{roots}
 use Rattle.bz_value.specs.Roots.{root}
-use Rattle.bz_layout.specs.Layout.{laid}
+use Rattle.bz_layout.specs.Layout.{laid, firsts}
 use Rattle.bz_layout.specs.Written.{text_of, texts_of, piece_text}
 use Rattle.bz_layout.specs.LaidOut.{part_of, parts_of, parts_in, layouts, piece_part}
 use Rattle.bz_layout.specs.Writings.{writings}
@@ -38,6 +39,10 @@ items_of_row f = items_hidden-the_row-Expr-0 f.seq.items
 pub two : {X Y Z : Type 0} (f : X → Y → Z) {h h' : X} {i i' : Y} → h ≡ h' → i ≡ i' → f h i ≡ f h' i'
 two f {h} {h'} {i} {i'} d e = ap (λ z. f z i) d ∙ ap (λ z. f h' z) e
 
+pub none_mapped : {X Y : Type 0} (xs : List X) (f : X → Y) → is_empty (map f xs) ≡ is_empty xs
+none_mapped [] f = refl
+none_mapped (x ∷ xs) f = refl
+
 -- ---- rows as lists
 
 pub laid_out_row : (m : _) (r : Row_of-Expr m) → parts_of r ≡ layouts (items-the_row-Expr m r)
@@ -51,6 +56,14 @@ written_row m (more_of-Expr x rest) = ap (λ t. (x, text_of x) ∷ t) (written_r
 pub roots_row : (m : _) (r : Row_of-Expr m) → roots r ≡ map root (items-the_row-Expr m r)
 roots_row m end_of-Expr = refl
 roots_row m (more_of-Expr x rest) = ap (λ t. root x ∷ t) (roots_row _ rest)
+
+-- the expressions of a reading are those that are read
+pub values_of : {X : Type 0} (f : Expr → X) (xs : List Expr) → firsts (map (λ x. (x, f x)) xs) ≡ xs
+values_of f [] = refl
+values_of f (x ∷ xs) = ap (λ ys. x ∷ ys) (values_of f xs)
+
+pub parts_values : (m : _) (r : Row_of-Expr m) → firsts (parts_of r) ≡ items-the_row-Expr m r
+parts_values m r = ap firsts (laid_out_row m r) ∙ values_of part_of (items-the_row-Expr m r)
 
 -- ---- forms
 

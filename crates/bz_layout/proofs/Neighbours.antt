@@ -1,16 +1,21 @@
 -- Which parts of a node are beside each other, by a computed test on its shape.
-use Rattle.std.proofs.Common.{◌≡◌, ℕ, Bool, true, false, not, ◌&&◌, ◌||◌, List, [], ◌∷◌, inl, inr, Option, Some, None, refl, codes}
+use Rattle.std.proofs.Common.{◌≡◌, ℕ, Bool, true, false, not, ◌&&◌, ◌||◌, List, [], ◌∷◌, inl, inr, Option, Some, None, refl, codes, sym, subst}
 use Rattle.std.specs.Prelude.{nat_eq}
-use Rattle.std.proofs.lemmas.Bool.{and_parts, both_ways}
+use Rattle.std.proofs.lemmas.Bool.{and_parts, both_ways, or_cases}
+use Rattle.std.proofs.lemmas.Slice.Eq.{bytes_eq-Decides}
+use Rattle.bz_token.specs.declared.class.Class.{Class}
 use Rattle.bz_token.specs.declared.class.Class.TheVariants as c
+use Rattle.bz_lex.specs.declared.leaf.Leaf.{Leaf}
 use Rattle.bz_grammar.specs.declared.kind.Kind.{Kind}
 use Rattle.bz_grammar.specs.declared.kind.Kind.TheVariants as k
 use Rattle.bz_grammar.specs.declared.tree.Part.{Part}
 use Rattle.bz_grammar.specs.Shapes as s
-use Rattle.bz_grammar.specs.Shapes.{Nonterminal, Terminal, Shape, Fits, Listed, Several, has_token}
+use Rattle.bz_grammar.specs.Shapes.{Nonterminal, Terminal, Shape, Fits, Listed, Several, has_token, is_one_of, is_terminal}
 use Rattle.bz_grammar.specs.Legal.{IsNonterminal}
 use Rattle.bz_grammar.specs.Reading.{starts}
+use Rattle.bz_grammar.proofs.Balance.{no_such, same_class}
 use Rattle.bz_value.specs.LineShapes.{line_shape}
+use Rattle.bz_hosts.proofs.InnerParts.{inner_kind}
 use Rattle.bz_layout.specs.Spaces.{from_table, lone, is_dot_terminal, space_after, space_before}
 
 -- what is at a place of a shape
@@ -120,6 +125,20 @@ abbrev pub all_in : (Terminal → Bool) → List Terminal → Bool
 all_in p [] = true
 all_in p (t ∷ ts) = p t && all_in p ts
 
+-- what holds of the class and the text of each terminal that passes a test holds of a leaf that is one of such terminals
+module _ (test : Terminal → Bool) (P : Class → List ℕ → Type 0) (any_class : (class : Class) (t : List ℕ) → test (s.any class) ≡ true → P class t) (this_text : (class : Class) (t : List ℕ) → test (s.this class t) ≡ true → P class t) where
+  leaf_as : (t : Terminal) (l : Leaf) → test t ≡ true → is_terminal t l ≡ true → P l.class l.token
+  leaf_as (s.any class) l h i = subst (λ z. P z l.token) (sym (same_class l.class class i)) (any_class class l.token h)
+  leaf_as (s.this class t) l h i =
+      let w = and_parts _ _ i in
+      subst (λ z. P z l.token) (sym (same_class l.class class w.0)) (subst (P class) (sym ((bytes_eq-Decides l.token t).0 w.1)) (this_text class t h))
+
+  pub one_leaf : (ts : List Terminal) (l : Leaf) → all_in test ts ≡ true → is_one_of ts l ≡ true → P l.class l.token
+  one_leaf [] l h i = no_such i
+  one_leaf (t ∷ ts) l h i =
+      let w = and_parts (test t) _ h in
+      elim (or_cases (is_terminal t l) (is_one_of ts l) i) [ inl e ↦ leaf_as t l w.0 e | inr e ↦ one_leaf ts l w.1 e ]
+
 -- ---- which neighbours the layout sets apart, and which may touch
 
 -- signs and stars
@@ -185,17 +204,8 @@ abbrev pub finals : Kind → Element → Bool
 finals kind (T ts) = all_in no_number ts
 finals kind (S a) = not (is_primary_kind kind)
 
-abbrev pub in_a_line : Kind → Bool
-in_a_line k.File = false
-in_a_line k.Line = false
-in_a_line k.Def = false
-in_a_line k.IfStmt = false
-in_a_line k.ForStmt = false
-in_a_line k.Suite = false
-in_a_line _ = true
-
 -- So it is in each row of the table.
-pub all_pass : (kind : Kind) → in_a_line kind ≡ true → passes (neighbours kind) (finals kind) None (line_shape kind) ≡ true
+pub all_pass : (kind : Kind) → inner_kind kind ≡ true → passes (neighbours kind) (finals kind) None (line_shape kind) ≡ true
 all_pass k.File h = absurd (both_ways false refl h)
 all_pass k.Line h = absurd (both_ways false refl h)
 all_pass k.Def h = absurd (both_ways false refl h)

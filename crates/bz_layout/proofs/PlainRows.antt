@@ -9,6 +9,7 @@ use Rattle.bz_lex.specs.Places.{is_opening, is_closing}
 use Rattle.bz_grammar.specs.declared.kind.Kind.{Kind}
 use Rattle.bz_grammar.specs.declared.kind.Kind.TheVariants as k
 use Rattle.bz_grammar.specs.declared.tree.Part.{Part}
+use Rattle.bz_grammar.specs.declared.tree.Part.TheVariants as p
 use Rattle.bz_grammar.specs.Shapes as s
 use Rattle.bz_grammar.specs.Shapes.{Terminal, Shape, Fits, is_one_of, is_terminal, leaves_at}
 use Rattle.bz_grammar.specs.Legal.{IsNonterminal}
@@ -20,54 +21,22 @@ use Rattle.bz_value.specs.Proper.{after_expr}
 use Rattle.bz_value.specs.Roots.{root}
 use Rattle.bz_value.specs.Empty.{is_empty}
 use Rattle.bz_layout.proofs.Neighbours.{Element, T, S, Is, passes, Links, links, all_in}
-use Rattle.bz_layout.proofs.Elements.{any_last, in_line_class}
+use Rattle.bz_layout.proofs.Elements.{any_last, in_line_class, value_of}
 use Rattle.bz_layout.proofs.Fitted.{Child, rooted}
 use Rattle.bz_layout.proofs.Margins.{is_begins}
 use Rattle.bz_layout.proofs.Standing.{RowLaysOut, after_row}
+use Rattle.bz_hosts.proofs.InnerParts.{plain_tokens, token_goes}
+use Rattle.bz_layout.proofs.Spots.{word_plain}
 
 -- ---- tokens that are no brackets
 
-abbrev pub plain_terminal : Terminal → Bool
-plain_terminal (s.any c.Mark) = false
-plain_terminal (s.any class) = in_line_class class
-plain_terminal (s.this c.Mark t) = not (is_opening t || is_closing t)
-plain_terminal (s.this class t) = in_line_class class
-
 abbrev pub plain_element : Element → Bool
-plain_element (T ts) = all_in plain_terminal ts
+plain_element (T ts) = plain_tokens ts
 plain_element (S a) = true
 
 -- the test of neighbours: the first one is plain
 abbrev pub plain_first : Element → Element → Bool
 plain_first a b = plain_element a
-
-any_plain : (class : Class) (t : Bytes) → plain_terminal (s.any class) ≡ true → role class t ≡ plain
-any_plain c.Mark t h = no_such h
-any_plain c.Newline t h = no_such h
-any_plain c.End t h = no_such h
-any_plain _ t h = refl
-
-this_plain : (class : Class) (t : Bytes) → plain_terminal (s.this class t) ≡ true → role class t ≡ plain
-this_plain c.Newline t h = no_such h
-this_plain c.End t h = no_such h
-this_plain c.Mark t h = let w = or_parts (is_opening t) (is_closing t) (not-true _ h) in rw (w.0, w.1) refl
-this_plain _ t h = refl
-
-terminal_plain : (x : Terminal) (l : Leaf) → plain_terminal x ≡ true → is_terminal x l ≡ true → role l.class l.token ≡ plain
-terminal_plain (s.any class) l h i = ap (λ z. role z l.token) (same_class l.class class i) ∙ any_plain class l.token h
-terminal_plain (s.this class t) l h i =
-    let w = and_parts _ _ i in
-    ap (λ z. role z l.token) (same_class l.class class w.0) ∙ (ap (λ z. role class z) ((bytes_eq-Decides l.token t).0 w.1) ∙ this_plain class t h)
-
-leaf_plain : (ts : List Terminal) (l : Leaf) → all_in plain_terminal ts ≡ true → is_one_of ts l ≡ true → role l.class l.token ≡ plain
-leaf_plain [] l h i = no_such i
-leaf_plain (t ∷ ts) l h i =
-    let w = and_parts (plain_terminal t) _ h in
-    elim (or_cases (is_terminal t l) (is_one_of ts l) i) [ inl e ↦ terminal_plain t l w.0 e | inr e ↦ leaf_plain ts l w.1 e ]
-
-nonterminal_plain : (a : s.Nonterminal) → all_in plain_terminal (leaves_at a) ≡ true
-nonterminal_plain (s.level n) = refl
-nonterminal_plain _ = refl
 
 -- ---- what is after such a row
 
@@ -80,8 +49,8 @@ node_onward k.Suite here h = no_such (sym h)
 node_onward _ here h = refl
 
 plain_onward : (outer here : Spot) (a : Element) (x : Expr) → Is a (root x) → plain_element a ≡ true → is_begins (after_expr outer here x) ≡ false → after_expr outer here x ≡ onward here
-plain_onward outer here (T ts) (Token t) i e n = ap (λ z. following_token z outer here) (leaf_plain ts (record { class = t.class; gap = []; token = t.text }) e i)
-plain_onward outer here (S a) (Token t) i e n = ap (λ z. following_token z outer here) (leaf_plain (leaves_at a) (record { class = t.class; gap = []; token = t.text }) (nonterminal_plain a) i)
+plain_onward outer here (T ts) (Token t) i e n = token_goes ts (p.Leaf (record { class = t.class; gap = []; token = t.text })) e i outer here
+plain_onward outer here (S a) (Token t) i e n = ap (λ z. following_token z outer here) (word_plain t.class t.text (value_of a (p.Leaf (record { class = t.class; gap = []; token = t.text })) i))
 plain_onward outer here a (Form' kind z parts z' items end split open_break comments) i e n = node_onward kind here n
 
 onward_twice : (here : Spot) → onward (onward here) ≡ onward here

@@ -1,9 +1,9 @@
 -- What is pushed onto a draft one after the other is pushed at once; and what that says of the text.
-use Rattle.std.proofs.Common.{ℕ, Bool, true, false, ◌≡◌, ◌<◌, ◌≤◌, List, [], ◌∷◌, ◌++◌, if◌then◌else◌, length, drop, refl, sym, ap, subst, ◌∙◌, append_assoc, arith, length-append}
+use Rattle.std.proofs.Common.{ℕ, Bool, true, false, ◌≡◌, ◌<◌, ◌≤◌, List, [], ◌∷◌, ◌++◌, if◌then◌else◌, length, drop, refl, sym, ap, subst, ◌∙◌, append_assoc, arith, length-append, inl, inr}
 use Rattle.std.specs.Prelude.{Option, None, Some, nat_le}
 use Rattle.std.proofs.lemmas.List.{append-nil, drop_all}
 use Rattle.std.proofs.lemmas.Option.{same_Some}
-use Rattle.std.proofs.lemmas.Bool.{lt-leb, le-leb, leb-false, leb-true}
+use Rattle.std.proofs.lemmas.Bool.{lt-leb, le-leb, leb-false, leb-true, cases_lt}
 use Rattle.bz_items.specs.Characters.{Bytes}
 use Rattle.bz_layout.specs.Drafts.{Drafted, fitting, drafted, fitting_more, pushed}
 
@@ -15,14 +15,9 @@ too_long : (limit : ℕ) (text : Bytes) → limit < length text → fitting limi
 unfolding fitting
 too_long limit text l = ap (λ t. if t then Some text else None) (lt-leb (length text) limit l)
 
-by_test : (limit : ℕ) (text : Bytes) (P : Option Bytes → Type 0) → (length text ≤ limit → P (Some text)) → (limit < length text → P None) →
-    (t : Bool) → nat_le (length text) limit ≡ t → P (fitting limit text)
-by_test limit text P short long true is = let l = leb-true (length text) limit is in subst P (sym (fits limit text l)) (short l)
-by_test limit text P short long false is = let l = leb-false (length text) limit is in subst P (sym (too_long limit text l)) (long l)
-
 -- its length decides which of both it is
 by_length : (limit : ℕ) (text : Bytes) (P : Option Bytes → Type 0) → (length text ≤ limit → P (Some text)) → (limit < length text → P None) → P (fitting limit text)
-by_length limit text P short long = by_test limit text P short long (nat_le (length text) limit) refl
+by_length limit text P short long = elim (cases_lt limit (length text)) [ inl l ↦ subst P (sym (too_long limit text l)) (long l) | inr l ↦ subst P (sym (fits limit text l)) (short l) ]
 
 fitting_on : (limit : ℕ) (a b : Bytes) → fitting_more limit (fitting limit a) b ≡ fitting limit (a ++ b)
 fitting_on limit a b =

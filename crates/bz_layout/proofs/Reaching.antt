@@ -15,6 +15,7 @@ use Rattle.bz_layout.specs.Windows.{AreTextsOf}
 use Rattle.bz_layout.specs.declared.writer.TextWindow.{TextWindow}
 use Rattle.bz_layout.specs.private.Reached.{windows_end, windows_front, text_count, gone_length, Reached, IsPut}
 use Rattle.bz_layout.proofs.Pushing.{pushed_none, pushed_twice}
+use Rattle.bz_layout.proofs.Windows.{cut_window}
 
 -- ---- places among parts
 
@@ -69,16 +70,9 @@ size xs = length (flat_map spell_part xs)
 size_append : (xs ys : List Part) → size (xs ++ ys) ≡ size xs + size ys
 size_append xs ys = ap length (flat_map-append spell_part xs ys) ∙ length-append (flat_map spell_part xs) (flat_map spell_part ys)
 
-size_cut : (n : ℕ) (xs : List Part) → size xs ≡ size (take n xs) + size (drop n xs)
-size_cut n xs = ap size (sym (take-append-drop n xs)) ∙ size_append (take n xs) (drop n xs)
-
 -- the parts of a window, those before it, and those after it
-pub size_window : (from n : ℕ) (xs : List Part) → size xs ≡ size (take from xs) + (size (take n (drop from xs)) + size (drop (from + n) xs))
-size_window from n xs =
-    let one : size xs ≡ size (take from xs) + size (drop from xs) = size_cut from xs in
-    let two : size (drop from xs) ≡ size (take n (drop from xs)) + size (drop n (drop from xs)) = size_cut n (drop from xs) in
-    let past : size (drop n (drop from xs)) ≡ size (drop (from + n) xs) = ap size (drop-drop n from xs) in
-    omega (arith, one, two, past)
+size_window : (from n : ℕ) (xs : List Part) → size xs ≡ size (take from xs) + (size (take n (drop from xs)) + size (drop (from + n) xs))
+size_window from n xs = cut_window size (λ a b. a + b) size_append from n xs
 
 texts_below : (ts : List TextWindow) (ws : List PartWindow) (xs : List Part) → AreTextsOf ts ws → text_count ts ≤ size (windows_front ws xs)
 texts_below [] [] xs h = omega arith
@@ -140,66 +134,26 @@ put_line xs all made out o b d ba pa left x rest r = record {
   rest_is = ap (λ ps. windows_front r.before.new xs ++ (take (ba - d) (drop d xs) ++ ps)) (append_assoc r.own (x ∷ []) rest) ∙ r.rest_is;
 }
 
--- a window that nothing is changed in yet
-pub opened : (xs all : List Part) (made : List TextWindow) (out : Drafted) (o : Bool) (b d ba pa : ℕ) (left rest : List Part) → Reached xs all made out o b d ba pa left rest → Reached xs all made out true b d ba pa left rest
-opened xs all made out o b d ba pa left rest r = record {
-  before = r.before;
-  own = r.own;
-  ahead = r.ahead;
-  back = r.back;
-  within = r.within;
-  text = r.text;
-  closed = λ e. absurd (true≢false e);
-  left_is = r.left_is;
-  rest_is = r.rest_is;
-}
-
 -- lines that give way
-pub take_lines : (xs all : List Part) (made : List TextWindow) (out : Drafted) (o : Bool) (b d ba pa n : ℕ) (left rest : List Part) → n ≤ length left →
-    Reached xs all made out o b d ba pa left rest → Reached xs all made out true b d ba (pa + n) (drop n left) rest
-take_lines xs all made out o b d ba pa n left rest h r =
+pub take_lines : (xs all : List Part) (made : List TextWindow) (out : Drafted) (o : Bool) (b d ba pa next n : ℕ) (left rest : List Part) → next ≡ pa + n → n ≤ length left →
+    Reached xs all made out o b d ba pa left rest → Reached xs all made out true b d ba next (drop n left) rest
+take_lines xs all made out o b d ba pa next n left rest e h r =
     let many : length xs - pa ≡ length left = sym (length-drop pa xs) ∙ ap length r.left_is in
     record {
       before = r.before;
       own = r.own;
       ahead = r.ahead;
-      back = omega (arith, r.back);
-      within = omega (arith, many, h, r.within);
+      back = omega (arith, e, r.back);
+      within = omega (arith, e, many, h, r.within);
       text = r.text;
-      closed = λ e. absurd (true≢false e);
-      left_is = sym (drop-drop n pa xs) ∙ ap (λ ps. drop n ps) r.left_is;
+      closed = λ shut. absurd (true≢false shut);
+      left_is = ap (λ k. drop k xs) e ∙ (sym (drop-drop n pa xs) ∙ ap (λ ps. drop n ps) r.left_is);
       rest_is = r.rest_is;
     }
 
--- the open window windows_end
-pub close_window : (xs all : List Part) (made : List TextWindow) (out : Drafted) (o : Bool) (b d ba pa : ℕ) (left rest : List Part) (t : TextWindow) (bytes : ℕ) (r : Reached xs all made out o b d ba pa left rest) →
-    t.from ≡ ba - d → t.gone ≡ pa - ba → t.text ≡ flat_map spell_part r.own → bytes ≡ b + length t.text → bytes ≤ limit → Reached xs all (made ++ t ∷ []) (drafted limit []) false bytes pa pa pa left rest
-close_window xs all made out o b d ba pa left rest t bytes r f g e c l =
-    let w : PartWindow = record { from = ba - d; gone = pa - ba; parts = r.own } in
-    let end : length (drop (windows_end r.before.new) xs) ≡ length xs - windows_end r.before.new = length-drop (windows_end r.before.new) xs in
-    let none : pa - pa ≡ 0 = omega arith in
-    let so_far : List Part = take (ba - d) (drop d xs) in
-    record {
-      before = record {
-        new = r.before.new ++ w ∷ [];
-        texts = texts_more made r.before.new t w r.before.texts f g e;
-        there = there_more r.before.new w xs r.before.there (omega (arith, end, r.before.done_is, r.ahead, r.back, r.within));
-        done_is = let more : windows_end (r.before.new ++ w ∷ []) ≡ windows_end r.before.new + ((ba - d) + (pa - ba)) = ends_more r.before.new w in omega (arith, more, r.before.done_is, r.ahead, r.back);
-        count = let more : text_count (made ++ t ∷ []) ≡ text_count made + length t.text = count_more made t in omega (arith, more, c, r.before.count);
-        few = l;
-      };
-      own = [];
-      ahead = omega arith;
-      back = omega arith;
-      within = r.within;
-      text = sym (pushed_none (drafted limit []));
-      closed = λ e. (refl, refl);
-      left_is = r.left_is;
-      rest_is =
-          ap (λ n. windows_front (r.before.new ++ w ∷ []) xs ++ (take n (drop pa xs) ++ rest)) none ∙
-          (ap (λ ps. ps ++ rest) (front_more r.before.new w xs ∙ ap (λ n. windows_front r.before.new xs ++ (take (ba - d) (drop n xs) ++ r.own)) (sym r.before.done_is)) ∙
-          (append_assoc (windows_front r.before.new xs) (so_far ++ r.own) rest ∙ (ap (λ ps. windows_front r.before.new xs ++ ps) (append_assoc so_far r.own rest) ∙ r.rest_is)));
-    }
+-- a window that nothing is changed in yet
+pub opened : (xs all : List Part) (made : List TextWindow) (out : Drafted) (o : Bool) (b d ba pa : ℕ) (left rest : List Part) → Reached xs all made out o b d ba pa left rest → Reached xs all made out true b d ba pa left rest
+opened xs all made out o b d ba pa left rest r = take_lines xs all made out o b d ba pa pa 0 left rest (omega arith) (omega arith) r
 
 -- lines that stay, where no window is open
 pub skip_lines : (xs all : List Part) (made : List TextWindow) (out : Drafted) (o : Bool) (b d ba pa n : ℕ) (left rest kept left' rest' : List Part) → o ≡ false →
@@ -244,38 +198,57 @@ finished xs all made out o b d ba pa left rest shut l r =
           (ap (λ ps. windows_front r.before.new xs ++ ps) behind ∙ (ap (λ ps. windows_front r.before.new xs ++ (so_far ++ (ps ++ rest))) (sym (r.closed shut).0) ∙ r.rest_is)));
     }
 
+-- ---- sums that stay in a number
+
+added : (n x : ℕ) → n ≡ min x (2 ^ 64 - 1) → n ≤ limit → n ≡ x
+added n x e l = omega (arith, e, l)
+
+-- the open window ends, as the code makes it
+pub closed_as : (xs all : List Part) (made made' : List TextWindow) (out out' : Drafted) (o : Bool) (b d ba pa : ℕ) (left rest : List Part) (from gone bytes : ℕ) (text : Bytes) → from ≡ ba - d → gone ≡ pa - ba →
+    ((own : List Part) → out ≡ pushed (drafted limit []) (flat_map spell_part own) → text ≡ flat_map spell_part own) → bytes ≡ min (b + length text) (2 ^ 64 - 1) → bytes ≤ limit →
+    made' ≡ made ++ record { from = from; gone = gone; text = text } ∷ [] → out' ≡ drafted limit [] → Reached xs all made out o b d ba pa left rest → Reached xs all made' out' false bytes pa pa pa left rest
+closed_as xs all made made' out out' o b d ba pa left rest from gone bytes text f g own sum short more fresh r =
+    let w : PartWindow = record { from = ba - d; gone = pa - ba; parts = r.own } in
+    let t : TextWindow = record { from = from; gone = gone; text = text } in
+    let end : length (drop (windows_end r.before.new) xs) ≡ length xs - windows_end r.before.new = length-drop (windows_end r.before.new) xs in
+    let none : pa - pa ≡ 0 = omega arith in
+    let so_far : List Part = take (ba - d) (drop d xs) in
+    record {
+      before = record {
+        new = r.before.new ++ w ∷ [];
+        texts = subst (λ ms. AreTextsOf ms (r.before.new ++ w ∷ [])) (sym more) (texts_more made r.before.new t w r.before.texts f g (own r.own r.text));
+        there = there_more r.before.new w xs r.before.there (omega (arith, end, r.before.done_is, r.ahead, r.back, r.within));
+        done_is = let all_ends : windows_end (r.before.new ++ w ∷ []) ≡ windows_end r.before.new + ((ba - d) + (pa - ba)) = ends_more r.before.new w in omega (arith, all_ends, r.before.done_is, r.ahead, r.back);
+        count = let all_texts : text_count made' ≡ text_count made + length text = ap text_count more ∙ count_more made t in omega (arith, all_texts, added bytes (b + length text) sum short, r.before.count);
+        few = short;
+      };
+      own = [];
+      ahead = omega arith;
+      back = omega arith;
+      within = r.within;
+      text = fresh ∙ sym (pushed_none (drafted limit []));
+      closed = λ e. (refl, refl);
+      left_is = r.left_is;
+      rest_is =
+          ap (λ n. windows_front (r.before.new ++ w ∷ []) xs ++ (take n (drop pa xs) ++ rest)) none ∙
+          (ap (λ ps. ps ++ rest) (front_more r.before.new w xs ∙ ap (λ n. windows_front r.before.new xs ++ (take (ba - d) (drop n xs) ++ r.own)) (sym r.before.done_is)) ∙
+          (append_assoc (windows_front r.before.new xs) (so_far ++ r.own) rest ∙ (ap (λ ps. windows_front r.before.new xs ++ ps) (append_assoc so_far r.own rest) ∙ r.rest_is)));
+    }
+
 -- the texts are past the limit, so all is
-pub past_limit : (xs all : List Part) (made : List TextWindow) (out : Drafted) (o : Bool) (b d ba pa : ℕ) (left rest : List Part) (r : Reached xs all made out o b d ba pa left rest) →
-    limit < b + length (flat_map spell_part r.own) → limit < length (flat_map spell_part all)
-past_limit xs all made out o b d ba pa left rest r long =
+pub past_as : (xs all : List Part) (made : List TextWindow) (out : Drafted) (o : Bool) (b d ba pa : ℕ) (left rest : List Part) (bytes : ℕ) (text : Bytes) →
+    ((own : List Part) → out ≡ pushed (drafted limit []) (flat_map spell_part own) → text ≡ flat_map spell_part own) → bytes ≡ min (b + length text) (2 ^ 64 - 1) → limit < bytes →
+    Reached xs all made out o b d ba pa left rest → limit < length (flat_map spell_part all)
+past_as xs all made out o b d ba pa left rest bytes text own sum long r =
+    let same : length text ≡ length (flat_map spell_part r.own) = ap length (own r.own r.text) in
+    let longer : limit < b + length (flat_map spell_part r.own) = omega (arith, same, sum, long) in
     let so_far : List Part = take (ba - d) (drop d xs) in
     let whole : size (windows_front r.before.new xs ++ (so_far ++ (r.own ++ rest))) ≡ size all = ap size r.rest_is in
     let one : size (windows_front r.before.new xs ++ (so_far ++ (r.own ++ rest))) ≡ size (windows_front r.before.new xs) + size (so_far ++ (r.own ++ rest)) = size_append (windows_front r.before.new xs) (so_far ++ (r.own ++ rest)) in
     let two : size (so_far ++ (r.own ++ rest)) ≡ size so_far + size (r.own ++ rest) = size_append so_far (r.own ++ rest) in
     let three : size (r.own ++ rest) ≡ size r.own + size rest = size_append r.own rest in
     let less : text_count made ≤ size (windows_front r.before.new xs) = texts_below made r.before.new xs r.before.texts in
-    omega (arith, whole, one, two, three, less, long, r.before.count)
-
--- ---- sums that stay in a number
-
-added : (n x : ℕ) → n ≡ min x (2 ^ 64 - 1) → n ≤ limit → n ≡ x
-added n x e l = omega (arith, e, l)
-
--- the window is made of what the code has of it
-pub closed_as : (xs all : List Part) (made made' : List TextWindow) (out out' : Drafted) (o : Bool) (b d ba pa : ℕ) (left rest : List Part) (from gone bytes : ℕ) (text : Bytes) → from ≡ ba - d → gone ≡ pa - ba →
-    ((own : List Part) → out ≡ pushed (drafted limit []) (flat_map spell_part own) → text ≡ flat_map spell_part own) → bytes ≡ min (b + length text) (2 ^ 64 - 1) → bytes ≤ limit →
-    made' ≡ made ++ record { from = from; gone = gone; text = text } ∷ [] → out' ≡ drafted limit [] → Reached xs all made out o b d ba pa left rest → Reached xs all made' out' false bytes pa pa pa left rest
-closed_as xs all made made' out out' o b d ba pa left rest from gone bytes text f g own sum short more new r =
-    subst (λ ms. Reached xs all ms out' false bytes pa pa pa left rest) (sym more)
-    (subst (λ t. Reached xs all (made ++ record { from = from; gone = gone; text = text } ∷ []) t false bytes pa pa pa left rest) (sym new)
-    (close_window xs all made out o b d ba pa left rest (record { from = from; gone = gone; text = text }) bytes r f g (own r.own r.text) (added bytes (b + length text) sum short) short))
-
-pub past_as : (xs all : List Part) (made : List TextWindow) (out : Drafted) (o : Bool) (b d ba pa : ℕ) (left rest : List Part) (bytes : ℕ) (text : Bytes) →
-    ((own : List Part) → out ≡ pushed (drafted limit []) (flat_map spell_part own) → text ≡ flat_map spell_part own) → bytes ≡ min (b + length text) (2 ^ 64 - 1) → limit < bytes →
-    Reached xs all made out o b d ba pa left rest → limit < length (flat_map spell_part all)
-past_as xs all made out o b d ba pa left rest bytes text own sum long r =
-    let same : length text ≡ length (flat_map spell_part r.own) = ap length (own r.own r.text) in
-    past_limit xs all made out o b d ba pa left rest r (omega (arith, same, sum, long))
+    omega (arith, whole, one, two, three, less, longer, r.before.count)
 
 -- ---- how long all is
 

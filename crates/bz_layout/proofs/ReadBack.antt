@@ -18,7 +18,7 @@ use Rattle.bz_layout.specs.Layout.{laid, laid_in, rowed, headed, is_broken, is_t
 use Rattle.bz_value.specs.Empty.{is_empty}
 use Rattle.bz_layout.specs.LaidOut.{part_of, parts_of, layouts}
 use Rattle.bz_layout.specs.Flags.{with_flags, each_with_flags, settled_split}
-use Rattle.bz_layout.proofs.Made.{two}
+use Rattle.bz_layout.proofs.Made.{two, parts_values}
 use Rattle.bz_layout.proofs.Readable.{Readable, EachReadable, IsRow, IsSequence}
 use Rattle.bz_layout.proofs.Viewed.{PartAt, SeenAs, Reads, look, settled, not_binary, row_back, row_loose, gap_bare, open_back}
 use Rattle.bz_layout.proofs.ViewedItems.{body_of, body_back, headed_gap, headed_take, headed_drop, headed_loose}
@@ -99,10 +99,6 @@ form_seen (sequence opener closer) kind split open_break g m hs xs end rh rx h =
 
 -- ---- expressions
 
-firsts_row : (m : _) (r : Row_of-Expr m) → firsts (parts_of r) ≡ items-the_row-Expr m r
-firsts_row m end_of-Expr = refl
-firsts_row m (more_of-Expr x rest) = ap (λ t. x ∷ t) (firsts_row _ rest)
-
 settled_row : (m : _) (r : Row_of-Expr m) → settled (parts_of r) ≡ each_with_flags r
 settled_row m end_of-Expr = refl
 settled_row m (more_of-Expr x rest) = ap (λ t. with_flags x ∷ t) (settled_row _ rest)
@@ -117,7 +113,7 @@ mutual
       let hs : List (Expr × PartAt) = parts_of parts in
       let xs : List (Expr × PartAt) = parts_of items in
       let facts : FrameFacts kind split open_break end (firsts hs) (firsts xs) =
-      subst (λ z. FrameFacts kind split open_break end z (firsts xs)) (sym (firsts_row _ parts)) (subst (λ z. FrameFacts kind split open_break end (items-the_row-Expr _ parts) z) (sym (firsts_row _ items)) f.0) in
+      subst (λ z. FrameFacts kind split open_break end z (firsts xs)) (sym (parts_values _ parts)) (subst (λ z. FrameFacts kind split open_break end (items-the_row-Expr _ parts) z) (sym (parts_values _ items)) f.0) in
       let settled_flag : List Expr → Bool = λ z. settled_split (frame kind) kind split z end in
       let made : (g : Bytes) (m : ℕ) → seen (part_of (Form' kind s parts s' items end split open_break comments) g m) ≡ seen_node (frame kind) kind (look (laid kind split open_break g m hs xs end)) = λ g m. seen_made kind _ in
       let back : (g : Bytes) (m : ℕ) → FormBack kind (settled hs) (settled xs) end (settled_flag (firsts xs)) open_break g (seen_node (frame kind) kind (look (laid kind split open_break g m hs xs end))) =
@@ -127,7 +123,7 @@ mutual
             ap (λ z. z.make comments false) (made g m) ∙
             ((back g m).value comments false ∙
             (ap (λ z. form kind z (settled xs) end (settled_flag (firsts xs)) open_break comments) (settled_row _ parts) ∙
-            two (λ z w. form kind (each_with_flags parts) z end (settled_flag w) open_break comments) (settled_row _ items) (firsts_row _ items)));
+            two (λ z w. form kind (each_with_flags parts) z end (settled_flag w) open_break comments) (settled_row _ items) (parts_values _ items)));
         sign = λ g m. ap (λ z. is_operator (plain z)) (made g m) ∙ ap is_operator ((back g m).value no_comments false);
         gap = λ g m. ap (λ z. z.gap) (made g m) ∙ (back g m).gap;
         loose = λ g m. ap (λ z. z.loose) (made g m) ∙ (back g m).loose;

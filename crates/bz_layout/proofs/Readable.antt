@@ -14,27 +14,22 @@ use Rattle.bz_value.specs.LineShapes.{line_shape}
 use Rattle.bz_value.specs.Proper.{IsComment, MaybeComment, comments_of, has_break, is_operator, begins_operator, roots, after_expr, IsEmptyRow, in_frame, ProperBy, ProperRowBy, ProperHeadBy, ProperItemsBy}
 use Rattle.bz_value.specs.Roots.{root, row_in}
 use Rattle.bz_value.specs.Empty.{is_empty}
+use Rattle.bz_value.proofs.FormParts.{operator_first}
 use Rattle.bz_value.proofs.LeadParts.{lead_before}
 use Rattle.bz_layout.proofs.Framed.{RowShape, row_shape, is_sign_part, begins_sign, ends_sign, after_first}
-use Rattle.bz_layout.proofs.Made.{roots_row}
-
-abbrev pub begins : List Expr → Bool
-begins [] = false
-begins (x ∷ xs) = is_operator x
+use Rattle.bz_layout.proofs.Made.{roots_row, none_mapped}
+use Rattle.std.proofs.lemmas.List.{length-map}
+use Rattle.bz_layout.proofs.Spots.{EachProper, both_each}
 
 abbrev pub ends : List Expr → Bool
 ends [] = false
 ends (x ∷ []) = is_operator x
 ends (x ∷ y ∷ ys) = ends (y ∷ ys)
 
-abbrev pub others : List Expr → List Expr
-others [] = []
-others (x ∷ xs) = xs
-
 -- parts of a row have no comments, and a break only after an operator
 abbrev pub AreParts : Bool → List Expr → Type 0
 AreParts binary [] = Unit {0}
-AreParts binary (x ∷ xs) = (comments_of x ≡ no_comments) × (has_break x ≡ true → (binary && (is_operator x && not (begins xs))) ≡ true) × AreParts binary xs
+AreParts binary (x ∷ xs) = (comments_of x ≡ no_comments) × (has_break x ≡ true → (binary && (is_operator x && not (operator_first xs))) ≡ true) × AreParts binary xs
 
 abbrev pub AreHeads : List Expr → Type 0
 AreHeads [] = Unit {0}
@@ -47,9 +42,9 @@ AreItems (x ∷ xs) = AllByRecursion IsComment (comments_of x).before × MaybeCo
 -- a row: kind, flags split and open, parts, items, end comments
 pub record IsRow (kind : Kind) (split open_break : Bool) (parts items : List Expr) (end : List Bytes) : Type 0 where
   pub full : is_empty parts ≡ false
-  pub first : (is_binary kind && begins parts) ≡ false
+  pub first : (is_binary kind && operator_first parts) ≡ false
   pub last : (is_binary kind && ends parts) ≡ false
-  pub second : is_comprehension kind ≡ true → is_empty (others parts) ≡ false
+  pub second : is_comprehension kind ≡ true → is_empty (after_first parts) ≡ false
   pub each : AreParts (is_binary kind) parts
   pub no_items : items ≡ []
   pub no_end : end ≡ []
@@ -81,7 +76,7 @@ sign_root : (x : Expr) → is_sign_part (root x) ≡ is_operator x
 sign_root (Token t) = refl
 sign_root (Form' kind s parts s' items end split open_break comments) = refl
 
-begins_same : (xs : List Expr) → begins_sign (map root xs) ≡ begins xs
+begins_same : (xs : List Expr) → begins_sign (map root xs) ≡ operator_first xs
 begins_same [] = refl
 begins_same (x ∷ xs) = sign_root x
 
@@ -90,21 +85,13 @@ ends_same [] = refl
 ends_same (x ∷ []) = sign_root x
 ends_same (x ∷ y ∷ ys) = ends_same (y ∷ ys)
 
-empty_same : (xs : List Expr) → is_empty (map root xs) ≡ is_empty xs
-empty_same [] = refl
-empty_same (x ∷ xs) = refl
-
-others_same : (xs : List Expr) → is_empty (after_first (map root xs)) ≡ is_empty (others xs)
+others_same : (xs : List Expr) → is_empty (after_first (map root xs)) ≡ is_empty (after_first xs)
 others_same [] = refl
-others_same (x ∷ xs) = empty_same xs
-
-length_same : (xs : List Expr) → length (map root xs) ≡ length xs
-length_same [] = refl
-length_same (x ∷ xs) = ap suc (length_same xs)
+others_same (x ∷ xs) = none_mapped xs root
 
 -- ---- rows and lists
 
-pub begins_row : (m : _) (r : Row_of-Expr m) → begins_operator r ≡ begins (items-the_row-Expr m r)
+pub begins_row : (m : _) (r : Row_of-Expr m) → begins_operator r ≡ operator_first (items-the_row-Expr m r)
 begins_row m end_of-Expr = refl
 begins_row m (more_of-Expr x rest) = refl
 
@@ -127,10 +114,6 @@ no_items_list m (more_of-Expr x rest) h = absurd h
 
 -- ---- by the frame
 
-both_frames : (f : Frame) (A B C : Type 0) → (A → C) → (B → C) → in_frame f A B → C
-both_frames row A B C a b h = a h
-both_frames (sequence o closer) A B C a b h = b h
-
 by_frame : (kind : Kind) (f : Frame) (split open_break : Bool) (ps is : List Expr) (end : List Bytes) (A B : Type 0) → Fits IsNonterminal (line_shape kind) (row_in f (map root ps) (map root is)) →
     in_frame f (Unit {0}) (length (map root ps) ≡ lead kind) → (RowShape kind (map root ps) → A → IsRow kind split open_break ps is end) → (length (map root ps) ≡ lead kind → B → IsSequence kind open_break ps is end) →
     in_frame f A B → in_frame f (IsRow kind split open_break ps is end) (IsSequence kind open_break ps is end)
@@ -143,11 +126,12 @@ mutual
   readable here (Form' kind s parts s' items end split open_break comments) h =
       let ps : List Expr = items-the_row-Expr _ parts in
       let is : List Expr = items-the_row-Expr _ items in
+      let inner = both_each line_shape (frame kind) kind here _ _ parts items end split open_break h.1 in
       let fits : Fits IsNonterminal (line_shape kind) (row_in (frame kind) (map root ps) (map root is)) =
       subst (λ z. Fits IsNonterminal (line_shape kind) (row_in (frame kind) z (map root is))) (roots_row _ parts) (subst (λ z. Fits IsNonterminal (line_shape kind) (row_in (frame kind) (roots parts) z)) (roots_row _ items) h.0) in (
         by_frame kind (frame kind) split open_break ps is end _ _ fits (lead_before kind (map root ps) (map root is) fits)
             (λ w k. record {
-              full = sym (empty_same ps) ∙ w.full;
+              full = sym (none_mapped ps root) ∙ w.full;
               first = ap (λ z. is_binary kind && z) (sym (begins_same ps)) ∙ w.first;
               last = ap (λ z. is_binary kind && z) (sym (ends_same ps)) ∙ w.last;
               second = λ e. sym (others_same ps) ∙ w.second e;
@@ -158,29 +142,17 @@ mutual
               opens = k.4;
             })
             (λ n k. record {
-              leads = sym (length_same ps) ∙ n;
+              leads = sym (length-map ps root) ∙ n;
               heads = heads_list here _ parts k.0;
               each = items_list _ items k.1;
               ends_there = recursion_from_All IsComment end k.2;
               not_open = k.3;
             })
             h.1,
-        both_frames (frame kind) _ _ (EachReadable parts) (λ k. row_readable (is_binary kind) here here _ parts k.0) (λ k. head_readable here _ parts k.0) h.1,
-        both_frames (frame kind) _ _ (EachReadable items) (λ k. none_readable _ items k.1) (λ k. items_readable _ items k.1) h.1,
+        each_readable _ parts inner.0,
+        each_readable _ items inner.1,
       )
 
-  pub row_readable : (binary : Bool) (outer here : Spot) (m : _) (r : Row_of-Expr m) → ProperRowBy line_shape binary outer here r → EachReadable r
-  row_readable binary outer here m end_of-Expr h = tt
-  row_readable binary outer here m (more_of-Expr x rest) h = (readable here x h.0, row_readable binary outer (after_expr outer here x) _ rest h.3)
-
-  pub head_readable : (here : Spot) (m : _) (r : Row_of-Expr m) → ProperHeadBy line_shape here r → EachReadable r
-  head_readable here m end_of-Expr h = tt
-  head_readable here m (more_of-Expr x rest) h = (readable here x h.0, head_readable here _ rest h.2)
-
-  pub items_readable : (m : _) (r : Row_of-Expr m) → ProperItemsBy line_shape r → EachReadable r
-  items_readable m end_of-Expr h = tt
-  items_readable m (more_of-Expr x rest) h = (readable Within x h.0, items_readable _ rest h.3)
-
-  none_readable : (m : _) (r : Row_of-Expr m) → IsEmptyRow r → EachReadable r
-  none_readable m end_of-Expr h = tt
-  none_readable m (more_of-Expr x rest) h = absurd h
+  pub each_readable : (m : _) (r : Row_of-Expr m) → EachProper line_shape r → EachReadable r
+  each_readable m end_of-Expr h = tt
+  each_readable m (more_of-Expr x rest) h = (readable h.0.0 x h.0.1, each_readable _ rest h.1)

@@ -2,6 +2,7 @@
 use Rattle.std.proofs.Common.{◌≡◌, ℕ, Bool, true, false, not, ◌&&◌, ◌+◌, List, [], ◌∷◌, ◌++◌, inl, inr, Option, Some, None, if◌then◌else◌, length, refl, sym, ◌∙◌, subst, map}
 use Rattle.std.specs.Prelude.{replicate, nat_eq}
 use Rattle.std.specs.List.{AllByRecursion}
+use Rattle.std.proofs.Math.Bool.{and-false}
 use Rattle.std.proofs.lemmas.Bool.{both_ways, or_parts}
 use Rattle.bz_token.specs.declared.class.Class.{Class}
 use Rattle.bz_token.specs.declared.class.Class.TheVariants as c
@@ -103,13 +104,9 @@ lone_before kind (p.Leaf l) h = by_class l.class l.token h
     by_class c.Mark t e = (rw e refl, refl)
     by_class _ t e = no_such e
 
-and_false : (a : Bool) → (a && false) ≡ false
-and_false true = refl
-and_false false = refl
-
 -- anything touches a bracket or a comma after it, but a token that requires a space does not require it there
 touches_lone : (kind : Kind) (x y : Part) → is_lone y ≡ true → apart kind x y ≡ false
-touches_lone kind x y h = let w = lone_before kind y h in rw (h, w.0, w.1, and_false (is_spaced_after kind x), and_false (is_value x)) refl
+touches_lone kind x y h = let w = lone_before kind y h in rw (h, w.0, w.1, and-false (is_spaced_after kind x), and-false (is_value x)) refl
 
 value_before : (kind : Kind) (y : Part) → is_value y ≡ true → is_spaced_before kind y ≡ false
 value_before kind (Node' k z r) h = refl

@@ -1,5 +1,5 @@
 -- Proper expressions are parts of lines: where what follows them is.
-use Rattle.std.proofs.Common.{◌≡◌, Bool, true, false, ◌||◌, List, [], ◌∷◌, if◌then◌else◌, refl, sym, ap, subst}
+use Rattle.std.proofs.Common.{◌≡◌, Bool, true, false, ◌||◌, List, [], ◌∷◌, if◌then◌else◌, refl, sym, ap, subst, ◌∙◌}
 use Rattle.std.specs.Prelude.{All}
 use Rattle.bz_token.specs.declared.class.Class.{Class}
 use Rattle.bz_token.specs.declared.class.Class.TheVariants as c
@@ -16,11 +16,11 @@ use Rattle.bz_items.specs.Characters.{Bytes}
 use Rattle.bz_value.specs.LineShapes.{line_shape}
 use Rattle.bz_value.specs.Proper.{IsComment, has_break, after_expr, roots, IsEmptyRow, in_frame, ProperBy, ProperRowBy, ProperHeadBy, ProperItemsBy}
 use Rattle.bz_value.specs.Roots.{root, row_in}
+use Rattle.bz_hosts.proofs.InnerParts.{inner_kind}
 use Rattle.bz_layout.specs.Spaces.{is_value, is_word}
 use Rattle.bz_layout.specs.Layout.{firsts}
 use Rattle.bz_value.specs.Empty.{is_empty}
 use Rattle.bz_layout.specs.LaidOut.{part_of, parts_of}
-use Rattle.bz_layout.proofs.Neighbours.{in_a_line}
 use Rattle.bz_layout.proofs.Elements.{Inside, IsOpening, Opened, in_line_class, in_line_part, InLine, within_line}
 use Rattle.bz_layout.proofs.Fitted.{Child}
 use Rattle.bz_layout.proofs.Margins.{is_begins}
@@ -40,7 +40,7 @@ pub row_in_line : (binary : Bool) (outer here : Spot) (m : _) (r : Row_of-Expr m
 row_in_line binary outer here m end_of-Expr h = tt
 row_in_line binary outer here m (more_of-Expr x rest) h = (root_in_line here x h.0, row_in_line binary outer (after_expr outer here x) _ rest h.3)
 
-brackets_in_line : (kind : Kind) → has_brackets (frame kind) ≡ true → in_a_line kind ≡ true
+brackets_in_line : (kind : Kind) → has_brackets (frame kind) ≡ true → inner_kind kind ≡ true
 brackets_in_line k.File h = no_such h
 brackets_in_line k.Line h = no_such h
 brackets_in_line k.Def h = no_such h
@@ -57,14 +57,41 @@ module _ (grammar : Kind → Shape) where
   abbrev pub AsSequence : Spot → {m n : _} → Row_of-Expr m → Row_of-Expr n → List Bytes → Bool → Type 0
   AsSequence here parts items end open_break = ProperHeadBy grammar here parts × ProperItemsBy grammar items × All IsComment end × (open_break ≡ false)
 
-in_line_by : (f : Frame) (kind : Kind) (here : Spot) (m n : _) (parts : Row_of-Expr m) (items : Row_of-Expr n) (end : List Bytes) (split open_break : Bool) → (has_brackets f ≡ true → in_a_line kind ≡ true) →
-    Fits IsNonterminal (line_shape kind) (row_in f (roots parts) (roots items)) → in_frame f (AsRow line_shape kind here parts items end split open_break) (AsSequence line_shape here parts items end open_break) → in_a_line kind ≡ true
+  -- each expression of a row is proper at some spot
+  abbrev pub EachProper : {m : _} → Row_of-Expr m → Type 0
+  EachProper end_of-Expr = Unit {0}
+  EachProper (more_of-Expr x rest) = ((here : Spot) × ProperBy grammar here x) × EachProper rest
+
+  row_each : (binary : Bool) (outer here : Spot) (m : _) (r : Row_of-Expr m) → ProperRowBy grammar binary outer here r → EachProper r
+  row_each binary outer here m end_of-Expr h = tt
+  row_each binary outer here m (more_of-Expr x rest) h = ((here, h.0), row_each binary outer (after_expr outer here x) _ rest h.3)
+
+  head_each : (here : Spot) (m : _) (r : Row_of-Expr m) → ProperHeadBy grammar here r → EachProper r
+  head_each here m end_of-Expr h = tt
+  head_each here m (more_of-Expr x rest) h = ((here, h.0), head_each here _ rest h.2)
+
+  items_each : (m : _) (r : Row_of-Expr m) → ProperItemsBy grammar r → EachProper r
+  items_each m end_of-Expr h = tt
+  items_each m (more_of-Expr x rest) h = ((Within, h.0), items_each _ rest h.3)
+
+  none_each : (m : _) (r : Row_of-Expr m) → IsEmptyRow r → EachProper r
+  none_each m end_of-Expr h = tt
+  none_each m (more_of-Expr x rest) h = absurd h
+
+  -- so it is of both rows of a form
+  pub both_each : (f : Frame) (kind : Kind) (here : Spot) (m n : _) (parts : Row_of-Expr m) (items : Row_of-Expr n) (end : List Bytes) (split open_break : Bool) →
+      in_frame f (AsRow kind here parts items end split open_break) (AsSequence here parts items end open_break) → EachProper parts × EachProper items
+  both_each row kind here m n parts items end split open_break h = (row_each (is_binary kind) here here m parts h.0, none_each n items h.1)
+  both_each (sequence opener closer) kind here m n parts items end split open_break h = (head_each here m parts h.0, items_each n items h.1)
+
+in_line_by : (f : Frame) (kind : Kind) (here : Spot) (m n : _) (parts : Row_of-Expr m) (items : Row_of-Expr n) (end : List Bytes) (split open_break : Bool) → (has_brackets f ≡ true → inner_kind kind ≡ true) →
+    Fits IsNonterminal (line_shape kind) (row_in f (roots parts) (roots items)) → in_frame f (AsRow line_shape kind here parts items end split open_break) (AsSequence line_shape here parts items end open_break) → inner_kind kind ≡ true
 in_line_by row kind here m n parts items end split open_break b h i = within_line kind (roots parts) h (row_in_line (is_binary kind) here here m parts i.0)
 in_line_by (sequence opener closer) kind here m n parts items end split open_break b h i = b refl
 
 abbrev pub NoLine : Expr → Type 0
 NoLine (Token t) = Unit {0}
-NoLine (Form' kind z parts z' items end split open_break comments) = in_a_line kind ≡ true
+NoLine (Form' kind z parts z' items end split open_break comments) = inner_kind kind ≡ true
 
 -- a proper form is no line and no file
 pub no_line : (here : Spot) (x : Expr) → ProperBy line_shape here x → NoLine x
@@ -73,32 +100,31 @@ no_line here (Form' kind z parts z' items end split open_break comments) h = in_
 
 -- ---- where what follows is
 
+onward_within_line : (here : Spot) → is_begins (onward here) ≡ false
+onward_within_line Within = refl
+onward_within_line _ = refl
+
 pub token_goes_on : (class : Class) (text : Bytes) (outer here : Spot) → in_line_class class ≡ true → is_begins (following_token (role class text) outer here) ≡ false
 token_goes_on c.Newline text outer here h = no_such h
 token_goes_on c.End text outer here h = no_such h
-token_goes_on c.Mark text outer here h = by_turn _ _ outer here
+token_goes_on c.Mark text outer here h = by_turn _ _
   where
-    on_first : (here : Spot) → is_begins (onward here) ≡ false
-    on_first Within = refl
-    on_first _ = refl
+    by_turn : (a b : Bool) → is_begins (following_token (if a then opens else (if b then closes else plain)) outer here) ≡ false
+    by_turn true b = refl
+    by_turn false true = onward_within_line outer
+    by_turn false false = onward_within_line here
+token_goes_on _ text outer here h = onward_within_line here
 
-    by_turn : (a b : Bool) (outer here : Spot) → is_begins (following_token (if a then opens else (if b then closes else plain)) outer here) ≡ false
-    by_turn true b outer here = refl
-    by_turn false true outer here = on_first outer
-    by_turn false false outer here = on_first here
-token_goes_on _ text outer Within h = refl
-token_goes_on _ text outer Begins h = refl
-token_goes_on _ text outer Along h = refl
+node_onward : (kind : Kind) (here : Spot) → inner_kind kind ≡ true → after_node kind here ≡ onward here
+node_onward k.Line here h = no_such h
+node_onward k.Def here h = no_such h
+node_onward k.IfStmt here h = no_such h
+node_onward k.ForStmt here h = no_such h
+node_onward k.Suite here h = no_such h
+node_onward _ here h = refl
 
-pub node_goes_on : (kind : Kind) (here : Spot) → in_a_line kind ≡ true → is_begins (after_node kind here) ≡ false
-node_goes_on k.Line here h = no_such h
-node_goes_on k.Def here h = no_such h
-node_goes_on k.IfStmt here h = no_such h
-node_goes_on k.ForStmt here h = no_such h
-node_goes_on k.Suite here h = no_such h
-node_goes_on _ Within h = refl
-node_goes_on _ Begins h = refl
-node_goes_on _ Along h = refl
+pub node_goes_on : (kind : Kind) (here : Spot) → inner_kind kind ≡ true → is_begins (after_node kind here) ≡ false
+node_goes_on kind here h = ap is_begins (node_onward kind here h) ∙ onward_within_line here
 
 goes_on_by : (outer here : Spot) (x : Expr) → ProperBy line_shape here x → NoLine x → is_begins (after_expr outer here x) ≡ false
 goes_on_by outer here (Token t) h i = token_goes_on t.class t.text outer here (lexeme_in_line t.class t.text h.0)
@@ -108,23 +134,15 @@ goes_on_by outer here (Form' kind z parts z' items end split open_break comments
 pub goes_on : (outer here : Spot) (x : Expr) → ProperBy line_shape here x → is_begins (after_expr outer here x) ≡ false
 goes_on outer here x h = goes_on_by outer here x h (no_line here x h)
 
-word_within : (class : Class) (text : Bytes) (outer : Spot) → is_word class ≡ true → following_token (role class text) outer Within ≡ Within
-word_within c.Name text outer h = refl
-word_within c.Number text outer h = refl
-word_within c.String text outer h = refl
-word_within _ text outer h = no_such h
-
-node_within : (kind : Kind) → in_a_line kind ≡ true → after_node kind Within ≡ Within
-node_within k.Line h = no_such h
-node_within k.Def h = no_such h
-node_within k.IfStmt h = no_such h
-node_within k.ForStmt h = no_such h
-node_within k.Suite h = no_such h
-node_within _ h = refl
+pub word_plain : (class : Class) (text : Bytes) → is_word class ≡ true → role class text ≡ plain
+word_plain c.Name text h = refl
+word_plain c.Number text h = refl
+word_plain c.String text h = refl
+word_plain _ text h = no_such h
 
 within_by : (outer : Spot) (x : Expr) → NoLine x → is_value (root x) ≡ true → after_expr outer Within x ≡ Within
-within_by outer (Token t) h i = word_within t.class t.text outer i
-within_by outer (Form' kind z parts z' items end split open_break comments) h i = node_within kind h
+within_by outer (Token t) h i = ap (λ z. following_token z outer Within) (word_plain t.class t.text i)
+within_by outer (Form' kind z parts z' items end split open_break comments) h i = node_onward kind Within h
 
 -- after a value inside brackets it goes on inside brackets
 pub value_within : (outer here : Spot) (x : Expr) → ProperBy line_shape here x → is_value (root x) ≡ true → after_expr outer Within x ≡ Within

@@ -55,9 +55,6 @@ abbrev pub RowLaysOut : Spot → Spot → List Child → Type 0
 RowLaysOut outer here [] = Unit {0}
 RowLaysOut outer here (x ∷ xs) = LaysOut outer here (after_expr outer here x.0) x × RowLaysOut outer (after_expr outer here x.0) xs
 
-abbrev pub HeadLaysOut : Spot → List Child → Type 0
-HeadLaysOut here xs = AllByRecursion (λ x. LaysOut here here (after_expr here here x.0) x) xs
-
 abbrev pub ItemsLayOut : Spot → List Child → Type 0
 ItemsLayOut outer [] = Unit {0}
 ItemsLayOut outer (x ∷ xs) = LaysOut outer Within Within x × AreComments (comments_of x.0) × ItemsLayOut outer xs
@@ -150,12 +147,7 @@ bracketed _ = tt
 
 abbrev FormLaysOut : Frame → Bool → Spot → List Child → List Child → List Bytes → Type 0
 FormLaysOut row open_break here parts items end = RowLaysOut here here parts × RowBreaks open_break here here parts
-FormLaysOut (sequence opener closer) open_break here parts items end = HeadLaysOut here parts × AtMostOne (rooted parts) × ItemsLayOut here items × AllByRecursion IsComment end
-
-one_head : (here : Spot) (xs : List Child) → HeadLaysOut here xs → AtMostOne (rooted xs) → RowLaysOut here here xs
-one_head here [] h o = tt
-one_head here (x ∷ []) h o = (h.0, tt)
-one_head here (x ∷ y ∷ ys) h o = absurd o
+FormLaysOut (sequence opener closer) open_break here parts items end = RowLaysOut here here parts × ItemsLayOut here items × AllByRecursion IsComment end
 
 laid_at : (f : Frame) → Bracketed f → (kind : Kind) (split open_break : Bool) (here : Spot) (gap : Bytes) (m : ℕ) (parts items : List Child) (end : List Bytes) → FitsAt here gap → FormLaysOut f open_break here parts items end →
     AtParts Placed here here (map piece_part (laid_in f kind split open_break gap m parts items end))
@@ -164,12 +156,12 @@ laid_at row b kind split open_break here gap m parts items end g h =
 laid_at (sequence opener closer) b kind split open_break here gap m parts items end g h =
     let broken : Bool = is_broken kind split (firsts items) end in
     let one : Bool = is_tuple kind && nat_eq (length items) 1 in
-    headed_at here opener closer b.0 b.1 m here gap parts _ g (one_head here parts h.0 h.1)
-    (subst (AtParts Placed here Within) (append-nil (map piece_part (if broken then stacked m None closer end items else joined m [] closer one items))) (body_at here opener closer b.0 b.1 broken one m end items [] h.3 h.2 tt))
+    headed_at here opener closer b.0 b.1 m here gap parts _ g h.0
+    (subst (AtParts Placed here Within) (append-nil (map piece_part (if broken then stacked m None closer end items else joined m [] closer one items))) (body_at here opener closer b.0 b.1 broken one m end items [] h.2 h.1 tt))
 
 -- a node by its list of parts
-at_node : (here : Spot) (n : Node) → AtParts Placed here here n.parts → AtLeaves Placed here (p.Node n)
-at_node here n h = row_of_parts Placed here here _ (row_of n).1 (subst (AtParts Placed here here) (sym (items_of_row n)) h)
+pub at_node : (P : Spot → Leaf → Type 0) (here : Spot) (n : Node) → AtParts P here here n.parts → AtLeaves P here (p.Node n)
+at_node P here n h = row_of_parts P here here _ (row_of n).1 (subst (AtParts P here here) (sym (items_of_row n)) h)
 
 laid_out_goes_on : (outer here : Spot) (x : Expr) (gap : Bytes) (m : ℕ) → after_part outer here (part_of x gap m) ≡ after_expr outer here x
 laid_out_goes_on outer here (Token t) gap m = refl
@@ -180,12 +172,11 @@ lays_out outer here x h s = record { stands = s; goes_on = λ gap m. laid_out_go
 
 -- what is in a form, by what is known of its rows
 form_lays_out : (f : Frame) (kind : Kind) (split open_break : Bool) (here : Spot) (m n : _) (parts : Row_of-Expr m) (items : Row_of-Expr n) (end : List Bytes) →
-    (ProperRowBy line_shape (is_binary kind) here here parts → RowLaysOut here here (parts_of parts)) → (ProperHeadBy line_shape here parts → HeadLaysOut here (parts_of parts)) → (ProperItemsBy line_shape items → AreValues (roots items) → ItemsLayOut here (parts_of items)) →
+    (ProperRowBy line_shape (is_binary kind) here here parts → RowLaysOut here here (parts_of parts)) → (ProperHeadBy line_shape here parts → AtMostOne (roots parts) → RowLaysOut here here (parts_of parts)) → (ProperItemsBy line_shape items → AreValues (roots items) → ItemsLayOut here (parts_of items)) →
     in_frame f (Unit {0}) (AtMostOne (roots parts)) → in_frame f (Unit {0}) (AreValues (roots items)) → (is_comprehension kind ≡ true → in_frame f (Opened (roots parts)) (Unit {0})) →
     in_frame f (AsRow line_shape kind here parts items end split open_break) (AsSequence line_shape here parts items end open_break) → FormLaysOut f open_break here (parts_of parts) (parts_of items) end
 form_lays_out row kind split open_break here m n parts items end a b d o v c h = (a h.0, row_breaks (is_binary kind) open_break here here m parts h.0 (λ e. c (h.4 e)))
-form_lays_out (sequence opener closer) kind split open_break here m n parts items end a b d o v c h =
-    (b h.0, subst AtMostOne (sym (roots_of_row m parts)) o, d h.1 v, recursion_from_All IsComment end h.2)
+form_lays_out (sequence opener closer) kind split open_break here m n parts items end a b d o v c h = (b h.0 o, d h.1 v, recursion_from_All IsComment end h.2)
 
 open_form : (f : Frame) (kind : Kind) → is_comprehension kind ≡ true → (parts items : List Part) → Fits IsNonterminal (line_shape kind) (row_in f parts items) → in_frame f (Opened parts) (Unit {0})
 open_form row kind c parts items h = comprehension kind c parts h
@@ -196,7 +187,7 @@ mutual
   pub laid_out_stands : (here : Spot) (x : Expr) → ProperBy line_shape here x → (gap : Bytes) (m : ℕ) → FitsAt here gap → AtLeaves Placed here (part_of x gap m)
   laid_out_stands here (Token t) h gap m g = placed t.class gap t.text here h.0 h.1 g
   laid_out_stands here (Form' kind z parts z' items end split open_break comments) h gap m g =
-      at_node here (record { kind = kind; parts = map piece_part (laid kind split open_break gap m (parts_of parts) (parts_of items) end) })
+      at_node Placed here (record { kind = kind; parts = map piece_part (laid kind split open_break gap m (parts_of parts) (parts_of items) end) })
       (laid_at (frame kind) (bracketed kind) kind split open_break here gap m (parts_of parts) (parts_of items) end g
       (form_lays_out (frame kind) kind split open_break here _ _ parts items end (row_lays_out (is_binary kind) here here _ parts) (head_lays_out here _ parts) (items_lay_out here _ items) (head_fits kind (roots parts) (roots items) h.0) (items_values kind (roots parts) (roots items) h.0)
       (λ e. open_form (frame kind) kind e (roots parts) (roots items) h.0) h.1))
@@ -205,9 +196,10 @@ mutual
   row_lays_out binary outer here m end_of-Expr h = tt
   row_lays_out binary outer here m (more_of-Expr x rest) h = (lays_out outer here x h.0 (laid_out_stands here x h.0), row_lays_out binary outer (after_expr outer here x) _ rest h.3)
 
-  pub head_lays_out : (here : Spot) (m : _) (r : Row_of-Expr m) → ProperHeadBy line_shape here r → HeadLaysOut here (parts_of r)
-  head_lays_out here m end_of-Expr h = tt
-  head_lays_out here m (more_of-Expr x rest) h = (lays_out here here x h.0 (laid_out_stands here x h.0), head_lays_out here _ rest h.2)
+  pub head_lays_out : (here : Spot) (m : _) (r : Row_of-Expr m) → ProperHeadBy line_shape here r → AtMostOne (roots r) → RowLaysOut here here (parts_of r)
+  head_lays_out here m end_of-Expr h o = tt
+  head_lays_out here m (more_of-Expr x end_of-Expr) h o = (lays_out here here x h.0 (laid_out_stands here x h.0), tt)
+  head_lays_out here m (more_of-Expr x (more_of-Expr y rest)) h o = absurd o
 
   pub items_lay_out : (outer : Spot) (m : _) (r : Row_of-Expr m) → ProperItemsBy line_shape r → AreValues (roots r) → ItemsLayOut outer (parts_of r)
   items_lay_out outer m end_of-Expr h v = tt

@@ -61,37 +61,41 @@ came parts all w v xs ys zs y is text gap shown r =
           (line_put parts all w.made w.bytes w.done w.base w.part (lines_from r.above xs) w.window.text w.window.is_open w.window.gap.items y ys proper.0 here);
     }
 
+-- ---- items that were taken out
+
+pub took : (parts all : List Part) (w : Writer) (xs ys : List Item) (gone lines part : ℕ) → gone ≤ length xs → line_count_in (take gone xs) ≡ lines → (w.part + lines ≤ length parts → part ≡ w.part + lines) → AreReached parts all w xs ys →
+    AreReached parts all (record { made = w.made; window = record { text = w.window.text; gap = w.window.gap; is_open = true }; bytes = w.bytes; done = w.done; base = w.base; part = part }) (drop gone xs) ys
+took parts all w xs ys gone lines part h count past r =
+    let above : Bytes = statement_gap r.above gone xs in
+    let front : List Part = front_lines r.above gone xs in
+    let rest : List Part = lines_from above (drop gone xs) in
+    let cut : lines_from r.above xs ≡ front ++ rest = lines_cut r.above gone xs h in
+    let many : length front ≡ lines = length_front r.above gone xs ∙ count in
+    let room : length (lines_from r.above xs) ≡ length front + length rest = ap length cut ∙ length-append front rest in
+    let left : length parts - w.part ≡ length (lines_from r.above xs) = sym (length-drop w.part parts) ∙ ap length r.lines.left_is in
+    let on : part ≡ w.part + lines = past (omega (arith, many, room, left, r.lines.within)) in
+    let behind : drop lines (lines_from r.above xs) ≡ rest = ap (λ ps. drop lines ps) cut ∙ drop_at front rest lines many in
+    record {
+      above = above;
+      proper = r.proper;
+      lines =
+          subst (λ ps. Reached parts all w.made w.window.text true w.bytes w.done w.base part ps (lines_from w.window.gap.items ys)) behind
+          (take_lines parts all w.made w.window.text w.window.is_open w.bytes w.done w.base w.part part lines (lines_from r.above xs) (lines_from w.window.gap.items ys) on (omega (arith, many, room)) r.lines);
+    }
+
 -- ---- items that stay
 
+one_count : (y : Item) → line_count_in (y ∷ []) ≡ place_after 0 y
+one_count (i.Block texts) = refl
+one_count (i.Stmt x) = refl
+
+-- its line gives way, and is put again
 pub stayed : (parts all : List Part) (w : Writer) (v : OpenWindow) (xs ys : List Item) (y : Item) (part : ℕ) → v.text ≡ pushed w.window.text (own_text w.window.gap.items y) →
     v.gap.items ≡ left_gap w.window.gap.items y ++ before_next y ys → v.is_open ≡ true → (w.part + place_after 0 y ≤ length parts → part ≡ w.part + place_after 0 y) → AreReached parts all w (y ∷ xs) (y ∷ ys) →
     AreReached parts all (record { made = w.made; window = v; bytes = w.bytes; done = w.done; base = w.base; part = part }) xs ys
-stayed parts all w v xs ys (i.Block texts) part text gap shown past r =
-    let on : part ≡ w.part = past (omega (arith, r.lines.within)) ∙ omega arith in
-    let put : Reached parts all w.made (pushed w.window.text []) true w.bytes w.done w.base w.part (lines_from r.above (i.Block texts ∷ xs)) (lines_from (left_gap w.window.gap.items (i.Block texts) ++ before_next (i.Block texts) ys) ys) =
-    line_put parts all w.made w.bytes w.done w.base w.part (lines_from r.above (i.Block texts ∷ xs)) w.window.text w.window.is_open w.window.gap.items (i.Block texts) ys r.proper.0 r.lines in
-    record {
-      above = (r.above ++ comment_lines texts) ++ before_next (i.Block texts) xs;
-      proper = r.proper.1;
-      lines =
-          subst (λ n. Reached parts all w.made v.text v.is_open w.bytes w.done w.base n (lines_from r.above (i.Block texts ∷ xs)) (lines_from v.gap.items ys)) (sym on)
-          (reach_as parts all w.made _ v.text true v.is_open w.bytes w.done w.base w.part _ _ _ _ text shown refl (ap (λ g. lines_from g ys) gap) put);
-    }
-stayed parts all w v xs ys (i.Stmt x) part text gap shown past r =
-    let left : List Part = lines_from (before_next (i.Stmt x) xs) xs in
-    let many : length parts - w.part ≡ suc (length left) = sym (length-drop w.part parts) ∙ ap length r.lines.left_is in
-    let on : part ≡ w.part + 1 = past (omega (arith, many)) in
-    let put : Reached parts all w.made (pushed w.window.text (own_text w.window.gap.items (i.Stmt x))) true w.bytes w.done w.base w.part (line_part r.above x ∷ left) (lines_from (before_next (i.Stmt x) ys) ys) =
-    line_put parts all w.made w.bytes w.done w.base w.part (line_part r.above x ∷ left) w.window.text w.window.is_open w.window.gap.items (i.Stmt x) ys r.proper.0 r.lines in
-    let took : Reached parts all w.made (pushed w.window.text (own_text w.window.gap.items (i.Stmt x))) true w.bytes w.done w.base (w.part + 1) left (lines_from (before_next (i.Stmt x) ys) ys) =
-    take_lines parts all w.made _ true w.bytes w.done w.base w.part 1 (line_part r.above x ∷ left) _ (omega arith) put in
-    record {
-      above = before_next (i.Stmt x) xs;
-      proper = r.proper.1;
-      lines =
-          subst (λ n. Reached parts all w.made v.text v.is_open w.bytes w.done w.base n left (lines_from v.gap.items ys)) (sym on)
-          (reach_as parts all w.made _ v.text true v.is_open w.bytes w.done w.base (w.part + 1) _ _ _ _ text shown refl (ap (λ g. lines_from g ys) gap) took);
-    }
+stayed parts all w v xs ys y part text gap shown past r =
+    came parts all (record { made = w.made; window = record { text = w.window.text; gap = w.window.gap; is_open = true }; bytes = w.bytes; done = w.done; base = w.base; part = part }) v xs ys (y ∷ ys) y refl text gap shown
+    (took parts all w (y ∷ xs) (y ∷ ys) 1 (place_after 0 y) part (omega arith) (one_count y) past r)
 
 -- what is left of both begins with the same item
 pub same_first : (n k : ℕ) (xs ys : List Item) (y : Item) → k < n → n ≤ length xs → take n xs ≡ take n ys → y ≡ get_or ys k y → drop k xs ≡ y ∷ drop (k + 1) xs
@@ -219,9 +223,8 @@ end_put parts all w v part text shown past r =
     let on : part ≡ w.part + 1 = past (omega (arith, many)) in
     let put : Reached parts all w.made (pushed w.window.text (gap ++ [])) true w.bytes w.done w.base w.part (lines_from r.above []) [] = put_line parts all w.made w.window.text w.window.is_open w.bytes w.done w.base w.part (lines_from r.above []) end [] r.lines in (
       [],
-      subst (λ n. Reached parts all w.made v.text v.is_open w.bytes w.done w.base n [] []) (sym on)
-          (reach_as parts all w.made (pushed w.window.text (gap ++ [])) v.text true v.is_open w.bytes w.done w.base (w.part + 1) _ _ _ _ (text ∙ ap (pushed w.window.text) (sym (append-nil gap))) shown refl refl
-          (take_lines parts all w.made (pushed w.window.text (gap ++ [])) true w.bytes w.done w.base w.part 1 (lines_from r.above []) [] (omega arith) put)),
+      reach_as parts all w.made (pushed w.window.text (gap ++ [])) v.text true v.is_open w.bytes w.done w.base part _ _ _ _ (text ∙ ap (pushed w.window.text) (sym (append-nil gap))) shown refl refl
+          (take_lines parts all w.made (pushed w.window.text (gap ++ [])) true w.bytes w.done w.base w.part part 1 (lines_from r.above []) [] on (omega arith) put),
     )
 
 -- ---- from one place to another
@@ -253,29 +256,6 @@ advanced parts all w v u xs items from at end f h many same close gap part has s
     let next : HasNext v.window.gap.items (drop at items) (drop v.part parts) = subst (λ t. HasNext t (drop at items) (drop v.part parts)) (sym gap) (subst (λ n. HasNext w.window.gap.items (drop at items) (drop n parts)) (sym part) has) in
     subst (λ zs. AreReached parts all u zs (drop end items)) (drop-drop (end - at) (at - from) xs ∙ ap (λ n. drop n xs) all_of_it)
     (skip old (omega (arith, length-drop (at - from) xs, many, f, h)) (rest_same from at end xs items f h same) next closed)
-
--- ---- items that were taken out
-
-pub took : (parts all : List Part) (w : Writer) (xs ys : List Item) (gone lines part : ℕ) → gone ≤ length xs → line_count_in (take gone xs) ≡ lines → (w.part + lines ≤ length parts → part ≡ w.part + lines) → AreReached parts all w xs ys →
-    AreReached parts all (record { made = w.made; window = record { text = w.window.text; gap = w.window.gap; is_open = true }; bytes = w.bytes; done = w.done; base = w.base; part = part }) (drop gone xs) ys
-took parts all w xs ys gone lines part h count past r =
-    let above : Bytes = statement_gap r.above gone xs in
-    let front : List Part = front_lines r.above gone xs in
-    let rest : List Part = lines_from above (drop gone xs) in
-    let cut : lines_from r.above xs ≡ front ++ rest = lines_cut r.above gone xs h in
-    let many : length front ≡ lines = length_front r.above gone xs ∙ count in
-    let room : length (lines_from r.above xs) ≡ length front + length rest = ap length cut ∙ length-append front rest in
-    let left : length parts - w.part ≡ length (lines_from r.above xs) = sym (length-drop w.part parts) ∙ ap length r.lines.left_is in
-    let on : part ≡ w.part + lines = past (omega (arith, many, room, left, r.lines.within)) in
-    let behind : drop lines (lines_from r.above xs) ≡ rest = ap (λ ps. drop lines ps) cut ∙ drop_at front rest lines many in
-    record {
-      above = above;
-      proper = r.proper;
-      lines =
-          subst (λ n. Reached parts all w.made w.window.text true w.bytes w.done w.base n rest (lines_from w.window.gap.items ys)) (sym on)
-          (subst (λ ps. Reached parts all w.made w.window.text true w.bytes w.done w.base (w.part + lines) ps (lines_from w.window.gap.items ys)) behind
-          (take_lines parts all w.made w.window.text w.window.is_open w.bytes w.done w.base w.part lines (lines_from r.above xs) (lines_from w.window.gap.items ys) (omega (arith, many, room)) r.lines));
-    }
 
 -- ---- windows
 

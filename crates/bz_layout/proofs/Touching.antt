@@ -21,14 +21,51 @@ use Rattle.bz_grammar.specs.Shapes.{Nonterminal, Terminal, Shape, Fits, has_toke
 use Rattle.bz_grammar.specs.Legal.{IsNonterminal}
 use Rattle.bz_grammar.specs.Reading.{starts, starts_with}
 use Rattle.bz_grammar.proofs.Levels.{begins}
-use Rattle.bz_grammar.proofs.Balance.{no_such}
+use Rattle.bz_grammar.proofs.Balance.{no_such, leaves_rows, same_class}
 use Rattle.bz_value.specs.LineShapes.{line_shape}
 use Rattle.bz_value.proofs.LegalBy.{LegalBy, each_legal, as_bzl}
-use Rattle.bz_layout.specs.Spaces.{brackets_and_separators, lone, is_dot_terminal, apart, is_number, is_number_leaf}
-use Rattle.bz_layout.proofs.Neighbours.{Element, T, S, Is, Pair, Final, Links, passes, links, all_in, fronts, prefixed, well_text, named, spaced, is_primary, safe, neighbours, is_primary_kind, finals, in_a_line, all_pass}
-use Rattle.bz_layout.proofs.Spacing.{spaced_apart}
-use Rattle.bz_layout.proofs.Terminals.{table_leaf, well_leaf, named_leaf, plain_leaf}
-use Rattle.bz_layout.proofs.Stops.{is_stop, stop_before, dot_before, lone_before, front_before, dot_before_name}
+use Rattle.bz_hosts.proofs.SeenParts.{all_parted}
+use Rattle.bz_hosts.proofs.InnerParts.{inner_kind}
+use Rattle.bz_layout.specs.Spaces.{brackets_and_separators, lone, is_dot_terminal, apart, is_number, is_number_leaf, from_table}
+use Rattle.bz_layout.proofs.Neighbours.{Element, T, S, Is, Pair, Final, Links, passes, links, all_in, fronts, prefixed, well_text, named, spaced, is_primary, safe, neighbours, is_primary_kind, finals, all_pass, well, no_number, one_leaf}
+use Rattle.bz_layout.proofs.Stops.{is_stop, stop_before, dot_before, lone_before, front_before, dot_before_name, is_mark_class, begins_well}
+use Rattle.bz_layout.proofs.Elements.{spaced_apart}
+
+-- ---- what a leaf is that is one of these terminals: a mark of a table, a text with which a token may go on, a name, no number
+
+in_a_table : (us : List (List ℕ)) (class : Class) (t : List ℕ) → from_table us (s.this class t) ≡ true → (class ≡ c.Mark) × (in_table t us ≡ true)
+in_a_table us c.Mark t h = (refl, h)
+in_a_table us _ t h = no_such h
+
+pub table_leaf : (us : List (List ℕ)) (ts : List Terminal) (l : Leaf) → all_in (from_table us) ts ≡ true → is_one_of ts l ≡ true → (l.class ≡ c.Mark) × (in_table l.token us ≡ true)
+table_leaf us ts l h i = one_leaf (from_table us) (λ class t. (class ≡ c.Mark) × (in_table t us ≡ true)) (λ class t f. no_such f) (in_a_table us) ts l h i
+
+well_class : (class : Class) (t : List ℕ) → well (s.any class) ≡ true → IsLexeme class t → well_text t ≡ true
+well_class c.Name t h i = begins_well c.Name t i refl
+well_class c.Number t h i = begins_well c.Number t i refl
+well_class c.String t h i = begins_well c.String t i refl
+well_class _ t h i = no_such h
+
+pub well_leaf : (ts : List Terminal) (l : Leaf) → all_in well ts ≡ true → is_one_of ts l ≡ true → IsLexeme l.class l.token → well_text l.token ≡ true
+well_leaf ts l h i x = one_leaf well (λ class t. IsLexeme class t → well_text t ≡ true) well_class (λ class t w y. w) ts l h i x
+
+name_class : (class : Class) (t : List ℕ) → named (s.any class) ≡ true → class ≡ c.Name
+name_class c.Name t h = refl
+name_class _ t h = no_such h
+
+pub named_leaf : (us : List Terminal) (l : Leaf) → all_in named us ≡ true → is_one_of us l ≡ true → l.class ≡ c.Name
+named_leaf us l h i = one_leaf named (λ class t. class ≡ c.Name) name_class (λ class t f. no_such f) us l h i
+
+any_whole : (class : Class) (t : List ℕ) → no_number (s.any class) ≡ true → is_number class ≡ false
+any_whole c.Number t h = no_such h
+any_whole _ t h = refl
+
+this_whole : (class : Class) (t : List ℕ) → no_number (s.this class t) ≡ true → is_number class ≡ false
+this_whole c.Number t h = no_such h
+this_whole _ t h = refl
+
+pub plain_leaf : (us : List Terminal) (l : Leaf) → all_in no_number us ≡ true → is_one_of us l ≡ true → is_number l.class ≡ false
+plain_leaf us l h i = one_leaf no_number (λ class t. is_number class ≡ false) any_whole this_whole us l h i
 
 -- ---- tokens of leaves before a text
 
@@ -46,10 +83,6 @@ IsLex l = IsLexeme l.class l.token
 
 abbrev pub Lexed : List Leaf → Type 0
 Lexed ls = AllByRecursion IsLex ls
-
-pub lexed_parts : (a b : List Leaf) → Lexed (a ++ b) → Lexed a × Lexed b
-lexed_parts [] b h = (tt, h)
-lexed_parts (l ∷ a) b h = let w = lexed_parts a b h.1 in ((h.0, w.0), w.1)
 
 -- ---- what may follow a part
 
@@ -98,7 +131,7 @@ Apart kind (x ∷ xs) = Between kind x xs
 abbrev mutual
   pub Airy : Part → Type 0
   Airy (p.Leaf l) = Unit {0}
-  Airy (Node' kind z r) = (in_a_line kind ≡ true) × Apart kind (items-the_row-Part _ r) × AiryRow r
+  Airy (Node' kind z r) = (inner_kind kind ≡ true) × Apart kind (items-the_row-Part _ r) × AiryRow r
 
   pub AiryRow : {m : _} → Row_of-Part m → Type 0
   AiryRow end_of-Part = Unit {0}
@@ -181,7 +214,7 @@ after_token kind ts leaf y (S a) i j o g x l ls e n w more rest =
     ]
 after_token kind ts leaf (Node' _ z r) (T us) i j o g x l ls e n w more rest = no_such j
 after_token kind ts leaf (p.Leaf m) (T us) i j o g x l ls e n w more rest =
-    let same : m ≡ l = ap first_of e in
+    let same : m ≡ l = let one : m ∷ [] ≡ l ∷ ls = e in cc in
     elim (or_cases (all_in lone us) _ o) [
       | inl f ↦ let t = table_leaf brackets_and_separators us m f j in
           let u : in_table l.token brackets_and_separators ≡ true = subst (λ z. in_table z.token brackets_and_separators ≡ true) same t.1 in
@@ -200,10 +233,6 @@ after_token kind ts leaf (p.Leaf m) (T us) i j o g x l ls e n w more rest =
           ]
     ]
   where
-    first_of : List Leaf → Leaf
-    first_of [] = m
-    first_of (y ∷ ys) = y
-
     before_lone : (leaf : Leaf) (t more rest : List ℕ) → IsLex leaf → in_table t brackets_and_separators ≡ true → IsToken leaf.class leaf.token ((t ++ more) ++ rest)
     before_lone leaf t more rest x h = on_follows ((t ++ more) ++ rest) (lone_opens false t more rest h) where
       on_follows : (u : List ℕ) → FollowsAs false u → IsToken leaf.class leaf.token u
@@ -219,7 +248,7 @@ touching : (kind : Kind) (x y : Part) (a b : Element) → Is a x → Is b y → 
 touching kind x y (S a) (S b) i j o g h d w l ls e n u more rest = no_such o
 touching kind x (Node' _ z r) (S a) (T us) i j o g h d w l ls e n u more rest = no_such j
 touching kind x (p.Leaf m) (S a) (T us) i j o g h d w l ls e n u more rest =
-    let same : m ≡ l = ap first_of e in
+    let same : m ≡ l = let one : m ∷ [] ≡ l ∷ ls = e in cc in
     elim (or_cases (all_in lone us) _ o) [
       | inl f ↦ w (Text l more rest) (bare_follows (ends_plain x) l more rest n (lone_opens (ends_plain x) l.token more rest (subst (λ z. in_table z.token brackets_and_separators ≡ true) same (table_leaf brackets_and_separators us m f j).1)))
       | inr f ↦ let v = and_parts (all_in is_dot_terminal us) _ f in
@@ -228,10 +257,6 @@ touching kind x (p.Leaf m) (S a) (T us) i j o g h d w l ls e n u more rest =
           let whole : is_number_leaf x ≡ false = elim (cases_Bool (is_number_leaf x)) [ inl q ↦ absurd (d (q, is_dot m t.0 dot)) | inr q ↦ q ] in
           w (Text l more rest) (bare_follows (ends_plain x) l more rest n (subst (λ z. FollowsAs (ends_plain x) ((z ++ more) ++ rest)) (sym dot ∙ ap (λ z. z.token) same) (inr (refl, primary_plain a x v.1 i whole))))
     ]
-  where
-    first_of : List Leaf → Leaf
-    first_of [] = m
-    first_of (y ∷ ys) = y
 touching kind (Node' _ z r) y (T ts) b i j o g h d w l ls e n u more rest = no_such i
 touching kind (p.Leaf leaf) y (T ts) b i j o g h d w l ls e n u more rest = (after_token kind ts leaf y b i j o g h.0 l ls e n u more rest, tt)
 
@@ -267,11 +292,11 @@ Airys xs = AllByRecursion Airy xs
 row_toks : (kind : Kind) (x : Part) (xs : List Part) → Links (neighbours kind) (finals kind) x xs → Between kind x xs → Wills (x ∷ xs) → Legals (x ∷ xs) → Lexed (flat_map leaves_part (x ∷ xs)) → Airys (x ∷ xs) →
     (rest : List ℕ) → FollowsAs (is_primary_kind kind) rest → Toks (flat_map leaves_part (x ∷ xs)) rest
 row_toks kind x [] t d w g h a rest f =
-    let lex = lexed_parts (leaves_part x) [] h in
+    let lex = all_parted IsLex (leaves_part x) [] h in
     join (leaves_part x) [] rest (w.0 g.0 lex.0 a.0 rest (final_follows kind x t rest f)) tt
 row_toks kind x (y ∷ ys) t d w g h a rest f =
-    let lex = lexed_parts (leaves_part x) (flat_map leaves_part (y ∷ ys)) h in
-    let lex' = lexed_parts (leaves_part y) (flat_map leaves_part ys) lex.1 in
+    let lex = all_parted IsLex (leaves_part x) (flat_map leaves_part (y ∷ ys)) h in
+    let lex' = all_parted IsLex (leaves_part y) (flat_map leaves_part ys) lex.1 in
     join (leaves_part x) (flat_map leaves_part (y ∷ ys)) rest
     (pair kind x y t.0 g.1.0 lex.0 lex'.0 (w.0 g.0 lex.0 a.0) (leaves_part y) refl d.0 (flat_map leaves_part ys) rest)
     (row_toks kind y ys t.1 d.1 w.1 g.1 lex.1 a.1 rest f)
@@ -281,10 +306,6 @@ some_row : (kind : Kind) (r : Shape) → passes (neighbours kind) (finals kind) 
     (rest : List ℕ) → FollowsAs (is_primary_kind kind) rest → Toks (flat_map leaves_part xs) rest
 some_row kind r o [] t d w g h a rest f = tt
 some_row kind r o (x ∷ xs) t d w g h a rest f = row_toks kind x xs (links (neighbours kind) (finals kind) r None x tt o (x ∷ xs) t) d w g h a rest f
-
-leaves_rows : (m : _) (r : Row_of-Part m) → leaves_row r ≡ flat_map leaves_part (items-the_row-Part m r)
-leaves_rows m end_of-Part = refl
-leaves_rows m (more_of-Part x rest) = ap (λ t. leaves_part x ++ t) (leaves_rows _ rest)
 
 airy_row : (m : _) (r : Row_of-Part m) → AiryRow r → Airys (items-the_row-Part m r)
 airy_row m end_of-Part h = tt

@@ -2,6 +2,8 @@
 use Rattle.std.proofs.Common.{◌≡◌, ℕ, Bool, true, false, not, ◌&&◌, ◌||◌, List, [], ◌∷◌, ◌++◌, ◌+◌, if◌then◌else◌, refl, sym, ap, ◌∙◌, map, true≢false}
 use Rattle.std.specs.Prelude.{None}
 use Rattle.std.specs.List.{AllByRecursion}
+use Rattle.std.proofs.Math.Bool.{and-false, and-true}
+use Rattle.std.proofs.lemmas.Bool.{and_parts}
 use Rattle.bz_grammar.specs.declared.kind.Kind.{Kind}
 use Rattle.bz_grammar.specs.declared.kind.Kind.TheVariants as k
 use Rattle.bz_grammar.specs.declared.tree.Part.{Part}
@@ -12,14 +14,16 @@ use Rattle.bz_value.specs.Frames.{is_binary, is_comprehension}
 use Rattle.bz_value.specs.Gaps.{GapLine, lines_of, comments_in, some_newline, all_in, has_newline}
 use Rattle.bz_value.specs.Proper.{comments_of, has_break, is_operator}
 use Rattle.bz_value.specs.Roots.{root}
+use Rattle.bz_value.proofs.FormParts.{operator_first}
 use Rattle.bz_hosts.specs.View.{Seen, seen, plain, first_seen_gap, begins_seen_operator, loose_after, row_exprs, is_open}
 use Rattle.bz_layout.specs.Layout.{Piece, rowed, gap_after, margin_after, new_line_at, firsts}
 use Rattle.bz_value.specs.Empty.{is_empty}
 use Rattle.bz_layout.specs.Spaces.{is_spaced}
 use Rattle.bz_layout.specs.LaidOut.{piece_part}
 use Rattle.bz_layout.specs.Flags.{with_flags}
+use Rattle.bz_layout.proofs.Framed.{after_first}
 use Rattle.bz_layout.proofs.Gapped.{ended_line, lines_line}
-use Rattle.bz_layout.proofs.Readable.{AreParts, begins, ends, others}
+use Rattle.bz_layout.proofs.Readable.{AreParts, ends}
 
 -- what is laid out of an expression, after a gap, at a margin
 abbrev pub PartAt : Type 0
@@ -43,14 +47,6 @@ settled xs = map (λ x. with_flags x.0) xs
 
 -- ---- truth values
 
-and_false : (b : Bool) → (b && false) ≡ false
-and_false true = refl
-and_false false = refl
-
-and_true : (b : Bool) → (b && true) ≡ b
-and_true true = refl
-and_true false = refl
-
 -- The flag that is read of a part: binary, operator: the row and the part; next: an operator comes next; before: a newline
 -- before it; open_: an open row; break: its own flag; last: nothing comes next.
 flag : (binary operator next before open_break break last : Bool) → (break ≡ true → (binary && (operator && not next)) ≡ true) → ((binary && operator) ≡ true → before ≡ false) → (last ≡ true → (binary && operator) ≡ false) →
@@ -64,7 +60,7 @@ flag true true true before open_break false last h a z o = refl
 flag true true false true open_break break last h a z o = absurd (true≢false (a refl))
 flag true true false false true break last h a z o = absurd (true≢false (o refl))
 flag true true false false false break true h a z o = absurd (true≢false (z refl))
-flag true true false false false break false h a z o = and_true break
+flag true true false false false break false h a z o = and-true break
 
 -- what is before the next operator
 quiet_next : (binary operator next before open_break break last : Bool) → (break ≡ true → (binary && (operator && not next)) ≡ true) → ((binary && operator) ≡ true → before ≡ false) → (binary ≡ true → open_break ≡ false) →
@@ -74,10 +70,6 @@ quiet_next true true next before open_break break last h a o n = a refl
 quiet_next true false next before true break last h a o n = absurd (true≢false (o refl))
 quiet_next true false next before false true last h a o n = absurd (true≢false (sym (h refl)))
 quiet_next true false next before false false last h a o n = refl
-
-first_true : (a b : Bool) → (a && b) ≡ true → a ≡ true
-first_true true b e = refl
-first_true false b e = e
 
 -- ---- gaps in rows
 
@@ -99,8 +91,8 @@ one_gap false false true a b = refl
 one_gap false false false a b = refl
 
 gap_lines : (kind : Kind) (open_break : Bool) (m : ℕ) (x : Expr) (ys : List Expr) → lines_of (gap_after kind open_break m x ys) ≡ lines_if ((open_break || has_break x) && not (is_empty ys))
-gap_lines kind open_break m x [] = ap lines_if (sym (and_false (open_break || has_break x)))
-gap_lines kind open_break m x (y ∷ ys) = one_gap open_break (has_break x) (is_spaced kind (root x) (root y)) _ (m + 4) ∙ ap lines_if (sym (and_true (open_break || has_break x)))
+gap_lines kind open_break m x [] = ap lines_if (sym (and-false (open_break || has_break x)))
+gap_lines kind open_break m x (y ∷ ys) = one_gap open_break (has_break x) (is_spaced kind (root x) (root y)) _ (m + 4) ∙ ap lines_if (sym (and-true (open_break || has_break x)))
 
 gap_newline : (kind : Kind) (open_break : Bool) (m : ℕ) (x : Expr) (ys : List Expr) → has_newline (gap_after kind open_break m x ys) ≡ ((open_break || has_break x) && not (is_empty ys))
 gap_newline kind open_break m x ys = ap some_newline (gap_lines kind open_break m x ys) ∙ newline_if _
@@ -113,15 +105,15 @@ abbrev following : Kind → Bool → ℕ → Expr → List (Expr × PartAt) → 
 following kind open_break m x ys = rowed kind open_break m (gap_after kind open_break m x (firsts ys)) (margin_after open_break m x) ys
 
 next_newline : (kind : Kind) (open_break : Bool) (m : ℕ) (x : Expr) (ys : List (Expr × PartAt)) → Reads ys → has_newline (first_seen_gap (look (following kind open_break m x ys))) ≡ ((open_break || has_break x) && not (is_empty (firsts ys)))
-next_newline kind open_break m x [] h = sym (and_false (open_break || has_break x))
+next_newline kind open_break m x [] h = sym (and-false (open_break || has_break x))
 next_newline kind open_break m x (y ∷ ys) h = ap has_newline (h.0.gap (gap_after kind open_break m x (firsts (y ∷ ys))) (margin_after open_break m x)) ∙ gap_newline kind open_break m x (firsts (y ∷ ys))
 
-next_sign : (kind : Kind) (open_break : Bool) (m : ℕ) (g : Bytes) (n : ℕ) (ys : List (Expr × PartAt)) → Reads ys → begins_seen_operator (look (rowed kind open_break m g n ys)) ≡ begins (firsts ys)
+next_sign : (kind : Kind) (open_break : Bool) (m : ℕ) (g : Bytes) (n : ℕ) (ys : List (Expr × PartAt)) → Reads ys → begins_seen_operator (look (rowed kind open_break m g n ys)) ≡ operator_first (firsts ys)
 next_sign kind open_break m g n [] h = refl
 next_sign kind open_break m g n (y ∷ ys) h = h.0.sign g n
 
 last_next : (binary : Bool) (x : Expr) (xs : List Expr) → (binary && ends (x ∷ xs)) ≡ false → (binary && ends xs) ≡ false
-last_next binary x [] h = and_false binary
+last_next binary x [] h = and-false binary
 last_next binary x (y ∷ ys) h = h
 
 last_here : (binary : Bool) (x : Expr) (xs : List Expr) → (binary && ends (x ∷ xs)) ≡ false → is_empty xs ≡ true → (binary && is_operator x) ≡ false
@@ -131,18 +123,18 @@ last_here binary x (y ∷ ys) h e = absurd (true≢false (sym e))
 -- ---- rows
 
 pub row_back : (binary inside newline : Bool) (kind : Kind) (open_break : Bool) (m : ℕ) (g : Bytes) (n : ℕ) (xs : List (Expr × PartAt)) → Reads xs → AreParts binary (firsts xs) → (binary && ends (firsts xs)) ≡ false →
-    (binary ≡ true → open_break ≡ false) → ((binary && begins (firsts xs)) ≡ true → (if inside then newline else has_newline g) ≡ false) → row_exprs binary inside newline (look (rowed kind open_break m g n xs)) ≡ settled xs
+    (binary ≡ true → open_break ≡ false) → ((binary && operator_first (firsts xs)) ≡ true → (if inside then newline else has_newline g) ≡ false) → row_exprs binary inside newline (look (rowed kind open_break m g n xs)) ≡ settled xs
 row_back binary inside newline kind open_break m g n [] r parts last o q = refl
 row_back binary inside newline kind open_break m g n (x ∷ xs) r parts last o q =
     let s : Seen = seen (x.1 g n) in
     let ss : List Seen = look (following kind open_break m x.0 xs) in
     let operator : Bool = is_operator x.0 in
     let before : Bool = if inside then newline else has_newline g in
-    let next : Bool = begins (firsts xs) in
+    let next : Bool = operator_first (firsts xs) in
     let far : Bool = (open_break || has_break x.0) && not (is_empty (firsts xs)) in
     let out : Bool → Bool → Bool → Bool → List Expr = (λ a b c d. s.make no_comments ((a && not c) && (b || d)) ∷ row_exprs binary a b ss) in
     let rest : List Expr = row_exprs binary (binary && operator) before ss in
-    let fine : ((binary && operator) ≡ true → open_break ≡ false) = λ e. o (first_true binary operator e) in
+    let fine : ((binary && operator) ≡ true → open_break ≡ false) = λ e. o (and_parts binary operator e).0 in
     ap (λ z. out (binary && z) (if inside then newline else has_newline s.gap) (begins_seen_operator ss) (has_newline (first_seen_gap ss))) (r.0.sign g n) ∙
     (ap (λ z. out (binary && operator) (if inside then newline else has_newline z) (begins_seen_operator ss) (has_newline (first_seen_gap ss))) (r.0.gap g n) ∙
     (ap (λ z. out (binary && operator) before z (has_newline (first_seen_gap ss))) (next_sign kind open_break m (gap_after kind open_break m x.0 (firsts xs)) (margin_after open_break m x.0) xs r.1) ∙
@@ -177,7 +169,7 @@ no_break false h = refl
 
 -- in a row that is not binary no part has a break
 unbroken : (binary : Bool) (x : Expr) (xs : List Expr) → binary ≡ false → AreParts binary (x ∷ xs) → has_break x ≡ false
-unbroken binary x xs n h = no_break (has_break x) (λ e. ap (λ z. z && (is_operator x && not (begins xs))) (sym n) ∙ h.1 e)
+unbroken binary x xs n h = no_break (has_break x) (λ e. ap (λ z. z && (is_operator x && not (operator_first xs))) (sym n) ∙ h.1 e)
 
 opened : (comprehension open_break newline : Bool) → (open_break ≡ true → comprehension ≡ true) → (comprehension ≡ true → newline ≡ open_break) → (comprehension && newline) ≡ open_break
 opened true open_break newline o h = h refl
@@ -189,7 +181,7 @@ only_open true break last b l = ap (λ z. not z) l
 only_open false break last b l = ap (λ z. z && not last) b
 
 -- a comprehension is open exactly where a new line begins after its bracket
-pub open_back : (kind : Kind) (open_break : Bool) (m : ℕ) (g : Bytes) (n : ℕ) (xs : List (Expr × PartAt)) → Reads xs → AreParts (is_binary kind) (firsts xs) → (is_comprehension kind ≡ true → is_empty (others (firsts xs)) ≡ false) →
+pub open_back : (kind : Kind) (open_break : Bool) (m : ℕ) (g : Bytes) (n : ℕ) (xs : List (Expr × PartAt)) → Reads xs → AreParts (is_binary kind) (firsts xs) → (is_comprehension kind ≡ true → is_empty (after_first (firsts xs)) ≡ false) →
     (open_break ≡ true → is_comprehension kind ≡ true) → (is_comprehension kind && is_open (look (rowed kind open_break m g n xs))) ≡ open_break
 open_back kind open_break m g n [] r parts second opens = opened (is_comprehension kind) open_break false opens (λ e. absurd (true≢false (second e)))
 open_back kind open_break m g n (x ∷ xs) r parts second opens =

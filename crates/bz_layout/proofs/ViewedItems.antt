@@ -2,6 +2,7 @@
 use Rattle.std.proofs.Common.{◌≡◌, ℕ, suc, Bool, true, false, not, ◌&&◌, ◌||◌, List, [], ◌∷◌, ◌++◌, ◌+◌, if◌then◌else◌, refl, sym, ap, ◌∙◌, map, take, drop, length, true≢false, append-nil}
 use Rattle.std.specs.Prelude.{Option, None, Some}
 use Rattle.std.specs.List.{AllByRecursion}
+use Rattle.std.proofs.lemmas.Bool.{and_parts, or_parts, not-false}
 use Rattle.bz_token.specs.declared.class.Class.TheVariants as c
 use Rattle.bz_grammar.specs.declared.kind.Kind.{Kind}
 use Rattle.bz_value.specs.declared.value.Expr.{Expr}
@@ -111,19 +112,6 @@ split_first (s ∷ ss) b h = ap (λ z. z || is_split ss) h
 abbrev pub body_of : Bool → Bool → ℕ → ℕ → List Bytes → List (Expr × PartAt) → List (Piece PartAt)
 body_of broken one m closer end xs = if broken then stacked m None closer end xs else joined m [] closer one xs
 
-or_false : (a b : Bool) → (a || b) ≡ false → (a ≡ false) × (b ≡ false)
-or_false false b e = (refl, e)
-or_false true b e = absurd (true≢false e)
-
-both_true : (a b : Bool) → not (a && b) ≡ false → (a ≡ true) × (b ≡ true)
-both_true true true e = (refl, refl)
-both_true true false e = absurd (true≢false e)
-both_true false b e = absurd (true≢false e)
-
-not_false : (b : Bool) → not b ≡ false → b ≡ true
-not_false true e = refl
-not_false false e = absurd (true≢false e)
-
 no_texts : (texts : List Bytes) → is_empty texts ≡ true → texts ≡ []
 no_texts [] e = refl
 no_texts (text ∷ texts) e = absurd (true≢false (sym e))
@@ -138,8 +126,8 @@ without_comments n b s = ap (λ z. let r : HostComments = record { before = z; s
 bare_items : (xs : List Expr) → AreItems xs → has_comments xs ≡ false → AreHeads xs
 bare_items [] h e = tt
 bare_items (x ∷ xs) h e =
-    let o = or_false _ (has_comments xs) e in
-    let n = both_true _ _ o.0 in
+    let o = or_parts _ (has_comments xs) e in
+    let n = and_parts _ _ (not-false _ o.0) in
     (without_comments (comments_of x) (no_texts _ n.0) (no_suffix _ n.1), h.2, bare_items xs h.3 o.1)
 
 -- what is seen of a sequence: its items and end comments; split where it was broken
@@ -157,8 +145,8 @@ body_back true one kind split m closer end xs r e h b =
       split = split_first body (stacked_begun m None closer end xs) (ap some_newline lines);
     }
 body_back false one kind split m closer end xs r e h b =
-    let o = or_false (has_comments (firsts xs)) _ b in
-    let none : end ≡ [] = no_texts end (not_false _ (or_false _ _ o.1).0) in
+    let o = or_parts (has_comments (firsts xs)) _ b in
+    let none : end ≡ [] = no_texts end (not-false _ (or_parts _ _ o.1).0) in
     let body : List Seen = look (joined m [] closer one xs) in
     record {
       found = ap (λ z. items_in (comments_in z) body) (joined_lines m [] closer one xs r refl) ∙ (joined_back m [] closer one xs r (bare_items (firsts xs) h o.0) ∙ ap (λ z. (settled xs, z)) (sym none));

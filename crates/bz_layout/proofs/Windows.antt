@@ -1,6 +1,6 @@
 -- The lines in front of a place, how many there are, and the gap before it.
 use Rattle.std.proofs.Common.{ℕ, zero, suc, true, ◌≡◌, ◌<◌, ◌≤◌, ◌+◌, ◌-◌, List, [], ◌∷◌, ◌++◌, length, get_or, take, drop, refl, sym, ap, ◌∙◌, arith, append_assoc, true≢false}
-use Rattle.std.proofs.lemmas.List.{drop_more}
+use Rattle.std.proofs.lemmas.List.{drop_more, take-append-drop, drop-drop}
 use Rattle.bz_grammar.specs.declared.tree.Part.{Part}
 use Rattle.bz_value.specs.declared.value.Item.{Item}
 use Rattle.bz_value.specs.declared.value.Item.TheVariants as i
@@ -8,7 +8,17 @@ use Rattle.bz_items.specs.Characters.{Bytes}
 use Rattle.bz_layout.specs.Written.{gap_between, comment_lines}
 use Rattle.bz_layout.specs.LaidOut.{own_lines, left_gap, before_next, lines_from}
 use Rattle.bz_layout.specs.private.Windows.{is_statement_item, line_count_in, statement_gap, place_after}
-use Rattle.bz_layout.proofs.Loops.{lines_first}
+
+-- ---- a window of a list
+
+module _ {X : Type 0} (size : List X → ℕ) (joined : ℕ → ℕ → ℕ) (append : (xs ys : List X) → size (xs ++ ys) ≡ joined (size xs) (size ys)) where
+  -- what stays before it, what it has, and what follows
+  pub cut_window : (from n : ℕ) (xs : List X) → size xs ≡ joined (size (take from xs)) (joined (size (take n (drop from xs))) (size (drop (from + n) xs)))
+  cut_window from n xs =
+      ap size (sym (take-append-drop from xs)) ∙
+      (append (take from xs) (drop from xs) ∙
+      ap (joined (size (take from xs)))
+      (ap size (sym (take-append-drop n (drop from xs))) ∙ (append (take n (drop from xs)) (drop n (drop from xs)) ∙ ap (λ ys. joined (size (take n (drop from xs))) (size ys)) (drop-drop n from xs))))
 
 -- ---- the lines in front of a place
 
@@ -16,6 +26,10 @@ abbrev pub front_lines : Bytes → ℕ → List Item → List Part
 front_lines gap zero items = []
 front_lines gap (suc n) [] = []
 front_lines gap (suc n) (item ∷ items) = own_lines gap item ++ front_lines (left_gap gap item ++ before_next item items) n items
+
+lines_first : (gap : Bytes) (x : Item) (xs : List Item) → lines_from gap (x ∷ xs) ≡ own_lines gap x ++ lines_from (left_gap gap x ++ before_next x xs) xs
+lines_first gap (i.Block texts) xs = refl
+lines_first gap (i.Stmt x) xs = refl
 
 pub lines_cut : (gap : Bytes) (n : ℕ) (xs : List Item) → n ≤ length xs → lines_from gap xs ≡ front_lines gap n xs ++ lines_from (statement_gap gap n xs) (drop n xs)
 lines_cut gap zero xs h = refl
@@ -49,12 +63,6 @@ pub length_lines : (gap : Bytes) (xs : List Item) → length (lines_from gap xs)
 length_lines gap [] = refl
 length_lines gap (i.Block texts ∷ xs) = length_lines ((gap ++ comment_lines texts) ++ before_next (i.Block texts) xs) xs
 length_lines gap (i.Stmt x ∷ xs) = ap suc (length_lines (before_next (i.Stmt x) xs) xs)
-
-pub lines_in_cut : (n : ℕ) (xs : List Item) → line_count_in xs ≡ line_count_in (take n xs) + line_count_in (drop n xs)
-lines_in_cut zero xs = omega arith
-lines_in_cut (suc n) [] = omega arith
-lines_in_cut (suc n) (i.Block texts ∷ xs) = lines_in_cut n xs
-lines_in_cut (suc n) (i.Stmt x ∷ xs) = let rest : line_count_in xs ≡ line_count_in (take n xs) + line_count_in (drop n xs) = lines_in_cut n xs in omega (arith, rest)
 
 counted_first : (count : ℕ) (x : Item) (xs : List Item) → count + line_count_in (x ∷ xs) ≡ place_after count x + line_count_in xs
 counted_first count (i.Block texts) xs = refl

@@ -1,35 +1,34 @@
 -- The steps of the loops that write rows and sequences as text, and the text of a form by its frame.
-use Rattle.std.proofs.Common.{ℕ, suc, Bool, true, false, ◌&&◌, ◌≡◌, ◌<◌, ◌≤◌, List, [], ◌∷◌, ◌++◌, ◌+◌, if◌then◌else◌, length, get_or, take, drop, ◌-◌, refl, sym, ap, ◌∙◌, append_assoc, arith}
-use Rattle.std.specs.Prelude.{Option, None, Some, nat_eq}
+use Rattle.std.proofs.Common.{ℕ, suc, Bool, true, false, ◌&&◌, ◌≡◌, ◌<◌, ◌≤◌, List, [], ◌∷◌, ◌++◌, ◌+◌, if◌then◌else◌, length, get_or, take, drop, ◌-◌, refl, sym, ap, ◌∙◌, append_assoc, arith, not, append-nil}
+use Rattle.std.specs.Prelude.{Option, None, Some, nat_eq, codes}
 use Rattle.std.specs.List.{flat_map}
-use Rattle.std.proofs.lemmas.List.{drop_all, drop_more, take_all, length-drop}
+use Rattle.std.proofs.lemmas.List.{drop_all, drop_more, take_all, length-drop, length-map}
 use Rattle.std.proofs.lemmas.Option.{same_Some}
+use Rattle.std.proofs.lemmas.Bool.{both_ways, or_left, or_right}
+use Rattle.std.specs.Cmp.Derive.{both_true}
+use Rattle.bz_token.specs.declared.class.Class.TheVariants as c
 use Rattle.bz_grammar.specs.declared.kind.Kind.{Kind}
-use Rattle.bz_value.specs.declared.value.Form.{Form}
-use Rattle.bz_value.specs.declared.value.Expr.{Expr}
-use Rattle.bz_value.specs.declared.value.Expr.TheVariants as e
+use Rattle.bz_grammar.specs.Shapes.{equals, has_token}
 use Rattle.bz_items.specs.Characters.{Bytes, comma}
+use Rattle.bz_value.specs.declared.value.Form.{Form}
+use Rattle.bz_value.specs.declared.value.Expr.{Expr, Token, Form'}
+use Rattle.bz_value.specs.declared.value.Expr.TheVariants as e
 use Rattle.bz_value.specs.Frames.{Frame, row, sequence, frame}
-use Rattle.bz_value.specs.Proper.{comments_of}
+use Rattle.bz_value.specs.Proper.{comments_of, has_break}
+use Rattle.bz_value.specs.declared.value.Item.{Item}
+use Rattle.bz_value.specs.Roots.{root}
 use Rattle.bz_layout.specs.declared.brackets.Brackets.{Brackets}
 use Rattle.bz_layout.specs.private.Brackets.{brackets_of}
 use Rattle.bz_layout.specs.Layout.{Piece, new_line_at, margin_lines, ended, suffix_text, stacked, joined, rowed, headed, laid_in, is_broken, is_tuple, gap_after, margin_after, firsts}
-use Rattle.bz_value.specs.declared.value.Item.{Item}
 use Rattle.bz_layout.specs.Written.{piece_text, text_of, item_text, layout}
 use Rattle.bz_layout.specs.LaidOut.{before_next}
 use Rattle.bz_layout.specs.Writings.{writings, row_text, head_text, comma_text, joined_text, stacked_item_text, stacked_text, sequence_text}
 use Rattle.bz_layout.specs.Drafts.{Drafted, pushed}
-use Rattle.bz_layout.proofs.Made.{text_Form}
+use Rattle.bz_layout.proofs.Made.{text_Form, values_of}
 use Rattle.bz_layout.proofs.Pushing.{pushed_end, pushed_twice}
 use Rattle.bz_layout.proofs.Spelled.{next_after}
-
-values_writings : (xs : List Expr) → firsts (writings xs) ≡ xs
-values_writings [] = refl
-values_writings (x ∷ xs) = ap (λ ys. x ∷ ys) (values_writings xs)
-
-length-writings : (xs : List Expr) → length (writings xs) ≡ length xs
-length-writings [] = refl
-length-writings (x ∷ xs) = ap suc (length-writings xs)
+use Rattle.bz_layout.specs.Spaces.{is_lone, is_prefix_mark, is_spaced, is_spaced_after, is_spaced_before}
+use Rattle.bz_layout.proofs.Elements.{this_leaf}
 
 abbrev written : List (Piece (ℕ → Bytes)) → Bytes
 written ps = flat_map piece_text ps
@@ -45,7 +44,7 @@ row_gap kind open_break m n x (y ∷ ys) = append_assoc (gap_after kind open_bre
 pub row_first : (kind : Kind) (open_break : Bool) (m n : ℕ) (x : Expr) (xs : List Expr) →
     row_text kind open_break m n (x ∷ xs) ≡ text_of x n ++ (gap_after kind open_break m x xs ++ row_text kind open_break m (margin_after open_break m x) xs)
 row_first kind open_break m n x xs =
-    ap (λ ys. text_of x n ++ written (rowed kind open_break m (gap_after kind open_break m x ys) (margin_after open_break m x) (writings xs))) (values_writings xs) ∙
+    ap (λ ys. text_of x n ++ written (rowed kind open_break m (gap_after kind open_break m x ys) (margin_after open_break m x) (writings xs))) (values_of text_of xs) ∙
     ap (λ t. text_of x n ++ t) (row_gap kind open_break m (margin_after open_break m x) x xs)
 
 pub row_next : (kind : Kind) (open_break : Bool) (m n : ℕ) (xs : List Expr) (k : ℕ) (d : Expr) → k < length xs →
@@ -149,8 +148,8 @@ sequence_laid (sequence opener closer) b kind split open_break m hs xs end h =
     let after : List Expr → ℕ → List (Piece (ℕ → Bytes)) = λ ys n.
     if is_broken kind split ys end then stacked m None closer end (writings xs) else joined m [] closer (is_tuple kind && nat_eq n 1) (writings xs) in
     let all : List Expr → ℕ → Bytes = λ ys n. written (headed m [] opener (writings hs) (after ys n)) in
-    ap (λ ys. all ys (length (writings xs))) (values_writings xs) ∙
-    (ap (λ n. all xs n) (length-writings xs) ∙
+    ap (λ ys. all ys (length (writings xs))) (values_of text_of xs) ∙
+    (ap (λ n. all xs n) (length-map xs (λ x. (x, text_of x))) ∙
     (head_first m opener hs (after xs (length xs)) ∙
     (ap (λ t. head_text m hs ++ (opener ∷ t)) (chosen (is_broken kind split xs end) (is_tuple kind && nat_eq (length xs) 1) m closer end xs) ∙
     ap (λ z. head_text m hs ++ (z.opener ∷ (if is_broken kind split xs end then stacked_text m z.closer end xs else joined_text m z.closer (is_tuple kind && nat_eq (length xs) 1) xs))) is)))
@@ -181,3 +180,16 @@ layout_end d xs k l = pushed_end layout d xs k refl l
 pub layout_next : (xs : List Item) (k : ℕ) (d : Item) → k < length xs →
     layout (drop k xs) ≡ item_text (get_or xs k d) ++ (before_next (get_or xs k d) (drop (k + 1) xs) ++ layout (drop (k + 1) xs))
 layout_next xs k d h = ap layout (drop_more xs k d h) ∙ ap (λ t. item_text (get_or xs k d) ++ t) (sym (next_after (get_or xs k d) (drop (k + 1) xs)))
+
+-- ---- the row of a name, the sign `=` and a value on its line
+
+pub assignment_text : (kind : Kind) (open_break : Bool) (x s y : Expr) (m : ℕ) → open_break ≡ false → ((mark : Bytes) → is_prefix_mark kind mark ≡ false) → has_token equals (root s) ≡ true →
+    has_break s ≡ false → has_break x ≡ false → is_lone (root y) ≡ false → row_text kind open_break m m (x ∷ s ∷ y ∷ []) ≡ text_of x m ++ (codes " = " ++ text_of y m)
+assignment_text kind open_break x (Form' k s parts s' items end split o comments) y m closed plain sign unbroken above lone = absurd (both_ways false refl sign)
+assignment_text kind open_break x (Token t) y m closed plain sign unbroken above lone =
+    let is = this_leaf c.Mark (codes "=") (record { class = t.class; gap = []; token = t.text }) sign in
+    let before : is_spaced_before kind (root (e.Token t)) ≡ true = rw (is.0, is.1, plain (codes "=")) refl in
+    let after : is_spaced_after kind (root (e.Token t)) ≡ true = rw (is.0, is.1, plain (codes "=")) refl in
+    let one : is_spaced kind (root x) (root (e.Token t)) ≡ true = or_left _ _ (or_right _ _ (or_left _ _ before)) in
+    let two : is_spaced kind (root (e.Token t)) (root y) ≡ true = or_left _ _ (or_left _ _ (both_true after (ap not lone))) in
+    rw (closed, above, one, unbroken, two, is.1) (ap (λ z. text_of x m ++ (codes " = " ++ z)) (append-nil (text_of y m)))

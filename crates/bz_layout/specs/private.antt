@@ -1,6 +1,5 @@
 -- What the contracts of private functions cite, and no contract of a public call reaches: nobody has to trust it.
 pub mod Brackets
 pub mod Reached
-pub mod RowGaps
 pub mod Spines
 pub mod Windows

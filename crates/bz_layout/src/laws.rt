@@ -9,6 +9,7 @@ pub fn flags_keep_layout()
 {}
 
 /// The layout of a proper file value reads as its tree, where it is within the limits of length and depth.
+#[tactic(auto, using(crate::proofs::LegalFiles::accepted))]
 pub fn layout_is_accepted()
     ensures { LayoutIsAccepted }
 {}
@@ -19,6 +20,7 @@ pub fn layout_reads_back()
 {}
 
 /// The layout of items after others is their own, after that of the others and the blank line between.
+#[tactic(auto, using(crate::proofs::Appending::layouts_join, crate::proofs::Appending::depths_join))]
 pub fn layouts_join()
     ensures text { LayoutsJoin }
     ensures depth { DepthsJoin }

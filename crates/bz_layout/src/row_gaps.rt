@@ -8,7 +8,6 @@ ghost use Rattle.bz_layout.specs.Layout as layout;
 ghost use Rattle.bz_layout.specs.Spaces.{is_prefix_mark};
 ghost use Rattle.bz_layout.specs.Written.{text_of};
 ghost use Rattle.bz_layout.specs.Writings.{row_text};
-ghost use Rattle.bz_layout.specs.private.RowGaps.{written_gap};
 ghost use Rattle.bz_value.specs.Roots.{root};
 
 use crate::draft::Draft;
@@ -18,15 +17,6 @@ use crate::spaces::is_lone;
 use bz_grammar::{Class, Kind};
 use bz_items::Memory;
 use bz_value::{Expr, Form};
-
-/// The gap between two parts of a row.
-#[derive(Clone, Copy)]
-pub enum RowGap {
-    Nothing,
-    Space,
-    /// A new line at this margin.
-    Line(usize),
-}
 
 /// The expressions after the one at this place.
 pub fn others(exprs: &[Expr], at: usize) -> &[Expr]
@@ -43,29 +33,6 @@ fn has_break(expr: &Expr) -> bool
         Expr::Token(token) => token.line_break,
         Expr::Form(_) => false,
     }
-}
-
-/// The gap after a part of a row, before the others. The error: no text is that wide.
-#[inline(always)]
-pub fn gap_after(form: &Form, margin: usize, part: &Expr, others: &[Expr]) -> Result<RowGap, Memory>
-    ensures { IfOk result (λ gap. written_gap gap ≡ layout.gap_after form.now.kind form.now.open_break margin part.now others.now) }
-{
-    let [next, rest @ ..] = others else {
-        return Ok(RowGap::Nothing);
-    };
-    if form.open_break {
-        if rest.is_empty() {
-            return Ok(RowGap::Line(margin));
-        }
-        return Ok(RowGap::Line(deeper_margin(margin)?));
-    }
-    if has_break(part) {
-        return Ok(RowGap::Line(deeper_margin(margin)?));
-    }
-    if is_spaced(form.kind, part, next) {
-        return Ok(RowGap::Space);
-    }
-    Ok(RowGap::Nothing)
 }
 
 /// Whether a row of the kind is of a name, a sign and a value.
@@ -86,7 +53,7 @@ fn is_equals(expr: &Expr) -> bool
 }
 
 /// Whether these parts are a name, the sign `=` and a value on its line, as those of most rows are.
-#[tactic(auto, using(crate::proofs::Assignments::assignment_text))]
+#[tactic(auto, using(crate::proofs::Writing::assignment_text))]
 pub fn is_assignment(form: &Form, name: &Expr, sign: &Expr, value: &Expr) -> bool
     ensures { IsTrue result → (margin : ℕ) → row_text form.now.kind form.now.open_break margin margin (name.now ∷ sign.now ∷ value.now ∷ [])
         ≡ text_of name.now margin ++ (codes " = " ++ text_of value.now margin) }
@@ -111,21 +78,8 @@ pub fn margin_after(form: &Form, margin: usize, part: &Expr) -> Result<usize, Me
     }
 }
 
-#[tactic(auto, using(crate::proofs::Pushing::pushed_none))]
-fn push_gap(out: &mut Draft, gap: RowGap) -> Result<(), Memory>
-    ensures { OnOk result (out.new ≡ pushed out.old (written_gap gap)) }
-{
-    match gap {
-        RowGap::Nothing => Ok(()),
-        RowGap::Space => {
-            out.push(b' ')?;
-            Ok(())
-        }
-        RowGap::Line(margin) => out.push_new_line(margin),
-    }
-}
-
 /// Appends the gap after a part of a row, before the others. The error: a growth was refused.
+#[tactic(auto, using(crate::proofs::Pushing::pushed_none))]
 pub fn push_row_gap(
     out: &mut Draft,
     form: &Form,
@@ -135,5 +89,17 @@ pub fn push_row_gap(
 ) -> Result<(), Memory>
     ensures { OnOk result (out.new ≡ pushed out.old (layout.gap_after form.now.kind form.now.open_break margin part.now others.now)) }
 {
-    push_gap(out, gap_after(form, margin, part, others)?)
+    let [next, rest @ ..] = others else {
+        return Ok(());
+    };
+    if form.open_break && rest.is_empty() {
+        return out.push_new_line(margin);
+    }
+    if form.open_break || has_break(part) {
+        return out.push_new_line(deeper_margin(margin)?);
+    }
+    if is_spaced(form.kind, part, next) {
+        out.push(b' ')?;
+    }
+    Ok(())
 }
