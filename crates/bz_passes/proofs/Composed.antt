@@ -1,56 +1,76 @@
 -- The changes of single statements leave the comments above them as they are: so passes in turn are one pass.
-use Rattle.std.proofs.Common.{Bool, true, false, List, [], ◌∷◌, ◌≡◌, refl, ap, ◌∙◌, map, if◌then◌else◌, inl, inr}
+use Rattle.std.proofs.Common.{List, [], ◌∷◌, ◌≡◌, refl, ap, ◌∙◌, false, map, inl, inr}
 use Rattle.std.proofs.lemmas.Bool.{cases_Bool}
+use Rattle.bz_grammar.specs.declared.kind.Kind.{Kind}
 use Rattle.bz_grammar.specs.declared.kind.Kind.TheVariants as k
 use Rattle.bz_value.specs.declared.value.Expr.{Expr}
 use Rattle.bz_value.specs.declared.value.Item.{Item}
 use Rattle.bz_value.specs.declared.value.Item.TheVariants as i
 use Rattle.bz_items.specs.Characters.{Bytes}
-use Rattle.bz_rule.specs.Values.{has_kind, above, on_first, on_third, on_rest, on_lists}
+use Rattle.bz_rule.proofs.ProperChanges.{by_test}
+use Rattle.bz_rule.specs.Values.{has_kind, above, parts_of, items_of, with_parts, with_items, on_first, on_third, on_rest, on_lists}
+use Rattle.bz_passes.specs.Changes.{after_passes}
 use Rattle.bz_passes.specs.Orders.{sort_by}
 use Rattle.bz_passes.specs.Marks.{any_marked, leave_alone}
 use Rattle.bz_passes.specs.Lists.{settled_list}
-use Rattle.bz_passes.specs.Passes.{on_statement, taken, on_taken, on_call, on_rule_arguments, on_attribute, quoted, quotes, labelled_value, labels_in, labels, sorted_value, in_assign, lists_in, lists, argument_precedes, arguments_in, arguments, symbol_precedes, symbols_in, symbols}
+use Rattle.bz_passes.specs.Passes.{on_statement, taken, on_taken, on_call, on_rule_arguments, on_attribute, on_assigned, on_label_value, on_list_value, quotes_in, quotes, labels_in, labels, lists_in, lists, argument_precedes, arguments_in, arguments, symbol_precedes, symbols_in, symbols}
+use Rattle.bz_passes.specs.Strings.{shorter_string}
 use Rattle.bz_passes.proofs.Keeping.{both}
-use Rattle.bz_passes.proofs.Parts.{the_parts, the_items, above_quoted}
-use Rattle.bz_passes.proofs.Levels.{above_within}
+use Rattle.bz_passes.proofs.Parts.{the_parts, the_items, above_quoted, items_kind, kind_quoted, parts_kind}
+use Rattle.bz_passes.proofs.Levels.{above_put, within}
+
+-- ---- what the passes do not change
+
+-- What is seen of an expression without a look at its lists and at the texts of its strings.
+pub record IsOutside {A : Type 0} (seen : Expr → A) : Type 0 where
+  pub parts : (xs : List Expr) (x : Expr) → seen (with_parts xs x) ≡ seen x
+  pub items : (xs : List Expr) (x : Expr) → seen (with_items xs x) ≡ seen x
+  pub strings : (x : Expr) → seen (quotes_in x) ≡ seen x
+
+pub above_outside : IsOutside above
+above_outside = record { parts = above_put the_parts; items = above_put the_items; strings = above_quoted }
+
+pub kind_outside : (kind : Kind) → IsOutside (has_kind kind)
+kind_outside kind = record { parts = parts_kind kind; items = items_kind kind; strings = kind_quoted kind }
+
+module _ {A : Type 0} (seen : Expr → A) (outside : IsOutside seen) where
+  abbrev pub Stays : (Expr → Expr) → Type 0
+  Stays change = (x : Expr) → seen (change x) ≡ seen x
+
+  row_stays : (kind : Kind) (d : Expr → List Expr → List Expr) → Stays (within the_parts kind d)
+  row_stays kind d x = by_test (λ y. seen y ≡ seen x) (has_kind kind x) (with_parts (d x (parts_of x)) x) x (outside.parts (d x (parts_of x)) x) refl
+
+  rule_stays : (change : Bytes → List Expr → List Expr) → Stays (on_rule_arguments change)
+  rule_stays change = row_stays k.Bare (λ x. on_first (on_call change))
+
+  pub labels_stay : Stays labels_in
+  labels_stay = rule_stays (λ kind. map (on_attribute (on_label_value shorter_string)))
+
+  pub lists_stay : Stays lists_in
+  lists_stay x =
+      by_test (λ y. seen y ≡ seen x) (has_kind k.Assign x) (on_assigned settled_list x) (on_rule_arguments (λ kind. map (on_attribute (on_list_value settled_list kind))) x)
+      (row_stays k.Assign (λ y. on_third (on_lists (settled_list (above y) false))) x) (rule_stays (λ kind. map (on_attribute (on_list_value settled_list kind))) x)
+
+  pub arguments_stay : Stays arguments_in
+  arguments_stay = rule_stays (λ kind. sort_by argument_precedes)
+
+  pub symbols_stay : Stays symbols_in
+  symbols_stay x =
+      by_test (λ y. seen y ≡ seen x) (has_kind k.Load x) (with_items (on_rest (sort_by symbol_precedes) (items_of x)) x) x
+      (outside.items (on_rest (sort_by symbol_precedes) (items_of x)) x) refl
+
+  pub taken_stays : Stays (taken after_passes)
+  taken_stays x =
+      by_test (λ y. seen y ≡ seen x) (any_marked leave_alone (above x)) x (after_passes x) refl
+      (symbols_stay (arguments_in (lists_in (labels_in (quotes_in x))))
+      ∙ (arguments_stay (lists_in (labels_in (quotes_in x))) ∙ (lists_stay (labels_in (quotes_in x)) ∙ (labels_stay (quotes_in x) ∙ outside.strings x))))
+
+-- ---- passes in turn
 
 abbrev pub SameAbove : (Expr → Expr) → Type 0
 SameAbove change = (x : Expr) → above (change x) ≡ above x
 
--- ---- what is above
-
-pub quoted_above : SameAbove quoted
-quoted_above = above_quoted
-
-pub rule_above : (change : Bytes → List Expr → List Expr) → SameAbove (on_rule_arguments change)
-rule_above change = above_within the_parts k.Bare (λ x. on_first (on_call change))
-
-pub labels_above : SameAbove labels_in
-labels_above = rule_above (λ kind. map (on_attribute labelled_value))
-
-pub either_above : (b : Bool) (y z x : Expr) → above y ≡ above x → above z ≡ above x → above (if b then y else z) ≡ above x
-either_above true y z x h i = h
-either_above false y z x h i = i
-
-pub lists_above : SameAbove lists_in
-lists_above x =
-    either_above (has_kind k.Assign x) (in_assign x) (on_rule_arguments (λ kind. map (on_attribute (sorted_value kind))) x) x
-    (above_within the_parts k.Assign (λ y. on_third (on_lists (settled_list (above y) false))) x)
-    (rule_above (λ kind. map (on_attribute (sorted_value kind))) x)
-
-pub arguments_above : SameAbove arguments_in
-arguments_above = rule_above (λ kind. sort_by argument_precedes)
-
-pub symbols_above : SameAbove symbols_in
-symbols_above = above_within the_items k.Load (λ x. on_rest (sort_by symbol_precedes))
-
-pub composed_above : (f g : Expr → Expr) → SameAbove f → SameAbove g → SameAbove (λ x. g (f x))
-composed_above f g a b x = b (f x) ∙ a x
-
--- ---- passes in turn
-
-pub taken_composed : (f g : Expr → Expr) → SameAbove f → (x : Expr) → taken g (taken f x) ≡ taken (λ y. g (f y)) x
+taken_composed : (f g : Expr → Expr) → SameAbove f → (x : Expr) → taken g (taken f x) ≡ taken (λ y. g (f y)) x
 taken_composed f g a x = elim (cases_Bool (any_marked leave_alone (above x))) [
   | inl t ↦ rw (t, t) refl
   | inr n ↦ rw (n, a x, n) refl
@@ -60,21 +80,14 @@ statement_composed : (f g : Expr → Expr) → SameAbove f → (item : Item) →
 statement_composed f g a (i.Block lines) = refl
 statement_composed f g a (i.Stmt x) = ap i.Stmt (taken_composed f g a x)
 
-pub on_taken_composed : (f g : Expr → Expr) → SameAbove f → (items : List Item) → on_taken g (on_taken f items) ≡ on_taken (λ y. g (f y)) items
+on_taken_composed : (f g : Expr → Expr) → SameAbove f → (items : List Item) → on_taken g (on_taken f items) ≡ on_taken (λ y. g (f y)) items
 on_taken_composed f g a [] = refl
 on_taken_composed f g a (item ∷ items) = both (λ z zs. z ∷ zs) (statement_composed f g a item) (on_taken_composed f g a items)
 
 -- the five passes that go statement by statement, as one
-abbrev pub changed_in : Expr → Expr
-changed_in x = symbols_in (arguments_in (lists_in (labels_in (quoted x))))
-
-pub five_composed : (items : List Item) → symbols (arguments (lists (labels (quotes items)))) ≡ on_taken changed_in items
+pub five_composed : (items : List Item) → symbols (arguments (lists (labels (quotes items)))) ≡ on_taken after_passes items
 five_composed items =
-    let first : SameAbove quoted = quoted_above in
-    let second : SameAbove (λ x. labels_in (quoted x)) = composed_above quoted labels_in first labels_above in
-    let third : SameAbove (λ x. lists_in (labels_in (quoted x))) = composed_above (λ x. labels_in (quoted x)) lists_in second lists_above in
-    let fourth : SameAbove (λ x. arguments_in (lists_in (labels_in (quoted x)))) = composed_above (λ x. lists_in (labels_in (quoted x))) arguments_in third arguments_above in
-    ap (λ z. symbols (arguments (lists z))) (on_taken_composed quoted labels_in first items)
-    ∙ (ap (λ z. symbols (arguments z)) (on_taken_composed (λ x. labels_in (quoted x)) lists_in second items)
-    ∙ (ap symbols (on_taken_composed (λ x. lists_in (labels_in (quoted x))) arguments_in third items)
-    ∙ on_taken_composed (λ x. arguments_in (lists_in (labels_in (quoted x)))) symbols_in fourth items))
+    on_taken_composed arguments_in symbols_in (arguments_stay above above_outside) (lists (labels (quotes items)))
+    ∙ (on_taken_composed lists_in (λ y. symbols_in (arguments_in y)) (lists_stay above above_outside) (labels (quotes items))
+    ∙ (on_taken_composed labels_in (λ y. symbols_in (arguments_in (lists_in y))) (labels_stay above above_outside) (quotes items)
+    ∙ on_taken_composed quotes_in (λ y. symbols_in (arguments_in (lists_in (labels_in y)))) above_quoted items))

@@ -1,23 +1,11 @@
 -- Runs: what no item passes cuts a list, and each piece is sorted by itself.
-use Rattle.std.proofs.Common.{ℕ, suc, ◌+◌, ◌-◌, ◌<◌, ◌≤◌, Bool, true, false, ◌&&◌, List, [], ◌∷◌, ◌++◌, ◌≡◌, refl, sym, ap, ap₂, ◌∙◌, subst, inl, inr, if◌then◌else◌, arith, length, take, drop, get_or, slice_range, append_assoc, drop-drop, drop_at, length-append, length-take-le, take-append-drop, take_at}
+use Rattle.std.proofs.Common.{ℕ, ◌+◌, ◌-◌, ◌<◌, ◌≤◌, Bool, true, false, ◌&&◌, List, [], ◌∷◌, ◌++◌, ◌≡◌, refl, sym, ap, ap₂, ◌∙◌, subst, inl, inr, if◌then◌else◌, arith, length, take, drop, get_or, slice_range, append_assoc, drop-drop, drop_at, length-append, length-take-le, take-append-drop, take_at}
 use Rattle.std.proofs.lemmas.List.{drop_more}
 use Rattle.std.proofs.lemmas.List.Edits.{length-between}
 use Rattle.std.specs.List.{AllByRecursion}
 use Rattle.std.proofs.lemmas.Bool.{cases_Bool, and_right, and_left}
 use Rattle.bz_passes.specs.Orders.{insert_by, sort_by}
-use Rattle.bz_passes.proofs.Sorting.{sort_all}
-
-module _ {X : Type 0} (lt : X → X → Bool) where
-  insert_length : (x : X) (xs : List X) → length (insert_by lt x xs) ≡ suc (length xs)
-  insert_length x [] = refl
-  insert_length x (y ∷ ys) = elim (cases_Bool (lt y x)) [
-    | inl t ↦ rw t (ap suc (insert_length x ys))
-    | inr f ↦ rw f refl
-  ]
-
-  pub sort_length : (xs : List X) → length (sort_by lt xs) ≡ length xs
-  sort_length [] = refl
-  sort_length (x ∷ xs) = insert_length x (sort_by lt xs) ∙ ap suc (sort_length xs)
+use Rattle.bz_passes.proofs.Sorting.{compared, sort_all, sort_length}
 
 module _ {X : Type 0} (lt : X → X → Bool) (bar : X) (before : (x : X) → lt bar x ≡ false) (following : (x : X) → lt x bar ≡ false) where
   insert_bar : (ys : List X) → insert_by lt bar ys ≡ bar ∷ ys
@@ -31,54 +19,50 @@ module _ {X : Type 0} (lt : X → X → Bool) (bar : X) (before : (x : X) → lt
     | inr f ↦ rw f refl
   ]
 
-  pub sort_cut : (xs ys : List X) → sort_by lt (xs ++ bar ∷ ys) ≡ sort_by lt xs ++ bar ∷ sort_by lt ys
+  sort_cut : (xs ys : List X) → sort_by lt (xs ++ bar ∷ ys) ≡ sort_by lt xs ++ bar ∷ sort_by lt ys
   sort_cut [] ys = insert_bar (sort_by lt ys)
   sort_cut (x ∷ xs) ys = ap (insert_by lt x) (sort_cut xs ys) ∙ insert_front x (sort_by lt xs) (sort_by lt ys)
 
 -- ---- items of which only those that pass a test are compared
 
 module _ {X : Type 0} (p : X → Bool) (lt : X → X → Bool) where
-  abbrev pub compared : X → X → Bool
-  compared x y = p x && p y && lt x y
+  -- an item that doesn't pass it cuts
+  pub cut_at : (run rest : List X) (bar : X) → p bar ≡ false → sort_by (compared p lt) (run ++ bar ∷ rest) ≡ sort_by (compared p lt) run ++ bar ∷ sort_by (compared p lt) rest
+  cut_at run rest bar f =
+      sort_cut (compared p lt) bar (λ x. and_left (p bar && p x) (lt bar x) (and_left (p bar) (p x) f)) (λ x. and_left (p x && p bar) (lt x bar) (and_right (p x) (p bar) f)) run rest
 
-  inserted : (x : X) (ys : List X) → p x ≡ true → AllByRecursion (λ y. p y ≡ true) ys → insert_by compared x ys ≡ insert_by lt x ys
+  inserted : (x : X) (ys : List X) → p x ≡ true → AllByRecursion (λ y. p y ≡ true) ys → insert_by (compared p lt) x ys ≡ insert_by lt x ys
   inserted x [] a h = refl
   inserted x (y ∷ ys) a h = rw (a, h.0) (ap (λ vs. if lt y x then y ∷ vs else x ∷ y ∷ ys) (inserted x ys a h.1))
 
   -- a run whose items all pass the test is sorted by the order alone
-  pub run_sorted : (xs : List X) → AllByRecursion (λ x. p x ≡ true) xs → sort_by compared xs ≡ sort_by lt xs
+  pub run_sorted : (xs : List X) → AllByRecursion (λ x. p x ≡ true) xs → sort_by (compared p lt) xs ≡ sort_by lt xs
   run_sorted [] h = refl
-  run_sorted (x ∷ xs) h = ap (insert_by compared x) (run_sorted xs h.1) ∙ inserted x (sort_by lt xs) h.0 (sort_all lt (λ y. p y ≡ true) xs h.1)
-
-  all_more : (Q : X → Type 0) (xs : List X) (x : X) → AllByRecursion Q xs → Q x → AllByRecursion Q (xs ++ x ∷ [])
-  all_more Q [] x h q = (q, tt)
-  all_more Q (y ∷ ys) x h q = (h.0, all_more Q ys x h.1 q)
+  run_sorted (x ∷ xs) h = ap (insert_by (compared p lt) x) (run_sorted xs h.1) ∙ inserted x (sort_by lt xs) h.0 (sort_all lt (λ y. p y ≡ true) xs h.1)
 
   pub none_yet : (items : List X) (at : ℕ) → AllByRecursion (λ y. p y ≡ true) (slice_range items at at)
   none_yet items at = let none : 0 ≡ at - at = omega arith in subst (λ n. AllByRecursion (λ y. p y ≡ true) (take n (drop at items))) none tt
 
   -- the item after a run ends it, and the run was sorted
   pub run_out : (items new whole : List X) (from at : ℕ) (x : X) → from ≤ at → at < length items → x ≡ get_or items at x → p x ≡ false
-      → new ≡ take from items ++ sort_by compared (slice_range items from at) ++ drop at items
-      → take from items ++ sort_by compared (drop from items) ≡ whole → take (at + 1) new ++ sort_by compared (drop (at + 1) new) ≡ whole
+      → new ≡ take from items ++ sort_by (compared p lt) (slice_range items from at) ++ drop at items
+      → take from items ++ sort_by (compared p lt) (drop from items) ≡ whole → take (at + 1) new ++ sort_by (compared p lt) (drop (at + 1) new) ≡ whole
   run_out items new whole from at x a b is f n h =
       let run : List X = slice_range items from at in
       let left : List X = drop (at + 1) items in
-      let sorted : List X = sort_by compared run in
+      let sorted : List X = sort_by (compared p lt) run in
       let front : List X = (take from items ++ sorted) ++ x ∷ [] in
-      let first : (y : X) → compared x y ≡ false = λ y. and_left (p x && p y) (lt x y) (and_left (p x) (p y) f) in
-      let second : (y : X) → compared y x ≡ false = λ y. and_left (p y && p x) (lt y x) (and_right (p y) (p x) f) in
       let rest : drop at items ≡ x ∷ left = drop_more items at x b ∙ ap (λ z. z ∷ left) (sym is) in
       let sum : from + (at - from) ≡ at = omega (arith, a) in
       let cut : drop from items ≡ run ++ x ∷ left =
       sym (take-append-drop (at - from) (drop from items)) ∙ ap (λ z. run ++ z) (drop-drop (at - from) from items ∙ (ap (λ k. drop k items) sum ∙ rest)) in
       let before : length (take from items) ≡ from = length-take-le from items (omega (arith, a, b)) in
       let many : length front ≡ at + 1 =
-      omega (arith, sum, before, length-append (take from items ++ sorted) (x ∷ []), length-append (take from items) sorted, sort_length compared run, length-between items from at (omega (arith, b))) in
+      omega (arith, sum, before, length-append (take from items ++ sorted) (x ∷ []), length-append (take from items) sorted, sort_length (compared p lt) run, length-between items from at (omega (arith, b))) in
       let parts : new ≡ front ++ left =
       n ∙ (ap (λ z. take from items ++ sorted ++ z) rest ∙ sym (append_assoc (take from items ++ sorted) (x ∷ []) left)) in
-      ap (λ z. take (at + 1) z ++ sort_by compared (drop (at + 1) z)) parts
-      ∙ (ap₂ (λ z zs. z ++ sort_by compared zs) (take_at front left (at + 1) many) (drop_at front left (at + 1) many)
-      ∙ (append_assoc (take from items ++ sorted) (x ∷ []) (sort_by compared left)
-      ∙ (append_assoc (take from items) sorted (x ∷ sort_by compared left)
-      ∙ (ap (λ z. take from items ++ z) (sym (ap (sort_by compared) cut ∙ sort_cut compared x first second run left)) ∙ h))))
+      ap (λ z. take (at + 1) z ++ sort_by (compared p lt) (drop (at + 1) z)) parts
+      ∙ (ap₂ (λ z zs. z ++ sort_by (compared p lt) zs) (take_at front left (at + 1) many) (drop_at front left (at + 1) many)
+      ∙ (append_assoc (take from items ++ sorted) (x ∷ []) (sort_by (compared p lt) left)
+      ∙ (append_assoc (take from items) sorted (x ∷ sort_by (compared p lt) left)
+      ∙ (ap (λ z. take from items ++ z) (sym (ap (sort_by (compared p lt)) cut ∙ cut_at run left x f)) ∙ h))))

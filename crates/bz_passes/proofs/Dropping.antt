@@ -6,6 +6,8 @@ use Rattle.std.specs.Str.{bytes_eq}
 use Rattle.std.specs.Ordering.{is_lt, ordering_reverse}
 use Rattle.std.specs.declared.cmp.Ordering.{Ordering}
 use Rattle.std.specs.declared.cmp.Ordering.TheVariants.{Less, Equal, Greater}
+use Rattle.std.proofs.Math.Bool.{or_comm}
+use Rattle.std.proofs.lemmas.Bool.{and_parts, and_right}
 use Rattle.std.proofs.lemmas.List.Folds.{list_any-append}
 use Rattle.std.proofs.lemmas.Slice.Eq.{bytes_eq-Decides}
 use Rattle.bz_label.specs.Keys.{key_order}
@@ -17,6 +19,7 @@ use Rattle.bz_rule.specs.QuoteMarks.{between}
 use Rattle.bz_passes.specs.Lists.{precedes, without_repeats, has_no_comment}
 use Rattle.bz_passes.specs.private.Repeats.{AreKept, sort_key, last_of, ties_last, precedes_last, is_text_at, repeats_at, tied_places}
 use Rattle.bz_passes.specs.Rising.{NoneBefore, Rises}
+use Rattle.bz_passes.proofs.Keeping.{all_joined}
 
 -- ---- keys of which none comes before the other
 
@@ -32,18 +35,12 @@ same_key a b h k = key_ties a b (neither (key_order a b) (key_order b a) (key_to
 
 -- ---- tests
 
-or_swap : (a b : Bool) → (a || b) ≡ (b || a)
-or_swap true true = refl
-or_swap true false = refl
-or_swap false true = refl
-or_swap false false = refl
-
 or_none : (a : Bool) → (a || false) ≡ a
 or_none true = refl
 or_none false = refl
 
 new_token : (b a c d p : Bool) → (a ≡ true → b ≡ true) → (b ≡ true → c ≡ d) → (c ≡ true → b ≡ true) → (a || (c && p)) ≡ (b && ((d && p) || a))
-new_token true a c d p f g h = ap (λ z. a || (z && p)) (g refl) ∙ or_swap a (d && p)
+new_token true a c d p f g h = ap (λ z. a || (z && p)) (g refl) ∙ or_comm a (d && p)
 new_token false true c d p f g h = let e : false ≡ true = f refl in cc
 new_token false false true d p f g h = let e : false ≡ true = h refl in cc
 new_token false false false d p f g h = refl
@@ -54,10 +51,6 @@ old_token true false c p f g h i = ap (λ z. z && p) (g refl)
 old_token false true c p f g h i = let e : false ≡ true = f refl in cc
 old_token false false true p f g h i = let e : false ≡ true = h refl in cc
 old_token false false false p f g h i = refl
-
-both_true : (a b : Bool) → (a && b) ≡ true → (a ≡ true) × (b ≡ true)
-both_true true b e = (refl, e)
-both_true false b e = let f : false ≡ true = e in cc
 
 -- ---- places
 
@@ -70,10 +63,6 @@ module _ {X : Type 0} where
   unchanged [] x i h = absurd (omega arith)
   unchanged (y ∷ xs) x zero h = refl
   unchanged (y ∷ xs) x (suc i) h = unchanged xs x i (omega arith)
-
-  all_after : (P : X → Type 0) (xs : List X) (x : X) → AllByRecursion P xs → P x → AllByRecursion P (xs ++ x ∷ [])
-  all_after P [] x h p = (p, tt)
-  all_after P (y ∷ xs) x h p = (h.0, all_after P xs x h.1 p)
 
 length_pushed : (kept : List Expr) (x : Expr) → length (kept ++ x ∷ []) ≡ length kept + 1
 length_pushed kept x = length-append kept (x ∷ [])
@@ -161,7 +150,7 @@ module _ (kept : List Expr) (places : List ℕ) (earlier : List Bytes) (x : Expr
 
   seen_old : (y : Expr) → repeats_at kept tied (text_of x) ≡ true → precedes y x ≡ false → Sees kept places earlier y → Sees (kept ++ x ∷ []) tied (text_of x ∷ earlier) y
   seen_old y t n s =
-      let joined : (ties_last kept x ≡ true) × (repeats_at kept places (text_of x) ≡ true) = both_true (ties_last kept x) (repeats_at kept places (text_of x)) (sym (seen_text x) ∙ t) in
+      let joined : (ties_last kept x ≡ true) × (repeats_at kept places (text_of x) ≡ true) = and_parts (ties_last kept x) (repeats_at kept places (text_of x)) (sym (seen_text x) ∙ t) in
       let e : repeats_at (kept ++ x ∷ []) tied (text_of y) ≡ repeats_at kept places (text_of y) =
       stands_more kept x tied (text_of y) within ∙ (seen_text y ∙ ap (λ z. z && repeats_at kept places (text_of y)) joined.0) in (
         precedes_pushed kept x y ∙ n,
@@ -192,17 +181,13 @@ kept_goes kept rest all earlier x h g =
     append_assoc kept (x ∷ []) (without_repeats (text_of x ∷ earlier) rest)
     ∙ (ap (λ (t : Bool). kept ++ (if t then without_repeats earlier rest else (x ∷ without_repeats (text_of x ∷ earlier) rest))) (sym h) ∙ g)
 
-and_none : (a : Bool) → (a && false) ≡ false
-and_none true = refl
-and_none false = refl
-
 pub turn_new : (all kept : List Expr) (places : List ℕ) (rest : List Expr) (x : Expr) → repeats_at kept (tied_places kept x places) (text_of x) ≡ false
     → AreKept all kept places (x ∷ rest) → AreKept all (kept ++ x ∷ []) (tied_places kept x places ++ length kept ∷ []) rest
 turn_new all kept places rest x f k = record {
   earlier = text_of x ∷ k.earlier;
-  goes = kept_goes kept rest all k.earlier x (ap (λ z. has_no_comment x && z) (stands_earlier kept places k.earlier x k.within k.sees.0 ∙ f) ∙ and_none (has_no_comment x)) k.goes;
-  within = all_after (λ place. place < length (kept ++ x ∷ [])) (tied_places kept x places) (length kept)
-      (within_more kept x (tied_places kept x places) (within_tied kept (ties_last kept x) places k.within)) (omega (arith, length_pushed kept x));
+  goes = kept_goes kept rest all k.earlier x (ap (λ z. has_no_comment x && z) (stands_earlier kept places k.earlier x k.within k.sees.0 ∙ f) ∙ and_right (has_no_comment x) false refl) k.goes;
+  within = all_joined (λ place. place < length (kept ++ x ∷ [])) (tied_places kept x places) (length kept ∷ [])
+      (within_more kept x (tied_places kept x places) (within_tied kept (ties_last kept x) places k.within)) (omega (arith, length_pushed kept x), tt);
   sees = all_new kept places k.earlier x k.within k.sees.0 rest k.rises.0 k.sees.1;
   rises = k.rises.1;
 }
@@ -221,7 +206,7 @@ pub turn_dropped : (all kept : List Expr) (places : List ℕ) (rest : List Expr)
     → AreKept all kept places (x ∷ rest) → AreKept all kept (tied_places kept x places) rest
 turn_dropped all kept places rest x t h k =
     let joined : (ties_last kept x ≡ true) × (repeats_at kept places (text_of x) ≡ true) =
-    both_true (ties_last kept x) (repeats_at kept places (text_of x)) (sym (stands_tied kept (ties_last kept x) places (text_of x)) ∙ t) in
+    and_parts (ties_last kept x) (repeats_at kept places (text_of x)) (sym (stands_tied kept (ties_last kept x) places (text_of x)) ∙ t) in
     let same : places ≡ tied_places kept x places = ap (λ (d : Bool). if d then places else []) (sym joined.0) in
     let skip : (has_no_comment x && list_any (bytes_eq (text_of x)) k.earlier) ≡ true =
     ap (λ z. z && list_any (bytes_eq (text_of x)) k.earlier) h ∙ (stands_earlier kept places k.earlier x k.within k.sees.0 ∙ t) in

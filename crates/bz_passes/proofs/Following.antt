@@ -1,6 +1,6 @@
 -- Arguments of which none precedes the one right before it: sorted they stay.
-use Rattle.std.proofs.Common.{ℕ, ◌+◌, ◌<◌, ◌≤◌, false, List, ◌∷◌, ◌≡◌, sym, ap, subst, ◌∙◌, length, get_or, drop}
-use Rattle.std.proofs.lemmas.List.{drop_all, drop_more}
+use Rattle.std.proofs.Common.{ℕ, ◌≤◌, List, ◌∷◌, ◌≡◌, sym, subst, length, drop}
+use Rattle.std.proofs.lemmas.List.{drop_all}
 use Rattle.bz_value.specs.declared.value.Expr.{Expr}
 use Rattle.bz_passes.specs.Orders.{sort_by}
 use Rattle.bz_passes.specs.Passes.{argument_precedes}
@@ -8,12 +8,6 @@ use Rattle.bz_passes.proofs.Sorting.{Ordered, ordered_stays}
 
 abbrev pub InOrder : List Expr → Type 0
 InOrder xs = Ordered argument_precedes xs
-
-pub follows_next : (all : Type 0) (above x : Expr) (xs : List Expr) (k : ℕ) → k < length xs → x ≡ get_or xs k x → argument_precedes x above ≡ false →
-    (InOrder (above ∷ drop k xs) → all) → InOrder (x ∷ drop (k + 1) xs) → all
-follows_next all above x xs k h is not_before so rest =
-    let here : drop k xs ≡ x ∷ drop (k + 1) xs = drop_more xs k x h ∙ ap (λ z. z ∷ drop (k + 1) xs) (sym is) in
-    so (subst (λ zs. InOrder (above ∷ zs)) (sym here) (not_before, rest))
 
 pub follows_none : (first above : Expr) (xs : List Expr) (k : ℕ) → length xs ≤ k → (InOrder (above ∷ drop k xs) → InOrder (first ∷ xs)) → sort_by argument_precedes (first ∷ xs) ≡ first ∷ xs
 follows_none first above xs k h so = ordered_stays argument_precedes (first ∷ xs) (so (subst (λ zs. InOrder (above ∷ zs)) (sym (drop_all k xs h)) (tt, tt)))

@@ -1,7 +1,8 @@
 -- The passes on single expressions: double quote marks everywhere, a shorter label, settled flags.
-use Rattle.std.proofs.Common.{suc, Bool, not, ◌&&◌, ◌||◌, List, [], ◌∷◌, ◌≡◌, refl, sym, ap, ◌∙◌, map, inl, inr}
+use Rattle.std.proofs.Common.{Bool, not, ◌&&◌, ◌||◌, List, [], ◌∷◌, ◌≡◌, refl, sym, ap, ◌∙◌, map, inl, inr}
 use Rattle.std.specs.Prelude.{length, nat_le}
 use Rattle.std.proofs.lemmas.Bool.{cases_Bool}
+use Rattle.std.proofs.lemmas.List.{length-map}
 use Rattle.bz_token.specs.declared.class.Class.TheVariants as c
 use Rattle.bz_grammar.specs.declared.kind.Kind.{Kind}
 use Rattle.bz_grammar.specs.Shapes.{is_class}
@@ -17,8 +18,8 @@ use Rattle.bz_layout.specs.Flags.{settled_split, with_flags, each_with_flags, it
 use Rattle.bz_layout.proofs.Flagged.{same_named, settled}
 use Rattle.bz_rule.specs.Values.{text_of, parts_of, items_of, with_above}
 use Rattle.bz_passes.specs.Strings.{with_double}
-use Rattle.bz_passes.specs.Passes.{quoted, each_quoted, labelled}
-use Rattle.bz_passes.proofs.Keeping.{Keeps, Settles, both, map_settles}
+use Rattle.bz_passes.specs.Passes.{quotes_in, each_on_strings, labelled}
+use Rattle.bz_passes.proofs.Keeping.{Keeps, Settles, both, map_settles, same_after, same_first}
 use Rattle.bz_passes.proofs.Parts.{made, flags_row, flags_Form, quoted_Form, parts_quoted, items_quoted, comments_flags}
 use Rattle.bz_passes.proofs.Strung.{double_settles, string_settles, string_keeps}
 
@@ -42,7 +43,7 @@ under_labelled lines (Token t) = elim (cases_Bool (is_class t.class c.String)) [
 ]
 under_labelled lines (Form' kind s parts s' items end split open_break comments) = refl
 
-pub labelled_keeps_quoted : Keeps labelled quoted
+pub labelled_keeps_quoted : Keeps labelled quotes_in
 labelled_keeps_quoted (Token t) h = elim (cases_Bool (is_class t.class c.String)) [
   | inl w ↦
       let h' : e.Token (record t { text = with_double t.text }) ≡ e.Token t = rw w at h in
@@ -54,24 +55,20 @@ labelled_keeps_quoted (Form' kind s parts s' items end split open_break comments
 -- ---- double quote marks everywhere
 
 mutual
-  pub quoted_settles : Settles quoted
+  pub quoted_settles : Settles quotes_in
   quoted_settles (Token t) = elim (cases_Bool (is_class t.class c.String)) [
     | inl w ↦ rw w (ap (λ z. e.Token (record t { text = z })) (double_settles t.text))
     | inr w ↦ rw w refl
   ]
   quoted_settles (Form' kind s parts s' items end split open_break comments) =
-      quoted_Form (made kind (each_quoted parts) (each_quoted items) end split open_break comments)
+      quoted_Form (made kind (each_on_strings with_double parts) (each_on_strings with_double items) end split open_break comments)
       ∙ both (λ p i. e.Form (made kind p i end split open_break comments)) (row_settles _ parts) (row_settles _ items)
 
-  row_settles : (m : _) (r : Row_of-Expr m) → map quoted (each_quoted r) ≡ each_quoted r
+  row_settles : (m : _) (r : Row_of-Expr m) → map quotes_in (each_on_strings with_double r) ≡ each_on_strings with_double r
   row_settles m end_of-Expr = refl
   row_settles m (more_of-Expr x rest) = both (λ z zs. z ∷ zs) (quoted_settles x) (row_settles _ rest)
 
 -- ---- flags
-
-same_length : (xs : List Expr) → length (map with_flags xs) ≡ length xs
-same_length [] = refl
-same_length (x ∷ xs) = ap suc (same_length xs)
 
 same_empty : (xs : List Expr) → is_empty (map with_flags xs) ≡ is_empty xs
 same_empty [] = refl
@@ -88,7 +85,7 @@ same_has_named (x ∷ xs) = both (λ a b. a || b) (same_named x) (same_has_named
 pub same_split : (f : Frame) (kind : Kind) (split : Bool) (xs : List Expr) (end : List Bytes) → settled_split f kind (settled_split f kind split xs end) (map with_flags xs) end ≡ settled_split f kind split xs end
 same_split row kind split xs end = refl
 same_split (sequence opener closer) kind split xs end =
-    rw (same_comments xs, same_length xs, same_has_named xs, same_empty xs)
+    rw (same_comments xs, length-map xs with_flags, same_has_named xs, same_empty xs)
     (settled (has_comments xs) (not (is_empty end)) (nat_le 2 (length xs) && (is_listed kind || (is_call kind && has_named xs))) split (not (is_empty xs)))
 
 mutual
@@ -112,14 +109,8 @@ item_settles (i.Stmt x) = ap i.Stmt (flags_settle x)
 pub flags_settled : Settles flags
 flags_settled = map_settles item_with_flags item_settles
 
-first_fixed : (x : Expr) (xs : List Expr) → map quoted (x ∷ xs) ≡ x ∷ xs → quoted x ≡ x
-first_fixed x xs h = cc
-
-rest_fixed : (x : Expr) (xs : List Expr) → map quoted (x ∷ xs) ≡ x ∷ xs → map quoted xs ≡ xs
-rest_fixed x xs h = cc
-
 mutual
-  pub flags_keep_quoted : Keeps with_flags quoted
+  pub flags_keep_quoted : Keeps with_flags quotes_in
   flags_keep_quoted (Token t) h = h
   flags_keep_quoted (Form' kind s parts s' items end split open_break comments) h =
       let flag : Bool = settled_split (frame kind) kind split (items-the_row-Expr _ items) end in
@@ -128,6 +119,6 @@ mutual
       (row_keep _ parts (sym (parts_quoted (Form' kind s parts s' items end split open_break comments)) ∙ ap parts_of h))
       (row_keep _ items (sym (items_quoted (Form' kind s parts s' items end split open_break comments)) ∙ ap items_of h))
 
-  row_keep : (m : _) (r : Row_of-Expr m) → map quoted (items-the_row-Expr m r) ≡ items-the_row-Expr m r → map quoted (each_with_flags r) ≡ each_with_flags r
+  row_keep : (m : _) (r : Row_of-Expr m) → map quotes_in (items-the_row-Expr m r) ≡ items-the_row-Expr m r → map quotes_in (each_with_flags r) ≡ each_with_flags r
   row_keep m end_of-Expr h = refl
-  row_keep m (more_of-Expr x rest) h = both (λ z zs. z ∷ zs) (flags_keep_quoted x (first_fixed x (items-the_row-Expr _ rest) h)) (row_keep _ rest (rest_fixed x (items-the_row-Expr _ rest) h))
+  row_keep m (more_of-Expr x rest) h = both (λ z zs. z ∷ zs) (flags_keep_quoted x (same_first (quotes_in x) x (map quotes_in (items-the_row-Expr _ rest)) (items-the_row-Expr _ rest) h)) (row_keep _ rest (same_after (quotes_in x) x (map quotes_in (items-the_row-Expr _ rest)) (items-the_row-Expr _ rest) h))

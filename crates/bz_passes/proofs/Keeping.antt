@@ -1,6 +1,9 @@
 -- Changes that keep what a pass leaves as it is. A pass stays where a later change keeps it: so passes in turn settle.
-use Rattle.std.proofs.Common.{Bool, List, [], ◌∷◌, ◌≡◌, refl, ap, ◌∙◌, map, if◌then◌else◌, inl, inr}
+use Rattle.std.proofs.Common.{Bool, List, [], ◌∷◌, ◌++◌, ◌≡◌, refl, sym, ap, ◌∙◌, subst, map, if◌then◌else◌, inl, inr}
+use Rattle.std.proofs.Math.Path.{fun_ext}
 use Rattle.std.proofs.lemmas.Bool.{cases_Bool}
+use Rattle.std.specs.List.{AllByRecursion}
+use Rattle.bz_rule.proofs.ProperChanges.{by_test}
 use Rattle.bz_rule.specs.Values.{on_first, on_third, on_rest}
 
 abbrev pub Keeps : {X : Type 0} → (X → X) → (X → X) → Type 0
@@ -20,6 +23,10 @@ module _ {X : Type 0} where
   same_after x y xs ys e = cc
 
   -- ---- lists
+  pub all_joined : (P : X → Type 0) (xs ys : List X) → AllByRecursion P xs → AllByRecursion P ys → AllByRecursion P (xs ++ ys)
+  all_joined P [] ys h i = i
+  all_joined P (x ∷ xs) ys h i = (h.0, all_joined P xs ys h.1 i)
+
   pub map_keeps : (f p : X → X) → Keeps f p → Keeps (map f) (map p)
   map_keeps f p h [] e = refl
   map_keeps f p h (x ∷ xs) e = both (λ z zs. z ∷ zs) (h x (same_first (p x) x (map p xs) xs e)) (map_keeps f p h xs (same_after (p x) x (map p xs) xs e))
@@ -44,37 +51,6 @@ module _ {X : Type 0} where
   map_keeps_first q p h [] e = refl
   map_keeps_first q p h (x ∷ xs) e = ap (λ z. z ∷ map q xs) (h x (same_first (p x) x xs xs e))
 
-  pub third_keeps : (f p : X → X) → Keeps f p → Keeps (on_third f) (on_third p)
-  third_keeps f p h [] e = refl
-  third_keeps f p h (x ∷ []) e = refl
-  third_keeps f p h (x ∷ y ∷ []) e = refl
-  third_keeps f p h (x ∷ y ∷ z ∷ zs) e =
-      ap (λ v. x ∷ y ∷ v ∷ zs) (h z (same_first (p z) z zs zs (same_after y y (p z ∷ zs) (z ∷ zs) (same_after x x (y ∷ p z ∷ zs) (y ∷ z ∷ zs) e))))
-
-  pub third_settles : (p : X → X) → Settles p → Settles (on_third p)
-  third_settles p h [] = refl
-  third_settles p h (x ∷ []) = refl
-  third_settles p h (x ∷ y ∷ []) = refl
-  third_settles p h (x ∷ y ∷ z ∷ zs) = ap (λ v. x ∷ y ∷ v ∷ zs) (h z)
-
-  pub third_keeps_map : (f q : X → X) → Keeps f q → Keeps (on_third f) (map q)
-  third_keeps_map f q h [] e = refl
-  third_keeps_map f q h (x ∷ []) e = e
-  third_keeps_map f q h (x ∷ y ∷ []) e = e
-  third_keeps_map f q h (x ∷ y ∷ z ∷ zs) e =
-      let a : map q (y ∷ z ∷ zs) ≡ y ∷ z ∷ zs = same_after (q x) x (map q (y ∷ z ∷ zs)) (y ∷ z ∷ zs) e in
-      let b : map q (z ∷ zs) ≡ z ∷ zs = same_after (q y) y (map q (z ∷ zs)) (z ∷ zs) a in
-      both (λ v vs. v ∷ vs) (same_first (q x) x (map q (y ∷ z ∷ zs)) (y ∷ z ∷ zs) e)
-      (both (λ v vs. v ∷ vs) (same_first (q y) y (map q (z ∷ zs)) (z ∷ zs) a)
-      (both (λ v vs. v ∷ vs) (h z (same_first (q z) z (map q zs) zs b)) (same_after (q z) z (map q zs) zs b)))
-
-  pub map_keeps_third : (q p : X → X) → Keeps q p → Keeps (map q) (on_third p)
-  map_keeps_third q p h [] e = refl
-  map_keeps_third q p h (x ∷ []) e = refl
-  map_keeps_third q p h (x ∷ y ∷ []) e = refl
-  map_keeps_third q p h (x ∷ y ∷ z ∷ zs) e =
-      ap (λ v. q x ∷ q y ∷ v ∷ map q zs) (h z (same_first (p z) z zs zs (same_after y y (p z ∷ zs) (z ∷ zs) (same_after x x (y ∷ p z ∷ zs) (y ∷ z ∷ zs) e))))
-
   pub after_settles : (g : List X → List X) → Settles g → Settles (on_rest g)
   after_settles g h [] = refl
   after_settles g h (x ∷ xs) = ap (λ z. x ∷ z) (h xs)
@@ -86,6 +62,33 @@ module _ {X : Type 0} where
   pub map_keeps_after : (q : X → X) (g : List X → List X) → Keeps (map q) g → Keeps (map q) (on_rest g)
   map_keeps_after q g h [] e = refl
   map_keeps_after q g h (x ∷ xs) e = ap (λ z. q x ∷ z) (h xs (same_after x x (g xs) xs e))
+
+  pub after_keeps : (g p : List X → List X) → Keeps g p → Keeps (on_rest g) (on_rest p)
+  after_keeps g p h [] e = refl
+  after_keeps g p h (x ∷ xs) e = ap (λ z. x ∷ z) (h xs (same_after x x (p xs) xs e))
+
+  -- the third is the first after two
+  third_at : (f : X → X) (xs : List X) → on_third f xs ≡ on_rest (on_rest (on_first f)) xs
+  third_at f [] = refl
+  third_at f (x ∷ []) = refl
+  third_at f (x ∷ y ∷ []) = refl
+  third_at f (x ∷ y ∷ z ∷ zs) = refl
+
+  pub third_is : (f : X → X) → on_rest (on_rest (on_first f)) ≡ on_third f
+  third_is f = fun_ext (λ xs. sym (third_at f xs))
+
+  pub third_keeps : (f p : X → X) → Keeps f p → Keeps (on_third f) (on_third p)
+  third_keeps f p h =
+      subst (λ g. Keeps g (on_third p)) (third_is f) (subst (Keeps (on_rest (on_rest (on_first f)))) (third_is p) (after_keeps _ _ (after_keeps _ _ (first_keeps f p h))))
+
+  pub third_settles : (p : X → X) → Settles p → Settles (on_third p)
+  third_settles p h = subst Settles (third_is p) (after_settles _ (after_settles _ (first_settles p h)))
+
+  pub third_keeps_map : (f q : X → X) → Keeps f q → Keeps (on_third f) (map q)
+  third_keeps_map f q h = subst (λ g. Keeps g (map q)) (third_is f) (after_keeps_map _ q (after_keeps_map _ q (first_keeps_map f q h)))
+
+  pub map_keeps_third : (q p : X → X) → Keeps q p → Keeps (map q) (on_third p)
+  map_keeps_third q p h = subst (Keeps (map q)) (third_is p) (map_keeps_after q _ (map_keeps_after q _ (map_keeps_first q p h)))
 
   -- ---- by a test
   pub test_keeps : (t : X → Bool) (f g p r : X → X) → ((x : X) → t (f x) ≡ t x) → ((x : X) → t (g x) ≡ t x) → Keeps f p → Keeps g r → Keeps (λ x. if t x then f x else g x) (λ x. if t x then p x else r x)
@@ -107,7 +110,4 @@ module _ {X : Type 0} where
   ]
 
   pub tested_keeps : (t : X → Bool) (f g p : X → X) → Keeps f p → Keeps g p → Keeps (λ x. if t x then f x else g x) p
-  tested_keeps t f g p u v x e = elim (cases_Bool (t x)) [
-    | inl w ↦ rw w (u x e)
-    | inr w ↦ rw w (v x e)
-  ]
+  tested_keeps t f g p u v x e = by_test (λ y. p y ≡ y) (t x) (f x) (g x) (u x e) (v x e)

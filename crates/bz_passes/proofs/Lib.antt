@@ -9,6 +9,7 @@ pub mod Parts
 pub mod Passing
 pub mod Levels
 pub mod Composed
+pub mod Weights
 pub mod Counts
 pub mod Listed
 pub mod Strung
@@ -16,7 +17,6 @@ pub mod Inner
 pub mod RuleKinds
 pub mod Places
 pub mod Settling
-pub mod LoadsKept
 pub mod Pieces
 pub mod Joining
 pub mod Walks

@@ -1,6 +1,6 @@
 -- The items of one list, sorted: sorted again they stay; what is kept of them; flags are not seen.
 use Rattle.std.proofs.Common.{ℕ, suc, ◌+◌, ◌-◌, ◌<◌, Bool, true, false, not, ◌&&◌, ◌||◌, List, [], ◌∷◌, ◌++◌, ◌≡◌, refl, sym, ap, subst, ◌∙◌, length, take, drop, get_or, map, inl, inr, arith, drop_at, take_at, length-append, length-drop, length-take-le, take-append-drop}
-use Rattle.std.proofs.lemmas.Bool.{cases_Bool, and_right, true≢false}
+use Rattle.std.proofs.lemmas.Bool.{cases_Bool, and_right, false_from_ne_true, true_from_ne_false, true≢false}
 use Rattle.std.proofs.lemmas.Slice.Eq.{bytes_eq-Decides}
 use Rattle.std.specs.List.{list_any, list_all, AllByRecursion, AllAdjacentBelow, IsAllAdjacentAnswer, slice_rotate_right}
 use Rattle.std.specs.Fn.{Called, ComputesOnPairs}
@@ -22,41 +22,24 @@ use Rattle.bz_value.specs.Proper.{comments_of}
 use Rattle.bz_rule.specs.Values.{has_class, text_of, above, with_above}
 use Rattle.bz_passes.specs.Orders.{insert_by, sort_by}
 use Rattle.bz_rule.specs.QuoteMarks.{between}
-use Rattle.bz_passes.specs.Marks.{keep_marks, other_comments}
+use Rattle.bz_passes.specs.Marks.{is_marked, keep_marks, keep_sorted, other_comments}
 use Rattle.bz_passes.specs.Lists.{above_first, has_above, is_taken, precedes, has_no_comment, without_repeats, in_order, without_marks, marked_by, sorted, settled_list}
+use Rattle.bz_passes.specs.Rising.{NoneBefore, Rises}
+use Rattle.bz_passes.specs.private.Ranks.{item_ranks}
 use Rattle.bz_passes.specs.private.Sorted.{Climbs, is_passed}
-use Rattle.bz_passes.proofs.Keeping.{Keeps, Settles, both, same_first, same_after}
-use Rattle.bz_passes.proofs.Sorting.{sort_all, Ordered, Starts, insert_starts, ordered_stays, sort_ordered, sort_map}
-
-pub order : IsStrictWeakOrder precedes
-order = ranks_by key_total (λ (x : Expr). between (text_of x))
+use Rattle.bz_passes.proofs.Keeping.{Keeps, Settles, all_joined, both, same_first, same_after}
+use Rattle.bz_rule.proofs.ProperChanges.{by_case, by_test}
+use Rattle.bz_rule.proofs.ProperItems.{all_kept}
+use Rattle.bz_passes.proofs.Sorting.{sort_all, Ordered, Starts, insert_starts, ordered_stays, sort_map}
+use Rattle.bz_passes.proofs.Stable.{after_too, sort_rises}
 
 -- ---- no later item precedes an earlier one
 
-abbrev pub After : Expr → List Expr → Type 0
-After x xs = AllByRecursion (λ z. precedes z x ≡ false) xs
-
-abbrev pub Rises : List Expr → Type 0
-Rises [] = Unit {0}
-Rises (x ∷ xs) = After x xs × Rises xs
-
-pub after_too : (x y : Expr) (zs : List Expr) → precedes x y ≡ false → After x zs → After y zs
-after_too x y [] h a = tt
-after_too x y (z ∷ zs) h a = (order.chain z x y a.0 h, after_too x y zs h a.1)
-
-all_after : (x : Expr) (xs : List Expr) → Starts precedes x xs → Rises xs → After x xs
-all_after x [] s r = tt
-all_after x (y ∷ ys) s r = (s, after_too y x ys s r.0)
-
-pub rises : (xs : List Expr) → Ordered precedes xs → Rises xs
-rises [] o = tt
-rises (x ∷ xs) o = let r : Rises xs = rises xs o.1 in (all_after x xs o.0 r, r)
-
-pub starts : (x : Expr) (xs : List Expr) → After x xs → Starts precedes x xs
+pub starts : (x : Expr) (xs : List Expr) → NoneBefore precedes x xs → Starts precedes x xs
 starts x [] a = tt
 starts x (y ∷ ys) a = a.0
 
-ordered : (xs : List Expr) → Rises xs → Ordered precedes xs
+ordered : (xs : List Expr) → Rises precedes xs → Ordered precedes xs
 ordered [] r = tt
 ordered (x ∷ xs) r = (starts x xs r.0, ordered xs r.1)
 
@@ -75,38 +58,35 @@ clean_stays earlier (x ∷ xs) h = rw h.0 (ap (λ z. x ∷ z) (clean_stays (text
 
 unrepeated_clean : (earlier : List Bytes) (xs : List Expr) → Clean earlier (without_repeats earlier xs)
 unrepeated_clean earlier [] = tt
-unrepeated_clean earlier (x ∷ xs) = elim (cases_Bool (is_repeated earlier x)) [
-  | inl t ↦ rw t (unrepeated_clean earlier xs)
-  | inr f ↦ rw f (f, unrepeated_clean (text_of x ∷ earlier) xs)
-]
+unrepeated_clean earlier (x ∷ xs) =
+    by_case (Clean earlier) (is_repeated earlier x) (without_repeats earlier xs) (x ∷ without_repeats (text_of x ∷ earlier) xs)
+    (λ t. unrepeated_clean earlier xs) (λ f. (f, unrepeated_clean (text_of x ∷ earlier) xs))
 
 pub unrepeated_all : (P : Expr → Type 0) (earlier : List Bytes) (xs : List Expr) → AllByRecursion P xs → AllByRecursion P (without_repeats earlier xs)
 unrepeated_all P earlier [] h = tt
-unrepeated_all P earlier (x ∷ xs) h = elim (cases_Bool (is_repeated earlier x)) [
-  | inl t ↦ rw t (unrepeated_all P earlier xs h.1)
-  | inr f ↦ rw f (h.0, unrepeated_all P (text_of x ∷ earlier) xs h.1)
-]
+unrepeated_all P earlier (x ∷ xs) h =
+    by_test (AllByRecursion P) (is_repeated earlier x) (without_repeats earlier xs) (x ∷ without_repeats (text_of x ∷ earlier) xs)
+    (unrepeated_all P earlier xs h.1) (h.0, unrepeated_all P (text_of x ∷ earlier) xs h.1)
 
-unrepeated_rises : (earlier : List Bytes) (xs : List Expr) → Rises xs → Rises (without_repeats earlier xs)
+unrepeated_rises : (earlier : List Bytes) (xs : List Expr) → Rises precedes xs → Rises precedes (without_repeats earlier xs)
 unrepeated_rises earlier [] h = tt
-unrepeated_rises earlier (x ∷ xs) h = elim (cases_Bool (is_repeated earlier x)) [
-  | inl t ↦ rw t (unrepeated_rises earlier xs h.1)
-  | inr f ↦ rw f (unrepeated_all (λ z. precedes z x ≡ false) (text_of x ∷ earlier) xs h.0, unrepeated_rises (text_of x ∷ earlier) xs h.1)
-]
+unrepeated_rises earlier (x ∷ xs) h =
+    by_test (Rises precedes) (is_repeated earlier x) (without_repeats earlier xs) (x ∷ without_repeats (text_of x ∷ earlier) xs)
+    (unrepeated_rises earlier xs h.1) (unrepeated_all (λ z. precedes z x ≡ false) (text_of x ∷ earlier) xs h.0, unrepeated_rises (text_of x ∷ earlier) xs h.1)
 
 -- ---- sorted lists stay
 
 record Fine (xs : List Expr) : Type 0 where
-  rising : Rises xs
+  rising : Rises precedes xs
   clean : Clean [] xs
 
 in_order_fine : (xs : List Expr) → Fine (in_order xs)
 in_order_fine xs = record {
-  rising = unrepeated_rises [] (sort_by precedes xs) (rises (sort_by precedes xs) (sort_ordered precedes order.one_way xs));
+  rising = unrepeated_rises [] (sort_by precedes xs) (sort_rises precedes item_ranks xs);
   clean = unrepeated_clean [] (sort_by precedes xs);
 }
 
-pub none_precedes : (x : Expr) (xs : List Expr) → After x xs → list_any (λ y. precedes y x) xs ≡ false
+pub none_precedes : (x : Expr) (xs : List Expr) → NoneBefore precedes x xs → list_any (λ y. precedes y x) xs ≡ false
 none_precedes x [] a = refl
 none_precedes x (y ∷ ys) a = rw a.0 (none_precedes x ys a.1)
 
@@ -121,7 +101,7 @@ pub text_above : (a : List Bytes) (x : Expr) → text_of (with_above a x) ≡ te
 text_above a (Token t) = refl
 text_above a (Form' own s parts s' items end split open_break comments) = refl
 
-after_above : (a : List Bytes) (x : Expr) (xs : List Expr) → After x xs → After (with_above a x) xs
+after_above : (a : List Bytes) (x : Expr) (xs : List Expr) → NoneBefore precedes x xs → NoneBefore precedes (with_above a x) xs
 after_above a x [] h = tt
 after_above a x (y ∷ ys) h = (rw (text_above a x) h.0, after_above a x ys h.1)
 
@@ -134,10 +114,9 @@ marked_fine marks (x ∷ xs) f = record {
 
 sorted_fine : (xs : List Expr) → Fine (sorted xs)
 sorted_fine [] = record { rising = tt; clean = tt }
-sorted_fine (x ∷ xs) = elim (cases_Bool (list_any (λ y. precedes y x) xs)) [
-  | inl t ↦ rw t (marked_fine (keep_marks (above x)) (in_order (without_marks x ∷ xs)) (in_order_fine (without_marks x ∷ xs)))
-  | inr f ↦ rw f (in_order_fine (x ∷ xs))
-]
+sorted_fine (x ∷ xs) =
+    by_test Fine (is_passed (x ∷ xs)) (marked_by (keep_marks (above x)) (in_order (without_marks x ∷ xs))) (in_order (x ∷ xs))
+    (marked_fine (keep_marks (above x)) (in_order (without_marks x ∷ xs)) (in_order_fine (without_marks x ∷ xs))) (in_order_fine (x ∷ xs))
 
 -- ---- a list in which each item comes before the next one stays
 
@@ -156,33 +135,32 @@ climbs (x ∷ y ∷ ys) h = (
       subst (λ i. true ≡ precedes (get_or (y ∷ ys) k d) (get_or (x ∷ y ∷ ys) i d)) (one_after k) (h (suc k) d (omega arith))),
 )
 
+climbs_rises : (xs : List Expr) → Climbs xs → Rises precedes xs
+climbs_rises [] c = tt
+climbs_rises (x ∷ []) c = (tt, tt)
+climbs_rises (x ∷ y ∷ ys) c =
+    let rest : Rises precedes (y ∷ ys) = climbs_rises (y ∷ ys) c.1 in
+    let first : precedes y x ≡ false = item_ranks.one_way x y c.0 in
+    ((first, after_too precedes item_ranks y x ys first rest.0), rest)
+
 climbs_ordered : (xs : List Expr) → Climbs xs → Ordered precedes xs
-climbs_ordered [] c = tt
-climbs_ordered (x ∷ []) c = (tt, tt)
-climbs_ordered (x ∷ y ∷ ys) c = (order.one_way x y c.0, climbs_ordered (y ∷ ys) c.1)
+climbs_ordered xs c = ordered xs (climbs_rises xs c)
 
 -- these texts come before the item
 abbrev Below : List Bytes → Expr → Type 0
 Below earlier x = AllByRecursion (λ t. is_lt (key_order (between t) (between (text_of x))) ≡ true) earlier
 
 still_before : (t : Bytes) (x y : Expr) → is_lt (key_order (between t) (between (text_of x))) ≡ true → precedes x y ≡ true → is_lt (key_order (between t) (between (text_of y))) ≡ true
-still_before t x y a b = elim (cases_Bool (is_lt (key_order (between t) (between (text_of y))))) [
-  | inl h ↦ h
-  | inr f ↦ absurd (true≢false (sym a ∙ precedes_texts.chain t (text_of y) (text_of x) f (order.one_way x y b)))
-]
+still_before t x y a b = true_from_ne_false _ (λ f. true≢false (sym a ∙ precedes_texts.chain t (text_of y) (text_of x) f (item_ranks.one_way x y b)))
 
 still_below : (earlier : List Bytes) (x y : Expr) → Below earlier x → precedes x y ≡ true → Below earlier y
 still_below [] x y a b = tt
 still_below (t ∷ ts) x y a b = (still_before t x y a.0 b, still_below ts x y a.1 b)
 
 other_text : (t : Bytes) (x : Expr) → is_lt (key_order (between t) (between (text_of x))) ≡ true → bytes_eq (text_of x) t ≡ false
-other_text t x a = elim (cases_Bool (bytes_eq (text_of x) t)) [
-  | inl h ↦
-      let same : text_of x ≡ t = (bytes_eq-Decides (text_of x) t).0 h in
-      let own : is_lt (key_order (between t) (between t)) ≡ true = subst (λ s. is_lt (key_order (between t) (between s)) ≡ true) same a in
-      absurd (true≢false (sym own ∙ precedes_texts.one_way t t own))
-  | inr f ↦ f
-]
+other_text t x a = false_from_ne_true _ (λ h.
+    let own : is_lt (key_order (between t) (between t)) ≡ true = subst (λ s. is_lt (key_order (between t) (between s)) ≡ true) ((bytes_eq-Decides (text_of x) t).0 h) a in
+    true≢false (sym own ∙ precedes_texts.one_way t t own))
 
 is_new : (earlier : List Bytes) (x : Expr) → Below earlier x → list_any (bytes_eq (text_of x)) earlier ≡ false
 is_new [] x a = refl
@@ -197,7 +175,7 @@ climbs_clean earlier x (y ∷ ys) a c = (kept_new earlier x a, climbs_clean (tex
 
 climbs_fine : (xs : List Expr) → Climbs xs → Fine xs
 climbs_fine [] c = record { rising = tt; clean = tt }
-climbs_fine (x ∷ xs) c = record { rising = rises (x ∷ xs) (climbs_ordered (x ∷ xs) c); clean = climbs_clean [] x xs tt c }
+climbs_fine (x ∷ xs) c = record { rising = climbs_rises (x ∷ xs) c; clean = climbs_clean [] x xs tt c }
 
 answered : (xs : List Expr) (r : Bool) → IsAllAdjacentAnswer (λ x y b. b ≡ precedes x y) xs r → r ≡ true → Climbs xs
 answered xs true h e = climbs xs h
@@ -211,10 +189,7 @@ rising_climbs {F} {g} {f} xs r s k e = answered xs r (s precedes (answers_always
 
 -- a list that rises stays, whether it is taken or not
 pub rising_settled : (outside : List Bytes) (b : Bool) (xs : List Expr) → Climbs xs → settled_list outside b xs ≡ xs
-rising_settled outside b xs c = elim (cases_Bool (is_taken outside b xs)) [
-  | inl t ↦ rw t (fine_stays xs (climbs_fine xs c))
-  | inr f ↦ rw f refl
-]
+rising_settled outside b xs c = by_test (λ ys. ys ≡ xs) (is_taken outside b xs) (sorted xs) xs (fine_stays xs (climbs_fine xs c)) refl
 
 -- ---- a list that rises once its last item is moved to another place
 
@@ -314,35 +289,38 @@ bare_in_order (text ∷ texts) xs e h = absurd (omega arith)
 
 pub list_settles : (outside : List Bytes) (b : Bool) → Settles (settled_list outside b)
 list_settles outside b xs = elim (cases_Bool (is_taken outside b xs)) [
-  | inl t ↦ rw t (elim (cases_Bool (is_taken outside b (sorted xs))) [
-    | inl u ↦ rw u (fine_stays (sorted xs) (sorted_fine xs))
-    | inr f ↦ rw f refl
-  ])
+  | inl t ↦ rw t (by_test (λ ys. ys ≡ sorted xs) (is_taken outside b (sorted xs)) (sorted (sorted xs)) (sorted xs) (fine_stays (sorted xs) (sorted_fine xs)) refl)
   | inr f ↦ rw (f, f) refl
 ]
 
--- ---- what holds of each item whatever is above it
+-- ---- what holds of each item whatever such comments are above it
 
-module _ (P : Expr → Type 0) (anyway : (a : List Bytes) (x : Expr) → P x → P (with_above a x)) where
+module _ (C : Bytes → Type 0) (P : Expr → Type 0) (own : (x : Expr) → P x → AllByRecursion C (above x)) (put : (a : List Bytes) (x : Expr) → AllByRecursion C a → P x → P (with_above a x)) where
   in_order_all : (xs : List Expr) → AllByRecursion P xs → AllByRecursion P (in_order xs)
   in_order_all xs h = unrepeated_all P [] (sort_by precedes xs) (sort_all precedes P xs h)
 
-  marked_all : (marks : List Bytes) (xs : List Expr) → AllByRecursion P xs → AllByRecursion P (marked_by marks xs)
-  marked_all marks [] h = tt
-  marked_all marks (x ∷ xs) h = (anyway (marks ++ above x) x h.0, h.1)
+  marked_all : (marks : List Bytes) (xs : List Expr) → AllByRecursion C marks → AllByRecursion P xs → AllByRecursion P (marked_by marks xs)
+  marked_all marks [] c h = tt
+  marked_all marks (x ∷ xs) c h = (put (marks ++ above x) x (all_joined C marks (above x) c (own x h.0)) h.0, h.1)
 
   sorted_all : (xs : List Expr) → AllByRecursion P xs → AllByRecursion P (sorted xs)
   sorted_all [] h = tt
-  sorted_all (x ∷ xs) h = elim (cases_Bool (list_any (λ y. precedes y x) xs)) [
-    | inl t ↦ rw t (marked_all (keep_marks (above x)) (in_order (without_marks x ∷ xs)) (in_order_all (without_marks x ∷ xs) (anyway (other_comments (above x)) x h.0, h.1)))
-    | inr f ↦ rw f (in_order_all (x ∷ xs) h)
-  ]
+  sorted_all (x ∷ xs) h =
+      by_test (AllByRecursion P) (is_passed (x ∷ xs)) (marked_by (keep_marks (above x)) (in_order (without_marks x ∷ xs))) (in_order (x ∷ xs))
+      (marked_all (keep_marks (above x)) (in_order (without_marks x ∷ xs)) (all_kept C (is_marked keep_sorted) (above x) (own x h.0))
+      (in_order_all (without_marks x ∷ xs) (put (other_comments (above x)) x (all_kept C (λ c. not (is_marked keep_sorted c)) (above x) (own x h.0)) h.0, h.1)))
+      (in_order_all (x ∷ xs) h)
 
   pub settled_all : (outside : List Bytes) (b : Bool) (xs : List Expr) → AllByRecursion P xs → AllByRecursion P (settled_list outside b xs)
-  settled_all outside b xs h = elim (cases_Bool (is_taken outside b xs)) [
-    | inl t ↦ rw t (sorted_all xs h)
-    | inr f ↦ rw f h
-  ]
+  settled_all outside b xs h = by_test (AllByRecursion P) (is_taken outside b xs) (sorted xs) xs (sorted_all xs h) h
+
+any_comment : (comments : List Bytes) → AllByRecursion (λ c. Unit {0}) comments
+any_comment [] = tt
+any_comment (c ∷ comments) = (tt, any_comment comments)
+
+-- whatever is above it
+pub settled_anyway : (P : Expr → Type 0) → ((a : List Bytes) (x : Expr) → P x → P (with_above a x)) → (outside : List Bytes) (b : Bool) (xs : List Expr) → AllByRecursion P xs → AllByRecursion P (settled_list outside b xs)
+settled_anyway P put = settled_all (λ c. Unit {0}) P (λ x h. any_comment (above x)) (λ a x c h. put a x h)
 
 each_fixed : (p : Expr → Expr) (xs : List Expr) → map p xs ≡ xs → AllByRecursion (λ x. p x ≡ x) xs
 each_fixed p [] e = tt
@@ -355,7 +333,7 @@ fixed_each p (x ∷ xs) h = both (λ z zs. z ∷ zs) h.0 (fixed_each p xs h.1)
 pub list_keeps : (p : Expr → Expr) → ((a : List Bytes) (x : Expr) → p (with_above a x) ≡ with_above a (p x)) → (outside : List Bytes) (b : Bool) → Keeps (settled_list outside b) (map p)
 list_keeps p h outside b xs e =
     fixed_each p (settled_list outside b xs)
-    (settled_all (λ x. p x ≡ x) (λ a x i. h a x ∙ ap (with_above a) i) outside b xs (each_fixed p xs e))
+    (settled_anyway (λ x. p x ≡ x) (λ a x i. h a x ∙ ap (with_above a) i) outside b xs (each_fixed p xs e))
 
 -- ---- a change that the sorting does not see
 

@@ -1,9 +1,10 @@
 -- The old first item of a sorted list is after what comes before it, with its `keep sorted` comments or without.
-use Rattle.std.proofs.Common.{Bool, true, false, ◌||◌, List, [], ◌∷◌, ◌++◌, ◌≡◌, refl, sym, ap, ◌∙◌, inl, inr}
+use Rattle.std.proofs.Common.{true, false, List, [], ◌∷◌, ◌++◌, ◌≡◌, refl, sym, ap, ◌∙◌, inl, inr}
 use Rattle.std.specs.Prelude.{bytes_eq}
 use Rattle.std.specs.List.{list_any, list_all}
 use Rattle.std.specs.Ordering.{is_lt}
-use Rattle.std.proofs.lemmas.Bool.{cases_Bool, or_from, or_parts, and_right, and_from, true≢false}
+use Rattle.std.proofs.lemmas.Bool.{cases_Bool, or_from, or_parts, and_right, and_from, false_from_ne_true, true≢false}
+use Rattle.std.proofs.lemmas.List.Sorted.{list_any-IsPermutation}
 use Rattle.std.proofs.lemmas.Slice.Eq.{bytes_eq-Decides}
 use Rattle.bz_label.specs.Keys.{key_order}
 use Rattle.bz_value.specs.declared.value.Expr.{Expr}
@@ -14,29 +15,16 @@ use Rattle.bz_rule.specs.QuoteMarks.{between}
 use Rattle.bz_passes.specs.Marks.{keep_marks, other_comments}
 use Rattle.bz_passes.specs.Lists.{precedes, has_no_comment, without_repeats, in_order, without_marks, marked_by, sorted}
 use Rattle.bz_passes.specs.MovedMarks.{MovesMarks}
+use Rattle.bz_passes.specs.Rising.{NoneBefore, Rises}
+use Rattle.bz_passes.specs.private.Ranks.{item_ranks}
 use Rattle.bz_passes.proofs.Keeping.{both}
-use Rattle.bz_passes.proofs.Sorting.{sort_all, sort_ordered, insert_starts}
-use Rattle.bz_passes.proofs.Listed.{order, After, Rises, after_too, none_precedes, rises, starts, is_repeated, text_above}
+use Rattle.bz_passes.proofs.Sorting.{sort_all, sort_same, insert_starts}
+use Rattle.bz_passes.proofs.Listed.{none_precedes, starts, is_repeated, text_above}
+use Rattle.bz_passes.proofs.Stable.{after_too, sort_rises}
 
 -- ---- whether an item of a list precedes another
 
-either_first : (a b c : Bool) → (a || (b || c)) ≡ (b || (a || c))
-either_first true true c = refl
-either_first true false c = refl
-either_first false b c = refl
-
-any_insert : (p : Expr → Bool) (x : Expr) (ys : List Expr) → list_any p (insert_by precedes x ys) ≡ (p x || list_any p ys)
-any_insert p x [] = refl
-any_insert p x (y ∷ ys) = elim (cases_Bool (precedes y x)) [
-  | inl t ↦ rw t (ap (λ z. p y || z) (any_insert p x ys) ∙ either_first (p y) (p x) (list_any p ys))
-  | inr f ↦ rw f refl
-]
-
-any_sort : (p : Expr → Bool) (xs : List Expr) → list_any p (sort_by precedes xs) ≡ list_any p xs
-any_sort p [] = refl
-any_sort p (x ∷ xs) = any_insert p x (sort_by precedes xs) ∙ ap (λ z. p x || z) (any_sort p xs)
-
-none_before : (x : Expr) (ys : List Expr) → list_any (λ y. precedes y x) ys ≡ false → After x ys
+none_before : (x : Expr) (ys : List Expr) → list_any (λ y. precedes y x) ys ≡ false → NoneBefore precedes x ys
 none_before x [] h = tt
 none_before x (y ∷ ys) h = let h' = or_parts (precedes y x) (list_any (λ z. precedes z x) ys) h in (h'.0, none_before x ys h'.1)
 
@@ -47,23 +35,20 @@ record FirstBefore (x : Expr) (ys : List Expr) : Type 0 where
   is : ys ≡ first ∷ following
   precede : precedes first x ≡ true
 
-first_before : (x : Expr) (ys : List Expr) → Rises ys → list_any (λ y. precedes y x) ys ≡ true → FirstBefore x ys
+first_before : (x : Expr) (ys : List Expr) → Rises precedes ys → list_any (λ y. precedes y x) ys ≡ true → FirstBefore x ys
 first_before x [] r h = absurd (true≢false (sym h))
 first_before x (y ∷ ys) r h = elim (cases_Bool (precedes y x)) [
   | inl t ↦ record { first = y; following = ys; is = refl; precede = t }
-  | inr f ↦ absurd (true≢false (sym h ∙ or_from (precedes y x) (list_any (λ z. precedes z x) ys) f (none_precedes x ys (after_too y x ys f r.0))))
+  | inr f ↦ absurd (true≢false (sym h ∙ or_from (precedes y x) (list_any (λ z. precedes z x) ys) f (none_precedes x ys (after_too precedes item_ranks y x ys f r.0))))
 ]
 
 -- ---- no repeat of what precedes it
 
 differs : (y x : Expr) → precedes y x ≡ true → bytes_eq (text_of x) (text_of y) ≡ false
-differs y x t = elim (cases_Bool (bytes_eq (text_of x) (text_of y))) [
-  | inl e ↦
-      let same : text_of x ≡ text_of y = (bytes_eq-Decides (text_of x) (text_of y)).0 e in
-      let turned : precedes x y ≡ precedes y x = both (λ a b. is_lt (key_order (between a) (between b))) same (sym same) in
-      absurd (true≢false (sym t ∙ (sym turned ∙ order.one_way y x t)))
-  | inr f ↦ f
-]
+differs y x t = false_from_ne_true _ (λ e.
+    let same : text_of x ≡ text_of y = (bytes_eq-Decides (text_of x) (text_of y)).0 e in
+    let turned : precedes x y ≡ precedes y x = both (λ a b. is_lt (key_order (between a) (between b))) same (sym same) in
+    true≢false (sym t ∙ (sym turned ∙ item_ranks.one_way y x t)))
 
 kept : (z : Expr) (text : Bytes) (earlier : List Bytes) (zs : List Expr) → text_of z ≡ text → list_any (bytes_eq text) earlier ≡ false → without_repeats earlier (z ∷ zs) ≡ z ∷ without_repeats (text ∷ earlier) zs
 kept z text earlier zs e h =
@@ -119,7 +104,7 @@ placed x earlier (y ∷ ys) h = elim (cases_Bool (precedes y x)) [
 
 first_stays : (x : Expr) (xs : List Expr) → list_any (λ y. precedes y x) xs ≡ false → in_order (x ∷ xs) ≡ x ∷ without_repeats (text_of x ∷ []) (sort_by precedes xs)
 first_stays x xs f =
-    let none : After x (sort_by precedes xs) = sort_all precedes (λ z. precedes z x ≡ false) xs (none_before x xs f) in
+    let none : NoneBefore precedes x (sort_by precedes xs) = sort_all precedes (λ z. precedes z x ≡ false) xs (none_before x xs f) in
     ap (without_repeats []) (insert_starts precedes x (sort_by precedes xs) (starts x (sort_by precedes xs) none)) ∙ kept x (text_of x) [] (sort_by precedes xs) refl refl
 
 -- after one that precedes it
@@ -136,7 +121,7 @@ gives_marks x xs t = rw t refl
 pub marks_move : (x : Expr) (xs : List Expr) → MovesMarks x xs
 marks_move x xs = elim (cases_Bool (list_any (λ y. precedes y x) xs)) [
   | inl t ↦
-      let b : FirstBefore x (sort_by precedes xs) = first_before x (sort_by precedes xs) (rises (sort_by precedes xs) (sort_ordered precedes order.one_way xs)) (any_sort (λ y. precedes y x) xs ∙ t) in
+      let b : FirstBefore x (sort_by precedes xs) = first_before x (sort_by precedes xs) (sort_rises precedes item_ranks xs) (sym (list_any-IsPermutation (λ y. precedes y x) xs (sort_by precedes xs) (sort_same precedes xs)) ∙ t) in
       let p : Placed x (text_of b.first ∷ []) b.following = placed x (text_of b.first ∷ []) b.following (or_from (bytes_eq (text_of x) (text_of b.first)) false (differs b.first x b.precede) refl) in
       record {
         front = b.first ∷ p.front;

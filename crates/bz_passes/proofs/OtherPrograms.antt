@@ -11,9 +11,10 @@ use Rattle.bz_items.specs.Characters.{Bytes}
 use Rattle.bz_rule.specs.Values.{on_rest, items_of, on_items, parts_of, text_of}
 use Rattle.bz_grammar.specs.declared.kind.Kind.TheVariants as k
 use Rattle.bz_passes.specs.Orders.{sort_by}
-use Rattle.bz_passes.specs.Passes.{argument_precedes, arguments_in, loads, on_rule_arguments, on_taken, symbol_precedes, symbols_in}
-use Rattle.bz_passes.specs.Programs.{IsSameString, itself, turned, turned_thrice, KeepsProgram, on_labels, on_list_values}
+use Rattle.bz_passes.specs.Passes.{argument_precedes, arguments_in, loads, on_labels, on_list_values, on_rule_arguments, on_taken, symbol_precedes, symbols_in}
+use Rattle.bz_passes.specs.Programs.{IsSameString, itself, turned, turned_thrice, KeepsProgram}
 use Rattle.bz_passes.specs.Syntax.{program}
+use Rattle.bz_passes.proofs.Keeping.{same_after, same_first}
 use Rattle.bz_passes.proofs.TheOne.{sorting_is_the_one}
 
 -- What each pass after the quotes leaves as it is stays the same program.
@@ -51,27 +52,16 @@ argument_text statements = text_of (first_argument statements)
 abbrev pub value_text : List Expr → Bytes
 value_text statements = text_of (third_of (parts_of (first_argument statements)))
 
-byte_at_first : Bytes → ℕ
-byte_at_first [] = 0
-byte_at_first (x ∷ xs) = x
-
-byte_after : Bytes → ℕ
-byte_after [] = 0
-byte_after (x ∷ xs) = byte_at_first xs
-
 pub other_name : codes "b" ≡ codes "a" → ⊥
-unfolding byte_at_first
-other_name h = let differ : ◌≡◌ {A = ℕ} 98 97 = ap byte_at_first h in absurd (omega arith)
+other_name h = let differ : ◌≡◌ {A = ℕ} 98 97 = same_first 98 97 [] [] h in absurd (omega arith)
 
 pub other_body : codes "\"b\"" ≡ codes "\"a\"" → ⊥
-unfolding byte_after byte_at_first
-other_body h = let differ : ◌≡◌ {A = ℕ} 98 97 = ap byte_after h in absurd (omega arith)
+other_body h = let differ : ◌≡◌ {A = ℕ} 98 97 = same_first 98 97 (34 ∷ []) (34 ∷ []) (same_after 34 34 (98 ∷ 34 ∷ []) (97 ∷ 34 ∷ []) h) in absurd (omega arith)
 
 -- ---- a string in double quote marks stays
 
 other_mark : (text : Bytes) → codes "\"a\"" ≡ 39 ∷ text → ⊥
-unfolding byte_at_first
-other_mark text h = let differ : ◌≡◌ {A = ℕ} 34 39 = ap byte_at_first h in absurd (omega arith)
+other_mark text h = let differ : ◌≡◌ {A = ℕ} 34 39 = same_first 34 39 (97 ∷ 34 ∷ []) text h in absurd (omega arith)
 
 double_stays : (new : Bytes) → IsSameString (codes "\"a\"") new → new ≡ codes "\"a\""
 double_stays new (itself h) = h

@@ -13,7 +13,8 @@ use Rattle.bz_value.specs.Proper.{comments_of}
 use Rattle.bz_layout.specs.Flags.{settled_split, with_flags, each_with_flags}
 use Rattle.bz_rule.specs.Values.{has_kind, has_class, text_of, parts_of, items_of, with_parts, with_items, above, with_above}
 pub use Rattle.bz_rule.proofs.Opened.{made, own_parts, own_items}
-use Rattle.bz_passes.specs.Passes.{quoted, each_quoted}
+use Rattle.bz_passes.specs.Strings.{with_double}
+use Rattle.bz_passes.specs.Passes.{quotes_in, each_on_strings}
 use Rattle.bz_passes.proofs.Keeping.{both}
 
 -- ---- the rows of a form
@@ -74,21 +75,25 @@ under_flags lines (Form' own s parts s' items end split open_break comments) = r
 
 -- ---- with double quote marks
 
-pub quoted_row : (m : _) (r : Row_of-Expr m) → each_quoted r ≡ map quoted (items-the_row-Expr m r)
+pub quoted_row : (m : _) (r : Row_of-Expr m) → each_on_strings with_double r ≡ map quotes_in (items-the_row-Expr m r)
 quoted_row m end_of-Expr = refl
-quoted_row m (more_of-Expr x rest) = ap (λ z. quoted x ∷ z) (quoted_row _ rest)
+quoted_row m (more_of-Expr x rest) = ap (λ z. quotes_in x ∷ z) (quoted_row _ rest)
 
-pub quoted_Form : (f : Form) → quoted (e.Form f) ≡ e.Form (made f.kind (map quoted f.parts) (map quoted f.seq.items) f.seq.end f.seq.split f.open_break f.comments)
+pub quoted_Form : (f : Form) → quotes_in (e.Form f) ≡ e.Form (made f.kind (map quotes_in f.parts) (map quotes_in f.seq.items) f.seq.end f.seq.split f.open_break f.comments)
 quoted_Form f =
     both (λ p i. e.Form (made f.kind p i f.seq.end f.seq.split f.open_break f.comments))
-    (quoted_row _ (parts_after (e.Form f)).1 ∙ ap (map quoted) (parts_are f))
-    (quoted_row _ (items_after (e.Form f)).1 ∙ ap (map quoted) (items_are f))
+    (quoted_row _ (parts_after (e.Form f)).1 ∙ ap (map quotes_in) (parts_are f))
+    (quoted_row _ (items_after (e.Form f)).1 ∙ ap (map quotes_in) (items_are f))
 
-pub above_quoted : (x : Expr) → above (quoted x) ≡ above x
+pub kind_quoted : (kind : Kind) (x : Expr) → has_kind kind (quotes_in x) ≡ has_kind kind x
+kind_quoted kind (Token t) = refl
+kind_quoted kind (Form' own s parts s' items end split open_break comments) = refl
+
+pub above_quoted : (x : Expr) → above (quotes_in x) ≡ above x
 above_quoted (Token t) = refl
 above_quoted (Form' own s parts s' items end split open_break comments) = refl
 
-pub under_quoted : (lines : List Bytes) (x : Expr) → quoted (with_above lines x) ≡ with_above lines (quoted x)
+pub under_quoted : (lines : List Bytes) (x : Expr) → quotes_in (with_above lines x) ≡ with_above lines (quotes_in x)
 under_quoted lines (Token t) = refl
 under_quoted lines (Form' own s parts s' items end split open_break comments) = refl
 
@@ -104,8 +109,8 @@ pub record Place : Type 0 where
   pub twice : (ys xs : List Expr) (x : Expr) → put ys (put xs x) ≡ put ys x
   pub own : (x : Expr) → put (get x) x ≡ x
   pub flags : (x : Expr) → get (with_flags x) ≡ map with_flags (get x)
-  pub quotes : (x : Expr) → get (quoted x) ≡ map quoted (get x)
-  pub quotes_put : (xs : List Expr) (x : Expr) → quoted (put xs x) ≡ put (map quoted xs) (quoted x)
+  pub quotes : (x : Expr) → get (quotes_in x) ≡ map quotes_in (get x)
+  pub quotes_put : (xs : List Expr) (x : Expr) → quotes_in (put xs x) ≡ put (map quotes_in xs) (quotes_in x)
 
 pub parts_kind : (kind : Kind) (xs : List Expr) (x : Expr) → has_kind kind (with_parts xs x) ≡ has_kind kind x
 parts_kind kind xs (Token t) = refl
@@ -128,15 +133,15 @@ pub parts_flags : (x : Expr) → parts_of (with_flags x) ≡ map with_flags (par
 parts_flags (Token t) = refl
 parts_flags (Form' own s parts s' items end split open_break comments) = items_hidden-the_row-Expr-0 (each_with_flags parts) ∙ flags_row _ parts
 
-pub parts_quoted : (x : Expr) → parts_of (quoted x) ≡ map quoted (parts_of x)
+pub parts_quoted : (x : Expr) → parts_of (quotes_in x) ≡ map quotes_in (parts_of x)
 parts_quoted (Token t) = refl
-parts_quoted (Form' own s parts s' items end split open_break comments) = items_hidden-the_row-Expr-0 (each_quoted parts) ∙ quoted_row _ parts
+parts_quoted (Form' own s parts s' items end split open_break comments) = items_hidden-the_row-Expr-0 (each_on_strings with_double parts) ∙ quoted_row _ parts
 
-pub quoted_parts : (xs : List Expr) (x : Expr) → quoted (with_parts xs x) ≡ with_parts (map quoted xs) (quoted x)
+pub quoted_parts : (xs : List Expr) (x : Expr) → quotes_in (with_parts xs x) ≡ with_parts (map quotes_in xs) (quotes_in x)
 quoted_parts xs (Token t) = refl
 quoted_parts xs (Form' own s parts s' items end split open_break comments) =
     quoted_Form (made own xs (items-the_row-Expr _ items) end split open_break comments)
-    ∙ ap (λ i. e.Form (made own (map quoted xs) i end split open_break comments)) (sym (quoted_row _ items) ∙ sym (items_hidden-the_row-Expr-0 (each_quoted items)))
+    ∙ ap (λ i. e.Form (made own (map quotes_in xs) i end split open_break comments)) (sym (quoted_row _ items) ∙ sym (items_hidden-the_row-Expr-0 (each_on_strings with_double items)))
 
 -- the row of a node, or what is before the bracket of a sequence
 abbrev pub the_parts : Place
@@ -174,15 +179,15 @@ pub items_flags : (x : Expr) → items_of (with_flags x) ≡ map with_flags (ite
 items_flags (Token t) = refl
 items_flags (Form' own s parts s' items end split open_break comments) = items_hidden-the_row-Expr-0 (each_with_flags items) ∙ flags_row _ items
 
-pub items_quoted : (x : Expr) → items_of (quoted x) ≡ map quoted (items_of x)
+pub items_quoted : (x : Expr) → items_of (quotes_in x) ≡ map quotes_in (items_of x)
 items_quoted (Token t) = refl
-items_quoted (Form' own s parts s' items end split open_break comments) = items_hidden-the_row-Expr-0 (each_quoted items) ∙ quoted_row _ items
+items_quoted (Form' own s parts s' items end split open_break comments) = items_hidden-the_row-Expr-0 (each_on_strings with_double items) ∙ quoted_row _ items
 
-pub quoted_items : (xs : List Expr) (x : Expr) → quoted (with_items xs x) ≡ with_items (map quoted xs) (quoted x)
+pub quoted_items : (xs : List Expr) (x : Expr) → quotes_in (with_items xs x) ≡ with_items (map quotes_in xs) (quotes_in x)
 quoted_items xs (Token t) = refl
 quoted_items xs (Form' own s parts s' items end split open_break comments) =
     quoted_Form (made own (items-the_row-Expr _ parts) xs end split open_break comments)
-    ∙ ap (λ p. e.Form (made own p (map quoted xs) end split open_break comments)) (sym (quoted_row _ parts) ∙ sym (items_hidden-the_row-Expr-0 (each_quoted parts)))
+    ∙ ap (λ p. e.Form (made own p (map quotes_in xs) end split open_break comments)) (sym (quoted_row _ parts) ∙ sym (items_hidden-the_row-Expr-0 (each_on_strings with_double parts)))
 
 -- the items of a sequence
 abbrev pub the_items : Place

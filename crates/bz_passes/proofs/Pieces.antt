@@ -5,22 +5,25 @@ use Rattle.std.proofs.Math.Seq.{take-add}
 use Rattle.std.proofs.lemmas.Bool.{cases_Bool, or_parts}
 use Rattle.std.proofs.lemmas.List.{drop-map, length-map, map-append, take-map}
 use Rattle.std.proofs.lemmas.List.Elements.{All-append, All-drop, All-take}
+use Rattle.bz_grammar.specs.declared.kind.Kind.TheVariants as k
+use Rattle.bz_value.specs.Empty.{is_empty}
 use Rattle.bz_value.specs.declared.value.Item.{Item}
+use Rattle.bz_value.specs.declared.value.Item.TheVariants as i
 use Rattle.bz_value.specs.declared.windows.Window.{Window}
 use Rattle.bz_value.specs.Proper.{IsProper, IsProperItem}
 use Rattle.bz_value.specs.Windows.{AreOver, AreWithin}
 use Rattle.bz_layout.specs.Flags.{flags, item_with_flags}
+use Rattle.bz_rule.specs.Values.{above, has_kind}
 use Rattle.bz_passes.specs.Changes.{after_passes}
 use Rattle.bz_passes.specs.Joined.{TidiedAlone, begins_with_load, item_tidied}
-use Rattle.bz_passes.specs.Passes.{is_run_load, load_precedes, loads, on_statement, on_taken, taken, tidied}
+use Rattle.bz_passes.specs.Passes.{is_run_load, load_precedes, loads, path_precedes, on_statement, on_taken, taken, tidied}
 use Rattle.bz_passes.specs.private.Borders.{AreSetApart, AreTidied, any_touched, ends_with_load, tidied_over, touches}
-use Rattle.bz_passes.proofs.Composed.{five_composed}
-use Rattle.bz_passes.proofs.Cut.{sort_cut, sort_length}
+use Rattle.bz_passes.proofs.Composed.{above_outside, five_composed, kind_outside, taken_stays}
+use Rattle.bz_passes.proofs.Cut.{cut_at}
 use Rattle.bz_passes.proofs.Keeping.{both}
-use Rattle.bz_passes.proofs.LoadsKept.{never_before, never_after, run_kept}
 use Rattle.bz_passes.proofs.ProperPasses.{tidied_proper}
-use Rattle.bz_passes.proofs.Settling.{IsFixed, tidied_fixed, statements_fixed, load_one_way, unseen_load}
-use Rattle.bz_passes.proofs.Sorting.{Starts, Ordered, ordered_stays, sort_ordered, sort_map}
+use Rattle.bz_passes.proofs.Settling.{IsFixed, tidied_fixed, statements_fixed, load_one_way, same_loose, unseen_load}
+use Rattle.bz_passes.proofs.Sorting.{Starts, Ordered, ordered_stays, sort_length, sort_ordered, sort_map}
 
 -- ---- tidying by items
 
@@ -45,21 +48,26 @@ tidied_length items =
 
 -- ---- an item that is not sorted cuts
 
-cut_at : (front rest : List Item) (bar : Item) → is_run_load bar ≡ false → tidied (front ++ bar ∷ rest) ≡ tidied front ++ item_tidied bar ∷ tidied rest
-cut_at front rest bar n =
-    let new : Item = item_tidied bar in
-    let alone : is_run_load new ≡ false = run_kept bar ∙ n in
+-- which items are sorted stays
+run_kept : (item : Item) → is_run_load (item_tidied item) ≡ is_run_load item
+run_kept (i.Block lines) = refl
+run_kept (i.Stmt x) =
+    same_loose (taken after_passes x)
+    ∙ both (λ a b. a && b) (taken_stays (has_kind k.Load) (kind_outside k.Load) x) (ap is_empty (taken_stays above above_outside x))
+
+tidied_cut : (front rest : List Item) (bar : Item) → is_run_load bar ≡ false → tidied (front ++ bar ∷ rest) ≡ tidied front ++ item_tidied bar ∷ tidied rest
+tidied_cut front rest bar n =
     by_items (front ++ bar ∷ rest)
     ∙ (ap loads (each_between front bar rest)
-    ∙ (sort_cut load_precedes new (λ x. never_before new x alone) (λ x. never_after x new alone) (each front) (each rest)
-    ∙ both (λ z zs. z ++ new ∷ zs) (sym (by_items front)) (sym (by_items rest))))
+    ∙ (cut_at is_run_load path_precedes (each front) (each rest) (item_tidied bar) (run_kept bar ∙ n)
+    ∙ both (λ z zs. z ++ item_tidied bar ∷ zs) (sym (by_items front)) (sym (by_items rest))))
 
 cut_after : (front rest : List Item) (bar : Item) → is_run_load bar ≡ false → tidied ((front ++ bar ∷ []) ++ rest) ≡ tidied (front ++ bar ∷ []) ++ tidied rest
 cut_after front rest bar n =
     ap tidied (append_assoc front (bar ∷ []) rest)
-    ∙ (cut_at front rest bar n
+    ∙ (tidied_cut front rest bar n
     ∙ (sym (append_assoc (tidied front) (item_tidied bar ∷ []) (tidied rest))
-    ∙ ap (λ z. z ++ tidied rest) (sym (cut_at front [] bar n))))
+    ∙ ap (λ z. z ++ tidied rest) (sym (tidied_cut front [] bar n))))
 
 cut_from : (front : List Item) (x : Item) (xs rest : List Item) → ends_with_load (x ∷ xs) ≡ false → tidied ((front ++ x ∷ xs) ++ rest) ≡ tidied (front ++ x ∷ xs) ++ tidied rest
 cut_from front x [] rest n = cut_after front rest x n
@@ -71,7 +79,7 @@ cut_last (x ∷ xs) rest n = cut_from [] x xs rest n
 
 pub cut_first : (xs rest : List Item) → begins_with_load rest ≡ false → tidied (xs ++ rest) ≡ tidied xs ++ tidied rest
 cut_first xs [] n = ap tidied (append-nil xs) ∙ sym (append-nil (tidied xs))
-cut_first xs (bar ∷ rest) n = cut_at xs rest bar n ∙ ap (λ z. tidied xs ++ z) (sym (cut_at [] rest bar n))
+cut_first xs (bar ∷ rest) n = tidied_cut xs rest bar n ∙ ap (λ z. tidied xs ++ z) (sym (tidied_cut [] rest bar n))
 
 -- where no load is sorted across, both sides are tidied apart
 cut_between : (xs ys : List Item) → (ends_with_load xs && begins_with_load ys) ≡ false → tidied (xs ++ ys) ≡ tidied xs ++ tidied ys

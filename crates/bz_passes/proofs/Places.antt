@@ -8,7 +8,7 @@ use Rattle.bz_value.specs.declared.value.Expr.{Expr, Token, Form'}
 use Rattle.bz_items.specs.Characters.{Bytes}
 use Rattle.bz_layout.specs.Flags.{with_flags}
 use Rattle.bz_rule.specs.Values.{has_kind, parts_of, items_of, with_items, with_parts, above, on_items, on_row, on_first, on_third, first_text, on_lists}
-use Rattle.bz_passes.specs.Passes.{rule_kind, of_rule, on_call, on_rule_arguments, on_attribute, quoted}
+use Rattle.bz_passes.specs.Passes.{rule_kind, of_rule, on_call, on_rule_arguments, on_attribute, quotes_in}
 use Rattle.bz_passes.proofs.Keeping.{Keeps, Settles, both, map_keeps, map_settles, first_keeps, first_settles, first_keeps_map, map_keeps_first, third_keeps, third_settles, third_keeps_map, map_keeps_third, test_keeps, test_settles, keeps_tested, tested_keeps}
 use Rattle.bz_passes.proofs.Parts.{the_parts, the_items, kind_flags, text_flags, above_flags, parts_flags, parts_filled, parts_with_items}
 use Rattle.bz_passes.proofs.Levels.{kind_within, above_put, within_keeps, within_settles, within_quoted, flags_within}
@@ -50,8 +50,8 @@ call_keeps g p h = within_keeps the_items k.Call (called g) (called p) (λ x t. 
 call_settles : (p : Bytes → List Expr → List Expr) → ((kind : Bytes) → Settles (p kind)) → Settles (on_call p)
 call_settles p h = within_settles the_items k.Call (called p) (λ x t. same_call p (called p x (items_of x)) x) (λ x. of_settles p h (rule_kind (parts_of x)))
 
-call_quoted : (g : Bytes → List Expr → List Expr) → ((kind : Bytes) → Keeps (g kind) (map quoted)) → Keeps (on_call g) quoted
-call_quoted g h = within_quoted the_items k.Call (called g) (λ x. of_keeps_map g quoted h (rule_kind (parts_of x)))
+call_quoted : (g : Bytes → List Expr → List Expr) → ((kind : Bytes) → Keeps (g kind) (map quotes_in)) → Keeps (on_call g) quotes_in
+call_quoted g h = within_quoted the_items k.Call (called g) (λ x. of_keeps_map g quotes_in h (rule_kind (parts_of x)))
 
 call_flags : (p : Bytes → List Expr → List Expr) → ((kind : Bytes) → Keeps (map with_flags) (p kind)) → Keeps with_flags (on_call p)
 call_flags p h = flags_within the_items k.Call (called p) (λ x. ap (of_rule p) (ap rule_kind (parts_flags x) ∙ same_kind (parts_of x))) (λ x. map_keeps_of with_flags p h (rule_kind (parts_of x)))
@@ -62,8 +62,8 @@ rule_keeps g p h = within_keeps the_parts k.Bare (λ x. on_first (on_call g)) (�
 pub rule_settles : (p : Bytes → List Expr → List Expr) → ((kind : Bytes) → Settles (p kind)) → Settles (on_rule_arguments p)
 rule_settles p h = within_settles the_parts k.Bare (λ x. on_first (on_call p)) (λ x t. refl) (λ x. first_settles (on_call p) (call_settles p h))
 
-pub rule_quoted : (g : Bytes → List Expr → List Expr) → ((kind : Bytes) → Keeps (g kind) (map quoted)) → Keeps (on_rule_arguments g) quoted
-rule_quoted g h = within_quoted the_parts k.Bare (λ x. on_first (on_call g)) (λ x. first_keeps_map (on_call g) quoted (call_quoted g h))
+pub rule_quoted : (g : Bytes → List Expr → List Expr) → ((kind : Bytes) → Keeps (g kind) (map quotes_in)) → Keeps (on_rule_arguments g) quotes_in
+rule_quoted g h = within_quoted the_parts k.Bare (λ x. on_first (on_call g)) (λ x. first_keeps_map (on_call g) quotes_in (call_quoted g h))
 
 pub rule_flags : (p : Bytes → List Expr → List Expr) → ((kind : Bytes) → Keeps (map with_flags) (p kind)) → Keeps with_flags (on_rule_arguments p)
 rule_flags p h = flags_within the_parts k.Bare (λ x. on_first (on_call p)) (λ x. refl) (λ x. map_keeps_first with_flags (on_call p) (call_flags p h))
@@ -94,8 +94,8 @@ attribute_keeps g p h = within_keeps the_parts k.Named (valued g) (valued p) (sa
 pub attribute_settles : (p : Change) → ((n : Bytes) (a : List Bytes) → Settles (p n a)) → Settles (on_attribute p)
 attribute_settles p h = within_settles the_parts k.Named (valued p) (same_value p p) (λ x. third_settles _ (h (first_text (parts_of x)) (above x)))
 
-pub attribute_quoted : (g : Change) → ((n : Bytes) (a : List Bytes) → Keeps (g n a) quoted) → Keeps (on_attribute g) quoted
-attribute_quoted g h = within_quoted the_parts k.Named (valued g) (λ x. third_keeps_map _ quoted (h (first_text (parts_of x)) (above x)))
+pub attribute_quoted : (g : Change) → ((n : Bytes) (a : List Bytes) → Keeps (g n a) quotes_in) → Keeps (on_attribute g) quotes_in
+attribute_quoted g h = within_quoted the_parts k.Named (valued g) (λ x. third_keeps_map _ quotes_in (h (first_text (parts_of x)) (above x)))
 
 pub first_flags : (xs : List Expr) → first_text (map with_flags xs) ≡ first_text xs
 first_flags [] = refl
@@ -115,7 +115,7 @@ one_list g p h = within_keeps the_items k.List (λ x. g) (λ x. p) (λ x t. refl
 one_list_settles : (p : List Expr → List Expr) → Settles p → Settles (on_items k.List p)
 one_list_settles p h = within_settles the_items k.List (λ x. p) (λ x t. refl) (λ x. h)
 
-one_list_quoted : (g : List Expr → List Expr) → Keeps g (map quoted) → Keeps (on_items k.List g) quoted
+one_list_quoted : (g : List Expr → List Expr) → Keeps g (map quotes_in) → Keeps (on_items k.List g) quotes_in
 one_list_quoted g h = within_quoted the_items k.List (λ x. g) (λ x. h)
 
 one_list_flags : (p : List Expr → List Expr) → Keeps (map with_flags) p → Keeps with_flags (on_items k.List p)
@@ -135,9 +135,9 @@ lists_settle p h =
     (within_settles the_parts k.Sum (λ x. map (on_items k.List p)) (λ x t. refl) (λ x. map_settles _ (one_list_settles p h)))
     (one_list_settles p h)
 
-pub lists_quoted : (g : List Expr → List Expr) → Keeps g (map quoted) → Keeps (on_lists g) quoted
+pub lists_quoted : (g : List Expr → List Expr) → Keeps g (map quotes_in) → Keeps (on_lists g) quotes_in
 lists_quoted g h =
-    tested_keeps (has_kind k.Sum) (on_row k.Sum (map (on_items k.List g))) (on_items k.List g) quoted
+    tested_keeps (has_kind k.Sum) (on_row k.Sum (map (on_items k.List g))) (on_items k.List g) quotes_in
     (within_quoted the_parts k.Sum (λ x. map (on_items k.List g)) (λ x. map_keeps _ _ (one_list_quoted g h)))
     (one_list_quoted g h)
 

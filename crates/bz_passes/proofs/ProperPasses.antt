@@ -20,7 +20,7 @@ use Rattle.bz_passes.specs.Orders.{sort_by}
 use Rattle.bz_passes.specs.Strings.{with_double, shorter_string}
 use Rattle.bz_passes.specs.Marks.{any_marked, leave_alone}
 use Rattle.bz_passes.specs.Lists.{settled_list}
-use Rattle.bz_passes.specs.Passes.{on_statement, taken, on_taken, rule_kind, of_rule, on_call, on_rule_arguments, on_attribute, quoted, each_quoted, quotes, labelled, labelled_value, labels_in, labels, sorted_value, in_assign, lists_in, lists, argument_precedes, arguments_in, arguments, symbol_precedes, symbols_in, symbols, load_precedes, loads, tidied}
+use Rattle.bz_passes.specs.Passes.{on_statement, taken, on_taken, rule_kind, of_rule, on_call, on_rule_arguments, on_attribute, quotes_in, each_on_strings, quotes, labelled, labels_in, labels, on_label_value, on_list_value, on_assigned, lists_in, lists, argument_precedes, arguments_in, arguments, symbol_precedes, symbols_in, symbols, load_precedes, loads, tidied}
 use Rattle.bz_rule.proofs.ProperForms.{InPlace, itself, EachInPlace, none, both, all_itself, each_mapped, lists_in_place}
 use Rattle.bz_rule.proofs.ProperChanges.{by_test, Stays, EachStays, row_stays, items_stay, first_stays, third_stays, lists_stay, string_in_place}
 use Rattle.bz_passes.proofs.ProperStrings.{double_string, shorter_is_string}
@@ -56,32 +56,32 @@ taken_proper change h items w =
 -- ---- quotes
 
 mutual
-  quoted_stays : Stays quoted
+  quoted_stays : Stays quotes_in
   quoted_stays (Token t) = elim (cases_Bool (is_class t.class c.String)) [
     | inl w ↦ rw w (string_in_place (with_double t.text) (Token t) w (double_string t.text))
     | inr w ↦ rw w (itself (Token t))
   ]
   quoted_stays (Form' kind s parts s' items end split open_break comments) =
-      lists_in_place (each_quoted parts) (each_quoted items) (Form' kind s parts s' items end split open_break comments) (each_quoted_stays _ parts) (each_quoted_stays _ items)
+      lists_in_place (each_on_strings with_double parts) (each_on_strings with_double items) (Form' kind s parts s' items end split open_break comments) (each_quoted_stays _ parts) (each_quoted_stays _ items)
 
-  each_quoted_stays : (m : _) (r : Row_of-Expr m) → EachInPlace (items-the_row-Expr m r) (each_quoted r)
+  each_quoted_stays : (m : _) (r : Row_of-Expr m) → EachInPlace (items-the_row-Expr m r) (each_on_strings with_double r)
   each_quoted_stays m end_of-Expr = none
-  each_quoted_stays m (more_of-Expr x rest) = both x (quoted x) _ _ (quoted_stays x) (each_quoted_stays _ rest)
+  each_quoted_stays m (more_of-Expr x rest) = both x (quotes_in x) _ _ (quoted_stays x) (each_quoted_stays _ rest)
 
 pub quotes_proper : (items : List Item) → IsProper items → IsProper (quotes items)
-quotes_proper = taken_proper quoted quoted_stays
+quotes_proper = taken_proper quotes_in quoted_stays
 
 -- ---- labels
 
 labelled_stays : Stays labelled
 labelled_stays x = where_true (has_class c.String x) x (with_text (shorter_string (text_of x)) x) (λ is. string_in_place (shorter_string (text_of x)) x is (shorter_is_string (text_of x)))
 
-labelled_value_stays : (name : Bytes) (outside : List Bytes) → Stays (labelled_value name outside)
+labelled_value_stays : (name : Bytes) (outside : List Bytes) → Stays (on_label_value shorter_string name outside)
 labelled_value_stays name outside x =
     where_true (is_label_attribute name) x (on_lists (map labelled) x) (λ is. lists_stay (map labelled) (items_stay k.List (map labelled) (each_mapped labelled labelled_stays)) x)
 
 pub labels_proper : (items : List Item) → IsProper items → IsProper (labels items)
-labels_proper = taken_proper labels_in (values_stay (λ kind. labelled_value) (λ kind. labelled_value_stays))
+labels_proper = taken_proper labels_in (values_stay (λ kind. on_label_value shorter_string) (λ kind. labelled_value_stays))
 
 -- ---- lists
 
@@ -90,9 +90,9 @@ settled_stays outside by_table = lists_stay (settled_list outside by_table) (lis
 
 lists_in_stays : Stays lists_in
 lists_in_stays x =
-    by_test (InPlace x) (has_kind k.Assign x) (in_assign x) (on_rule_arguments (λ kind. map (on_attribute (sorted_value kind))) x)
+    by_test (InPlace x) (has_kind k.Assign x) (on_assigned settled_list x) (on_rule_arguments (λ kind. map (on_attribute (on_list_value settled_list kind))) x)
     (row_stays k.Assign (on_third (on_lists (settled_list (above x) false))) (third_stays (on_lists (settled_list (above x) false)) (settled_stays (above x) false)) x)
-    (values_stay sorted_value (λ kind name outside. settled_stays outside (is_sorted kind name)) x)
+    (values_stay (on_list_value settled_list) (λ kind name outside. settled_stays outside (is_sorted kind name)) x)
 
 pub lists_proper : (items : List Item) → IsProper items → IsProper (lists items)
 lists_proper = taken_proper lists_in lists_in_stays

@@ -1,13 +1,12 @@
 -- A string with double quote marks, and one with a shorter label, are strings again, and texts of characters.
-use Rattle.std.proofs.Common.{ℕ, zero, suc, get_or, ◌+◌, ◌-◌, ◌*◌, ◌<◌, Bool, true, false, not, ◌&&◌, ◌||◌, [], ◌∷◌, ◌++◌, ◌≡◌, refl, sym, ap, ◌∙◌, subst, if◌then◌else◌, inl, inr, length, take, drop, replicate, arith, length-append, append_assoc, append-nil, true≢false}
-use Rattle.std.specs.Prelude.{nat_le, nat_eq, bytes_eq}
+use Rattle.std.proofs.Common.{ℕ, zero, suc, get_or, ◌+◌, ◌-◌, ◌<◌, Bool, true, false, not, ◌||◌, [], ◌∷◌, ◌++◌, ◌≡◌, refl, sym, ap, ◌∙◌, subst, inl, inr, length, take, arith, length-append, append_assoc, append-nil, true≢false}
+use Rattle.std.specs.Prelude.{nat_eq, bytes_eq}
 use Rattle.std.specs.List.{list_any}
 use Rattle.std.specs.Str.{IsUtf8}
-use Rattle.std.proofs.Math.Seq.{take-append_seam, get_or-append_seam, take_at}
-use Rattle.std.proofs.lemmas.Bool.{cases_Bool, or_parts, or_from, and_parts}
+use Rattle.std.proofs.Math.Seq.{get_or-append_seam, take_at}
+use Rattle.std.proofs.lemmas.Bool.{cases_Bool, not-true, or_parts, or_from, and_parts}
 use Rattle.std.proofs.lemmas.Bool.Decides.{nat_tests}
 use Rattle.std.proofs.lemmas.List.{append_cancel_right}
-use Rattle.std.proofs.lemmas.List.Folds.{list_any-append}
 use Rattle.std.proofs.lemmas.Slice.Eq.{bytes_eq-Decides}
 use Rattle.std.proofs.lemmas.Str.{IsUtf8-append, IsUtf8-from_ascii, IsUtf8-take, IsUtf8-drop, IsCharBoundary-before_ascii, IsCharBoundary-after_ascii}
 use Rattle.bz_token.specs.Bytes.{is_quote}
@@ -16,9 +15,11 @@ use Rattle.bz_label.specs.Pieces.{is_colon}
 use Rattle.bz_label.specs.Shorter.{before_colon, after_colon, is_repeated, unrepeated}
 use Rattle.bz_items.specs.Characters.{Bytes, apostrophe, backslash, quotation_mark}
 use Rattle.bz_rule.specs.Rules.{inner, is_plain_in}
-use Rattle.bz_passes.specs.Strings.{has_character, begins_single, in_double, with_double, shorter_string}
-use Rattle.bz_rule.specs.QuoteMarks.{begins_thrice, marks_of, inside}
-use Rattle.bz_rule.proofs.ProperChanges.{Strung}
+use Rattle.bz_passes.specs.Strings.{has_character, with_double, shorter_string}
+use Rattle.bz_passes.specs.Programs.{IsSameString, IsUnescaped, itself, turned, turned_thrice}
+use Rattle.bz_passes.proofs.Keeping.{same_first, same_after}
+use Rattle.bz_passes.proofs.SameTexts.{double_same, same_byte, unescaped_rest}
+use Rattle.bz_rule.proofs.ProperChanges.{Strung, by_case, by_test}
 
 -- ---- texts of characters
 
@@ -47,115 +48,41 @@ core_thrice m s l u = cut_before s m (m ∷ m ∷ []) l (after_first m _ l (afte
 within_marks : (m s : Bytes) → IsUtf8 m → IsUtf8 s → IsUtf8 (m ++ (s ++ m))
 within_marks m s h i = IsUtf8-append m (s ++ m) h (IsUtf8-append s m i h)
 
+-- the body of a short string
+abbrev Body : ℕ → Bytes → Type 0
+Body m s = IsShort m s × IsUtf8 s
+
+with_marks : (m : ℕ) (b : Bytes) → is_quote m ≡ true → IsUtf8 (m ∷ []) → Body m b → Strung (m ∷ (b ++ m ∷ []))
+with_marks m b a c h = (([], m ∷ (b ++ m ∷ []), refl, refl, single m b a h.0), within_marks (m ∷ []) b c h.1)
+
 -- ---- double quote marks
 
-pub same_byte : (c q : ℕ) → nat_eq c q ≡ true → c ≡ q
-same_byte c q h = grind (arith, nat_tests)
-
--- without double marks and backslashes
-pub record Free (s : Bytes) : Type 0 where
-  pub mark : has_character quotation_mark s ≡ false
-  pub slash : has_character backslash s ≡ false
-
-pub free_rest : (c : ℕ) (s : Bytes) → Free (c ∷ s) → Free s
-free_rest c s f = record { mark = (or_parts (nat_eq c quotation_mark) (has_character quotation_mark s) f.mark).1; slash = (or_parts (nat_eq c backslash) (has_character backslash s) f.slash).1 }
-
-long_free : (s : Bytes) → Free s → IsLong quotation_mark s
+long_free : (s : Bytes) → IsUnescaped s → IsLong quotation_mark s
 long_free [] f = long_end
 long_free (c ∷ s) f =
-    long_plain 0 c s (omega arith) (or_from _ _ (or_parts (nat_eq c quotation_mark) (has_character quotation_mark s) f.mark).0 (or_from _ _ (or_parts (nat_eq c backslash) (has_character backslash s) f.slash).0 refl)) (long_free s (free_rest c s f))
+    long_plain 0 c s (omega arith) (or_from _ _ (or_parts (nat_eq c quotation_mark) (has_character quotation_mark s) f.0).0 (or_from _ _ (or_parts (nat_eq c backslash) (has_character backslash s) f.1).0 refl)) (long_free s (unescaped_rest c s f))
 
-short_free : (s : Bytes) → Free s → IsShort apostrophe s → IsShort quotation_mark s
+short_free : (s : Bytes) → IsUnescaped s → IsShort apostrophe s → IsShort quotation_mark s
 short_free [] f h = short_end
 short_free (c ∷ s) f (short_plain a h) =
-    short_plain (or_from _ _ (or_parts (nat_eq c quotation_mark) (has_character quotation_mark s) f.mark).0 (or_parts (nat_eq c apostrophe) _ a).1) (short_free s (free_rest c s f) h)
-short_free (c ∷ d ∷ s) f (short_taken h) = absurd (true≢false f.slash)
-short_free (c ∷ d ∷ e ∷ s) f (short_line h) = absurd (true≢false f.slash)
+    short_plain (or_from _ _ (or_parts (nat_eq c quotation_mark) (has_character quotation_mark s) f.0).0 (or_parts (nat_eq c apostrophe) _ a).1) (short_free s (unescaped_rest c s f) h)
+short_free (c ∷ d ∷ s) f (short_taken h) = absurd (true≢false f.1)
+short_free (c ∷ d ∷ e ∷ s) f (short_line h) = absurd (true≢false f.1)
 
--- what is between the marks
-pub inside_of : (n : ℕ) (m : ℕ) (s : Bytes) → drop n (replicate n m ++ (s ++ replicate n m)) ≡ s ++ replicate n m → length (replicate n m) ≡ n → inside n (replicate n m ++ (s ++ replicate n m)) ≡ s
-inside_of n m s d l =
-    let size : length (replicate n m ++ (s ++ replicate n m)) ≡ n + (length s + n) = length-append (replicate n m) (s ++ replicate n m) ∙ (ap (λ z. z + length (s ++ replicate n m)) l ∙ ap (λ z. n + z) (length-append s (replicate n m) ∙ ap (λ z. length s + z) l)) in
-    let less : length (replicate n m ++ (s ++ replicate n m)) - 2 * n ≡ length s = omega arith in
-    ap (λ k. take k (drop n (replicate n m ++ (s ++ replicate n m)))) less ∙ (ap (take (length s)) d ∙ take-append_seam s (replicate n m))
-
-pub free_front : (s t : Bytes) → Free (s ++ t) → Free s
-free_front s t f = record {
-  mark = (or_parts (has_character quotation_mark s) (has_character quotation_mark t) (sym (list_any-append (λ c. nat_eq c quotation_mark) s t) ∙ f.mark)).0;
-  slash = (or_parts (has_character backslash s) (has_character backslash t) (sym (list_any-append (λ c. nat_eq c backslash) s t) ∙ f.slash)).0;
-}
-
-turned : (c : ℕ) → nat_eq c apostrophe ≡ false → nat_eq apostrophe c ≡ false
-turned c h = grind (arith, nat_tests)
-
-not_thrice : (c : ℕ) (s : Bytes) → nat_eq c apostrophe ≡ false → begins_thrice (apostrophe ∷ c ∷ s) ≡ false
-not_thrice c [] h = refl
-not_thrice c (d ∷ s) h = ap (λ b. b && nat_eq c d) (turned c h)
-
-pub long_enough : (n k : ℕ) → n ≡ k + 6 → nat_le 6 n ≡ true
-long_enough n k e = grind (arith, nat_tests)
-
--- one mark at each end: no three marks begin such a text
-pub once : (s : Bytes) → IsShort apostrophe s → begins_thrice (apostrophe ∷ (s ++ apostrophe ∷ [])) ≡ false
-once [] h = refl
-once (c ∷ s) (short_plain a h) = not_thrice c (s ++ apostrophe ∷ []) (or_parts (nat_eq c apostrophe) _ a).0
-once (c ∷ d ∷ s) (short_taken h) = refl
-once (c ∷ d ∷ e ∷ s) (short_line h) = refl
-
--- a quoted text of characters
-abbrev Good : Bytes → Type 0
-Good text = IsQuoted text × IsUtf8 text
-
-one_mark : (s : Bytes) → Free s → IsShort apostrophe s → IsUtf8 s → Good (in_double (marks_of (apostrophe ∷ (s ++ apostrophe ∷ []))) (apostrophe ∷ (s ++ apostrophe ∷ [])))
-one_mark s f h u =
-    let one : marks_of (apostrophe ∷ (s ++ apostrophe ∷ [])) ≡ 1 = ap (λ b. if b && nat_le 6 (length (apostrophe ∷ (s ++ apostrophe ∷ []))) then 3 else 1) (once s h) in
-    let good : Good (quotation_mark ∷ (s ++ quotation_mark ∷ [])) = (single quotation_mark s refl (short_free s f h), within_marks (quotation_mark ∷ []) s (ascii_text quotation_mark (omega arith)) u) in
-    subst (λ n. Good (in_double n (apostrophe ∷ (s ++ apostrophe ∷ [])))) (sym one) (subst (λ z. Good (quotation_mark ∷ (z ++ quotation_mark ∷ []))) (sym (inside_of 1 apostrophe s refl refl)) good)
-
-three_marks : (s : Bytes) → Free s → IsUtf8 s → Good (in_double (marks_of (apostrophe ∷ apostrophe ∷ apostrophe ∷ (s ++ apostrophe ∷ apostrophe ∷ apostrophe ∷ []))) (apostrophe ∷ apostrophe ∷ apostrophe ∷ (s ++ apostrophe ∷ apostrophe ∷ apostrophe ∷ [])))
-three_marks s f u =
-    let size : length (apostrophe ∷ apostrophe ∷ apostrophe ∷ (s ++ apostrophe ∷ apostrophe ∷ apostrophe ∷ [])) ≡ length s + 6 = ap (λ n. suc (suc (suc n))) (length-append s (apostrophe ∷ apostrophe ∷ apostrophe ∷ [])) ∙ omega arith in
-    let three : marks_of (apostrophe ∷ apostrophe ∷ apostrophe ∷ (s ++ apostrophe ∷ apostrophe ∷ apostrophe ∷ [])) ≡ 3 = ap (λ b. if b then 3 else 1) (long_enough _ (length s) size) in
-    let good : Good (quotation_mark ∷ quotation_mark ∷ quotation_mark ∷ (s ++ quotation_mark ∷ quotation_mark ∷ quotation_mark ∷ [])) = (triple quotation_mark s refl (long_free s f), within_marks (quotation_mark ∷ quotation_mark ∷ quotation_mark ∷ []) s (IsUtf8-append (quotation_mark ∷ []) (quotation_mark ∷ quotation_mark ∷ []) (ascii_text quotation_mark (omega arith)) (IsUtf8-append (quotation_mark ∷ []) (quotation_mark ∷ []) (ascii_text quotation_mark (omega arith)) (ascii_text quotation_mark (omega arith)))) u) in
-    subst (λ n. Good (in_double n (apostrophe ∷ apostrophe ∷ apostrophe ∷ (s ++ apostrophe ∷ apostrophe ∷ apostrophe ∷ [])))) (sym three) (subst (λ z. Good (quotation_mark ∷ quotation_mark ∷ quotation_mark ∷ (z ++ quotation_mark ∷ quotation_mark ∷ quotation_mark ∷ []))) (sym (inside_of 3 apostrophe s refl refl)) good)
-
-no_prefix : (p q t : Bytes) → t ≡ p ++ q → is_prefix p ≡ true → begins_single t ≡ true → p ≡ []
-no_prefix [] q t e h s = refl
-no_prefix (c ∷ p) q t e h s =
-    let m : c ≡ apostrophe = same_byte c apostrophe (sym (ap begins_single e) ∙ s) in
-    absurd (true≢false (sym h ∙ ap (λ z. is_prefix (z ∷ p)) m))
-
-free_quoted : (q : Bytes) → IsQuoted q → begins_single q ≡ true → Free q → IsUtf8 q → Good (in_double (marks_of q) q)
-free_quoted q (single m s a h) b f u =
-    let e : m ≡ apostrophe = same_byte m apostrophe b in
-    subst (λ z. Good (in_double (marks_of (z ∷ (s ++ z ∷ []))) (z ∷ (s ++ z ∷ [])))) (sym e)
-    (one_mark s (free_front s (m ∷ []) (free_rest m (s ++ m ∷ []) f)) (subst (λ z. IsShort z s) e h) (core_once m s (omega arith) u))
-free_quoted q (triple m s a h) b f u =
-    let e : m ≡ apostrophe = same_byte m apostrophe b in
-    subst (λ z. Good (in_double (marks_of (z ∷ z ∷ z ∷ (s ++ z ∷ z ∷ z ∷ []))) (z ∷ z ∷ z ∷ (s ++ z ∷ z ∷ z ∷ [])))) (sym e)
-    (three_marks s (free_front s (m ∷ m ∷ m ∷ []) (free_rest m _ (free_rest m _ (free_rest m _ f)))) (core_thrice m s (omega arith) u))
-
-not_false : (b : Bool) → not b ≡ true → b ≡ false
-not_false true h = sym h
-not_false false h = refl
-
--- what is so of a string, and of one that takes double marks with these, is so of what it becomes
-pub when_double : (P : Bytes → Type 0) (t p q : Bytes) → t ≡ p ++ q → is_prefix p ≡ true → P t → (t ≡ q → begins_single q ≡ true → Free q → P (in_double (marks_of q) q)) → P (with_double t)
-when_double P t p q e h stays turns = elim (cases_Bool (begins_single t && not (has_character quotation_mark t || has_character backslash t))) [
-  | inl w ↦
-      let first : begins_single t ≡ true = (and_parts (begins_single t) _ w).0 in
-      let none : p ≡ [] = no_prefix p q t e h first in
-      let same : t ≡ q = e ∙ ap (λ z. z ++ q) none in
-      let bare : (has_character quotation_mark t || has_character backslash t) ≡ false = not_false _ (and_parts (begins_single t) _ w).1 in
-      let parts : (has_character quotation_mark t ≡ false) × (has_character backslash t ≡ false) = or_parts (has_character quotation_mark t) (has_character backslash t) bare in
-      rw w (subst (λ z. P (in_double (marks_of z) z)) (sym same) (turns same (sym (ap begins_single same) ∙ first) (subst Free same (record { mark = parts.0; slash = parts.1 }))))
-  | inr w ↦ rw w stays
-]
+still_string : (t new : Bytes) → IsSameString t new → Strung t → Strung new
+still_string t new (itself e) h = subst Strung (sym e) h
+still_string t new (turned s short free e e') h =
+    subst Strung (sym e') (with_marks quotation_mark s refl (ascii_text quotation_mark (omega arith)) (short_free s free short, core_once apostrophe s (omega arith) (subst IsUtf8 e h.1)))
+still_string t new (turned_thrice s long free e e') h =
+    let one : IsUtf8 (quotation_mark ∷ []) = ascii_text quotation_mark (omega arith) in
+    let marks : Bytes = quotation_mark ∷ quotation_mark ∷ quotation_mark ∷ [] in
+    subst Strung (sym e') (
+      ([], marks ++ (s ++ marks), refl, refl, triple quotation_mark s refl (long_free s free)),
+      within_marks marks s (IsUtf8-append (quotation_mark ∷ []) (quotation_mark ∷ quotation_mark ∷ []) one (IsUtf8-append (quotation_mark ∷ []) (quotation_mark ∷ []) one one)) (core_thrice apostrophe s (omega arith) (subst IsUtf8 e h.1)),
+    )
 
 pub double_string : (t : Bytes) → Strung t → Strung (with_double t)
-double_string t ((p, q, e, h, i), u) = when_double Strung t p q e h ((p, q, e, h, i), u) (λ same first free.
-    let good : Good (in_double (marks_of q) q) = free_quoted q i first free (subst IsUtf8 same u) in
-    (([], in_double (marks_of q) q, refl, refl, good.0), good.1))
+double_string t h = still_string t (with_double t) (double_same t h.0) h
 
 -- ---- shorter labels
 
@@ -165,10 +92,8 @@ is_barred m c = nat_eq c m || nat_eq c backslash
 
 short_front : (m : ℕ) (s : Bytes) → list_any (is_barred m) s ≡ false → IsShort m s → IsShort m (before_colon s)
 short_front m [] f h = short_end
-short_front m (c ∷ s) f (short_plain a h) = elim (cases_Bool (is_colon c)) [
-  | inl w ↦ rw w short_end
-  | inr w ↦ rw w (short_plain a (short_front m s (or_parts (is_barred m c) (list_any (is_barred m) s) f).1 h))
-]
+short_front m (c ∷ s) f (short_plain a h) =
+    by_test (IsShort m) (is_colon c) [] (c ∷ before_colon s) short_end (short_plain a (short_front m s (or_parts (is_barred m c) (list_any (is_barred m) s) f).1 h))
 short_front m (c ∷ d ∷ s) f (short_taken h) = absurd (true≢false ((or_parts (nat_eq backslash m) true (or_parts (is_barred m backslash) (list_any (is_barred m) (d ∷ s)) f).0).1))
 short_front m (c ∷ d ∷ e ∷ s) f (short_line h) = absurd (true≢false ((or_parts (nat_eq backslash m) true (or_parts (is_barred m backslash) (list_any (is_barred m) (d ∷ e ∷ s)) f).0).1))
 
@@ -177,34 +102,16 @@ low_colon c h = grind (arith, nat_tests)
 
 coded_front : (front s : Bytes) → IsUtf8 (front ++ s) → IsUtf8 (front ++ before_colon s)
 coded_front front [] u = u
-coded_front front (c ∷ s) u = elim (cases_Bool (is_colon c)) [
-  | inl w ↦ rw w (subst IsUtf8 (sym (append-nil front)) (cut_before front c s (low_colon c w) u))
-  | inr w ↦ rw w (subst IsUtf8 (append_assoc front (c ∷ []) (before_colon s)) (coded_front (front ++ c ∷ []) s (subst IsUtf8 (sym (append_assoc front (c ∷ []) s)) u)))
-]
-
--- the body of a short string
-abbrev Body : ℕ → Bytes → Type 0
-Body m s = IsShort m s × IsUtf8 s
+coded_front front (c ∷ s) u =
+    by_case (λ z. IsUtf8 (front ++ z)) (is_colon c) [] (c ∷ before_colon s)
+    (λ w. subst IsUtf8 (sym (append-nil front)) (cut_before front c s (low_colon c w) u))
+    (λ f. subst IsUtf8 (append_assoc front (c ∷ []) (before_colon s)) (coded_front (front ++ c ∷ []) s (subst IsUtf8 (sym (append_assoc front (c ∷ []) s)) u)))
 
 shorter_body : (m : ℕ) (b : Bytes) → list_any (is_barred m) b ≡ false → Body m b → Body m (unrepeated b)
-shorter_body m b f h = elim (cases_Bool (is_repeated (before_colon b) (after_colon b))) [
-  | inl w ↦ rw w (short_front m b f h.0, coded_front [] b h.1)
-  | inr w ↦ rw w h
-]
+shorter_body m b f h = by_test (Body m) (is_repeated (before_colon b) (after_colon b)) (before_colon b) b (short_front m b f h.0, coded_front [] b h.1) h
 
 own_byte : (m : ℕ) → nat_eq m m ≡ true
 own_byte m = grind (arith, nat_tests)
-
-first_byte : Bytes → ℕ
-first_byte [] = 0
-first_byte (c ∷ s) = c
-
-same_first : (c d : ℕ) (s t : Bytes) → c ∷ s ≡ d ∷ t → c ≡ d
-unfolding first_byte
-same_first c d s t e = ap first_byte e
-
-same_after : (c d : ℕ) (s t : Bytes) → c ∷ s ≡ d ∷ t → s ≡ t
-same_after c d s t e = ap (drop 1) e
 
 -- a body that is not empty does not begin with its mark
 begins_free : (m k : ℕ) (s b : Bytes) → k ≡ m → k ∷ s ≡ b ++ m ∷ [] → list_any (is_barred m) b ≡ false → s ≡ []
@@ -246,14 +153,11 @@ plain_body m b t e a l f ((p, q, g, h, i), u) =
     let same : q ≡ m ∷ (b ++ m ∷ []) = ap (λ z. z ++ q) (sym none) ∙ (sym g ∙ e) in
     (body_short m q b same f i, core_once m b l (subst IsUtf8 e u))
 
-with_marks : (m : ℕ) (b : Bytes) → is_quote m ≡ true → IsUtf8 (m ∷ []) → Body m b → Strung (m ∷ (b ++ m ∷ []))
-with_marks m b a c h = (([], m ∷ (b ++ m ∷ []), refl, refl, single m b a h.0), within_marks (m ∷ []) b c h.1)
-
 plain_shorter : (m : ℕ) (t : Bytes) → is_quote m ≡ true → m < 128 → IsUtf8 (m ∷ []) → is_plain_in m t ≡ true → Strung t → Strung (take 1 t ++ (unrepeated (inner t) ++ take 1 t))
 plain_shorter m t a l c w h =
     let tests = and_parts (bytes_eq t (m ∷ inner t ++ m ∷ [])) _ w in
     let e : t ≡ m ∷ (inner t ++ m ∷ []) = (bytes_eq-Decides t (m ∷ (inner t ++ m ∷ []))).0 tests.0 in
-    let f : list_any (is_barred m) (inner t) ≡ false = not_false _ tests.1 in
+    let f : list_any (is_barred m) (inner t) ≡ false = not-true _ tests.1 in
     let one : take 1 t ≡ m ∷ [] = ap (take 1) e in
     subst (λ z. Strung (z ++ (unrepeated (inner t) ++ z))) (sym one) (with_marks m (unrepeated (inner t)) a c (shorter_body m (inner t) f (plain_body m (inner t) t e a l f h)))
 

@@ -10,13 +10,14 @@ use Rattle.std.proofs.lemmas.Slice.Eq.{bytes_eq-Decides}
 use Rattle.bz_token.specs.declared.class.Class.TheVariants as c
 use Rattle.bz_value.specs.declared.value.Expr.{Expr, Token, Form'}
 use Rattle.bz_items.specs.Characters.{Bytes}
+use Rattle.bz_rule.proofs.ProperChanges.{by_case}
 use Rattle.bz_rule.specs.Values.{has_class, text_of, above, with_above}
 use Rattle.bz_passes.specs.Orders.{sort_by}
 use Rattle.bz_passes.specs.Marks.{keep_marks, other_comments}
 use Rattle.bz_passes.specs.Lists.{is_taken, precedes, has_no_comment, without_repeats, in_order, without_marks, marked_by, sorted, settled_list}
 use Rattle.bz_passes.specs.Programs.{HoldsTheStrings, IsSameList}
-use Rattle.bz_passes.proofs.Listed.{text_above, settled_all}
-use Rattle.bz_passes.proofs.TheOne.{sort_same}
+use Rattle.bz_passes.proofs.Listed.{text_above, settled_anyway}
+use Rattle.bz_passes.proofs.Sorting.{sort_same}
 
 abbrev texts : List Expr → List Bytes
 texts xs = map text_of xs
@@ -74,10 +75,10 @@ kept earlier x xs ys l = record {
 
 unrepeated_leaves : (earlier : List Bytes) (xs : List Expr) → Leaves earlier xs (without_repeats earlier xs)
 unrepeated_leaves earlier [] = record { gone = []; same = IsPermutation-refl []; repeats = tt }
-unrepeated_leaves earlier (x ∷ xs) = elim (cases_Bool (has_no_comment x && list_any (bytes_eq (text_of x)) earlier)) [
-  | inl w ↦ rw w (dropped earlier x xs (without_repeats earlier xs) (found (text_of x) earlier (and_parts (has_no_comment x) _ w).1) (unrepeated_leaves earlier xs))
-  | inr w ↦ rw w (kept earlier x xs (without_repeats (text_of x ∷ earlier) xs) (unrepeated_leaves (text_of x ∷ earlier) xs))
-]
+unrepeated_leaves earlier (x ∷ xs) =
+    by_case (Leaves earlier (x ∷ xs)) (has_no_comment x && list_any (bytes_eq (text_of x)) earlier) (without_repeats earlier xs) (x ∷ without_repeats (text_of x ∷ earlier) xs)
+    (λ t. dropped earlier x xs (without_repeats earlier xs) (found (text_of x) earlier (and_parts (has_no_comment x) _ t).1) (unrepeated_leaves earlier xs))
+    (λ f. kept earlier x xs (without_repeats (text_of x ∷ earlier) xs) (unrepeated_leaves (text_of x ∷ earlier) xs))
 
 -- ---- a list in order
 
@@ -125,9 +126,13 @@ pub class_above : (a : List Bytes) (x : Expr) → IsText x → IsText (with_abov
 class_above a (Token t) h = h
 class_above a (Form' kind s parts s' items end split open_break comments) h = h
 
-pub all_texts : (xs : List Expr) → list_all (has_class c.String) xs ≡ true → AllByRecursion IsText xs
+all_texts : (xs : List Expr) → list_all (has_class c.String) xs ≡ true → AllByRecursion IsText xs
 all_texts [] h = tt
 all_texts (x ∷ xs) h = ((and_parts (has_class c.String x) _ h).0, all_texts xs (and_parts (has_class c.String x) (list_all (has_class c.String) xs) h).1)
+
+-- a list that is to be sorted has strings alone
+pub taken_texts : (outside : List Bytes) (by_table : Bool) (xs : List Expr) → is_taken outside by_table xs ≡ true → AllByRecursion IsText xs
+taken_texts outside by_table xs t = all_texts xs (and_parts _ (list_all (has_class c.String) xs) (and_parts _ _ t).0).1
 
 contained_all : (ts gone : List Bytes) → AllByRecursion (In ts) gone → AllByRecursion (Contains ts) gone
 contained_all ts [] h = tt
@@ -144,8 +149,8 @@ holds old new strings h = record {
 pub list_same : (outside : List Bytes) (by_table : Bool) (xs : List Expr) → IsSameList (is_taken outside by_table xs) xs (settled_list outside by_table xs)
 list_same outside by_table xs = elim (cases_Bool (is_taken outside by_table xs)) [
   | inl w ↦
-      let strings : AllByRecursion IsText xs = all_texts xs (and_parts _ (list_all (has_class c.String) xs) (and_parts _ _ w).0).1 in
-      let still : AllByRecursion IsText (settled_list outside by_table xs) = settled_all IsText class_above outside by_table xs strings in
+      let strings : AllByRecursion IsText xs = taken_texts outside by_table xs w in
+      let still : AllByRecursion IsText (settled_list outside by_table xs) = settled_anyway IsText class_above outside by_table xs strings in
       let still' : AllByRecursion IsText (sorted xs) = rw w at still in
       rw w (holds xs (sorted xs) still' (sorted_held xs))
   | inr w ↦ rw w refl

@@ -1,23 +1,53 @@
 -- What stable sorting leaves, keeps and passes on.
-use Rattle.std.proofs.Common.{ℕ, ◌+◌, Bool, true, false, List, [], ◌∷◌, ◌≡◌, refl, ap, ◌∙◌, map, inl, inr, arith}
-use Rattle.std.proofs.lemmas.Bool.{cases_Bool}
+use Rattle.std.proofs.Common.{ℕ, ◌+◌, ◌&&◌, Bool, true, false, List, [], ◌∷◌, ◌≡◌, refl, sym, ap, ◌∙◌, length, map, inl, inr}
+use Rattle.std.proofs.lemmas.Bool.{and_parts, and_right, cases_Bool}
+use Rattle.std.proofs.lemmas.List.Elements.{All-from_recursion, recursion_from_All}
+use Rattle.std.proofs.lemmas.List.Sorted.{All-permutation, IsPermutation-cons, IsPermutation-middle, IsPermutation-refl, IsPermutation-trans, length_permutation, sum_by-IsPermutation}
+use Rattle.std.proofs.lemmas.List.Sums.{sum_by-cons}
+use Rattle.std.specs.Cmp.{IsStrictWeakOrder}
 use Rattle.std.specs.List.{AllByRecursion}
+use Rattle.std.specs.List.Sorted.{IsPermutation}
+use Rattle.std.specs.Prelude.{sum_by}
 use Rattle.bz_value.specs.Counted.{total}
+use Rattle.bz_rule.proofs.ProperChanges.{by_case, by_test}
 use Rattle.bz_passes.specs.Orders.{insert_by, sort_by}
 use Rattle.bz_passes.proofs.Keeping.{Keeps, Settles, both, same_first, same_after}
 
+-- ---- items that change places
+
+module _ {X : Type 0} (number : X → ℕ) where
+  as_sum : (xs : List X) → total number xs ≡ sum_by number xs
+  as_sum [] = refl
+  as_sum (x ∷ xs) = ap (λ n. number x + n) (as_sum xs) ∙ sym (sum_by-cons number x xs)
+
+  pub permuted_total : (xs ys : List X) → IsPermutation xs ys → total number ys ≡ total number xs
+  permuted_total xs ys h = as_sum ys ∙ sum_by-IsPermutation number xs ys h ∙ sym (as_sum xs)
+
 module _ {X : Type 0} (lt : X → X → Bool) where
-  -- ---- what holds of each item
+  -- ---- the same items
+  insert_same : (x : X) (ys : List X) → IsPermutation (x ∷ ys) (insert_by lt x ys)
+  insert_same x [] = IsPermutation-refl (x ∷ [])
+  insert_same x (y ∷ ys) =
+      by_test (IsPermutation (x ∷ y ∷ ys)) (lt y x) (y ∷ insert_by lt x ys) (x ∷ y ∷ ys)
+      (IsPermutation-trans (x ∷ y ∷ ys) (y ∷ x ∷ ys) (y ∷ insert_by lt x ys) (IsPermutation-middle (x ∷ []) y ys) (IsPermutation-cons y (x ∷ ys) (insert_by lt x ys) (insert_same x ys)))
+      (IsPermutation-refl (x ∷ y ∷ ys))
+
+  pub sort_same : (xs : List X) → IsPermutation xs (sort_by lt xs)
+  sort_same [] = IsPermutation-refl []
+  sort_same (x ∷ xs) = IsPermutation-trans (x ∷ xs) (x ∷ sort_by lt xs) (insert_by lt x (sort_by lt xs)) (IsPermutation-cons x xs (sort_by lt xs) (sort_same xs)) (insert_same x (sort_by lt xs))
+
+  -- so what holds of each item, how many there are and sums stay
   pub insert_all : (P : X → Type 0) (x : X) (xs : List X) → P x → AllByRecursion P xs → AllByRecursion P (insert_by lt x xs)
-  insert_all P x [] a b = (a, tt)
-  insert_all P x (y ∷ ys) a b = elim (cases_Bool (lt y x)) [
-    | inl t ↦ rw t (b.0, insert_all P x ys a b.1)
-    | inr f ↦ rw f (a, b)
-  ]
+  insert_all P x xs a b = recursion_from_All P (insert_by lt x xs) (All-permutation P (x ∷ xs) (insert_by lt x xs) (insert_same x xs) (All-from_recursion P (x ∷ xs) (a, b)))
 
   pub sort_all : (P : X → Type 0) (xs : List X) → AllByRecursion P xs → AllByRecursion P (sort_by lt xs)
-  sort_all P [] h = tt
-  sort_all P (x ∷ xs) h = insert_all P x (sort_by lt xs) h.0 (sort_all P xs h.1)
+  sort_all P xs h = recursion_from_All P (sort_by lt xs) (All-permutation P xs (sort_by lt xs) (sort_same xs) (All-from_recursion P xs h))
+
+  pub sort_length : (xs : List X) → length (sort_by lt xs) ≡ length xs
+  sort_length xs = length_permutation xs (sort_by lt xs) (sort_same xs)
+
+  pub sort_total : (n : X → ℕ) (xs : List X) → total n (sort_by lt xs) ≡ total n xs
+  sort_total n xs = permuted_total n xs (sort_by lt xs) (sort_same xs)
 
   -- ---- sorted lists
   abbrev pub Starts : X → List X → Type 0
@@ -39,17 +69,12 @@ module _ {X : Type 0} (lt : X → X → Bool) where
   module _ (one_way : (x y : X) → lt x y ≡ true → lt y x ≡ false) where
     starts_insert : (z x : X) (ys : List X) → lt x z ≡ false → Starts z ys → Starts z (insert_by lt x ys)
     starts_insert z x [] a s = a
-    starts_insert z x (y ∷ ys) a s = elim (cases_Bool (lt y x)) [
-      | inl t ↦ rw t s
-      | inr f ↦ rw f a
-    ]
+    starts_insert z x (y ∷ ys) a s = by_test (Starts z) (lt y x) (y ∷ insert_by lt x ys) (x ∷ y ∷ ys) s a
 
     insert_ordered : (x : X) (ys : List X) → Ordered ys → Ordered (insert_by lt x ys)
     insert_ordered x [] o = (tt, tt)
-    insert_ordered x (y ∷ ys) o = elim (cases_Bool (lt y x)) [
-      | inl t ↦ rw t (starts_insert y x ys (one_way y x t) o.0, insert_ordered x ys o.1)
-      | inr f ↦ rw f (f, o)
-    ]
+    insert_ordered x (y ∷ ys) o =
+        by_case Ordered (lt y x) (y ∷ insert_by lt x ys) (x ∷ y ∷ ys) (λ t. (starts_insert y x ys (one_way y x t) o.0, insert_ordered x ys o.1)) (λ f. (f, o))
 
     pub sort_ordered : (xs : List X) → Ordered (sort_by lt xs)
     sort_ordered [] = tt
@@ -61,10 +86,10 @@ module _ {X : Type 0} (lt : X → X → Bool) where
   -- ---- what a sort keeps
   insert_fixed : (p : X → X) (x : X) (xs : List X) → p x ≡ x → map p xs ≡ xs → map p (insert_by lt x xs) ≡ insert_by lt x xs
   insert_fixed p x [] a b = ap (λ z. z ∷ []) a
-  insert_fixed p x (y ∷ ys) a b = elim (cases_Bool (lt y x)) [
-    | inl t ↦ rw t (both (λ z zs. z ∷ zs) (same_first (p y) y (map p ys) ys b) (insert_fixed p x ys a (same_after (p y) y (map p ys) ys b)))
-    | inr f ↦ rw f (both (λ z zs. z ∷ zs) a b)
-  ]
+  insert_fixed p x (y ∷ ys) a b =
+      by_test (λ zs. map p zs ≡ zs) (lt y x) (y ∷ insert_by lt x ys) (x ∷ y ∷ ys)
+      (both (λ z zs. z ∷ zs) (same_first (p y) y (map p ys) ys b) (insert_fixed p x ys a (same_after (p y) y (map p ys) ys b)))
+      (both (λ z zs. z ∷ zs) a b)
 
   pub sort_keeps : (p : X → X) → Keeps (sort_by lt) (map p)
   sort_keeps p [] e = refl
@@ -86,14 +111,11 @@ module _ {X : Type 0} (lt : X → X → Bool) where
     pub map_keeps_sort : Keeps (map g) (sort_by lt)
     map_keeps_sort xs e = sort_map xs ∙ ap (map g) e
 
-  -- ---- sums
-  insert_total : (n : X → ℕ) (x : X) (xs : List X) → total n (insert_by lt x xs) ≡ n x + total n xs
-  insert_total n x [] = refl
-  insert_total n x (y ∷ ys) = elim (cases_Bool (lt y x)) [
-    | inl t ↦ rw t (ap (λ z. n y + z) (insert_total n x ys) ∙ omega arith)
-    | inr f ↦ rw f refl
-  ]
+-- ---- items of which only those that pass a test are compared
 
-  pub sort_total : (n : X → ℕ) (xs : List X) → total n (sort_by lt xs) ≡ total n xs
-  sort_total n [] = refl
-  sort_total n (x ∷ xs) = insert_total n x (sort_by lt xs) ∙ ap (λ z. n x + z) (sort_total n xs)
+module _ {X : Type 0} (p : X → Bool) (lt : X → X → Bool) where
+  abbrev pub compared : X → X → Bool
+  compared x y = p x && p y && lt x y
+
+  pub compared_one_way : IsStrictWeakOrder lt → (x y : X) → compared x y ≡ true → compared y x ≡ false
+  compared_one_way o x y h = and_right (p y && p x) (lt y x) (o.one_way x y (and_parts (p x && p y) (lt x y) h).1)

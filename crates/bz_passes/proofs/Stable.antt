@@ -1,6 +1,6 @@
 -- The sorted list is the one that is in order and stable: so whatever sorts stably gives it.
-use Rattle.std.proofs.Common.{suc, ◌+◌, Bool, true, false, not, ◌&&◌, List, [], ◌∷◌, ◌≡◌, refl, sym, ap, ◌∙◌, subst, inl, inr, arith, get_or}
-use Rattle.std.proofs.lemmas.Bool.{cases_Bool, true≢false}
+use Rattle.std.proofs.Common.{suc, ◌+◌, Bool, true, false, not, List, [], ◌∷◌, ◌≡◌, refl, sym, ap, ◌∙◌, subst, inl, inr, arith, get_or, if◌then◌else◌}
+use Rattle.std.proofs.lemmas.Bool.{and_parts, cases_Bool, false_from_ne_true, not-true, true≢false}
 use Rattle.std.specs.List.{filter, AllByRecursion}
 use Rattle.std.specs.List.Sorted.{IsSortedBy, IsStableBy, ties}
 use Rattle.std.specs.Cmp.{IsStrictWeakOrder}
@@ -12,11 +12,10 @@ use denote.Param.Members.{Mut}
 use Rattle.std.proofs.lemmas.List.Sorted.{answers_always}
 use Rattle.bz_passes.specs.Orders.{insert_by, sort_by}
 use Rattle.bz_passes.specs.Rising.{NoneBefore, Rises}
-use Rattle.bz_passes.proofs.Keeping.{same_first, same_after}
-
-module _ {X : Type 0} where
-  same_both : {x y : X} {xs ys : List X} → x ≡ y → xs ≡ ys → x ∷ xs ≡ y ∷ ys
-  same_both {x} {y} {xs} {ys} d e = ap (λ z. z ∷ xs) d ∙ ap (λ zs. y ∷ zs) e
+use Rattle.bz_rule.proofs.ProperChanges.{by_case}
+use Rattle.bz_rule.proofs.ProperItems.{all_kept}
+use Rattle.bz_passes.proofs.Keeping.{both, same_first, same_after}
+use Rattle.bz_passes.proofs.Sorting.{insert_all}
 
 module _ {X : Type 0} (lt : X → X → Bool) (o : IsStrictWeakOrder lt) where
   pub after_too : (x y : X) (zs : List X) → lt x y ≡ false → NoneBefore lt x zs → NoneBefore lt y zs
@@ -24,23 +23,19 @@ module _ {X : Type 0} (lt : X → X → Bool) (o : IsStrictWeakOrder lt) where
   after_too x y (z ∷ zs) h a = (o.chain z x y a.0 h, after_too x y zs h a.1)
 
   own : (x : X) → lt x x ≡ false
-  own x = elim (cases_Bool (lt x x)) [
-    | inl t ↦ o.one_way x x t
-    | inr f ↦ f
-  ]
+  own x = false_from_ne_true _ (λ t. true≢false (sym t ∙ o.one_way x x t))
 
   own_ties : (x : X) → ties lt x x ≡ true
   own_ties x = rw (own x) refl
 
   filtered : (Q : X → Type 0) (p : X → Bool) (y : X) (ys xs : List X) → AllByRecursion Q xs → filter p xs ≡ y ∷ ys → Q y
-  filtered Q p y ys [] h e = cc
-  filtered Q p y ys (x ∷ xs) h e = elim (cases_Bool (p x)) [
-    | inl t ↦ let e' : x ∷ filter p xs ≡ y ∷ ys = rw t at e in subst Q (same_first x y (filter p xs) ys e') h.0
-    | inr f ↦ let e' : filter p xs ≡ y ∷ ys = rw f at e in filtered Q p y ys xs h.1 e'
-  ]
+  filtered Q p y ys xs h e = (subst (AllByRecursion Q) e (all_kept Q p xs h)).0
 
   at_first : (p : X → Bool) (x : X) (xs : List X) → p x ≡ true → filter p (x ∷ xs) ≡ x ∷ filter p xs
   at_first p x xs h = rw h refl
+
+  past_first : (p : X → Bool) (x : X) (xs : List X) → p x ≡ false → filter p (x ∷ xs) ≡ filter p xs
+  past_first p x xs h = rw h refl
 
   cancel : (p : X → Bool) (x : X) (xs ys : List X) → filter p (x ∷ xs) ≡ filter p (x ∷ ys) → filter p xs ≡ filter p ys
   cancel p x xs ys e = elim (cases_Bool (p x)) [
@@ -60,23 +55,15 @@ module _ {X : Type 0} (lt : X → X → Bool) (o : IsStrictWeakOrder lt) where
       let u : lt x y ≡ false = filtered (λ z. lt z y ≡ false) (ties lt x) x (filter (ties lt x) xs) (y ∷ ys) (own y, b.0) (sym (h x) ∙ at_first (ties lt x) x xs (own_ties x)) in
       let v : lt y x ≡ false = filtered (λ z. lt z x ≡ false) (ties lt y) y (filter (ties lt y) ys) (x ∷ xs) (own x, a.0) (h y ∙ at_first (ties lt y) y ys (own_ties y)) in
       let e : x ≡ y = same_first x y (filter (ties lt x) xs) (filter (ties lt x) ys) (sym (at_first (ties lt x) x xs (own_ties x)) ∙ (h x ∙ at_first (ties lt x) y ys (tied x y u v))) in
-      same_both e (one_order xs ys a.1 b.1 (λ z. cancel (ties lt z) y xs ys (ap (λ w. filter (ties lt z) (w ∷ xs)) (sym e) ∙ h z)))
+      both (λ z zs. z ∷ zs) e (one_order xs ys a.1 b.1 (λ z. cancel (ties lt z) y xs ys (ap (λ w. filter (ties lt z) (w ∷ xs)) (sym e) ∙ h z)))
 
   -- ---- insertion keeps the order
 
-  insert_after : (z x : X) (ys : List X) → lt x z ≡ false → NoneBefore lt z ys → NoneBefore lt z (insert_by lt x ys)
-  insert_after z x [] h a = (h, tt)
-  insert_after z x (y ∷ ys) h a = elim (cases_Bool (lt y x)) [
-    | inl t ↦ rw t (a.0, insert_after z x ys h a.1)
-    | inr f ↦ rw f (h, a)
-  ]
-
   insert_rises : (x : X) (ys : List X) → Rises lt ys → Rises lt (insert_by lt x ys)
   insert_rises x [] r = (tt, tt)
-  insert_rises x (y ∷ ys) r = elim (cases_Bool (lt y x)) [
-    | inl t ↦ rw t (insert_after y x ys (o.one_way y x t) r.0, insert_rises x ys r.1)
-    | inr f ↦ rw f ((f, after_too y x ys f r.0), r)
-  ]
+  insert_rises x (y ∷ ys) r =
+      by_case (Rises lt) (lt y x) (y ∷ insert_by lt x ys) (x ∷ y ∷ ys)
+      (λ t. (insert_all lt (λ z. lt z y ≡ false) x ys (o.one_way y x t) r.0, insert_rises x ys r.1)) (λ f. ((f, after_too y x ys f r.0), r))
 
   pub sort_rises : (xs : List X) → Rises lt (sort_by lt xs)
   sort_rises [] = tt
@@ -84,40 +71,23 @@ module _ {X : Type 0} (lt : X → X → Bool) (o : IsStrictWeakOrder lt) where
 
   -- ---- insertion is stable
 
-  and_second : (a b : Bool) → (a && b) ≡ true → b ≡ true
-  and_second true b h = h
-  and_second false b h = cc
-
-  and_front : (a b : Bool) → (a && b) ≡ true → a ≡ true
-  and_front true b h = refl
-  and_front false b h = h
-
-  not_true : (b : Bool) → not b ≡ true → b ≡ false
-  not_true true h = sym h
-  not_true false h = refl
+  again : (p : X → Bool) (w : X) (us ws : List X) → filter p us ≡ filter p ws → filter p (w ∷ us) ≡ filter p (w ∷ ws)
+  again p w us ws h = ap (λ zs. if p w then w ∷ zs else zs) h
 
   past : (p : X → Bool) (y w : X) (us ys : List X) → p y ≡ false → filter p us ≡ filter p (w ∷ ys) → filter p (y ∷ us) ≡ filter p (w ∷ y ∷ ys)
-  past p y w us ys f h = elim (cases_Bool (p w)) [
-    | inl t ↦ let h' : filter p us ≡ w ∷ filter p ys = rw t at h in rw (f, t) h'
-    | inr g ↦ let h' : filter p us ≡ filter p ys = rw g at h in rw (f, g) h'
-  ]
+  past p y w us ys f h = past_first p y us f ∙ (h ∙ again p w ys (y ∷ ys) (sym (past_first p y ys f)))
 
-  alone : (p : X → Bool) (y w : X) (us ys : List X) → p y ≡ true → p w ≡ false → filter p us ≡ filter p (w ∷ ys) → filter p (y ∷ us) ≡ filter p (w ∷ y ∷ ys)
-  alone p y w us ys t f h = let h' : filter p us ≡ filter p ys = rw f at h in rw (t, f) (ap (λ z. y ∷ z) h')
+  alone : (p : X → Bool) (y w : X) (us ys : List X) → p w ≡ false → filter p us ≡ filter p (w ∷ ys) → filter p (y ∷ us) ≡ filter p (w ∷ y ∷ ys)
+  alone p y w us ys f h = again p y us ys (h ∙ past_first p w ys f) ∙ sym (past_first p w (y ∷ ys) f)
 
-  again : (p : X → Bool) (w : X) (us ws : List X) → filter p us ≡ filter p ws → filter p (w ∷ us) ≡ filter p (w ∷ ws)
-  again p w us ws h = elim (cases_Bool (p w)) [
-    | inl t ↦ rw t (ap (λ z. w ∷ z) h)
-    | inr f ↦ rw f h
-  ]
-
+  -- the item does not tie with one that precedes it
   insert_stable : (x w : X) (ys : List X) → filter (ties lt x) (insert_by lt w ys) ≡ filter (ties lt x) (w ∷ ys)
   insert_stable x w [] = refl
   insert_stable x w (y ∷ ys) = let more : filter (ties lt x) (insert_by lt w ys) ≡ filter (ties lt x) (w ∷ ys) = insert_stable x w ys in elim (cases_Bool (lt y w)) [
     | inl t ↦ rw t (elim (cases_Bool (ties lt x y)) [
       | inl ty ↦ elim (cases_Bool (ties lt x w)) [
-        | inl tw ↦ absurd (true≢false (sym t ∙ o.chain y x w (not_true (lt y x) (and_second (not (lt x y)) (not (lt y x)) ty)) (not_true (lt x w) (and_front (not (lt x w)) (not (lt w x)) tw))))
-        | inr tw ↦ alone (ties lt x) y w (insert_by lt w ys) ys ty tw more
+        | inl tw ↦ absurd (true≢false (sym t ∙ o.chain y x w (not-true (lt y x) (and_parts (not (lt x y)) (not (lt y x)) ty).1) (not-true (lt x w) (and_parts (not (lt x w)) (not (lt w x)) tw).0)))
+        | inr tw ↦ alone (ties lt x) y w (insert_by lt w ys) ys tw more
       ]
       | inr ty ↦ past (ties lt x) y w (insert_by lt w ys) ys ty more
     ])

@@ -12,11 +12,13 @@ use Rattle.bz_rule.specs.Rules.{inner, is_plain_in, body}
 use Rattle.bz_label.specs.Pieces.{is_empty, last_piece, is_joined, is_present, has_slash, is_at, is_colon}
 use Rattle.bz_label.specs.Labels.{is_barred, is_plain, is_path, is_repository_name}
 use Rattle.bz_label.specs.Forms.{is_repository, are_whole}
+use Rattle.bz_label.proofs.Repeats.{is_unrepeated, the_unrepeated}
+use Rattle.bz_label.proofs.Shorter.{unrepeated_stays}
 use Rattle.bz_label.specs.Shorter.{before_colon, after_colon, before_slashes, after_slashes, is_repeated, unrepeated}
 use Rattle.bz_passes.specs.Strings.{has_character, begins_single, in_double, with_double, shorter_string}
 use Rattle.bz_rule.specs.QuoteMarks.{begins_thrice, marks_of}
 use Rattle.bz_passes.proofs.Keeping.{Keeps, Settles, same_first, same_after}
-use Rattle.bz_passes.proofs.ProperStrings.{same_byte}
+use Rattle.bz_passes.proofs.SameTexts.{same_byte}
 
 same_text : (one other : Bytes) → bytes_eq one other ≡ true → one ≡ other
 same_text one other e = (bytes_eq-Decides one other).0 e
@@ -50,21 +52,8 @@ held t s e = elim (cases_Bool (is_free t)) [
 
 -- ---- labels without a repeated name
 
-no_colon : (s : Bytes) → before_colon (before_colon s) ≡ before_colon s
-no_colon [] = refl
-no_colon (c ∷ s) = elim (cases_Bool (is_colon c)) [
-  | inl w ↦ rw w refl
-  | inr w ↦ rw (w, w) (ap (λ z. c ∷ z) (no_colon s))
-]
-
 pub unrepeated_settles : Settles unrepeated
-unrepeated_settles s = elim (cases_Bool (is_repeated (before_colon s) (after_colon s))) [
-  | inl w ↦ rw w (elim (cases_Bool (is_repeated (before_colon (before_colon s)) (after_colon (before_colon s)))) [
-    | inl v ↦ rw v (no_colon s)
-    | inr v ↦ rw v refl
-  ])
-  | inr w ↦ rw (w, w) refl
-]
+unrepeated_settles s = sym (the_unrepeated (unrepeated s) (unrepeated s) (unrepeated_stays s (unrepeated s) (is_unrepeated s)))
 
 -- ---- a repeat holds no barred character but its own marks
 

@@ -10,8 +10,9 @@ use Rattle.bz_passes.specs.declared.walk.RuleChange.{RuleChange}
 use Rattle.bz_passes.specs.declared.walk.RuleChange.TheVariants as r
 use Rattle.bz_passes.specs.Orders.{sort_by}
 use Rattle.bz_passes.specs.Lists.{settled_list}
+use Rattle.bz_passes.specs.Strings.{shorter_string}
 use Rattle.bz_rule.specs.Values.{on_lists}
-use Rattle.bz_passes.specs.Passes.{argument_precedes, arguments_in, labelled, labelled_value, labels_in, lists_in, on_attribute, quoted, sorted_value, symbols_in}
+use Rattle.bz_passes.specs.Passes.{argument_precedes, arguments_in, labelled, labels_in, lists_in, on_attribute, on_label_value, on_list_value, quotes_in, symbols_in}
 
 -- what is done to the items of a list
 abbrev pub list_change : ListChange → List Expr → List Expr
@@ -25,8 +26,8 @@ maybe_lists (Some change) = on_lists (list_change change)
 
 -- what is done to the value of an attribute, knowing the kind of the rule, the name and the comments above
 abbrev pub value_change : ValueChange → Bytes → Bytes → List Bytes → Expr → Expr
-value_change v.Labels kind = labelled_value
-value_change v.Lists kind = sorted_value kind
+value_change v.Labels kind = on_label_value shorter_string
+value_change v.Lists kind = on_list_value settled_list kind
 
 -- what is done to the arguments of a rule, knowing its kind
 abbrev pub rule_change : RuleChange → Bytes → List Expr → List Expr
@@ -35,4 +36,4 @@ rule_change r.Order kind = sort_by argument_precedes
 
 -- the passes over one statement
 abbrev pub after_passes : Expr → Expr
-after_passes x = symbols_in (arguments_in (lists_in (labels_in (quoted x))))
+after_passes x = symbols_in (arguments_in (lists_in (labels_in (quotes_in x))))

@@ -55,45 +55,61 @@ on_rule_arguments change = on_row k.Bare (on_first (on_call change))
 abbrev pub on_attribute : (Bytes → List Bytes → Expr → Expr) → Expr → Expr
 on_attribute change x = on_row k.Named (on_third (change (first_text (parts_of x)) (above x))) x
 
+-- the texts of the strings of an expression are changed
+abbrev mutual
+  pub on_strings : (Bytes → Bytes) → Expr → Expr
+  on_strings change (Token t) = e.Token (record t { text = if is_class t.class c.String then change t.text else t.text })
+  on_strings change (Form' kind s parts s' items end split open_break comments) =
+      e.Form (record { kind = kind; parts = each_on_strings change parts; seq = record { items = each_on_strings change items; end = end; split = split }; open_break = open_break; comments = comments })
+
+  pub each_on_strings : {n : _} → (Bytes → Bytes) → Row_of-Expr n → List Expr
+  each_on_strings change end_of-Expr = []
+  each_on_strings change (more_of-Expr x rest) = on_strings change x ∷ each_on_strings change rest
+
+abbrev pub on_string : (Bytes → Bytes) → Expr → Expr
+on_string change x = if has_class c.String x then with_text (change (text_of x)) x else x
+
+-- the strings in the lists of a label attribute, and in those of the label attributes of a rule
+abbrev pub on_label_value : (Bytes → Bytes) → Bytes → List Bytes → Expr → Expr
+on_label_value change name outside x = if is_label_attribute name then on_lists (map (on_string change)) x else x
+
+abbrev pub on_labels : (Bytes → Bytes) → Expr → Expr
+on_labels change = on_rule_arguments (λ kind. map (on_attribute (on_label_value change)))
+
+-- The lists of an attribute, those that are assigned, and all of a statement: they are changed, knowing the comments above and
+-- whether the table has the attribute.
+abbrev pub on_list_value : (List Bytes → Bool → List Expr → List Expr) → Bytes → Bytes → List Bytes → Expr → Expr
+on_list_value change kind name outside = on_lists (change outside (is_sorted kind name))
+
+abbrev pub on_assigned : (List Bytes → Bool → List Expr → List Expr) → Expr → Expr
+on_assigned change x = on_row k.Assign (on_third (on_lists (change (above x) false))) x
+
+abbrev pub on_list_values : (List Bytes → Bool → List Expr → List Expr) → Expr → Expr
+on_list_values change x = if has_kind k.Assign x then on_assigned change x else on_rule_arguments (λ kind. map (on_attribute (on_list_value change kind))) x
+
 -- ---- quotes: strings take double quote marks
 
-abbrev mutual
-  pub quoted : Expr → Expr
-  quoted (Token t) = e.Token (record t { text = if is_class t.class c.String then with_double t.text else t.text })
-  quoted (Form' kind s parts s' items end split open_break comments) =
-      e.Form (record { kind = kind; parts = each_quoted parts; seq = record { items = each_quoted items; end = end; split = split }; open_break = open_break; comments = comments })
-
-  pub each_quoted : {n : _} → Row_of-Expr n → List Expr
-  each_quoted end_of-Expr = []
-  each_quoted (more_of-Expr x rest) = quoted x ∷ each_quoted rest
+abbrev pub quotes_in : Expr → Expr
+quotes_in = on_strings with_double
 
 abbrev pub quotes : List Item → List Item
-quotes = on_taken quoted
+quotes = on_taken quotes_in
 
 -- ---- labels: in the label attributes of a rule plain strings lose a repeated name
 
 abbrev pub labelled : Expr → Expr
-labelled x = if has_class c.String x then with_text (shorter_string (text_of x)) x else x
-
-abbrev pub labelled_value : Bytes → List Bytes → Expr → Expr
-labelled_value name outside x = if is_label_attribute name then on_lists (map labelled) x else x
+labelled = on_string shorter_string
 
 abbrev pub labels_in : Expr → Expr
-labels_in = on_rule_arguments (λ kind. map (on_attribute labelled_value))
+labels_in = on_labels shorter_string
 
 abbrev pub labels : List Item → List Item
 labels = on_taken labels_in
 
 -- ---- lists: those of the table, and those marked `keep sorted`, are sorted
 
-abbrev pub sorted_value : Bytes → Bytes → List Bytes → Expr → Expr
-sorted_value kind name outside = on_lists (settled_list outside (is_sorted kind name))
-
-abbrev pub in_assign : Expr → Expr
-in_assign x = on_row k.Assign (on_third (on_lists (settled_list (above x) false))) x
-
 abbrev pub lists_in : Expr → Expr
-lists_in x = if has_kind k.Assign x then in_assign x else on_rule_arguments (λ kind. map (on_attribute (sorted_value kind))) x
+lists_in = on_list_values settled_list
 
 abbrev pub lists : List Item → List Item
 lists = on_taken lists_in
@@ -143,11 +159,6 @@ path_of x = between (first_text (items_of x))
 abbrev pub is_loose_load : Expr → Bool
 is_loose_load x = has_kind k.Load x && is_empty (above x)
 
-abbrev pub load_precedes : Item → Item → Bool
-load_precedes (i.Stmt x) (i.Stmt y) = is_loose_load x && is_loose_load y && is_lt (path_order (path_of x) (path_of y))
-load_precedes _ _ = false
-
--- the same by two words of an item: whether it is a load without comments above, and its path
 abbrev pub is_run_load : Item → Bool
 is_run_load (i.Block lines) = false
 is_run_load (i.Stmt x) = is_loose_load x
@@ -158,6 +169,10 @@ load_path (i.Stmt x) = path_of x
 
 abbrev pub path_precedes : Item → Item → Bool
 path_precedes x y = is_lt (path_order (load_path x) (load_path y))
+
+-- only loads without comments above are compared
+abbrev pub load_precedes : Item → Item → Bool
+load_precedes x y = is_run_load x && is_run_load y && path_precedes x y
 
 abbrev pub loads : List Item → List Item
 loads = sort_by load_precedes

@@ -1,5 +1,5 @@
 -- Tidying keeps the program. What each pass may change of a file value, said without how it goes about it.
-use Rattle.std.specs.Prelude.{◌≡◌, ℕ, Bool, true, false, List, [], ◌∷◌, ◌++◌, All, Contains, if◌then◌else◌, map, replicate}
+use Rattle.std.specs.Prelude.{◌≡◌, ℕ, Bool, true, false, List, [], ◌∷◌, ◌++◌, All, Contains, map, replicate}
 use Rattle.std.specs.List.Sorted.{IsPermutation}
 use Rattle.bz_token.specs.declared.class.Class.{Class}
 use Rattle.bz_token.specs.declared.class.Class.TheVariants as c
@@ -7,16 +7,14 @@ use Rattle.bz_token.specs.Lexemes.{IsLong, IsShort, IsString}
 use Rattle.bz_grammar.specs.declared.kind.Kind.TheVariants as k
 use Rattle.bz_grammar.specs.Shapes.{is_class}
 use Rattle.bz_label.specs.Labels.{IsSame}
-use Rattle.bz_label.specs.Tables.{is_sorted, is_label_attribute}
-use Rattle.bz_value.specs.declared.value.Expr.{Expr, Token, Form', Row_of-Expr, end_of-Expr, more_of-Expr}
-use Rattle.bz_value.specs.declared.value.Expr.TheVariants as e
+use Rattle.bz_value.specs.declared.value.Expr.{Expr}
 use Rattle.bz_value.specs.declared.value.Item.{Item}
 use Rattle.bz_items.specs.Characters.{Bytes, apostrophe, backslash, quotation_mark}
 use Rattle.bz_rule.specs.QuoteMarks.{is_quote_mark}
 use Rattle.bz_rule.specs.Rules.{inner, is_plain_in}
-use Rattle.bz_rule.specs.Values.{above, on_rest, has_class, has_kind, on_items, on_lists, on_row, on_third, text_of, with_text}
+use Rattle.bz_rule.specs.Values.{on_rest, has_class, has_kind, on_items, text_of}
 use Rattle.bz_passes.specs.Lists.{is_taken}
-use Rattle.bz_passes.specs.Passes.{is_run_load, name_precedes, on_attribute, on_rule_arguments, on_taken, path_precedes, symbol_precedes, tidied}
+use Rattle.bz_passes.specs.Passes.{is_run_load, name_precedes, on_labels, on_list_values, on_rule_arguments, on_strings, on_taken, path_precedes, symbol_precedes, tidied}
 use Rattle.bz_passes.specs.Sorting.{IsSorting, IsSortingByRuns}
 use Rattle.bz_passes.specs.Strings.{has_character}
 use Rattle.bz_passes.specs.Syntax.{program, token_times}
@@ -28,17 +26,6 @@ pub record IsChangedAt {X Y : Type 0} (places : (Y → Y) → X → X) (MayBecom
   pub same : y ≡ places change x
 
 -- ---- quotes: a string keeps its body
-
-abbrev mutual
-  -- the texts of the strings of an expression
-  pub on_strings : (Bytes → Bytes) → Expr → Expr
-  on_strings change (Token t) = e.Token (record t { text = if is_class t.class c.String then change t.text else t.text })
-  on_strings change (Form' kind s parts s' items end split open_break comments) =
-      e.Form (record { kind = kind; parts = each_on_strings change parts; seq = record { items = each_on_strings change items; end = end; split = split }; open_break = open_break; comments = comments })
-
-  pub each_on_strings : {n : _} → (Bytes → Bytes) → Row_of-Expr n → List Expr
-  each_on_strings change end_of-Expr = []
-  each_on_strings change (more_of-Expr x rest) = on_strings change x ∷ each_on_strings change rest
 
 -- neither " nor a backslash
 abbrev pub IsUnescaped : Bytes → Type 0
@@ -58,13 +45,6 @@ HaveOtherQuotes = IsChangedAt (λ change. on_taken (on_strings change)) (λ text
 
 -- ---- labels: in a label attribute a string means the same label
 
-abbrev pub on_string : (Bytes → Bytes) → Expr → Expr
-on_string change x = if has_class c.String x then with_text (change (text_of x)) x else x
-
--- the strings in the lists of the label attributes of a rule
-abbrev pub on_labels : (Bytes → Bytes) → Expr → Expr
-on_labels change = on_rule_arguments (λ kind. map (on_attribute (λ name outside x. if is_label_attribute name then on_lists (map (on_string change)) x else x)))
-
 -- The same label: the string stays, or it is a plain one, and between its quote marks is a text that means the same label in
 -- every package.
 pub data IsSameLabel (text new : Bytes) : Type 0 where
@@ -76,12 +56,6 @@ abbrev pub HaveOtherLabels : List Item → List Item → Type 0
 HaveOtherLabels = IsChangedAt (λ change. on_taken (on_labels change)) IsSameLabel
 
 -- ---- lists: one that is to be sorted holds the same strings
-
--- The lists of attributes, and those that are assigned, knowing the comments above and whether the table has the attribute.
-abbrev pub on_list_values : (List Bytes → Bool → List Expr → List Expr) → Expr → Expr
-on_list_values change x =
-    if has_kind k.Assign x then on_row k.Assign (on_third (on_lists (change (above x) false))) x
-    else on_rule_arguments (λ kind. map (on_attribute (λ name outside. on_lists (change outside (is_sorted kind name))))) x
 
 -- The new list holds the strings of the old one, each as often, but that some are gone, each of which is in the new list.
 pub record HoldsTheStrings (old new : List Expr) : Type 0 where

@@ -1,5 +1,5 @@
 -- Worked rows of the passes.
-use Rattle.std.specs.Prelude.{◌≡◌, Bool, true, false, List, [], ◌∷◌, codes, None, Some, map}
+use Rattle.std.specs.Prelude.{◌≡◌, Bool, true, false, List, [], ◌∷◌, codes, Option, None, Some, map}
 use Rattle.bz_token.specs.declared.class.Class.{Class}
 use Rattle.bz_token.specs.declared.class.Class.TheVariants as c
 use Rattle.bz_grammar.specs.declared.kind.Kind.{Kind}
@@ -32,6 +32,10 @@ sequence kind split parts items = under_comments [] kind split parts items
 abbrev argument : Bytes → Expr → Expr
 argument name value = node k.Named (token c.Name name ∷ token c.Mark (codes "=") ∷ value ∷ [])
 
+-- a string under comments, and maybe with one after it
+abbrev commented : List Bytes → Option Bytes → Bytes → Expr
+commented before suffix text = e.Token (record { class = c.String; text = text; line_break = false; comments = record { before = before; suffix = suffix } })
+
 abbrev string : Bytes → Expr
 string text = token c.String text
 
@@ -39,59 +43,52 @@ string text = token c.String text
 abbrev statement : List Bytes → Bytes → List Expr → Item
 statement before name arguments = i.Stmt (under_comments before k.Bare false (sequence k.Call false (token c.Name name ∷ []) arguments ∷ []) [])
 
-abbrev load : List Bytes → List Expr → Item
-load before items = i.Stmt (under_comments before k.Load false (token c.Keyword (codes "load") ∷ []) items)
+-- a load from a path under comments
+abbrev load : List Bytes → Bytes → Item
+load before path = i.Stmt (under_comments before k.Load false (token c.Keyword (codes "load") ∷ []) (string path ∷ string (codes "\"x\"") ∷ []))
 
 abbrev two_sources : List Item
 two_sources = statement [] (codes "cc_library") (argument (codes "srcs") (sequence k.List false [] (string (codes "\"b.c\"") ∷ string (codes "'a.c'") ∷ [])) ∷ argument (codes "name") (string (codes "'a'")) ∷ []) ∷ []
 
 -- three loads, one below a comment
-abbrev path : Bytes → List Expr
-path text = string text ∷ string (codes "\"x\"") ∷ []
-
 abbrev three_loads : List Bytes → List Item
-three_loads above = load [] (path (codes "\"B.bzl\"")) ∷ load above (path (codes "\"C.bzl\"")) ∷ load [] (path (codes "\"A.bzl\"")) ∷ []
+three_loads above = load [] (codes "\"B.bzl\"") ∷ load above (codes "\"C.bzl\"") ∷ load [] (codes "\"A.bzl\"") ∷ []
 
 abbrev pub Loads : Type 0
 Loads = (tidied (three_loads (codes "# keep here" ∷ [])) ≡ three_loads (codes "# keep here" ∷ []))
-    × (tidied (three_loads []) ≡ load [] (path (codes "\"A.bzl\"")) ∷ load [] (path (codes "\"B.bzl\"")) ∷ load [] (path (codes "\"C.bzl\"")) ∷ [])
+    × (tidied (three_loads []) ≡ load [] (codes "\"A.bzl\"") ∷ load [] (codes "\"B.bzl\"") ∷ load [] (codes "\"C.bzl\"") ∷ [])
 
-abbrev with_suffix : Bytes → Bytes → Expr
-with_suffix text suffix = e.Token (record { class = c.String; text = text; line_break = false; comments = record { before = []; suffix = Some suffix } })
+-- a rule with one attribute
+abbrev rule : Bytes → Bytes → Expr → List Item
+rule kind name value = statement [] kind (argument name value ∷ []) ∷ []
 
-abbrev under : List Bytes → Bytes → Expr
-under before text = e.Token (record { class = c.String; text = text; line_break = false; comments = record { before = before; suffix = None } })
-
-abbrev calling : Bytes → Bytes → List Expr → List Item
-calling kind name items = statement [] kind (argument name (sequence k.List true [] items) ∷ []) ∷ []
+abbrev list : List Expr → Expr
+list items = sequence k.List true [] items
 
 abbrev pub Lists : Type 0
 Lists =
     -- labels are shortened, then a repeat without comments is dropped
-    (tidied (calling (codes "cc_library") (codes "deps") (string (codes "\"//a/b:b\"") ∷ string (codes "\"//a/b\"") ∷ with_suffix (codes "\"//a/b\"") (codes "# x") ∷ []))
-    ≡ calling (codes "cc_library") (codes "deps") (string (codes "\"//a/b\"") ∷ with_suffix (codes "\"//a/b\"") (codes "# x") ∷ []))
+    (tidied (rule (codes "cc_library") (codes "deps") (list (string (codes "\"//a/b:b\"") ∷ string (codes "\"//a/b\"") ∷ commented [] (Some (codes "# x")) (codes "\"//a/b\"") ∷ [])))
+    ≡ rule (codes "cc_library") (codes "deps") (list (string (codes "\"//a/b\"") ∷ commented [] (Some (codes "# x")) (codes "\"//a/b\"") ∷ [])))
     -- the sources of genrule stay
-    × (tidied (calling (codes "genrule") (codes "srcs") (string (codes "\"b\"") ∷ string (codes "\"a\"") ∷ [])) ≡ calling (codes "genrule") (codes "srcs") (string (codes "\"b\"") ∷ string (codes "\"a\"") ∷ []))
+    × (tidied (rule (codes "genrule") (codes "srcs") (list (string (codes "\"b\"") ∷ string (codes "\"a\"") ∷ []))) ≡ rule (codes "genrule") (codes "srcs") (list (string (codes "\"b\"") ∷ string (codes "\"a\"") ∷ [])))
     -- the mark goes to the new first item, the other comment stays
-    × (tidied (calling (codes "x") (codes "args") (under (codes "# a" ∷ codes "# Keep Sorted" ∷ []) (codes "\"b\"") ∷ under (codes "# c" ∷ []) (codes "\"a\"") ∷ []))
-    ≡ calling (codes "x") (codes "args") (under (codes "# Keep Sorted" ∷ codes "# c" ∷ []) (codes "\"a\"") ∷ under (codes "# a" ∷ []) (codes "\"b\"") ∷ []))
+    × (tidied (rule (codes "x") (codes "args") (list (commented (codes "# a" ∷ codes "# Keep Sorted" ∷ []) None (codes "\"b\"") ∷ commented (codes "# c" ∷ []) None (codes "\"a\"") ∷ [])))
+    ≡ rule (codes "x") (codes "args") (list (commented (codes "# Keep Sorted" ∷ codes "# c" ∷ []) None (codes "\"a\"") ∷ commented (codes "# a" ∷ []) None (codes "\"b\"") ∷ [])))
     -- where the first item stays first, its comments stay as they are
-    × (tidied (calling (codes "x") (codes "args") (under (codes "# a" ∷ codes "# keep sorted" ∷ []) (codes "\"a\"") ∷ string (codes "\"b\"") ∷ []))
-    ≡ calling (codes "x") (codes "args") (under (codes "# a" ∷ codes "# keep sorted" ∷ []) (codes "\"a\"") ∷ string (codes "\"b\"") ∷ []))
+    × (tidied (rule (codes "x") (codes "args") (list (commented (codes "# a" ∷ codes "# keep sorted" ∷ []) None (codes "\"a\"") ∷ string (codes "\"b\"") ∷ [])))
+    ≡ rule (codes "x") (codes "args") (list (commented (codes "# a" ∷ codes "# keep sorted" ∷ []) None (codes "\"a\"") ∷ string (codes "\"b\"") ∷ [])))
 
 abbrev strings : List Bytes → Expr
-strings texts = sequence k.List true [] (map string texts)
-
-abbrev broken : Bytes → Bytes → Expr → List Item
-broken kind name value = statement [] kind (argument name value ∷ []) ∷ []
+strings texts = list (map string texts)
 
 -- the lists of a sum are sorted each by itself; a list inside a call stays
 abbrev pub Sums : Type 0
 Sums =
-    (tidied (broken (codes "x") (codes "deps") (node k.Sum (strings (codes "\"b\"" ∷ codes "\"a\"" ∷ []) ∷ token c.Mark (codes "+") ∷ strings (codes "\"d\"" ∷ codes "\"c\"" ∷ []) ∷ [])))
-    ≡ broken (codes "x") (codes "deps") (node k.Sum (strings (codes "\"a\"" ∷ codes "\"b\"" ∷ []) ∷ token c.Mark (codes "+") ∷ strings (codes "\"c\"" ∷ codes "\"d\"" ∷ []) ∷ [])))
-    × (tidied (broken (codes "x") (codes "srcs") (sequence k.Call false (token c.Name (codes "glob") ∷ []) (strings (codes "\"b\"" ∷ codes "\"a\"" ∷ []) ∷ [])))
-    ≡ broken (codes "x") (codes "srcs") (sequence k.Call false (token c.Name (codes "glob") ∷ []) (strings (codes "\"b\"" ∷ codes "\"a\"" ∷ []) ∷ [])))
+    (tidied (rule (codes "x") (codes "deps") (node k.Sum (strings (codes "\"b\"" ∷ codes "\"a\"" ∷ []) ∷ token c.Mark (codes "+") ∷ strings (codes "\"d\"" ∷ codes "\"c\"" ∷ []) ∷ [])))
+    ≡ rule (codes "x") (codes "deps") (node k.Sum (strings (codes "\"a\"" ∷ codes "\"b\"" ∷ []) ∷ token c.Mark (codes "+") ∷ strings (codes "\"c\"" ∷ codes "\"d\"" ∷ []) ∷ [])))
+    × (tidied (rule (codes "x") (codes "srcs") (sequence k.Call false (token c.Name (codes "glob") ∷ []) (strings (codes "\"b\"" ∷ codes "\"a\"" ∷ []) ∷ [])))
+    ≡ rule (codes "x") (codes "srcs") (sequence k.Call false (token c.Name (codes "glob") ∷ []) (strings (codes "\"b\"" ∷ codes "\"a\"" ∷ []) ∷ [])))
 
 abbrev pub WorkedPasses : Type 0
 WorkedPasses =
@@ -114,13 +111,13 @@ called_with names = statement [] (codes "x") (map (token c.Name) names)
 abbrev pub WorkedPrograms : Type 0
 WorkedPrograms =
     -- comments and how a list is laid out are no program
-    (program (i.Block (codes "# a" ∷ []) ∷ named_with true (codes "# b" ∷ []) (with_suffix (codes "\"//a\"") (codes "# c") ∷ []) ∷ []) ≡ program (named_with false [] (string (codes "\"//a\"") ∷ []) ∷ []))
+    (program (i.Block (codes "# a" ∷ []) ∷ named_with true (codes "# b" ∷ []) (commented [] (Some (codes "# c")) (codes "\"//a\"") ∷ []) ∷ []) ≡ program (named_with false [] (string (codes "\"//a\"") ∷ []) ∷ []))
     -- a name is in it as often as it is written
     × (token_times c.Name (codes "name") (program (named_with true [] [] ∷ named_with true [] [] ∷ [])) ≡ 2)
     × IsSameString (codes "'a'") (codes "\"a\"") × IsSameLabel (codes "\"//a:a\"") (codes "\"//a\"")
     -- where an argument is dropped, a statement comes, arguments without names change places, or a string outside labels gets another
     -- body, the program is not kept
-    × (KeepsProgram (named_with true [] [] ∷ []) (statement [] (codes "x") (argument (codes "name") (string (codes "\"a\"")) ∷ []) ∷ []) → ⊥)
+    × (KeepsProgram (named_with true [] [] ∷ []) (rule_named (codes "\"a\"") ∷ []) → ⊥)
     × (KeepsProgram (named_with true [] [] ∷ []) (named_with true [] [] ∷ named_with true [] [] ∷ []) → ⊥)
     × (KeepsProgram (called_with (codes "a" ∷ codes "b" ∷ []) ∷ []) (called_with (codes "b" ∷ codes "a" ∷ []) ∷ []) → ⊥)
     × (KeepsProgram (rule_named (codes "\"a\"") ∷ []) (rule_named (codes "\"b\"") ∷ []) → ⊥)

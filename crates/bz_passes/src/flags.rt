@@ -23,7 +23,7 @@ fn settled_split(form: &Form) -> bool
 
 /// Settles the flags of an expression: each of its sequences is split exactly where the layout breaks it. It takes no memory.
 #[cycle(settle)]
-#[tactic(auto, using(crate::proofs::FormSteps::flags_Form))]
+#[tactic(auto, using(crate::proofs::Parts::flags_Form))]
 pub fn settle(x: &mut Expr)
     ensures { x.new ≡ with_flags x.old }
 {

@@ -11,7 +11,6 @@ mod loads;
 mod marks;
 mod names;
 mod ordering;
-mod proper_laws;
 mod quotes;
 mod repeats;
 mod runs;
@@ -24,9 +23,9 @@ mod windows;
 pub use borders::begins_with_load;
 pub use flags::settle;
 pub use laws::{
-    comments_stay, flags_settle, marks_move, sorting_is_the_one, tidied_alone, tidied_apart,
-    tidy_settles, tidy_stays, worked_passes, worked_programs,
+    comments_stay, flags_settle, marks_move, program_stays, proper_stays, sorting_is_the_one,
+    tidied_alone, tidied_apart, tidy_settles, tidy_stays, tokens_stay, worked_passes,
+    worked_programs,
 };
-pub use proper_laws::{program_stays, proper_stays, tokens_stay};
 pub use tidying::tidy;
 pub use windows::tidy_windows;

@@ -3,14 +3,14 @@
 ghost use Rattle.std.specs.Prelude.{◌≡◌, ◌<◌, IsTrue, IfSome, map};
 ghost use Rattle.bz_layout.specs.Flags.{with_flags};
 ghost use Rattle.bz_rule.specs.private.Named.{fronts, fronts_among};
-ghost use Rattle.bz_passes.specs.Passes.{quoted};
+ghost use Rattle.bz_passes.specs.Passes.{quotes_in};
 
 use bz_grammar::{Class, Kind};
 use bz_value::Expr;
 
 /// Whether the expression is a token and no string: it stays.
 fn is_plain(x: &Expr) -> bool
-    ensures quotes { IsTrue result → quoted x.now ≡ x.now }
+    ensures quotes { IsTrue result → quotes_in x.now ≡ x.now }
     ensures flags { IsTrue result → with_flags x.now ≡ x.now }
 {
     match x {
@@ -21,7 +21,7 @@ fn is_plain(x: &Expr) -> bool
 
 /// The first of three parts, where the other two stay.
 fn front_in(parts: &[Expr]) -> Option<&Expr>
-    ensures quotes { IfSome result (λ front. quoted front.now ≡ front.now → map quoted parts.now ≡ parts.now) }
+    ensures quotes { IfSome result (λ front. quotes_in front.now ≡ front.now → map quotes_in parts.now ≡ parts.now) }
     ensures flags { IfSome result (λ front. with_flags front.now ≡ front.now → map with_flags parts.now ≡ parts.now) }
     ensures smaller { IfSome result (λ front. fronts front.now ≡ fronts_among parts.now) }
 {
@@ -34,7 +34,7 @@ fn front_in(parts: &[Expr]) -> Option<&Expr>
 /// What is before the last dot of names joined by dots, where the rest stays.
 #[tactic(auto, using(crate::proofs::FormSteps::quoted_stays, crate::proofs::FormSteps::flags_stay, crate::proofs::FormSteps::fronts_of_Form))]
 fn front_of(x: &Expr) -> Option<&Expr>
-    ensures quotes { IfSome result (λ front. quoted front.now ≡ front.now → quoted x.now ≡ x.now) }
+    ensures quotes { IfSome result (λ front. quotes_in front.now ≡ front.now → quotes_in x.now ≡ x.now) }
     ensures flags { IfSome result (λ front. with_flags front.now ≡ front.now → with_flags x.now ≡ x.now) }
     ensures smaller { IfSome result (λ front. fronts front.now < fronts x.now) }
 {
@@ -48,7 +48,7 @@ fn front_of(x: &Expr) -> Option<&Expr>
 
 /// Whether the expression is names joined by dots: it stays.
 fn is_still(x: &Expr) -> bool
-    ensures quotes { IsTrue result → quoted x.now ≡ x.now }
+    ensures quotes { IsTrue result → quotes_in x.now ≡ x.now }
     ensures flags { IsTrue result → with_flags x.now ≡ x.now }
 {
     let mut at = x;
@@ -60,7 +60,7 @@ fn is_still(x: &Expr) -> bool
 
 /// Whether these parts of a form of this kind are what a call of names joined by dots begins with: they stay.
 pub(crate) fn are_called_names(kind: Kind, parts: &[Expr]) -> bool
-    ensures quotes { IsTrue result → map quoted parts.now ≡ parts.now }
+    ensures quotes { IsTrue result → map quotes_in parts.now ≡ parts.now }
     ensures flags { IsTrue result → map with_flags parts.now ≡ parts.now }
 {
     match parts {

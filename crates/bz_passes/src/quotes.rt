@@ -1,6 +1,6 @@
 //! Quotes: strings take double quote marks.
 ghost use Rattle.std.specs.Prelude.{◌≡◌, OnOk, map};
-ghost use Rattle.bz_passes.specs.Passes.{quoted};
+ghost use Rattle.bz_passes.specs.Passes.{quotes_in};
 
 use crate::names::are_called_names;
 use crate::strings::double_quoted;
@@ -12,10 +12,10 @@ use std::alloc::Global;
 /// Gives every string of an expression double quote marks, where it may have them. The error: memory was refused; part of
 /// the expression is then changed.
 #[cycle(quote)]
-#[tactic(auto, using(crate::proofs::FormSteps::quoted_Form))]
+#[tactic(auto, using(crate::proofs::Parts::quoted_Form))]
 #[inline(always)]
 pub(crate) fn quote(alloc: Global, x: &mut Expr) -> Result<(), Memory>
-    ensures { OnOk result (x.new ≡ quoted x.old) }
+    ensures { OnOk result (x.new ≡ quotes_in x.old) }
 {
     match x {
         Expr::Token(token) => {
@@ -35,7 +35,7 @@ pub(crate) fn quote(alloc: Global, x: &mut Expr) -> Result<(), Memory>
 /// The same for the parts of a form of this kind. Names joined by dots that are called are passed over.
 #[cycle(quote)]
 fn quote_parts(alloc: Global, kind: Kind, parts: &mut Items<Expr>) -> Result<(), Memory>
-    ensures { OnOk result (parts.new ≡ map quoted parts.old) }
+    ensures { OnOk result (parts.new ≡ map quotes_in parts.old) }
 {
     if are_called_names(kind, parts.as_slice()) {
         return Ok(());
@@ -45,7 +45,7 @@ fn quote_parts(alloc: Global, kind: Kind, parts: &mut Items<Expr>) -> Result<(),
 
 #[cycle(quote)]
 fn quote_each(alloc: Global, exprs: &mut Items<Expr>) -> Result<(), Memory>
-    ensures { OnOk result (exprs.new ≡ map quoted exprs.old) }
+    ensures { OnOk result (exprs.new ≡ map quotes_in exprs.old) }
 {
     for x in exprs.as_mut_slice().iter_mut() {
         quote(alloc, x)?;

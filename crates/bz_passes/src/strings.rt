@@ -105,10 +105,6 @@ pub(crate) fn shortened(alloc: Global, text: &mut Text) -> Result<(), Memory>
     let Some(label) = body(text.as_slice()) else {
         return Ok(());
     };
-    let short = unrepeated(label);
-    if short == label {
-        return Ok(());
-    }
-    *text = in_marks(alloc, first_mark(text.as_slice()), short)?;
+    *text = in_marks(alloc, first_mark(text.as_slice()), unrepeated(label))?;
     Ok(())
 }

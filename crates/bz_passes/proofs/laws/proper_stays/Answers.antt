@@ -1,5 +1,5 @@
 use Rattle.bz_passes.proofs.ProperPasses.{tidied_proper}
-use Rattle.bz_passes.proofs.proper_laws.proper_stays.Goals as goal
+use Rattle.bz_passes.proofs.laws.proper_stays.Goals as goal
 
 pub returns : goal.returns
 returns c = tidied_proper
