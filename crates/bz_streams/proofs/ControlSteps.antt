@@ -1,45 +1,27 @@
 -- What is shown of a text whose first control character is at a place.
-use Rattle.std.proofs.Common.{◌≡◌, ◌<◌, ◌+◌, ◌-◌, ◌++◌, ◌∷◌, ◌∙◌, ℕ, [], Bool, true, false, length, get_or, take, drop, refl, sym, ap, arith, append_assoc, length-drop}
-use Rattle.std.specs.Prelude.{if◌then◌else◌}
+use Rattle.std.proofs.Common.{◌≡◌, ◌<◌, ◌+◌, ◌-◌, ◌++◌, ◌∷◌, ◌∙◌, ℕ, [], true, false, length, get_or, take, drop, sym, ap, arith, append_assoc, length-drop}
 use Rattle.std.specs.Char.{is_ascii_control}
 use Rattle.std.proofs.Math.Seq.{take-length}
+use Rattle.std.proofs.lemmas.Bool.{cond-true, cond-false}
 use Rattle.std.proofs.lemmas.List.{append-nil}
 use Rattle.bz_items.specs.Characters.{Bytes}
 use Rattle.bz_streams.specs.Controls.{is_control_pair, with_controls}
 use Rattle.bz_streams.proofs.Written.{left-cons}
 
-pub where_true : {A : Type 0} (test : Bool) (x y : A) → test ≡ true → (if test then x else y) ≡ x
-where_true true x y is = refl
-where_true false x y is = absurd (cc is)
-
-pub where_false : {A : Type 0} (test : Bool) (x y : A) → test ≡ false → (if test then x else y) ≡ y
-where_false false x y is = refl
-where_false true x y is = absurd (cc is)
-
 -- a control character of ASCII comes first
-pub one_shown : (shown : ℕ → Bytes) (byte : ℕ) (rest : Bytes) → is_ascii_control byte ≡ true → with_controls shown (byte ∷ rest) ≡ shown byte ++ with_controls shown rest
-one_shown shown byte [] is = where_true (is_ascii_control byte) (shown byte) (byte ∷ []) is ∙ sym (append-nil (shown byte))
-one_shown shown byte (next ∷ rest) is =
-    where_true (is_ascii_control byte) (shown byte ++ with_controls shown (next ∷ rest))
-    (if is_control_pair byte next then shown next ++ with_controls shown rest else byte ∷ with_controls shown (next ∷ rest)) is
+one_shown : (shown : ℕ → Bytes) (byte : ℕ) (rest : Bytes) → is_ascii_control byte ≡ true → with_controls shown (byte ∷ rest) ≡ shown byte ++ with_controls shown rest
+one_shown shown byte [] is = cond-true (is_ascii_control byte) _ _ is ∙ sym (append-nil (shown byte))
+one_shown shown byte (next ∷ rest) is = cond-true (is_ascii_control byte) _ _ is
 
 -- one of two bytes comes first
-pub pair_shown : (shown : ℕ → Bytes) (byte next : ℕ) (rest : Bytes) → is_ascii_control byte ≡ false → is_control_pair byte next ≡ true
+pair_shown : (shown : ℕ → Bytes) (byte next : ℕ) (rest : Bytes) → is_ascii_control byte ≡ false → is_control_pair byte next ≡ true
     → with_controls shown (byte ∷ next ∷ rest) ≡ shown next ++ with_controls shown rest
-pair_shown shown byte next rest plain is =
-    where_false (is_ascii_control byte) (shown byte ++ with_controls shown (next ∷ rest))
-    (if is_control_pair byte next then shown next ++ with_controls shown rest else byte ∷ with_controls shown (next ∷ rest)) plain
-    ∙ where_true (is_control_pair byte next) (shown next ++ with_controls shown rest) (byte ∷ with_controls shown (next ∷ rest)) is
+pair_shown shown byte next rest plain is = cond-false (is_ascii_control byte) _ _ plain ∙ cond-true (is_control_pair byte next) _ _ is
 
 -- none comes first
-pub none_shown : (shown : ℕ → Bytes) (byte : ℕ) (rest : Bytes) → is_ascii_control byte ≡ false
-    → ((next : ℕ) (back : Bytes) → rest ≡ next ∷ back → is_control_pair byte next ≡ false)
-    → with_controls shown (byte ∷ rest) ≡ byte ∷ with_controls shown rest
-none_shown shown byte [] plain single = where_false (is_ascii_control byte) (shown byte) (byte ∷ []) plain
-none_shown shown byte (next ∷ rest) plain single =
-    where_false (is_ascii_control byte) (shown byte ++ with_controls shown (next ∷ rest))
-    (if is_control_pair byte next then shown next ++ with_controls shown rest else byte ∷ with_controls shown (next ∷ rest)) plain
-    ∙ where_false (is_control_pair byte next) (shown next ++ with_controls shown rest) (byte ∷ with_controls shown (next ∷ rest)) (single next rest refl)
+pub none_shown : (shown : ℕ → Bytes) (byte next : ℕ) (rest : Bytes) → is_ascii_control byte ≡ false → is_control_pair byte next ≡ false
+    → with_controls shown (byte ∷ next ∷ rest) ≡ byte ∷ with_controls shown (next ∷ rest)
+none_shown shown byte next rest plain single = cond-false (is_ascii_control byte) _ _ plain ∙ cond-false (is_control_pair byte next) _ _ single
 
 -- ---- the cut at a place before which none begins
 

@@ -2,9 +2,7 @@ pub mod Written
 pub mod Outputs
 pub mod Lines
 pub mod Least
-pub mod Excerpted
 pub mod ControlSteps
 pub mod BeginningSteps
 pub mod BracketSteps
-pub mod PieceSteps
 pub mod Escapes

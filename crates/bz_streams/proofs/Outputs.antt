@@ -1,10 +1,10 @@
 -- What the outputs hold after two parts of a run, one after the other.
-use Rattle.std.proofs.Common.{◌≡◌, ◌⊎◌, ◌≤◌, ◌∙◌, ◌++◌, ◌∷◌, ◌||◌, inl, inr, ℕ, List, [], Option, Some, None, Bool, true, false, refl, sym, subst, arith}
+use Rattle.std.proofs.Common.{◌≡◌, ◌⊎◌, ◌≤◌, ◌∙◌, ◌++◌, ◌∷◌, ◌||◌, inl, inr, ℕ, List, [], Option, Bool, true, false, sym, subst, arith}
 use Rattle.std.specs.Io.KnownBytes.{Appends}
-use Rattle.std.proofs.lemmas.List.{append-nil}
+use Rattle.std.proofs.KnownBytes.{Appends-nil, Appends-trans}
 use Rattle.bz_streams.specs.Faults.{Rises, AppendsSome}
 use Rattle.bz_streams.specs.Outputs.{Writes, WritesUnlessClosed, Reports, Counts}
-use Rattle.bz_streams.proofs.Written.{begins, piece_written, piece_begun, all_written}
+use Rattle.bz_streams.proofs.Written.{some_first, some_second}
 
 -- ---- counts
 
@@ -27,29 +27,15 @@ counts_more a b d first more = let le = first.grows in let le' = more.grows in r
 -- ---- outputs
 
 pub appends_nothing : (held : Option (List ℕ)) → Appends held held []
-appends_nothing None = tt
-appends_nothing (Some bytes) = sym (append-nil bytes)
-
-pub some_more : (old new : Option (List ℕ)) (out more : List ℕ) → AppendsSome old new out → AppendsSome old new (out ++ more)
-some_more old new out more some = piece_begun old old new (out ++ more) (out ++ more) out more refl (begins old (out ++ more)) some
-
-pub all_more : (old mid new : Option (List ℕ)) (out more : List ℕ) → Appends old mid out → Appends mid new more → Appends old new (out ++ more)
-all_more old mid new out more first last =
-    all_written old new (out ++ more) (piece_written old mid new (out ++ more) more more [] (sym (append-nil more))
-    (piece_written old old mid (out ++ more) (out ++ more) out more refl (begins old (out ++ more)) first) last)
-
-pub begun_more : (old mid new : Option (List ℕ)) (out more : List ℕ) → Appends old mid out → AppendsSome mid new more → AppendsSome old new (out ++ more)
-begun_more old mid new out more first last =
-    piece_begun old mid new (out ++ more) more more [] (sym (append-nil more))
-    (piece_written old old mid (out ++ more) (out ++ more) out more refl (begins old (out ++ more)) first) last
+appends_nothing = Appends-nil
 
 pub writes_more : (closed closes : Bool) (f g h : ℕ) (old mid new : Option (List ℕ)) (out more : List ℕ) → Writes closed f g old mid out
     → WritesUnlessClosed closed closes g h mid new more → Writes (closed || closes) f h old new (out ++ more)
 writes_more true closes f g h old mid new out more first last =
-    (subst (Rises f) (sym last.1) first.0, some_more old new out more (subst (λ (held : Option (List ℕ)). AppendsSome old held out) (sym last.2) first.1))
-writes_more false false f g h old mid new out more first last = (last.0 ∙ first.0, all_more old mid new out more first.1 last.1)
+    (subst (Rises f) (sym last.1) first.0, some_first old new out more (subst (λ (held : Option (List ℕ)). AppendsSome old held out) (sym last.2) first.1))
+writes_more false false f g h old mid new out more first last = (last.0 ∙ first.0, Appends-trans old mid new out more first.1 last.1)
 writes_more false true f g h old mid new out more first last =
-    (subst (λ (n : ℕ). Rises n h) first.0 last.0, begun_more old mid new out more first.1 last.1)
+    (subst (λ (n : ℕ). Rises n h) first.0 last.0, some_second old mid new out more first.1 last.1)
 
 pub reports_more : (f g h : ℕ) (old mid new : Option (List ℕ)) (lines more : List (List ℕ)) → Reports f g old mid lines → Reports g h mid new more
     → Reports f h old new (lines ++ more)

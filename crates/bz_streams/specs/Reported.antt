@@ -1,7 +1,9 @@
 -- The lines on standard error that speak of files, of whose names control characters are escaped.
-use Rattle.std.specs.Prelude.{ℕ, ◌++◌, codes, decimal}
+use Rattle.std.specs.Prelude.{◌++◌, codes, decimal}
+use Rattle.std.specs.Option.{option_map_or}
 use Rattle.bz_items.specs.Characters.{Bytes}
 use Rattle.bz_streams.specs.Controls.{escaped_text}
+use Rattle.bz_streams.specs.Excerpts.{fault_place}
 use Rattle.bz_lex.specs.declared.fault.ReadFault.{ReadFault}
 use Rattle.bz_lex.specs.declared.fault.ReadFault.TheVariants as f
 
@@ -11,26 +13,31 @@ stdin = codes "<stdin>"
 
 -- where a file is not accepted, and why; the line and the column as digits
 abbrev pub spot_line : Bytes → Bytes → Bytes → Bytes → Bytes
-spot_line file line column name = escaped_text file ++ (codes ":" ++ (line ++ (codes ":" ++ (column ++ (codes ": " ++ (name ++ codes "\n"))))))
+spot_line file line column word = escaped_text file ++ (codes ":" ++ (line ++ (codes ":" ++ (column ++ (codes ": " ++ (word ++ codes "\n"))))))
 
-abbrev pub place_line : Bytes → ℕ → ℕ → Bytes → Bytes
-place_line file line column name = spot_line file (decimal line) (decimal column) name
+-- a word on a file, after words of our own
+abbrev pub said_line : Bytes → Bytes → Bytes → Bytes
+said_line file says word = escaped_text file ++ says ++ word ++ codes "\n"
 
--- the byte up to which a file is UTF-8, as digits
-abbrev pub byte_line : Bytes → Bytes → Bytes
-byte_line file at = escaped_text file ++ (codes ": NotUtf8 at " ++ (at ++ codes "\n"))
-
--- a word on a file
 abbrev pub named_line : Bytes → Bytes → Bytes
-named_line file word = escaped_text file ++ codes ": " ++ word ++ codes "\n"
+named_line file word = said_line file (codes ": ") word
 
--- a file that is not accepted
+-- why a file is not accepted
+abbrev pub fault_word : ReadFault → Bytes
+fault_word (f.NotUtf8 at) = codes "NotUtf8"
+fault_word f.TooLarge = codes "TooLarge"
+fault_word (f.BadCharacter line column) = codes "BadCharacter"
+fault_word (f.OpenString line column) = codes "OpenString"
+fault_word (f.Indented line column) = codes "Indented"
+fault_word (f.Unexpected line column) = codes "Unexpected"
+fault_word (f.TooDeep line column) = codes "TooDeep"
+fault_word f.Memory = codes "Memory"
+
+abbrev pub placeless_line : Bytes → ReadFault → Bytes
+placeless_line file (f.NotUtf8 at) = said_line file (codes ": NotUtf8 at ") (decimal at)
+placeless_line file fault = named_line file (fault_word fault)
+
+-- a file that is not accepted: the place, where the fault has one, and why
 abbrev pub fault_line : Bytes → ReadFault → Bytes
-fault_line file (f.NotUtf8 at) = byte_line file (decimal at)
-fault_line file f.TooLarge = named_line file (codes "TooLarge")
-fault_line file (f.BadCharacter line column) = place_line file line column (codes "BadCharacter")
-fault_line file (f.OpenString line column) = place_line file line column (codes "OpenString")
-fault_line file (f.Indented line column) = place_line file line column (codes "Indented")
-fault_line file (f.Unexpected line column) = place_line file line column (codes "Unexpected")
-fault_line file (f.TooDeep line column) = place_line file line column (codes "TooDeep")
-fault_line file f.Memory = named_line file (codes "Memory")
+fault_line file fault =
+    option_map_or (λ place. spot_line file (decimal place.0) (decimal place.1) (fault_word fault)) (fault_place fault) (placeless_line file fault)

@@ -124,7 +124,8 @@ fn excerpt(line: &[u8], column: usize, last: bool) -> Excerpt
     text
 }
 
-fn fault_place(fault: &ReadFault) -> Option<(u32, u32)>
+/// The line and the column of a fault that has a place.
+pub(crate) fn fault_place(fault: &ReadFault) -> Option<(u32, u32)>
     ensures { result ≡ fault_place fault.now }
 {
     match fault {
@@ -153,7 +154,6 @@ fn place_excerpt(text: &[u8], fault: &ReadFault) -> Excerpt
 }
 
 // The line on a bracket that a place is inside of.
-#[tactic(auto, using(crate::proofs::BracketSteps::six_pieces))]
 fn put_inside(text: &mut Excerpt, bracket: Bracket)
     requires { array_vec_len text.old ≤ 463 }
     ensures { text.new.items ≡ text.old.items ++ inside_line bracket }

@@ -5,7 +5,6 @@ ghost use Rattle.bz_streams.specs.Faults.{AppendsUnlessFailed};
 ghost use Rattle.bz_items.specs.Characters.{Bytes};
 
 use crate::beginning::is_one_of;
-use crate::pieces::write_part;
 use crate::{LinePiece, Sink, nearest, report_pieces};
 use std::alloc::{AllocError, Global};
 use std::convert::AsStr;
@@ -92,15 +91,23 @@ fn strange_option<'a, S: AsStr>(names: &[&str], letters: &[u8], words: &'a [S]) 
     None
 }
 
-fn report_hint<'a, E: Sink>(err: &mut E, program: &'a str, hint: OptionHint<'a>)
-    ensures { AppendsUnlessFailed (E.faults err.old) (E.faults err.new) (E.contents err.old) (E.contents err.new) (option_hint_text program.entry.now hint.entry) }
+/// Writes this text, and a hint below it, up to the first fault.
+pub(crate) fn report_above_hint<'a, E: Sink>(
+    err: &mut E,
+    above: &'a str,
+    program: &'a str,
+    hint: OptionHint<'a>,
+)
+    ensures { AppendsUnlessFailed (E.faults err.old) (E.faults err.new) (E.contents err.old) (E.contents err.new)
+        (above.entry.now ++ option_hint_text program.entry.now hint.entry) }
 {
-    let program = LinePiece::Own(program);
+    let (above, program) = (LinePiece::Own(above), LinePiece::Own(program));
     match hint {
-        OptionHint::Nothing => report_pieces(err, &[]),
+        OptionHint::Nothing => report_pieces(err, &[above]),
         OptionHint::Meant(name) => report_pieces(
             err,
             &[
+                above,
                 program,
                 LinePiece::Own(": did you mean '--"),
                 LinePiece::Own(name),
@@ -110,6 +117,7 @@ fn report_hint<'a, E: Sink>(err: &mut E, program: &'a str, hint: OptionHint<'a>)
         OptionHint::Unknown(word) => report_pieces(
             err,
             &[
+                above,
                 program,
                 LinePiece::Own(": there is no option '"),
                 LinePiece::Outside(word),
@@ -119,24 +127,6 @@ fn report_hint<'a, E: Sink>(err: &mut E, program: &'a str, hint: OptionHint<'a>)
             ],
         ),
     }
-}
-
-/// Writes these bytes, and below them a hint, up to the first fault.
-#[tactic(auto, using(crate::proofs::Written::first_cut, crate::proofs::Written::both_told))]
-pub(crate) fn report_above_hint<'a, E: Sink>(
-    err: &mut E,
-    above: &[u8],
-    program: &'a str,
-    hint: OptionHint<'a>,
-)
-    ensures { AppendsUnlessFailed (E.faults err.old) (E.faults err.new) (E.contents err.old) (E.contents err.new)
-        (above.now ++ option_hint_text program.entry.now hint.entry) }
-{
-    match write_part(err, above) {
-        Ok(()) => {}
-        Err(_) => return,
-    }
-    report_hint(err, program, hint);
 }
 
 /// What is printed below clap's text of words that it refuses, where a word before `--` is written as an option and is none of a

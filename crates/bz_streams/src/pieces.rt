@@ -16,9 +16,9 @@ pub enum LinePiece<'a> {
     Outside(&'a str),
 }
 
-/// Writes these bytes, up to the first fault, which is the error.
+// Writes these bytes, up to the first fault, which is the error.
 #[tactic(auto, using(crate::proofs::Written::answered))]
-pub(crate) fn write_part<E: Sink>(err: &mut E, bytes: &[u8]) -> Result<(), PortFault>
+fn write_part<E: Sink>(err: &mut E, bytes: &[u8]) -> Result<(), PortFault>
     ensures { AnswersAppends result (E.faults err.old) (E.faults err.new) (E.contents err.old) (E.contents err.new) bytes.now }
 {
     write_whole(err, bytes)
@@ -37,6 +37,7 @@ fn write_both<E: Sink>(err: &mut E, first: &[u8], second: &[u8]) -> Result<(), P
 }
 
 // Writes a text from outside, up to the first fault, which is the error.
+#[tactic(auto, using(crate::proofs::Written::begins))]
 fn write_escaped<E: Sink>(err: &mut E, text: &[u8]) -> Result<(), PortFault>
     ensures { AnswersAppends result (E.faults err.old) (E.faults err.new) (E.contents err.old) (E.contents err.new) (escaped_text text.now) }
 {
@@ -60,6 +61,7 @@ fn write_piece<E: Sink>(err: &mut E, piece: &LinePiece<'_>) -> Result<(), PortFa
 }
 
 // Writes these pieces, up to the first fault, which is the error.
+#[tactic(auto, using(crate::proofs::Written::begins))]
 fn write_pieces<E: Sink>(err: &mut E, pieces: &[LinePiece<'_>]) -> Result<(), PortFault>
     ensures { AnswersAppends result (E.faults err.old) (E.faults err.new) (E.contents err.old) (E.contents err.new) (flat_map line_piece_text pieces.now) }
 {
@@ -72,14 +74,6 @@ fn write_pieces<E: Sink>(err: &mut E, pieces: &[LinePiece<'_>]) -> Result<(), Po
     Ok(())
 }
 
-/// Writes bytes that end a line. A fault is passed over.
-#[tactic(auto, using(crate::proofs::Written::told))]
-pub(crate) fn write_last<E: Sink>(err: &mut E, bytes: &[u8])
-    ensures { AppendsUnlessFailed (E.faults err.old) (E.faults err.new) (E.contents err.old) (E.contents err.new) bytes.now }
-{
-    let _ = write_part(err, bytes);
-}
-
 /// Writes these pieces to `err`, one after the other, up to its first fault: a beginning of them then is there, and what is left is
 /// dropped. It takes no memory itself.
 #[tactic(auto, using(crate::proofs::Written::told))]
@@ -90,7 +84,7 @@ pub fn report_pieces<E: Sink>(err: &mut E, pieces: &[LinePiece<'_>])
 }
 
 /// Writes these pieces, and below them these bytes, up to the first fault.
-#[tactic(auto, using(crate::proofs::Written::first_cut, crate::proofs::Written::both_told))]
+#[tactic(auto, using(crate::proofs::Written::first_cut, crate::proofs::Written::told))]
 pub(crate) fn report_above<E: Sink>(err: &mut E, pieces: &[LinePiece<'_>], below: &[u8])
     ensures { AppendsUnlessFailed (E.faults err.old) (E.faults err.new) (E.contents err.old) (E.contents err.new) (flat_map line_piece_text pieces.now ++ below.now) }
 {
@@ -98,5 +92,5 @@ pub(crate) fn report_above<E: Sink>(err: &mut E, pieces: &[LinePiece<'_>], below
         Ok(()) => {}
         Err(_) => return,
     }
-    write_last(err, below);
+    let _ = write_part(err, below);
 }

@@ -1,11 +1,11 @@
 //! The lines on standard error that speak of files. Its faults are passed over.
-ghost use Rattle.std.specs.Prelude.{◌≡◌, ◌++◌, List, ℕ, OnOk, OnErr};
+ghost use Rattle.std.specs.Prelude.{◌≡◌, ◌++◌, List, ℕ, OnOk, OnErr, decimal};
 ghost use Rattle.bz_streams.specs.Faults.{AppendsUnlessFailed};
 ghost use Rattle.bz_streams.specs.Excerpts.{fault_excerpt};
 ghost use Rattle.bz_streams.specs.Options.{option_hint_text};
-ghost use Rattle.bz_streams.specs.Reported.{spot_line, place_line, byte_line, named_line, fault_line};
+ghost use Rattle.bz_streams.specs.Reported.{spot_line, said_line, named_line, fault_word, fault_line};
 
-use crate::excerpt::fault_excerpt;
+use crate::excerpt::{fault_excerpt, fault_place};
 use crate::options::report_above_hint;
 use crate::pieces::report_above;
 use crate::{LinePiece, OptionHint, Sink};
@@ -23,17 +23,20 @@ fn report_spot<'a, E: Sink>(
     file: &'a str,
     line: &'a str,
     column: &'a str,
-    name: &'a str,
+    word: &'a str,
     below: &[u8],
 )
     ensures { AppendsUnlessFailed (E.faults err.old) (E.faults err.new) (E.contents err.old) (E.contents err.new)
-        (spot_line file.entry.now line.entry.now column.entry.now name.entry.now ++ below.now) }
+        (spot_line file.entry.now line.entry.now column.entry.now word.entry.now ++ below.now) }
 {
     let (file, line) = (LinePiece::Outside(file), LinePiece::Own(line));
-    let (column, name) = (LinePiece::Own(column), LinePiece::Own(name));
+    let (column, word) = (LinePiece::Own(column), LinePiece::Own(word));
     let (colon, space) = (LinePiece::Own(":"), LinePiece::Own(": "));
-    let pieces = &[file, colon, line, colon, column, space, name, END];
-    report_above(err, pieces, below);
+    report_above(
+        err,
+        &[file, colon, line, colon, column, space, word, END],
+        below,
+    );
 }
 
 // Reports where a file is not accepted, and why.
@@ -42,25 +45,26 @@ fn report_place<'a, E: Sink>(
     file: &'a str,
     line: u32,
     column: u32,
-    name: &'a str,
+    word: &'a str,
     below: &[u8],
 )
     ensures { AppendsUnlessFailed (E.faults err.old) (E.faults err.new) (E.contents err.old) (E.contents err.new)
-        (place_line file.entry.now line column name.entry.now ++ below.now) }
+        (spot_line file.entry.now (decimal line) (decimal column) word.entry.now ++ below.now) }
 {
     let mut lines = Buffer::new();
     let mut columns = Buffer::new();
     let line = lines.format(line);
     let column = columns.format(column);
-    report_spot(err, file, line, column, name, below);
+    report_spot(err, file, line, column, word, below);
 }
 
-fn report_byte<'a, E: Sink>(err: &mut E, file: &'a str, at: &'a str, below: &[u8])
+// Reports a word on a file, after these words of our own.
+fn report_word<'a, E: Sink>(err: &mut E, file: &'a str, says: &'a str, word: &'a str, below: &[u8])
     ensures { AppendsUnlessFailed (E.faults err.old) (E.faults err.new) (E.contents err.old) (E.contents err.new)
-        (byte_line file.entry.now at.entry.now ++ below.now) }
+        (said_line file.entry.now says.entry.now word.entry.now ++ below.now) }
 {
-    let (file, is) = (LinePiece::Outside(file), LinePiece::Own(": NotUtf8 at "));
-    report_above(err, &[file, is, LinePiece::Own(at), END], below);
+    let (file, says) = (LinePiece::Outside(file), LinePiece::Own(says));
+    report_above(err, &[file, says, LinePiece::Own(word), END], below);
 }
 
 fn report_not_utf8<E: Sink>(err: &mut E, file: &str, at: usize, below: &[u8])
@@ -69,15 +73,7 @@ fn report_not_utf8<E: Sink>(err: &mut E, file: &str, at: usize, below: &[u8])
 {
     let mut places = Buffer::new();
     let at = places.format(at);
-    report_byte(err, file, at, below);
-}
-
-fn report_word<'a, E: Sink>(err: &mut E, file: &'a str, word: &'a str, below: &[u8])
-    ensures { AppendsUnlessFailed (E.faults err.old) (E.faults err.new) (E.contents err.old) (E.contents err.new)
-        (named_line file.entry.now word.entry.now ++ below.now) }
-{
-    let (file, space) = (LinePiece::Outside(file), LinePiece::Own(": "));
-    report_above(err, &[file, space, LinePiece::Own(word), END], below);
+    report_word(err, file, ": NotUtf8 at ", at, below);
 }
 
 /// Reports a word on a file: writes `FILE: WORD` and a newline to `err`, up to its first fault. It takes no memory itself.
@@ -86,7 +82,22 @@ pub fn report_named<'a, E: Sink>(err: &mut E, file: &'a str, word: &'a str)
     ensures { AppendsUnlessFailed (E.faults err.old) (E.faults err.new) (E.contents err.old) (E.contents err.new)
         (named_line file.entry.now word.entry.now) }
 {
-    report_word(err, file, word, b"");
+    report_word(err, file, ": ", word, b"");
+}
+
+fn fault_word(fault: &ReadFault) -> &'static str
+    ensures { result.now ≡ fault_word fault.now }
+{
+    match fault {
+        ReadFault::NotUtf8 { .. } => "NotUtf8",
+        ReadFault::TooLarge => "TooLarge",
+        ReadFault::BadCharacter { .. } => "BadCharacter",
+        ReadFault::OpenString { .. } => "OpenString",
+        ReadFault::Indented { .. } => "Indented",
+        ReadFault::Unexpected { .. } => "Unexpected",
+        ReadFault::TooDeep { .. } => "TooDeep",
+        ReadFault::Memory => "Memory",
+    }
 }
 
 // Reports why a file is not accepted, and these bytes below that.
@@ -94,40 +105,13 @@ fn report_fault_above<E: Sink>(err: &mut E, file: &str, fault: &ReadFault, below
     ensures { AppendsUnlessFailed (E.faults err.old) (E.faults err.new) (E.contents err.old) (E.contents err.new)
         (fault_line file.now fault.now ++ below.now) }
 {
-    match fault {
-        ReadFault::NotUtf8 { at } => report_not_utf8(err, file, *at, below),
-        ReadFault::TooLarge => report_word(err, file, "TooLarge", below),
-        ReadFault::BadCharacter { line, column } => report_place(
-            err,
-            file,
-            *line,
-            *column,
-            "BadCharacter",
-            below,
-        ),
-        ReadFault::OpenString { line, column } => report_place(
-            err,
-            file,
-            *line,
-            *column,
-            "OpenString",
-            below,
-        ),
-        ReadFault::Indented { line, column } => report_place(
-            err, file, *line, *column, "Indented", below,
-        ),
-        ReadFault::Unexpected { line, column } => report_place(
-            err,
-            file,
-            *line,
-            *column,
-            "Unexpected",
-            below,
-        ),
-        ReadFault::TooDeep { line, column } => report_place(
-            err, file, *line, *column, "TooDeep", below,
-        ),
-        ReadFault::Memory => report_word(err, file, "Memory", below),
+    let word = fault_word(fault);
+    match fault_place(fault) {
+        Some((line, column)) => report_place(err, file, line, column, word, below),
+        None => match fault {
+            ReadFault::NotUtf8 { at } => report_not_utf8(err, file, *at, below),
+            _ => report_word(err, file, ": ", word, below),
+        },
     }
 }
 
@@ -167,6 +151,6 @@ pub fn report_clap_hinted<'a, E: Sink>(
     ensures err { OnErr result (err.new ≡ err.old) }
 {
     let text = error.to_string(alloc)?;
-    report_above_hint(err, text.as_str().as_bytes(), program, hint);
+    report_above_hint(err, text.as_str(), program, hint);
     Ok(())
 }

@@ -33,6 +33,7 @@ fn after(bytes: &[u8], n: usize) -> &[u8]
 
 /// Writes all of these bytes, as many calls as that takes. The error: a write failed, which the writer counted; a
 /// beginning of the bytes, and not all of them, is then on it. Nothing is tried again.
+#[tactic(auto, using(crate::proofs::Written::begins))]
 pub fn write_whole<S: Sink>(sink: &mut S, bytes: &[u8]) -> Result<(), PortFault>
     ensures ok { OnOk result (Appends (S.contents sink.old) (S.contents sink.new) bytes.now) }
     ensures err { OnErr result (AppendsSome (S.contents sink.old) (S.contents sink.new) bytes.now) }

@@ -1,5 +1,4 @@
-use Rattle.std.proofs.Common.{◌∷◌, [], ◌∙◌, ℕ, List, codes, ap, ap₂, ◌++◌, decimal, append_assoc}
-use Rattle.bz_streams.proofs.BracketSteps.{six_pieces}
+use Rattle.std.proofs.Common.{append_assoc}
 use Rattle.bz_streams.proofs.excerpt.put_inside.Goals as goal
 
 pub returns : goal.returns
@@ -17,5 +16,4 @@ returns c =
       c.format.ensures.text,
       c.format-2.ensures.text,
     )
-    (six_pieces (c.args.text.now.items ++ codes "    inside the '") (c.args.bracket.byte ∷ []) (codes "' at ") (decimal c.args.bracket.line) (codes ":") (decimal c.args.bracket.column) (codes "\n")
-    ∙ append_assoc c.args.text.now.items (codes "    inside the '") _)
+    (simp append_assoc)

@@ -1,10 +1,11 @@
+use Rattle.std.proofs.Common.{◌++◌, sym, subst}
+use Rattle.bz_streams.specs.declared.options.OptionHint.{OptionHint}
+use Rattle.bz_streams.specs.Faults.{AppendsUnlessFailed}
 use Rattle.bz_streams.specs.Options.{option_hint_text}
-use Rattle.bz_streams.proofs.Written.{both_told}
 use Rattle.bz_streams.proofs.options.report_above_hint.Goals as goal
 
-pub returns : goal.returns
-returns g c =
-    let faults = g.E.Sink.faults in
-    let contents = g.E.Sink.contents in
-    both_told (faults c.args.err.now) (faults c.write_part.new.err) (faults c.report_hint.new.err) (contents c.args.err.now) (contents c.write_part.new.err)
-    (contents c.report_hint.new.err) c.args.above.now (option_hint_text c.args.program.now c.args.hint) c.in-Ok.ensures c.report_hint.ensures
+pub returns-in-Meant : goal.returns-in-Meant
+returns-in-Meant g c =
+    let new = c.report_pieces-in-Meant.new.err in
+    subst (λ (hint : OptionHint). AppendsUnlessFailed (g.E.Sink.faults c.args.err.now) (g.E.Sink.faults new) (g.E.Sink.contents c.args.err.now)
+    (g.E.Sink.contents new) (c.args.above.now ++ option_hint_text c.args.program.now hint)) (sym c.in-Meant.is) c.report_pieces-in-Meant.ensures

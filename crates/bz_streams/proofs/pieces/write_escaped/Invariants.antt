@@ -1,14 +1,11 @@
-use Rattle.std.proofs.Common.{◌≡◌, length}
+use Rattle.std.proofs.Common.{length}
 use Rattle.bz_streams.specs.Controls.{escaped_text}
 use Rattle.bz_streams.proofs.Written.{SoFar}
 use Rattle.bz_streams.proofs.pieces.write_escaped.Given as goal
 
--- what is left of the text is what is left to be written, and no write failed
 abbrev pub invariant-loop-plain : goal.invariant-loop-plain
-invariant-loop-plain g l = record {
-  so_far : SoFar (g.E.Sink.contents l.fn.err) (g.E.Sink.contents l.err) (escaped_text l.text) (escaped_text l.left);
-  steady : g.E.Sink.faults l.err ≡ g.E.Sink.faults l.fn.err;
-}
+invariant-loop-plain g l =
+    SoFar (g.E.Sink.faults l.fn.err) (g.E.Sink.faults l.err) (g.E.Sink.contents l.fn.err) (g.E.Sink.contents l.err) (escaped_text l.text) (escaped_text l.left)
 
 abbrev pub decreases-loop-plain : goal.decreases-loop-plain
 decreases-loop-plain g l = length l.left

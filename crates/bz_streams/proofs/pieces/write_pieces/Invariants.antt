@@ -1,12 +1,10 @@
-use Rattle.std.proofs.Common.{◌≡◌, drop}
+use Rattle.std.proofs.Common.{drop}
 use Rattle.std.specs.List.{flat_map}
 use Rattle.bz_streams.specs.Pieces.{line_piece_text}
 use Rattle.bz_streams.proofs.Written.{SoFar}
 use Rattle.bz_streams.proofs.pieces.write_pieces.Given as goal
 
--- the pieces so far were written, and no write failed
 abbrev pub invariant-loop-piece : goal.invariant-loop-piece
-invariant-loop-piece g l = record {
-  so_far : SoFar (g.E.Sink.contents l.fn.err) (g.E.Sink.contents l.err) (flat_map line_piece_text l.pieces) (flat_map line_piece_text (drop l.piece-index l.pieces));
-  steady : g.E.Sink.faults l.err ≡ g.E.Sink.faults l.fn.err;
-}
+invariant-loop-piece g l =
+    SoFar (g.E.Sink.faults l.fn.err) (g.E.Sink.faults l.err) (g.E.Sink.contents l.fn.err) (g.E.Sink.contents l.err)
+    (flat_map line_piece_text l.pieces) (flat_map line_piece_text (drop l.piece-index l.pieces))

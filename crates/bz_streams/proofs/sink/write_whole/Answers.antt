@@ -1,18 +1,18 @@
-use Rattle.std.proofs.Common.{refl, rules}
-use Rattle.bz_streams.proofs.Written.{begins, goes_on}
+use Rattle.std.proofs.Common.{◌<◌, length, take, drop, refl, sym, rules}
+use Rattle.std.proofs.lemmas.List.{take-append-drop}
+use Rattle.bz_streams.proofs.Written.{cut_off, goes_on, part_is_some}
 use Rattle.bz_streams.proofs.sink.write_whole.Goals as goal
-
-pub loop-rest-init : goal.loop-rest-init
-loop-rest-init g c = record {
-  so_far = begins (g.S.Sink.contents c.args.sink.now) c.args.bytes.now;
-  steady = refl;
-}
 
 pub loop-rest-preserved : goal.loop-rest-preserved
 loop-rest-preserved g c =
-    let contents = g.S.Sink.contents in
-    record {
-      so_far = rw (c.after-rest.ensures) (goes_on (contents c.args.sink.now) (contents c.loop-rest.sink) (contents c.write.new.self)
-          c.args.bytes.now c.loop-rest.rest.now c.in-Ok.written c.loop-rest.invariant.so_far c.in-Ok.ensures.bound c.in-Ok.ensures.bytes);
-      steady = search rules;
-    }
+    rw (c.after-rest.ensures)
+    (goes_on (take c.in-Ok.written c.loop-rest.rest.now) (drop c.in-Ok.written c.loop-rest.rest.now) c.loop-rest.invariant
+    (sym (take-append-drop c.in-Ok.written c.loop-rest.rest.now)) (c.in-Ok.ensures.steady refl, c.in-Ok.ensures.bytes))
+
+pub returns-in-Err-clause-err : goal.returns-in-Err-clause-err
+returns-in-Err-clause-err g c =
+    let some : 0 < length c.loop-rest.rest.now = search rules in part_is_some (cut_off c.loop-rest.invariant some c.in-Err.ensures.bytes)
+
+pub returns-in-Err-clause-part : goal.returns-in-Err-clause-part
+returns-in-Err-clause-part g c =
+    let some : 0 < length c.loop-rest.rest.now = search rules in cut_off c.loop-rest.invariant some c.in-Err.ensures.bytes
