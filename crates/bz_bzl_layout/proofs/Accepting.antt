@@ -9,8 +9,7 @@ use Rattle.bz_bzl_layout.specs.Layout.{bzl_layout}
 use Rattle.bz_bzl_layout.proofs.Shaped.{bzl_file}
 use Rattle.bz_bzl_layout.proofs.Indented.{bzl_indented}
 use Rattle.bz_bzl_layout.proofs.Spelled.{bzl_spelled}
-use Rattle.bz_bzl_layout.proofs.StatementGaps.{bzl_gaps, bzl_coded}
-use Rattle.bz_bzl_layout.proofs.StatementTokens.{bzl_tokens}
+use Rattle.bz_bzl_layout.proofs.StatementTokens.{bzl_gaps, bzl_coded, bzl_tokens}
 
 -- what is laid out of a proper value is legal, where it is not too deep
 pub bzl_legal : (items : List BzlItem) → IsProperBzl items → depth_of (bzl_laid_out items) ≤ depth_limit → LegalBzl (bzl_laid_out items)

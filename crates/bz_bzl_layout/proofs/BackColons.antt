@@ -22,19 +22,6 @@ use Rattle.bz_bzl_value.specs.View.{Stated, stated, branches, with_suite}
 use Rattle.bz_bzl_value.proofs.KeptGaps.{NoColon, no_colons, token_plain, nonterminal_plain}
 use Rattle.bz_bzl_value.proofs.Parts.{part_of as stated_part}
 
--- ---- lists
-
-module _ {X : Type 0} (P : X → Type 0) where
-  -- what holds of all of two lists holds of each
-  pub both_parts : (xs ys : List X) → AllByRecursion P (xs ++ ys) → AllByRecursion P xs × AllByRecursion P ys
-  both_parts [] ys h = (tt, h)
-  both_parts (x ∷ xs) ys h = let more = both_parts xs ys h.1 in ((h.0, more.0), more.1)
-
-  -- and the other way
-  pub all_joined : (xs ys : List X) → AllByRecursion P xs → AllByRecursion P ys → AllByRecursion P (xs ++ ys)
-  all_joined [] ys h k = k
-  all_joined (x ∷ xs) ys h k = (h.0, all_joined xs ys h.1 k)
-
 -- ---- only the last part of a shape may be a colon
 
 -- nothing more

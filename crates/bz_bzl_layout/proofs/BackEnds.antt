@@ -20,52 +20,41 @@ abbrev pub from_comment : Lines → Lines
 from_comment [] = []
 from_comment (line ∷ lines) = from_line line.comment line lines (from_comment lines)
 
--- what is taken for end comments, and what is left, is the same with the lines before the first comment and without them
-comments_step : (comment : Option Bytes) (line : GapLine) (lines : Lines) → line.comment ≡ comment → comments_in (from_comment lines) ≡ comments_in lines → comments_in (from_line line.comment line lines (from_comment lines)) ≡ comments_in (line ∷ lines)
-comments_step None line lines e same = ap (λ z. comments_in (from_line z line lines (from_comment lines))) e ∙ (same ∙ ap (λ z. as_list z ++ comments_in lines) (sym e))
-comments_step (Some text) line lines e same = ap (λ z. comments_in (from_line z line lines (from_comment lines))) e
+-- what skips lines without a comment is the same with the lines before the first comment and without them
+module _ {X : Type 0} (F : Lines → X) (skips : (line : GapLine) (lines : Lines) → line.comment ≡ None → F (line ∷ lines) ≡ F lines) where
+  from_step : (comment : Option Bytes) (line : GapLine) (lines : Lines) → line.comment ≡ comment → F (from_comment lines) ≡ F lines → F (from_line line.comment line lines (from_comment lines)) ≡ F (line ∷ lines)
+  from_step None line lines e same = ap (λ z. F (from_line z line lines (from_comment lines))) e ∙ (same ∙ sym (skips line lines e))
+  from_step (Some text) line lines e same = ap (λ z. F (from_line z line lines (from_comment lines))) e
 
--- the comments are the same with the lines before the first comment and without them
+  from_first : (lines : Lines) → F (from_comment lines) ≡ F lines
+  from_first [] = refl
+  from_first (line ∷ lines) = from_step line.comment line lines refl (from_first lines)
+
+  -- so it is where the lines from the first comment on are the same
+  pub from_same : (now all : Lines) → from_comment now ≡ from_comment all → F now ≡ F all
+  from_same now all e = sym (from_first now) ∙ (ap F e ∙ from_first all)
+
+-- the comments
 pub same_comments : (lines : Lines) → comments_in (from_comment lines) ≡ comments_in lines
-same_comments [] = refl
-same_comments (line ∷ lines) = comments_step line.comment line lines refl (same_comments lines)
+same_comments lines = from_first comments_in (λ line lines e. ap (λ z. as_list z ++ comments_in lines) e) lines
+
+-- from the first comment on, twice
+pub from_once : (lines : Lines) → from_comment (from_comment lines) ≡ from_comment lines
+from_once lines = from_first from_comment (λ line lines e. ap (λ z. from_line z line lines (from_comment lines)) e) lines
 
 -- what is taken for end comments from a line on, by the comment of that line
 abbrev ends_by : ℕ → Option Bytes → GapLine → Lines → List Bytes
 ends_by margin comment line lines = if is_taken_line margin line.indent comment then (as_list comment ++ []) ++ end_comments margin lines else []
 
-ends_step : (margin : ℕ) (comment : Option Bytes) (line : GapLine) (lines : Lines) → line.comment ≡ comment → end_comments margin (from_comment lines) ≡ end_comments margin lines
-    → end_comments margin (from_line line.comment line lines (from_comment lines)) ≡ end_comments margin (line ∷ lines)
-ends_step margin None line lines e same = ap (λ z. end_comments margin (from_line z line lines (from_comment lines))) e ∙ (same ∙ ap (λ z. ends_by margin z line lines) (sym e))
-ends_step margin (Some text) line lines e same = ap (λ z. end_comments margin (from_line z line lines (from_comment lines))) e
-
-pub same_ends : (margin : ℕ) (lines : Lines) → end_comments margin (from_comment lines) ≡ end_comments margin lines
-same_ends margin [] = refl
-same_ends margin (line ∷ lines) = ends_step margin line.comment line lines refl (same_ends margin lines)
+pub same_ends : (margin : ℕ) (now all : Lines) → from_comment now ≡ from_comment all → end_comments margin now ≡ end_comments margin all
+same_ends margin now all e = from_same (end_comments margin) (λ line lines e. ap (λ z. ends_by margin z line lines) e) now all e
 
 -- what is left from a line on
 abbrev left_by : ℕ → Option Bytes → GapLine → Lines → Lines
 left_by margin comment line lines = if is_taken_line margin line.indent comment then after_end margin lines else line ∷ lines
 
-left_step : (margin : ℕ) (comment : Option Bytes) (line : GapLine) (lines : Lines) → line.comment ≡ comment → after_end margin (from_comment lines) ≡ after_end margin lines
-    → after_end margin (from_line line.comment line lines (from_comment lines)) ≡ after_end margin (line ∷ lines)
-left_step margin None line lines e same = ap (λ z. after_end margin (from_line z line lines (from_comment lines))) e ∙ (same ∙ ap (λ z. left_by margin z line lines) (sym e))
-left_step margin (Some text) line lines e same = ap (λ z. after_end margin (from_line z line lines (from_comment lines))) e
-
--- what is left is the same
-pub same_left : (margin : ℕ) (lines : Lines) → after_end margin (from_comment lines) ≡ after_end margin lines
-same_left margin [] = refl
-same_left margin (line ∷ lines) = left_step margin line.comment line lines refl (same_left margin lines)
-
--- from the first comment on, twice
-once_step : (comment : Option Bytes) (line : GapLine) (lines : Lines) → line.comment ≡ comment → from_comment (from_comment lines) ≡ from_comment lines
-    → from_comment (from_line line.comment line lines (from_comment lines)) ≡ from_line line.comment line lines (from_comment lines)
-once_step None line lines e same = ap (λ z. from_comment (from_line z line lines (from_comment lines))) e ∙ (same ∙ ap (λ z. from_line z line lines (from_comment lines)) (sym e))
-once_step (Some text) line lines e same = ap (λ z. from_comment (from_line z line lines (from_comment lines))) e
-
-pub from_once : (lines : Lines) → from_comment (from_comment lines) ≡ from_comment lines
-from_once [] = refl
-from_once (line ∷ lines) = once_step line.comment line lines refl (from_once lines)
+pub same_left : (margin : ℕ) (now all : Lines) → from_comment now ≡ from_comment all → after_end margin now ≡ after_end margin all
+same_left margin now all e = from_same (after_end margin) (λ line lines e. ap (λ z. left_by margin z line lines) e) now all e
 
 -- ---- lines whose first comment is indented no more than to a margin
 

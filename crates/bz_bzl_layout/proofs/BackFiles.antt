@@ -1,5 +1,5 @@
 -- The view of the tree of the layout of a proper .bzl value is the value, levelled.
-use Rattle.std.proofs.Common.{◌≡◌, Bool, true, false, List, [], ◌∷◌, ◌++◌, if◌then◌else◌, refl, sym, ap, ◌∙◌, subst, map, append_assoc, append-nil}
+use Rattle.std.proofs.Common.{◌≡◌, List, [], ◌∷◌, ◌++◌, refl, sym, ap, ◌∙◌, subst, map, append_assoc, append-nil}
 use Rattle.std.specs.Prelude.{Option, None, Some}
 use Rattle.std.specs.List.{AllByRecursion}
 use Rattle.std.proofs.lemmas.List.{map-append}
@@ -23,8 +23,9 @@ use Rattle.bz_bzl_layout.specs.Layout.{indented_lines, before_others}
 use Rattle.bz_bzl_layout.specs.LaidOut.{left_after, statement_part, bzl_lines, bzl_laid_out}
 use Rattle.bz_bzl_layout.specs.Level.{level_statement, level}
 use Rattle.bz_bzl_layout.proofs.BackLines.{Lines, no_lines, a_blank_line, comments_at, gap_lines}
-use Rattle.bz_bzl_layout.proofs.BackEnds.{from_line, from_comment, AreBounded, commented_bounded}
+use Rattle.bz_bzl_layout.proofs.BackEnds.{from_comment, from_same, AreBounded, commented_bounded}
 use Rattle.bz_bzl_layout.proofs.BackLeft.{left_lines, left_are, above_of, comments_above, statement_first}
+use Rattle.bz_bzl_layout.proofs.GapLines.{between_such}
 use Rattle.bz_bzl_layout.proofs.BackSuites.{IsReadAs}
 use Rattle.bz_bzl_layout.proofs.BackStatements.{statement_back}
 
@@ -46,40 +47,13 @@ record SaysSame (gs hs : List (List Bytes)) : Type 0 where
   front : blocks (all_but_last gs) ≡ blocks (all_but_last hs)
   last : last_group gs ≡ last_group hs
 
--- the same groups say the same
-says_itself : (gs hs : List (List Bytes)) → gs ≡ hs → SaysSame gs hs
-says_itself gs hs e = record { all = ap blocks e; front = ap (λ z. blocks (all_but_last z)) e; last = ap last_group e }
-
--- one line more
-says_step : (comment : Option Bytes) (line : GapLine) (lines : Lines) → line.comment ≡ comment → SaysSame (groups_of (from_comment lines)) (groups_of lines) →
-    SaysSame (groups_of (from_line line.comment line lines (from_comment lines))) (before_groups line.comment (groups_of lines))
-says_step None line lines e same =
-    let blank = blank_first lines in
-    let gone : groups_of (from_line line.comment line lines (from_comment lines)) ≡ groups_of (from_comment lines) = ap (λ z. groups_of (from_line z line lines (from_comment lines))) e in
-    let more : before_groups line.comment (groups_of lines) ≡ [] ∷ groups_of lines = ap (λ z. before_groups z (groups_of lines)) e in
-    record {
-      all = ap blocks gone ∙ (same.all ∙ sym (ap blocks more));
-      front = ap (λ z. blocks (all_but_last z)) gone ∙ (same.front ∙ sym (ap (λ z. blocks (all_but_last z)) more ∙ ap blocks blank.0));
-      last = ap last_group gone ∙ (same.last ∙ sym (ap last_group more ∙ blank.1));
-    }
-says_step (Some text) line lines e same =
-    says_itself (groups_of (from_line line.comment line lines (from_comment lines))) (before_groups line.comment (groups_of lines)) (ap (λ z. groups_of (from_line z line lines (from_comment lines))) e)
-
--- with the lines before the first comment and without them groups say the same
-from_says : (lines : Lines) → SaysSame (groups_of (from_comment lines)) (groups_of lines)
-from_says [] = says_itself ([] ∷ []) ([] ∷ []) refl
-from_says (line ∷ lines) = says_step line.comment line lines refl (from_says lines)
-
--- so they do where the lines from the first comment on are the same
+-- so they say where the lines from the first comment on are the same
 both_say : (now all : Lines) → from_comment now ≡ from_comment all → SaysSame (groups_of now) (groups_of all)
-both_say now all e =
-    let here : SaysSame (groups_of (from_comment now)) (groups_of now) = from_says now in
-    let there : SaysSame (groups_of (from_comment all)) (groups_of all) = from_says all in
-    record {
-      all = sym here.all ∙ (ap (λ z. blocks (groups_of z)) e ∙ there.all);
-      front = sym here.front ∙ (ap (λ z. blocks (all_but_last (groups_of z))) e ∙ there.front);
-      last = sym here.last ∙ (ap (λ z. last_group (groups_of z)) e ∙ there.last);
-    }
+both_say now all e = record {
+  all = from_same (λ z. blocks (groups_of z)) (λ line lines none. ap (λ z. blocks (before_groups z (groups_of lines))) none) now all e;
+  front = from_same (λ z. blocks (all_but_last (groups_of z))) (λ line lines none. ap (λ z. blocks (all_but_last (before_groups z (groups_of lines)))) none ∙ ap blocks (blank_first lines).0) now all e;
+  last = from_same (λ z. last_group (groups_of z)) (λ line lines none. ap (λ z. last_group (before_groups z (groups_of lines))) none ∙ (blank_first lines).1) now all e;
+}
 
 -- ---- between items
 
@@ -94,18 +68,9 @@ record IsBetween (gap : Bytes) : Type 0 where
 abbrev blank : Lines
 blank = ended_line 0 None ∷ []
 
-abbrev if_blank : (none : Bool) → IsBetween (if none then [] else (line_feed ∷ []))
-if_blank true = record { lines = []; are = no_lines; waits = nothing_waits; bounded = λ rest h. h }
-if_blank false = record { lines = blank; are = a_blank_line; waits = blank_waits; bounded = λ rest h. h }
-
 -- between an item and those that follow
 abbrev between_known : (item : BzlItem) (items : List BzlItem) → IsBetween (before_others item items)
-between_known item [] = if_blank true
-between_known (b.Block texts) (y ∷ ys) = if_blank false
-between_known (b.Statement (Simple x)) (b.Block texts ∷ ys) = if_blank false
-between_known (b.Statement (Simple x)) (b.Statement (Simple y) ∷ ys) = if_blank _
-between_known (b.Statement (Simple x)) (b.Statement (Compound' size own) ∷ ys) = if_blank false
-between_known (b.Statement (Compound' size own)) (y ∷ ys) = if_blank false
+between_known item items = between_such IsBetween (record { lines = []; are = no_lines; waits = nothing_waits; bounded = λ rest h. h }) (record { lines = blank; are = a_blank_line; waits = blank_waits; bounded = λ rest h. h }) item items
 
 -- the lines of these items up to the first statement
 abbrev file_lines : List BzlItem → Lines

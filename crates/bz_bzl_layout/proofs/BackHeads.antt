@@ -13,6 +13,7 @@ use Rattle.bz_value.specs.Empty.{is_empty}
 use Rattle.bz_value.specs.Gaps.{all_in}
 use Rattle.bz_value.specs.Proper.{IsComment, MaybeComment, comments_of, has_break}
 use Rattle.bz_value.specs.Roots.{root, mark_leaf}
+use Rattle.bz_value.proofs.GapComments.{all_joined}
 use Rattle.bz_hosts.specs.View.{Seen, seen, plain, loose_in, loose_after, first_seen_gap, items_in, is_split}
 use Rattle.bz_layout.specs.Layout.{rowed, is_broken, is_tuple, firsts, gap_after, margin_after}
 use Rattle.bz_layout.specs.LaidOut.{part_of, piece_part, layouts, laid_out_body}
@@ -29,7 +30,7 @@ use Rattle.bz_bzl_value.proofs.KeptGaps.{NoColon}
 use Rattle.bz_bzl_layout.specs.Layout.{is_def}
 use Rattle.bz_bzl_layout.specs.LaidOut.{header_parts}
 use Rattle.bz_bzl_layout.specs.Level.{level_head}
-use Rattle.bz_bzl_layout.proofs.BackColons.{all_joined, row_plain, stacked_plain, joined_plain}
+use Rattle.bz_bzl_layout.proofs.BackColons.{row_plain, stacked_plain, joined_plain}
 
 -- What a header has that it can be read back.
 pub record IsRead (f : Form) : Type 0 where

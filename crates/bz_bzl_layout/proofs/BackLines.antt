@@ -1,10 +1,9 @@
 -- The lines of the gaps that the layout of a .bzl file makes.
-use Rattle.std.proofs.Common.{◌≡◌, ℕ, zero, suc, true, false, ◌&&◌, List, [], ◌∷◌, ◌++◌, if◌then◌else◌, refl, sym, ap, ◌∙◌, length, append_assoc, append-nil}
+use Rattle.std.proofs.Common.{◌≡◌, ℕ, List, [], ◌∷◌, ◌++◌, refl, ap, ◌∙◌, length, append_assoc, append-nil}
 use Rattle.std.specs.Prelude.{None, Some, replicate}
 use Rattle.std.specs.List.{AllByRecursion}
 use Rattle.std.proofs.lemmas.List.{length-replicate}
-use Rattle.std.proofs.Math.Bool.{and-false}
-use Rattle.bz_lex.specs.Gaps.{indent, are_indents, is_indent}
+use Rattle.bz_lex.specs.Gaps.{indent}
 use Rattle.bz_items.specs.Characters.{Bytes, line_feed, space}
 use Rattle.bz_value.specs.Gaps.{GapLine, lines_of}
 use Rattle.bz_value.specs.Proper.{IsComment}
@@ -12,6 +11,7 @@ use Rattle.bz_layout.proofs.Gapped.{ended_line, commented, comment_line, margin_
 use Rattle.bz_layout.proofs.Waiting.{AreLines, lines_append}
 use Rattle.bz_bzl_layout.specs.Layout.{indented_line, indented_lines}
 use Rattle.bz_bzl_layout.specs.LaidOut.{gap_to_margin}
+use Rattle.bz_bzl_layout.proofs.Indented.{gap_indent}
 
 abbrev pub Lines : Type 0
 Lines = List GapLine
@@ -41,36 +41,6 @@ gap_lines m lines ls texts h k =
     h (indented_lines m texts ++ replicate m space)
     ∙ ap (λ z. ls ++ z) (comments_at m texts k (replicate m space) ∙ (ap (λ z. commented m texts ++ z) (spaces_are_none m) ∙ append-nil (commented m texts)))
 
--- ---- the margin of a gap
-
--- a text with a newline in it is no indent
-not_all_indents : (a b : Bytes) → are_indents (a ++ (line_feed ∷ b)) ≡ false
-not_all_indents [] b = refl
-not_all_indents (c ∷ a) b = ap (λ z. is_indent c && z) (not_all_indents a b) ∙ and-false (is_indent c)
-
--- the indent is after the last newline
-after_newline : (a b : Bytes) → indent (a ++ (line_feed ∷ b)) ≡ indent b
-after_newline [] b = refl
-after_newline (c ∷ a) b = ap (λ t. if t then c ∷ (a ++ (line_feed ∷ b)) else indent (a ++ (line_feed ∷ b))) (not_all_indents (c ∷ a) b) ∙ after_newline a b
-
--- spaces are an indent
-all_indents : (m : ℕ) → are_indents (replicate m space) ≡ true
-all_indents zero = refl
-all_indents (suc m) = all_indents m
-
-own_indent : (m : ℕ) → indent (replicate m space) ≡ replicate m space
-own_indent zero = refl
-own_indent (suc m) = ap (λ t. if t then replicate (suc m) space else indent (replicate m space)) (all_indents (suc m))
-
-after_lines : (m : ℕ) (texts : List Bytes) → indent (indented_lines m texts ++ replicate m space) ≡ indent (replicate m space)
-after_lines m [] = refl
-after_lines m (text ∷ texts) =
-    let rest : Bytes = indented_lines m texts ++ replicate m space in
-    ap indent
-    (append_assoc (indented_line m text) (indented_lines m texts) (replicate m space)
-    ∙ (append_assoc (replicate m space) (text ++ line_feed ∷ []) rest ∙ (ap (λ z. replicate m space ++ z) (append_assoc text (line_feed ∷ []) rest) ∙ sym (append_assoc (replicate m space) text (line_feed ∷ rest)))))
-    ∙ (after_newline (replicate m space ++ text) rest ∙ after_lines m texts)
-
 -- what is after the lines of comments at a margin is indented to that margin
 pub gap_margin : (m : ℕ) (texts : List Bytes) → length (indent (gap_to_margin m [] texts)) ≡ m
-gap_margin m texts = ap length (after_lines m texts ∙ own_indent m) ∙ length-replicate m space
+gap_margin m texts = ap length (gap_indent m [] texts (λ rest. refl)) ∙ length-replicate m space

@@ -69,10 +69,9 @@ suite_from m xs after now rest ys end first margin bounded h =
     let all : ReadStatements (List Statement) = walked now xs after in
     let further : m < m + 4 = omega arith in
     let ends : end_comments (m + 4) all.1 ≡ end =
-    sym (same_ends (m + 4) all.1) ∙ (ap (end_comments (m + 4)) h.left ∙ (same_ends (m + 4) (commented (m + 4) end ++ rest)
-    ∙ (own_taken (m + 4) end rest ∙ (ap (λ z. end ++ z) (none_taken (m + 4) m rest further bounded) ∙ append-nil end)))) in
+    same_ends (m + 4) all.1 (commented (m + 4) end ++ rest) h.left ∙ (own_taken (m + 4) end rest ∙ (ap (λ z. end ++ z) (none_taken (m + 4) m rest further bounded) ∙ append-nil end)) in
     let left : after_end (m + 4) all.1 ≡ from_comment rest =
-    sym (same_left (m + 4) all.1) ∙ (ap (after_end (m + 4)) h.left ∙ (same_left (m + 4) (commented (m + 4) end ++ rest) ∙ (own_left (m + 4) end rest ∙ all_left (m + 4) m rest further bounded))) in
+    same_left (m + 4) all.1 (commented (m + 4) end ++ rest) h.left ∙ (own_left (m + 4) end rest ∙ all_left (m + 4) m rest further bounded) in
     ap (λ z. let w : ReadStatements (List Statement) = walked z xs after in let r : SuiteRead = ((w.0, end_comments (margin_of xs) w.1), after_end (margin_of xs) w.1) in r) first
     ∙ (ap (λ z. let r : SuiteRead = ((all.0, end_comments z all.1), after_end z all.1) in r) margin
     ∙ (ap (λ z. let r : SuiteRead = ((z, end_comments (m + 4) all.1), after_end (m + 4) all.1) in r) h.value

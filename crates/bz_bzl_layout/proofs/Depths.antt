@@ -22,7 +22,7 @@ use Rattle.bz_bzl_value.specs.declared.value.Statement.TheVariants as s
 use Rattle.bz_bzl_value.specs.declared.value.Branch.{Branch}
 use Rattle.bz_bzl_value.specs.declared.value.BzlItem.{BzlItem}
 use Rattle.bz_bzl_value.specs.declared.value.BzlItem.TheVariants as b
-use Rattle.bz_bzl_layout.specs.private.Depths.{depth_header, depth_statement, depth_branches, depth_statements, deepest_statement, depth_branch, deepest_branch, depth_bzl_items}
+use Rattle.bz_bzl_layout.specs.private.Depths.{depth_header, depth_statement, depth_branches, depth_statements, deepest_by, depth_branch, depth_item}
 use Rattle.bz_bzl_layout.specs.LaidOut.{gap_to_margin, header_parts, newline_part, simple_part, left_after, left_statements, first_kind, statement_part, branch_parts, statement_parts, bzl_lines, bzl_laid_out}
 use Rattle.bz_bzl_layout.specs.Layout.{is_def, indented_lines, before_others}
 use Rattle.bz_bzl_layout.proofs.Rows.{branches_after, branches_are}
@@ -81,41 +81,31 @@ mutual
 
 -- ---- files
 
-lines_deep : (lines : Bytes) (xs : List BzlItem) → deepest (bzl_lines lines xs) ≡ depth_bzl_items xs
+lines_deep : (lines : Bytes) (xs : List BzlItem) → deepest (bzl_lines lines xs) ≡ deepest_by depth_item xs
 lines_deep lines [] = refl
-lines_deep lines (b.Block texts ∷ xs) = lines_deep ((lines ++ indented_lines 0 texts) ++ before_others (b.Block texts) xs) xs
+lines_deep lines (b.Block texts ∷ xs) = let rest = lines_deep ((lines ++ indented_lines 0 texts) ++ before_others (b.Block texts) xs) xs in omega (arith, rest)
 lines_deep lines (b.Statement x ∷ xs) = two max (statement_deep 0 lines x) (lines_deep (left_after 0 x ++ before_others (b.Statement x) xs) xs)
 
-pub bzl_laid_out_depth : (xs : List BzlItem) → depth_of (bzl_laid_out xs) ≡ suc (depth_bzl_items xs)
+pub bzl_laid_out_depth : (xs : List BzlItem) → depth_of (bzl_laid_out xs) ≡ suc (deepest_by depth_item xs)
 bzl_laid_out_depth xs = ap suc (lines_deep [] xs)
 
 -- ---- lists
 
-statements_list : (n : _) (r : Row_of-Statement n) → depth_statements r ≡ deepest_statement (items-the_row-Statement n r)
+statements_list : (n : _) (r : Row_of-Statement n) → depth_statements r ≡ deepest_by depth_statement (items-the_row-Statement n r)
 statements_list n end_of-Statement = refl
 statements_list n (more_of-Statement x rest) = ap (λ d. max (depth_statement x) d) (statements_list _ rest)
 
-branches_list : (n : _) (r : Row_of-Branch n) → depth_branches r ≡ deepest_branch (items-the_row-Branch n r)
+branches_list : (n : _) (r : Row_of-Branch n) → depth_branches r ≡ deepest_by depth_branch (items-the_row-Branch n r)
 branches_list n end_of-Branch = refl
 branches_list n (more_of-Branch head size statements end rest) =
     two (λ a c. max (max (depth_header head) (suc a)) c)
-    (statements_list _ statements ∙ ap deepest_statement (sym (items_shown-the_row-Statement-0 size statements)))
+    (statements_list _ statements ∙ ap (deepest_by depth_statement) (sym (items_shown-the_row-Statement-0 size statements)))
     (branches_list _ rest)
 
-pub depth_Compound : (own : List Branch) → depth_statement (s.Compound own) ≡ suc (deepest_branch own)
-depth_Compound own = ap suc (branches_list _ (branches_after (s.Compound own)).1 ∙ ap deepest_branch (branches_are own))
+pub depth_Compound : (own : List Branch) → depth_statement (s.Compound own) ≡ suc (deepest_by depth_branch own)
+depth_Compound own = ap suc (branches_list _ (branches_after (s.Compound own)).1 ∙ ap (deepest_by depth_branch) (branches_are own))
 
 -- ---- the steps of the loops
 
-pub branch_next : (xs : List Branch) (k : ℕ) (d : Branch) → k < length xs → deepest_branch (drop k xs) ≡ max (depth_branch (get_or xs k d)) (deepest_branch (drop (k + 1) xs))
-branch_next xs k d h = ap deepest_branch (drop_more xs k d h)
-
-pub statement_next : (xs : List Statement) (k : ℕ) (d : Statement) → k < length xs → deepest_statement (drop k xs) ≡ max (depth_statement (get_or xs k d)) (deepest_statement (drop (k + 1) xs))
-statement_next xs k d h = ap deepest_statement (drop_more xs k d h)
-
-first_deep : (x : BzlItem) (xs : List BzlItem) → depth_bzl_items (x ∷ xs) ≡ max (depth_bzl_items (x ∷ [])) (depth_bzl_items xs)
-first_deep (b.Block texts) xs = omega arith
-first_deep (b.Statement x) xs = omega arith
-
-pub item_next : (xs : List BzlItem) (k : ℕ) (d : BzlItem) → k < length xs → depth_bzl_items (drop k xs) ≡ max (depth_bzl_items (get_or xs k d ∷ [])) (depth_bzl_items (drop (k + 1) xs))
-item_next xs k d h = ap depth_bzl_items (drop_more xs k d h) ∙ first_deep (get_or xs k d) (drop (k + 1) xs)
+pub deepest_next : {X : Type 0} (depth : X → ℕ) (xs : List X) (k : ℕ) (d : X) → k < length xs → deepest_by depth (drop k xs) ≡ max (depth (get_or xs k d)) (deepest_by depth (drop (k + 1) xs))
+deepest_next depth xs k d h = ap (deepest_by depth) (drop_more xs k d h)

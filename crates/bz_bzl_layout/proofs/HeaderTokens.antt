@@ -6,12 +6,10 @@ use Rattle.bz_grammar.specs.declared.tree.Part.{Part}
 use Rattle.bz_grammar.specs.Shapes as s
 use Rattle.bz_grammar.specs.Shapes.{Shape, one_keyword}
 use Rattle.bz_grammar.specs.Spell.{leaves_part}
-use Rattle.bz_grammar.specs.Spots.{Spot, Begins, Within}
-use Rattle.bz_value.specs.declared.value.Expr.{Expr}
+use Rattle.bz_grammar.specs.Spots.{Begins}
 use Rattle.bz_value.specs.Roots.{mark_leaf}
 use Rattle.bz_value.specs.declared.value.Form.{Form}
 use Rattle.bz_value.specs.LineShapes.{line_shape}
-use Rattle.bz_value.specs.Proper.{after_expr}
 use Rattle.bz_value.proofs.LegalBy.{LegalBy}
 use Rattle.bz_items.specs.Characters.{Bytes}
 use Rattle.bz_layout.specs.Layout.{rowed, is_broken, is_tuple}
@@ -19,28 +17,19 @@ use Rattle.bz_layout.specs.LaidOut.{piece_part, layouts, laid_out_body}
 use Rattle.bz_layout.proofs.Neighbours.{passes, neighbours, finals, is_primary_kind}
 use Rattle.bz_layout.proofs.Elements.{AreValues}
 use Rattle.bz_layout.proofs.Fitted.{roots_of_list}
-use Rattle.bz_layout.proofs.Rows.{AreAfter, AreItems, row_apart, apart_then, body_between, colon_alone, items_of, round}
+use Rattle.bz_layout.proofs.Rows.{IsAfter, AreItems, row_apart, apart_then, body_between, colon_alone, items_of, round}
 use Rattle.bz_layout.proofs.Touching.{Toks, IsLex, FollowsAs, Apart, Airy, row_tokens}
 use Rattle.bz_layout.proofs.Margins.{FitsAt}
 use Rattle.bz_layout.proofs.Standing.{Placed}
 use Rattle.bz_layout.proofs.LegalFiles.{parts_hold}
 use Rattle.bz_layout.proofs.LegalParts.{laid_out_good}
-use Rattle.bz_bzl_value.specs.Proper.{AreHeaderParts, AreParameters}
 use Rattle.bz_bzl_layout.specs.Layout.{is_def}
 use Rattle.bz_bzl_layout.specs.LaidOut.{header_parts}
-use Rattle.bz_bzl_layout.proofs.Headings.{Heading}
+use Rattle.bz_bzl_layout.proofs.Headings.{Heading, parts_all, parameters_all}
 use Rattle.bz_bzl_layout.proofs.Shaped.{header_each, header_fits}
 use Rattle.bz_bzl_layout.proofs.HeaderGaps.{header_leads, parameter_values}
 
 -- ---- a header
-
-parts_after : (here : Spot) (xs : List Expr) → AreHeaderParts here xs → AreAfter (layouts xs)
-parts_after here [] h = tt
-parts_after here (x ∷ xs) h = ((laid_out_good here x h.0).stands, parts_after (after_expr Begins here x) xs h.2)
-
-parameters_after : (xs : List Expr) → AreParameters xs → AreAfter (layouts xs)
-parameters_after [] h = tt
-parameters_after (x ∷ xs) h = ((laid_out_good Within x h.0).stands, parameters_after xs h.3)
 
 apart_by : (brackets : Bool) (m : ℕ) (f : Form) (front : List Part) → Apart f.kind front → (brackets ≡ true → AreItems (layouts f.seq.items)) →
     Apart f.kind (front ++ ((if brackets then mark_leaf 40 ∷ map piece_part (laid_out_body f m 41) else []) ++ mark_leaf 58 ∷ []))
@@ -53,8 +42,8 @@ apart_by false m f front h i = apart_then f.kind 58 colon_alone front [] h tt
 header_apart : (m : ℕ) (gap : Bytes) (f : Form) → Heading f → Apart f.kind (header_parts m gap f)
 header_apart m gap f h =
     apart_by (is_def f) m f (map piece_part (rowed f.kind f.open_break m gap m (layouts f.parts)))
-    (row_apart f.kind f.open_break m gap m (layouts f.parts) (parts_after Begins f.parts h.proper.parts))
-    (λ e. items_of (layouts f.seq.items) (parameters_after f.seq.items h.proper.parameters) (subst AreValues (sym (roots_of_list f.seq.items)) (parameter_values f h e)))
+    (row_apart f.kind f.open_break m gap m (layouts f.parts) (parts_all IsAfter (λ here x i. (laid_out_good here x i).stands) Begins f.parts h.proper.parts))
+    (λ e. items_of (layouts f.seq.items) (parameters_all IsAfter (λ here x i. (laid_out_good here x i).stands) f.seq.items h.proper.parameters) (subst AreValues (sym (roots_of_list f.seq.items)) (parameter_values f h e)))
 
 -- the lexemes of a header are tokens before a text that follows it
 pub header_tokens : (m : ℕ) (gap : Bytes) (f : Form) → Heading f → FitsAt Begins gap → (rest : Bytes) → FollowsAs (is_primary_kind f.kind) rest → Toks (flat_map leaves_part (header_parts m gap f)) rest

@@ -9,21 +9,27 @@ use Rattle.bz_grammar.specs.Shapes.{Shape, Fits, done, tok, sub, list, enclosed,
 use Rattle.bz_grammar.specs.Legal.{IsNonterminal}
 use Rattle.bz_grammar.specs.Suites.{def_header, for_header, test_header, else_header}
 use Rattle.bz_grammar.specs.Indents.{Owned}
+use Rattle.bz_grammar.specs.Spots.{Spot, Begins, Within}
 use Rattle.bz_grammar.proofs.Balance.{no_such}
 use Rattle.bz_grammar.proofs.Suites.{owned_shape}
 use Rattle.bz_grammar.proofs.Trees.{At}
 use Rattle.bz_value.specs.declared.value.Expr.{Expr}
 use Rattle.bz_value.specs.declared.value.Form.{Form}
 use Rattle.bz_value.specs.Empty.{is_empty}
+use Rattle.bz_value.specs.LineShapes.{line_shape}
+use Rattle.bz_value.specs.Proper.{ProperBy, after_expr}
 use Rattle.bz_value.specs.Roots.{root, mark_leaf}
 use Rattle.bz_items.specs.Characters.{Bytes}
+use Rattle.bz_layout.specs.LaidOut.{part_of, layouts}
 use Rattle.bz_layout.proofs.Elements.{any_last}
 use Rattle.bz_layout.proofs.Neighbours.{passes, neighbours, finals}
 use Rattle.bz_layout.proofs.PlainRows.{plain_first}
-use Rattle.bz_bzl_value.specs.Proper.{IsHeader, AreAlternatives, AreHeaders}
+use Rattle.bz_bzl_value.specs.Proper.{AreHeaderParts, AreParameters, IsHeader, AreAlternatives, AreHeaders}
+use Rattle.bz_bzl_layout.proofs.BackColons.{plain_front}
 
 -- A header of some kind: its shape begins with a keyword, and only that of a function has brackets. After the keyword come
--- no elif, no else and no suite. Its neighbours may touch, or are set apart. But for that of a function, it opens no brackets.
+-- no elif, no else and no suite, and no colon but the last part. Its neighbours may touch, or are set apart. But for that of a
+-- function, it opens no brackets.
 pub record Heading (f : Form) : Type 0 where
   pub kind : Kind
   pub word : Bytes
@@ -31,6 +37,7 @@ pub record Heading (f : Form) : Type 0 where
   pub proper : IsHeader kind (tok (one_keyword word) rest) f
   pub function : is_kind f.kind k.Def ≡ true → tok (one_keyword word) rest ≡ def_header
   pub plain : (i : List ℕ) (d : ℕ) (ps : List Part) → Fits (At d) rest ps → AllByRecursion (Owned i) ps
+  pub colon_last : plain_front (tok (one_keyword word) rest) ≡ true
   pub touches : passes (neighbours kind) (finals kind) None (tok (one_keyword word) rest) ≡ true
   pub no_brackets : is_kind f.kind k.Def ≡ false → passes plain_first any_last None (tok (one_keyword word) rest) ≡ true
 
@@ -51,7 +58,7 @@ abbrev after_test : Shape
 after_test = sub test (tok colon_mark done)
 
 abbrev pub of_function : (f : Form) → IsHeader k.Def def_header f → Heading f
-of_function f h = record { kind = k.Def; word = codes "def"; rest = after_def; proper = h; function = λ e. refl; plain = λ i d ps g. owned_shape i d after_def refl ps g; touches = refl; no_brackets = λ e. absurd (true≢false (sym (ap (λ z. is_kind z k.Def) h.kinds) ∙ e)) }
+of_function f h = record { kind = k.Def; word = codes "def"; rest = after_def; proper = h; function = λ e. refl; plain = λ i d ps g. owned_shape i d after_def refl ps g; colon_last = refl; touches = refl; no_brackets = λ e. absurd (true≢false (sym (ap (λ z. is_kind z k.Def) h.kinds) ∙ e)) }
 
 abbrev pub of_loop : (f : Form) → IsHeader k.ForStmt for_header f → Heading f
 of_loop f h = record {
@@ -61,6 +68,7 @@ of_loop f h = record {
   proper = h;
   function = no_function f k.ForStmt for_header refl h.kinds;
   plain = λ i d ps g. owned_shape i d after_for refl ps g;
+  colon_last = refl;
   touches = refl;
   no_brackets = λ e. refl;
 }
@@ -74,6 +82,7 @@ of_test word t f h = record {
   proper = h;
   function = no_function f k.IfStmt (test_header (one_keyword word)) refl h.kinds;
   plain = λ i d ps g. owned_shape i d after_test refl ps g;
+  colon_last = refl;
   touches = t;
   no_brackets = λ e. refl;
 }
@@ -92,6 +101,7 @@ of_else f h = record {
   proper = h;
   function = no_function f k.IfStmt else_header refl h.kinds;
   plain = λ i d ps g. owned_shape i d (tok colon_mark done) refl ps g;
+  colon_last = refl;
   touches = refl;
   no_brackets = λ e. refl;
 }
@@ -116,3 +126,14 @@ some_first (x ∷ xs) b ps word rest h = refl
 
 pub some_part : (f : Form) → Heading f → is_empty f.parts ≡ false
 some_part f h = some_first f.parts (is_kind f.kind k.Def) _ h.word h.rest h.proper.fits
+
+-- ---- what holds of what is laid out of each proper expression
+
+module _ (Q : Expr × (Bytes → ℕ → Part) → Type 0) (each : (here : Spot) (x : Expr) → ProperBy line_shape here x → Q (x, part_of x)) where
+  pub parts_all : (here : Spot) (xs : List Expr) → AreHeaderParts here xs → AllByRecursion Q (layouts xs)
+  parts_all here [] h = tt
+  parts_all here (x ∷ xs) h = (each here x h.0, parts_all (after_expr Begins here x) xs h.2)
+
+  pub parameters_all : (xs : List Expr) → AreParameters xs → AllByRecursion Q (layouts xs)
+  parameters_all [] h = tt
+  parameters_all (x ∷ xs) h = (each Within x h.0, parameters_all xs h.3)

@@ -1,7 +1,8 @@
 -- What the layout makes of statements is at their margins.
-use Rattle.std.proofs.Common.{◌≡◌, ℕ, zero, suc, Bool, true, false, List, [], ◌∷◌, ◌++◌, ◌+◌, ◌&&◌, if◌then◌else◌, map, refl, sym, ap, ◌∙◌, subst, append_assoc, true≢false, arith}
+use Rattle.std.proofs.Common.{◌≡◌, ℕ, zero, suc, Bool, true, false, List, [], ◌∷◌, ◌++◌, ◌+◌, ◌&&◌, map, refl, sym, ap, ◌∙◌, subst, append_assoc, true≢false, arith}
 use Rattle.std.specs.Prelude.{replicate}
 use Rattle.std.specs.List.{AllByRecursion, flat_map}
+use Rattle.std.proofs.Math.Bool.{and-false}
 use Rattle.std.proofs.lemmas.List.{replicate-append-replicate}
 use Rattle.std.proofs.lemmas.List.Elements.{recursion_from_All}
 use Rattle.bz_lex.specs.declared.leaf.Leaf.{Leaf}
@@ -23,7 +24,7 @@ use Rattle.bz_grammar.proofs.Trees.{At, join}
 use Rattle.bz_value.specs.declared.value.Expr.{Expr, Token, Form'}
 use Rattle.bz_value.specs.declared.value.Form.{Form}
 use Rattle.bz_value.specs.Empty.{is_empty}
-use Rattle.bz_value.specs.Proper.{comments_of}
+use Rattle.bz_value.specs.Proper.{IsComment, comments_of}
 use Rattle.bz_items.specs.Characters.{Bytes, line_feed, space}
 use Rattle.bz_layout.specs.Layout.{rowed}
 use Rattle.bz_layout.specs.LaidOut.{part_of, piece_part, layouts}
@@ -32,8 +33,9 @@ use Rattle.bz_bzl_value.specs.declared.value.Statement.{Statement, Simple, Compo
 use Rattle.bz_bzl_value.specs.declared.value.BzlItem.{BzlItem}
 use Rattle.bz_bzl_value.specs.declared.value.BzlItem.TheVariants as b
 use Rattle.bz_bzl_value.specs.Proper.{is_simple, has_simple_kind, AreHeaders, heads, IsProperStatement, AreProperBranches, AreProperStatements, IsProperBzlItem, IsProperBzl}
-use Rattle.bz_bzl_layout.specs.Layout.{indented_line, indented_lines, before_others, between_items}
-use Rattle.bz_bzl_layout.specs.LaidOut.{gap_to_margin, newline_part, header_parts, left_after, left_branches, left_statements, first_kind, statement_part, branch_parts, statement_parts, bzl_lines, bzl_laid_out}
+use Rattle.bz_bzl_layout.specs.Layout.{indented_line, indented_lines, before_others}
+use Rattle.bz_bzl_layout.specs.LaidOut.{gap_to_margin, newline_part, header_parts, left_after, left_statements, first_kind, statement_part, branch_parts, statement_parts, bzl_lines, bzl_laid_out}
+use Rattle.bz_bzl_layout.proofs.GapLines.{OfLines, left_such, suite_leaves, after_block, after_statement}
 use Rattle.bz_bzl_layout.proofs.Headings.{Heading, Headings, headings, some_part}
 use Rattle.bz_grammar.proofs.Suites.{indented_row}
 use Rattle.bz_value.proofs.GapComments.{all_joined}
@@ -42,7 +44,7 @@ use Rattle.bz_bzl_layout.proofs.Shaped.{header_fits, header_legal}
 -- ---- lines
 
 -- whole lines: the indent of what is after them begins there
-abbrev Whole : Bytes → Type 0
+abbrev pub Whole : Bytes → Type 0
 Whole lines = (rest : Bytes) → indent (lines ++ rest) ≡ indent rest
 
 whole_append : (a b : Bytes) → Whole a → Whole b → Whole (a ++ b)
@@ -50,11 +52,7 @@ whole_append a b h i rest = ap indent (append_assoc a b rest) ∙ (h (b ++ rest)
 
 newline_there : (text rest : Bytes) → are_indents (text ++ line_feed ∷ rest) ≡ false
 newline_there [] rest = refl
-newline_there (c ∷ text) rest = ap (λ z. is_indent c && z) (newline_there text rest) ∙ and_false (is_indent c)
-  where
-    and_false : (b : Bool) → (b && false) ≡ false
-    and_false true = refl
-    and_false false = refl
+newline_there (c ∷ text) rest = ap (λ z. is_indent c && z) (newline_there text rest) ∙ and-false (is_indent c)
 
 after_newline : (text rest : Bytes) → indent (text ++ line_feed ∷ rest) ≡ indent rest
 after_newline [] rest = refl
@@ -69,37 +67,8 @@ whole_lines : (m : ℕ) (texts : List Bytes) → Whole (indented_lines m texts)
 whole_lines m [] rest = refl
 whole_lines m (text ∷ texts) rest = whole_append (indented_line m text) (indented_lines m texts) (whole_line m text) (whole_lines m texts) rest
 
-whole_if : (b : Bool) → Whole (if b then [] else line_feed ∷ [])
-whole_if true rest = refl
-whole_if false rest = refl
-
-whole_between : (x y : BzlItem) → Whole (between_items x y)
-whole_between (b.Statement (Simple x)) (b.Statement (Simple y)) rest = whole_if _ rest
-whole_between (b.Statement (Simple x)) (b.Statement (Compound' size own)) rest = refl
-whole_between (b.Statement (Simple x)) (b.Block texts) rest = refl
-whole_between (b.Statement (Compound' size own)) y rest = refl
-whole_between (b.Block texts) y rest = refl
-
-whole_others : (x : BzlItem) (xs : List BzlItem) → Whole (before_others x xs)
-whole_others x [] rest = refl
-whole_others x (y ∷ xs) rest = whole_between x y rest
-
--- ---- what is left after statements
-
-mutual
-  whole_left : (x : Statement) (m : ℕ) → Whole (left_after m x)
-  whole_left (Simple x) m rest = refl
-  whole_left (Compound' size own) m rest = whole_branches _ own m [] (λ t. refl) rest
-
-  whole_branches : (n : _) (r : Row_of-Branch n) (m : ℕ) (lines : Bytes) → Whole lines → Whole (left_branches m lines r)
-  whole_branches n end_of-Branch m lines h rest = h rest
-  whole_branches n (more_of-Branch head size statements end others) m lines h rest =
-      whole_branches _ others m (left_statements (m + 4) [] statements ++ indented_lines (m + 4) end)
-      (whole_append (left_statements (m + 4) [] statements) (indented_lines (m + 4) end) (whole_statements _ statements (m + 4) [] (λ t. refl)) (whole_lines (m + 4) end)) rest
-
-  whole_statements : (n : _) (r : Row_of-Statement n) (m : ℕ) (lines : Bytes) → Whole lines → Whole (left_statements m lines r)
-  whole_statements n end_of-Statement m lines h rest = h rest
-  whole_statements n (more_of-Statement x others) m lines h rest = whole_statements _ others m (left_after m x) (whole_left x m) rest
+of_whole : OfLines Whole
+of_whole = record { nothing = λ rest. refl; blank = λ rest. refl; both = whole_append; comments = λ m texts h. whole_lines m texts }
 
 -- ---- margins
 
@@ -112,7 +81,7 @@ margin_indent zero = refl
 margin_indent (suc m) = rw (spaces_indent (suc m)) refl
 
 -- a statement after whole lines is at its margin
-gap_indent : (m : ℕ) (lines : Bytes) (texts : List Bytes) → Whole lines → indent (gap_to_margin m lines texts) ≡ replicate m space
+pub gap_indent : (m : ℕ) (lines : Bytes) (texts : List Bytes) → Whole lines → indent (gap_to_margin m lines texts) ≡ replicate m space
 gap_indent m lines texts h = h (indented_lines m texts ++ replicate m space) ∙ (whole_lines m texts (replicate m space) ∙ margin_indent m)
 
 deeper_margin : (m : ℕ) → replicate (m + 4) space ≡ replicate m space ++ space ∷ replicate 3 space
@@ -195,22 +164,20 @@ mutual
       let left : Bytes = left_statements (m + 4) [] statements ++ indented_lines (m + 4) end in
       all_joined (Owned (replicate m space)) (header_parts m gap head) _ (header_owned (replicate m space) m gap head g.0 (gap_indent m lines head.comments.before w)) (
         suite_owned m (newline_part head.comments.suffix ∷ statement_parts (m + 4) [] statements) (tt, statements_indented _ statements h.1 (m + 4) [] (λ t. refl)),
-        branches_owned _ rest g.1 h.3 m left (whole_append (left_statements (m + 4) [] statements) (indented_lines (m + 4) end) (whole_statements _ statements (m + 4) [] (λ t. refl)) (whole_lines (m + 4) end)),
+        branches_owned _ rest g.1 h.3 m left (suite_leaves Whole of_whole _ statements h.1 (m + 4) end (recursion_from_All IsComment end h.2)),
       )
 
   statements_indented : (n : _) (r : Row_of-Statement n) → AreProperStatements r → (m : ℕ) (lines : Bytes) → Whole lines → AreIndented (replicate m space) (statement_parts m lines r)
   statements_indented n end_of-Statement h m lines w = tt
-  statements_indented n (more_of-Statement x rest) h m lines w = (statement_indented x h.0 m lines w, statements_indented _ rest h.1 m (left_after m x) (whole_left x m))
+  statements_indented n (more_of-Statement x rest) h m lines w = (statement_indented x h.0 m lines w, statements_indented _ rest h.1 m (left_after m x) (left_such Whole of_whole x h.0 m))
 
 -- ---- the file
 
 lines_indented : (xs : List BzlItem) → AllByRecursion IsProperBzlItem xs → (lines : Bytes) → Whole lines → AreIndented [] (bzl_lines lines xs)
 lines_indented [] h lines w = (tt, tt)
 lines_indented (b.Block texts ∷ xs) h lines w =
-    lines_indented xs h.1 ((lines ++ indented_lines 0 texts) ++ before_others (b.Block texts) xs)
-    (whole_append (lines ++ indented_lines 0 texts) (before_others (b.Block texts) xs) (whole_append lines (indented_lines 0 texts) w (whole_lines 0 texts)) (whole_others (b.Block texts) xs))
-lines_indented (b.Statement x ∷ xs) h lines w =
-    (statement_indented x h.0 0 lines w, lines_indented xs h.1 (left_after 0 x ++ before_others (b.Statement x) xs) (whole_append (left_after 0 x) (before_others (b.Statement x) xs) (whole_left x 0) (whole_others (b.Statement x) xs)))
+    lines_indented xs h.1 ((lines ++ indented_lines 0 texts) ++ before_others (b.Block texts) xs) (after_block Whole of_whole lines texts xs w (recursion_from_All IsComment texts h.0.1))
+lines_indented (b.Statement x ∷ xs) h lines w = (statement_indented x h.0 0 lines w, lines_indented xs h.1 (left_after 0 x ++ before_others (b.Statement x) xs) (after_statement Whole of_whole x xs h.0))
 
 -- the statements of the tree of the layout have their indents
 pub bzl_indented : (items : List BzlItem) → IsProperBzl items → AreIndented [] (bzl_laid_out items).parts

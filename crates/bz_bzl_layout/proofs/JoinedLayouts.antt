@@ -2,8 +2,7 @@
 use Rattle.std.proofs.Common.{ℕ, zero, suc, ◌≤◌, ◌≡◌, List, [], ◌∷◌, ◌++◌, sym, ap, ◌∙◌, append_assoc, append-nil, arith}
 use Rattle.bz_items.specs.Characters.{Bytes}
 use Rattle.bz_bzl_value.specs.declared.value.BzlItem.{BzlItem}
-use Rattle.bz_bzl_value.specs.declared.value.BzlItem.TheVariants as b
-use Rattle.bz_bzl_layout.specs.private.Depths.{depth_bzl_items}
+use Rattle.bz_bzl_layout.specs.private.Depths.{deepest_by, depth_item}
 use Rattle.bz_bzl_layout.specs.Joined.{BzlLayoutsJoin, BzlDepthsJoin}
 use Rattle.bz_bzl_layout.specs.Layout.{bzl_item_text, before_others, bzl_layout}
 use Rattle.bz_bzl_layout.proofs.Depths.{bzl_laid_out_depth}
@@ -17,10 +16,9 @@ bzl_layouts_join (x ∷ []) item items = one_below x (before_others x (item ∷ 
 bzl_layouts_join (x ∷ y ∷ front) item items =
     one_below x (before_others x (y ∷ front)) (bzl_item_text x) (before_others item items ++ bzl_layout items) (bzl_layout (y ∷ (front ++ item ∷ []))) (bzl_layout ((y ∷ (front ++ item ∷ [])) ++ items)) (bzl_layouts_join (y ∷ front) item items)
 
-both_depths : (front items : List BzlItem) (depth : ℕ) → depth_bzl_items front ≤ depth → depth_bzl_items items ≤ depth → depth_bzl_items (front ++ items) ≤ depth
+both_depths : (front items : List BzlItem) (depth : ℕ) → deepest_by depth_item front ≤ depth → deepest_by depth_item items ≤ depth → deepest_by depth_item (front ++ items) ≤ depth
 both_depths [] items depth h k = k
-both_depths (b.Block lines ∷ front) items depth h k = both_depths front items depth h k
-both_depths (b.Statement x ∷ front) items depth h k = let w = both_depths front items depth (omega (arith, h)) k in omega (arith, h, w)
+both_depths (x ∷ front) items depth h k = let w = both_depths front items depth (omega (arith, h)) k in omega (arith, h, w)
 
 one_less : (a c depth : ℕ) → a ≡ suc c → a ≤ suc depth → c ≤ depth
 one_less a c depth e h = omega (arith, e, h)

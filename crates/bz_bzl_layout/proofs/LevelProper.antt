@@ -1,5 +1,6 @@
 -- What is level is proper where it was so before.
-use Rattle.std.proofs.Common.{◌≡◌, Bool, false, inl, inr, List, [], ◌∷◌, ◌++◌, if◌then◌else◌, refl, sym, ap, ◌∙◌, subst, map, All, codes}
+use Rattle.std.proofs.Common.{◌≡◌, Bool, false, inl, inr, List, [], ◌∷◌, ◌++◌, if◌then◌else◌, refl, sym, ap, ◌∙◌, subst, map, codes}
+use Rattle.std.specs.List.{AllByRecursion}
 use Rattle.std.proofs.lemmas.List.Elements.{All-map, All-weaker}
 use Rattle.bz_grammar.specs.declared.kind.Kind.{Kind}
 use Rattle.bz_grammar.specs.declared.kind.Kind.TheVariants as k
@@ -11,29 +12,26 @@ use Rattle.bz_grammar.specs.Suites.{def_header, for_header, test_header, else_he
 use Rattle.bz_value.specs.declared.value.Expr.{Expr, Token, Form'}
 use Rattle.bz_value.specs.declared.value.Form.{Form}
 use Rattle.bz_value.specs.LineShapes.{line_shape}
-use Rattle.bz_value.specs.Proper.{IsComment, AreComments, after_expr}
+use Rattle.bz_value.specs.Proper.{AreComments, after_expr}
 use Rattle.bz_value.specs.Roots.{root, mark_leaf, each_with_comma}
 use Rattle.bz_layout.specs.Layout.{is_broken}
 use Rattle.bz_layout.specs.Flags.{with_flags}
-use Rattle.bz_layout.proofs.Made.{two}
 use Rattle.bz_layout.proofs.Flagged.{same_comments, same_break, same_root}
 use Rattle.bz_layout.proofs.FlaggedProper.{same_spot, bare_flags, expr_flags}
-use Rattle.bz_bzl_value.specs.declared.value.Statement.{Statement, Simple, Compound', Row_of-Branch, end_of-Branch, more_of-Branch, Row_of-Statement, end_of-Statement, more_of-Statement, items-the_row-Branch, items-the_row-Statement, items_shown-the_row-Statement-0}
-use Rattle.bz_bzl_value.specs.declared.value.Statement.TheVariants as s
-use Rattle.bz_bzl_value.specs.declared.value.Branch.{Branch}
+use Rattle.bz_bzl_value.specs.declared.value.Statement.{Statement, Simple, Compound', Row_of-Branch, end_of-Branch, more_of-Branch, Row_of-Statement, end_of-Statement, more_of-Statement}
 use Rattle.bz_bzl_value.specs.declared.value.BzlItem.{BzlItem}
 use Rattle.bz_bzl_value.specs.declared.value.BzlItem.TheVariants as b
 use Rattle.bz_bzl_value.specs.Proper.{has_simple_kind, AreHeaderParts, AreParameters, HasNone, IsHeader, AreAlternatives, AreHeaders, heads, IsSome, IsProperStatement, AreProperBranches, AreProperStatements, IsProperBzlItem, IsProperBzl}
+use Rattle.bz_bzl_value.proofs.ProperValues.{HasSome, HasSuite, compound_proper}
 use Rattle.bz_bzl_layout.specs.Layout.{is_def}
 use Rattle.bz_bzl_layout.specs.Level.{level_head, level_statement, each_branch, each_statement, level_item, level}
-use Rattle.bz_bzl_layout.proofs.Rows.{branches_after, branches_are}
+use Rattle.bz_bzl_layout.proofs.Rows.{map_same}
 
 -- ---- headers
 
 -- settling flags keeps roots, and what is known of the parts of a header and of parameters
 flagged_roots : (xs : List Expr) → map root (map with_flags xs) ≡ map root xs
-flagged_roots [] = refl
-flagged_roots (x ∷ xs) = two (λ z w. z ∷ w) (same_root x) (flagged_roots xs)
+flagged_roots xs = map_same root with_flags root same_root xs
 
 flagged_parts : (here : Spot) (xs : List Expr) → AreHeaderParts here xs → AreHeaderParts here (map with_flags xs)
 flagged_parts here [] h = tt
@@ -80,59 +78,10 @@ headers_level (f ∷ fs) (inl h) = inl (header_level k.Def def_header f h.0, non
 headers_level (f ∷ fs) (inr (inl h)) = inr (inl (header_level k.ForStmt for_header f h.0, none_more fs h.1))
 headers_level (f ∷ fs) (inr (inr h)) = inr (inr (header_level k.IfStmt (test_header (one_keyword (codes "if"))) f h.0, alternatives_level fs h.1))
 
--- ---- statements and headers with their suites, stated for lists
-
--- a statement in the list
-abbrev SomeList : List Statement → Type 0
-SomeList [] = ⊥
-SomeList (x ∷ xs) = Unit {0}
-
--- each statement is proper
-abbrev ProperList : List Statement → Type 0
-ProperList [] = Unit {0}
-ProperList (x ∷ xs) = IsProperStatement x × ProperList xs
-
--- headers with suites
-abbrev BranchesList : List Branch → Type 0
-BranchesList [] = Unit {0}
-BranchesList (x ∷ xs) = SomeList x.statements × ProperList x.statements × All IsComment x.end × BranchesList xs
-
--- from lists to rows
-some_from_list : (n : _) (r : Row_of-Statement n) → SomeList (items-the_row-Statement n r) → IsSome r
-some_from_list n end_of-Statement h = h
-some_from_list n (more_of-Statement x rest) h = tt
-
-statements_from_list : (n : _) (r : Row_of-Statement n) → ProperList (items-the_row-Statement n r) → AreProperStatements r
-statements_from_list n end_of-Statement h = tt
-statements_from_list n (more_of-Statement x rest) h = (h.0, statements_from_list _ rest h.1)
-
-branches_from_list : (n : _) (r : Row_of-Branch n) → BranchesList (items-the_row-Branch n r) → AreProperBranches r
-branches_from_list n end_of-Branch h = tt
-branches_from_list n (more_of-Branch head size statements end rest) h = (
-  some_from_list _ statements (subst SomeList (items_shown-the_row-Statement-0 size statements) h.0),
-  statements_from_list _ statements (subst ProperList (items_shown-the_row-Statement-0 size statements) h.1),
-  h.2,
-  branches_from_list _ rest h.3,
-)
-
 -- the headers of a statement
-abbrev head_of : Branch → Form
-head_of x = x.head
-
-heads_list : (n : _) (r : Row_of-Branch n) → heads r ≡ map head_of (items-the_row-Branch n r)
-heads_list n end_of-Branch = refl
-heads_list n (more_of-Branch head size statements end rest) = ap (λ z. head ∷ z) (heads_list _ rest)
-
-heads_level : (n : _) (r : Row_of-Branch n) → map head_of (each_branch r) ≡ map level_head (heads r)
+heads_level : (n : _) (r : Row_of-Branch n) → map (λ x. x.head) (each_branch r) ≡ map level_head (heads r)
 heads_level n end_of-Branch = refl
 heads_level n (more_of-Branch head size statements end rest) = ap (λ z. level_head head ∷ z) (heads_level _ rest)
-
--- a statement with suites is proper by its lists
-compound_proper : (own : List Branch) → AreHeaders (map head_of own) → BranchesList own → IsProperStatement (s.Compound own)
-compound_proper own h c = (
-  subst AreHeaders (sym (heads_list _ (branches_after (s.Compound own)).1 ∙ ap (map head_of) (branches_are own))) h,
-  branches_from_list _ (branches_after (s.Compound own)).1 (subst BranchesList (sym (branches_are own)) c),
-)
 
 -- ---- statements
 
@@ -141,8 +90,8 @@ simple_kind : (x : Expr) → has_simple_kind (with_flags x) ≡ has_simple_kind 
 simple_kind (Token t) = refl
 simple_kind (Form' kind s parts s' items end split open_break comments) = refl
 
-some_level : (n : _) (r : Row_of-Statement n) → IsSome r → SomeList (each_statement r)
-some_level n end_of-Statement h = h
+some_level : (n : _) (r : Row_of-Statement n) → IsSome r → HasSome (each_statement r)
+some_level n end_of-Statement h = absurd h
 some_level n (more_of-Statement x rest) h = tt
 
 mutual
@@ -151,11 +100,11 @@ mutual
   statement_level (Simple x) h = (simple_kind x ∙ h.0, expr_flags line_shape Begins x h.1, subst AreComments (sym (same_comments x)) h.2)
   statement_level (Compound' size own) h = compound_proper (each_branch own) (subst AreHeaders (sym (heads_level _ own)) (headers_level (heads own) h.0)) (branches_level _ own h.1)
 
-  branches_level : (n : _) (r : Row_of-Branch n) → AreProperBranches r → BranchesList (each_branch r)
+  branches_level : (n : _) (r : Row_of-Branch n) → AreProperBranches r → AllByRecursion HasSuite (each_branch r)
   branches_level n end_of-Branch h = tt
-  branches_level n (more_of-Branch head size statements end rest) h = (some_level _ statements h.0, statements_level _ statements h.1, h.2, branches_level _ rest h.3)
+  branches_level n (more_of-Branch head size statements end rest) h = (((some_level _ statements h.0, statements_level _ statements h.1), h.2), branches_level _ rest h.3)
 
-  statements_level : (n : _) (r : Row_of-Statement n) → AreProperStatements r → ProperList (each_statement r)
+  statements_level : (n : _) (r : Row_of-Statement n) → AreProperStatements r → AllByRecursion IsProperStatement (each_statement r)
   statements_level n end_of-Statement h = tt
   statements_level n (more_of-Statement x rest) h = (statement_level x h.0, statements_level _ rest h.1)
 

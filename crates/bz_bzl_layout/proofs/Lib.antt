@@ -12,6 +12,7 @@ pub mod Bounds
 pub mod BuildItems
 pub mod Depths
 pub mod Followed
+pub mod GapLines
 pub mod HeaderGaps
 pub mod HeaderSpots
 pub mod HeaderTokens

@@ -1,14 +1,17 @@
 -- What the layout and the pass make of statements with suites, stated for lists.
-use Rattle.std.proofs.Common.{ℕ, ◌≡◌, List, ◌∷◌, ◌++◌, ◌+◌, map, refl, sym, ap, ◌∙◌}
+use Rattle.std.proofs.Common.{ℕ, ◌≡◌, List, [], ◌∷◌, ◌++◌, ◌+◌, map, refl, sym, ap, ◌∙◌}
 use mathlib.Core.Former.{Count}
+use Rattle.bz_layout.proofs.Made.{two}
 use Rattle.bz_bzl_value.specs.declared.value.Statement.{Statement, Simple, Compound', Row_of-Branch, end_of-Branch, more_of-Branch, Row_of-Statement, end_of-Statement, more_of-Statement, items-the_row-Branch, items-the_row-Statement, items_hidden-the_row-Branch-1, items_shown-the_row-Statement-0}
 use Rattle.bz_bzl_value.specs.declared.value.Statement.TheVariants as s
 use Rattle.bz_bzl_value.specs.declared.value.Branch.{Branch}
 use Rattle.bz_bzl_layout.specs.Layout.{statement_text, branches_text, statements_text, all_branches, all_statements, header_text, indented_lines}
 use Rattle.bz_bzl_layout.specs.Level.{level_statement, level_branch, each_branch, each_statement, level_head}
 
-pub both : {X Y Z : Type 0} (f : X → Y → Z) {h h' : X} {i i' : Y} → h ≡ h' → i ≡ i' → f h i ≡ f h' i'
-both f {h} {h'} {i} {i'} d e = ap (λ z. f z i) d ∙ ap (λ z. f h' z) e
+-- two functions one after the other, on each of a list
+pub map_same : {X Y Z : Type 0} (f : Y → Z) (g : X → Y) (h : X → Z) → ((x : X) → f (g x) ≡ h x) → (xs : List X) → map f (map g xs) ≡ map h xs
+map_same f g h same [] = refl
+map_same f g h same (x ∷ xs) = two (λ y ys. y ∷ ys) (same x) (map_same f g h same xs)
 
 -- ---- the row of a statement
 
@@ -28,7 +31,7 @@ statements_row m n (more_of-Statement x rest) = ap (λ t. statement_text m x ++ 
 branches_row : (m : ℕ) (n : _) (r : Row_of-Branch n) → branches_text m r ≡ all_branches m (items-the_row-Branch n r)
 branches_row m n end_of-Branch = refl
 branches_row m n (more_of-Branch head size statements end rest) =
-    both (λ s t. (header_text m head ++ (s ++ indented_lines (m + 4) end)) ++ t)
+    two (λ s t. (header_text m head ++ (s ++ indented_lines (m + 4) end)) ++ t)
     (statements_row (m + 4) _ statements ∙ ap (all_statements (m + 4)) (sym (items_shown-the_row-Statement-0 size statements)))
     (branches_row m _ rest)
 
@@ -44,7 +47,7 @@ statements_level n (more_of-Statement x rest) = ap (λ t. level_statement x ∷ 
 branches_level : (n : _) (r : Row_of-Branch n) → each_branch r ≡ map level_branch (items-the_row-Branch n r)
 branches_level n end_of-Branch = refl
 branches_level n (more_of-Branch head size statements end rest) =
-    both (λ s t. record { head = level_head head; statements = s; end = end } ∷ t)
+    two (λ s t. record { head = level_head head; statements = s; end = end } ∷ t)
     (statements_level _ statements ∙ ap (map level_statement) (sym (items_shown-the_row-Statement-0 size statements)))
     (branches_level _ rest)
 

@@ -1,5 +1,5 @@
 -- What is level stays as it is.
-use Rattle.std.proofs.Common.{◌≡◌, Bool, true, false, List, [], ◌∷◌, map, refl, ap, ◌∙◌}
+use Rattle.std.proofs.Common.{◌≡◌, Bool, true, false, List, ◌∷◌, map, refl, ap, ◌∙◌}
 use Rattle.std.specs.Prelude.{if◌then◌else◌}
 use Rattle.bz_value.specs.declared.value.Expr.{Expr}
 use Rattle.bz_value.specs.declared.value.Form.{Form}
@@ -13,11 +13,7 @@ use Rattle.bz_bzl_value.specs.declared.value.BzlItem.TheVariants as b
 use Rattle.bz_bzl_layout.specs.Layout.{is_def}
 use Rattle.bz_bzl_layout.specs.Laws.{LevelStays}
 use Rattle.bz_bzl_layout.specs.Level.{head_split, level_head, level_statement, level_branch, each_branch, each_statement, level_item}
-use Rattle.bz_bzl_layout.proofs.Rows.{level_Compound}
-
-map_twice : {X : Type 0} (f : X → X) → ((x : X) → f (f x) ≡ f x) → (xs : List X) → map f (map f xs) ≡ map f xs
-map_twice f once [] = refl
-map_twice f once (x ∷ xs) = ap (λ y. y ∷ map f (map f xs)) (once x) ∙ ap (λ ys. f x ∷ ys) (map_twice f once xs)
+use Rattle.bz_bzl_layout.proofs.Rows.{level_Compound, map_same}
 
 module _ (flags : FlagsSettle) where
   -- whether the parameters are split, by whether the header is one of a function
@@ -33,8 +29,8 @@ module _ (flags : FlagsSettle) where
   head_twice : (f : Form) → level_head (level_head f) ≡ level_head f
   unfolding made
   head_twice f =
-      ap (λ ps. made f ps (map with_flags (map with_flags f.seq.items)) (head_split (level_head f))) (map_twice with_flags flags.once f.parts)
-      ∙ (ap (λ xs. made f (map with_flags f.parts) xs (head_split (level_head f))) (map_twice with_flags flags.once f.seq.items)
+      ap (λ ps. made f ps (map with_flags (map with_flags f.seq.items)) (head_split (level_head f))) (map_same with_flags with_flags with_flags flags.once f.parts)
+      ∙ (ap (λ xs. made f (map with_flags f.parts) xs (head_split (level_head f))) (map_same with_flags with_flags with_flags flags.once f.seq.items)
       ∙ ap (λ split. made f (map with_flags f.parts) (map with_flags f.seq.items) split) (split_twice (is_def f) f))
 
   mutual
@@ -58,4 +54,4 @@ module _ (flags : FlagsSettle) where
   item_twice (b.Statement x) = ap (λ y. b.Statement y) (statement_twice x)
 
   pub level_twice : LevelStays
-  level_twice = map_twice level_item item_twice
+  level_twice = map_same level_item level_item level_item item_twice

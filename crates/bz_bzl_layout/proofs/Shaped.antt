@@ -1,6 +1,6 @@
 -- What the layout makes of headers, statements and the file has the shapes of their kinds.
 use Rattle.std.proofs.Common.{◌≡◌, ℕ, Bool, true, false, List, [], ◌∷◌, ◌++◌, ◌+◌, ◌&&◌, inl, inr, if◌then◌else◌, map, refl, sym, ap, subst, append_assoc}
-use Rattle.std.specs.Prelude.{Option, None, codes, nat_eq, length}
+use Rattle.std.specs.Prelude.{Option, None, nat_eq, length}
 use Rattle.std.specs.List.{AllByRecursion}
 use Rattle.std.proofs.lemmas.List.Elements.{recursion_from_All}
 use Rattle.bz_token.specs.declared.class.Class.TheVariants as c
@@ -10,15 +10,15 @@ use Rattle.bz_grammar.specs.declared.tree.Part.{Part}
 use Rattle.bz_grammar.specs.declared.tree.Part.TheVariants as p
 use Rattle.bz_grammar.specs.Shapes as s
 use Rattle.bz_grammar.specs.Shapes.{Shape, Fits, Several, no_more, once_more, bzl_shape, nonterminal_has_kind, is_kind, one_keyword}
-use Rattle.bz_grammar.specs.Suites.{def_header, for_header, test_header, else_header}
+use Rattle.bz_grammar.specs.Suites.{def_header}
 use Rattle.bz_grammar.specs.Legal.{IsNonterminal, LegalBzlPart, IsBzlFile}
-use Rattle.bz_grammar.specs.Spots.{Spot, Begins, Within}
+use Rattle.bz_grammar.specs.Spots.{Spot, Begins}
 use Rattle.bz_grammar.proofs.Balance.{no_such}
 use Rattle.bz_grammar.proofs.Trees.{of_bzl_shapes}
 use Rattle.bz_value.specs.declared.value.Expr.{Expr, Token, Form'}
 use Rattle.bz_value.specs.declared.value.Form.{Form}
 use Rattle.bz_value.specs.LineShapes.{line_shape}
-use Rattle.bz_value.specs.Proper.{ProperBy, after_expr, comments_of}
+use Rattle.bz_value.specs.Proper.{ProperBy, comments_of}
 use Rattle.bz_value.specs.Roots.{root, mark_leaf, each_with_comma}
 use Rattle.bz_value.proofs.LegalBy.{as_bzl}
 use Rattle.bz_items.specs.Characters.{Bytes}
@@ -29,15 +29,15 @@ use Rattle.bz_layout.proofs.Elements.{none_is}
 use Rattle.bz_layout.proofs.Neighbours.{T}
 use Rattle.bz_layout.proofs.Joined.{without_last, enclosed_fit}
 use Rattle.bz_layout.proofs.Fitted.{Same, AllSame, same_fits, same_append, rowed_same, stacked_same, joined_same, list_rooted, roots_of_list}
-use Rattle.bz_layout.proofs.LegalParts.{Each, rowed_each, body_each, laid_out_good}
+use Rattle.bz_layout.proofs.LegalParts.{rowed_each, body_each, laid_out_good}
 use Rattle.bz_bzl_value.specs.declared.value.Statement.{Statement, Simple, Compound', Row_of-Branch, end_of-Branch, more_of-Branch, Row_of-Statement, end_of-Statement, more_of-Statement}
 use Rattle.bz_bzl_value.specs.declared.value.BzlItem.{BzlItem}
 use Rattle.bz_bzl_value.specs.declared.value.BzlItem.TheVariants as b
-use Rattle.bz_bzl_value.specs.Proper.{is_simple, has_simple_kind, AreHeaderParts, AreParameters, AreAlternatives, AreHeaders, heads, IsSome, IsProperStatement, AreProperBranches, AreProperStatements, IsProperBzlItem, IsProperBzl}
+use Rattle.bz_bzl_value.specs.Proper.{is_simple, has_simple_kind, AreAlternatives, AreHeaders, heads, IsSome, IsProperStatement, AreProperBranches, AreProperStatements, IsProperBzlItem, IsProperBzl}
 use Rattle.bz_bzl_layout.specs.Layout.{indented_lines, is_def, before_others}
 use Rattle.bz_bzl_layout.specs.LaidOut.{gap_to_margin, newline_part, header_parts, left_after, left_statements, first_kind, statement_part, branch_parts, statement_parts, bzl_lines, bzl_laid_out}
-use Rattle.bz_bzl_layout.proofs.Headings.{Heading, Headings, headings, of_function, of_loop, of_if, of_elif, of_else}
-use Rattle.bz_bzl_layout.proofs.Followed.{fits_followed}
+use Rattle.bz_bzl_layout.proofs.Headings.{Heading, Headings, headings, of_function, of_loop, of_if, of_elif, of_else, parts_all, parameters_all}
+use Rattle.bz_bzl_layout.proofs.Followed.{followed, fits_followed}
 
 -- ---- shapes see no gaps
 
@@ -104,46 +104,37 @@ header_fits m gap f h = by_brackets (is_def f) (s.tok (one_keyword h.word) h.res
 -- ---- headers with their suites
 
 -- no header, no parts
-none_laid_out : (n : _) (r : Row_of-Branch n) (m : ℕ) (lines : Bytes) → heads r ≡ [] → branch_parts m lines r ≡ []
-none_laid_out n end_of-Branch m lines h = refl
-none_laid_out n (more_of-Branch head size statements end rest) m lines h = absurd cc
+none_follows : (n : _) (r : Row_of-Branch n) (m : ℕ) (lines : Bytes) → heads r ≡ [] → Fits IsNonterminal s.done (branch_parts m lines r)
+none_follows n end_of-Branch m lines h = tt
+none_follows n (more_of-Branch head size statements end rest) m lines h = absurd cc
 
--- a header and its suite, and nothing more
-alone_fits : (n : _) (r : Row_of-Branch n) (m : ℕ) (lines : Bytes) (shape : Shape) (front : List Part) (suite : Part) → heads r ≡ [] → Fits IsNonterminal shape (front ++ suite ∷ []) → Fits IsNonterminal shape (front ++ suite ∷ branch_parts m lines r)
-alone_fits n r m lines shape front suite h i = subst (λ z. Fits IsNonterminal shape (front ++ suite ∷ z)) (sym (none_laid_out n r m lines h)) i
+-- a header, its suite, and what follows
+headed_fits : (m : ℕ) (gap : Bytes) (f : Form) (g : Heading f) (ps others : List Part) (then_ : Shape) → Fits IsNonterminal then_ others
+    → Fits IsNonterminal (followed (s.tok (one_keyword g.word) g.rest) (s.sub s.suite then_)) (header_parts m gap f ++ p.Node (record { kind = k.Suite; parts = ps }) ∷ others)
+headed_fits m gap f g ps others then_ h = fits_followed (s.tok (one_keyword g.word) g.rest) (s.sub s.suite then_) (header_parts m gap f) (p.Node (record { kind = k.Suite; parts = ps }) ∷ others) (header_fits m gap f g) (refl, h)
 
 alternatives_fit : (n : _) (r : Row_of-Branch n) (m : ℕ) (lines : Bytes) → AreAlternatives (heads r) → Fits IsNonterminal s.branches (branch_parts m lines r)
 alternatives_fit n end_of-Branch m lines h = no_more (inr tt)
 alternatives_fit n (more_of-Branch head size statements end rest) m lines (inl h) =
-    let header : List Part = header_parts m (gap_to_margin m lines head.comments.before) head in
-    let suite : Part = p.Node (record { kind = k.Suite; parts = newline_part head.comments.suffix ∷ statement_parts (m + 4) [] statements }) in
+    let gap : Bytes = gap_to_margin m lines head.comments.before in
+    let inner : List Part = newline_part head.comments.suffix ∷ statement_parts (m + 4) [] statements in
+    let suite : List Part = p.Node (record { kind = k.Suite; parts = inner }) ∷ [] in
     let left : Bytes = left_statements (m + 4) [] statements ++ indented_lines (m + 4) end in
-    once_more (header ++ suite ∷ []) (branch_parts m left rest) (sym (append_assoc header (suite ∷ []) (branch_parts m left rest)))
-    (fits_followed (test_header (one_keyword (codes "elif"))) (s.sub s.suite s.done) header (suite ∷ []) (header_fits m (gap_to_margin m lines head.comments.before) head (of_elif head h.0)) (refl, tt))
-    (alternatives_fit _ rest m left h.1)
+    once_more (header_parts m gap head ++ suite) (branch_parts m left rest) (sym (append_assoc (header_parts m gap head) suite (branch_parts m left rest)))
+    (headed_fits m gap head (of_elif head h.0) inner [] s.done tt) (alternatives_fit _ rest m left h.1)
 alternatives_fit n (more_of-Branch head size statements end rest) m lines (inr h) =
-    let header : List Part = header_parts m (gap_to_margin m lines head.comments.before) head in
-    let suite : Part = p.Node (record { kind = k.Suite; parts = newline_part head.comments.suffix ∷ statement_parts (m + 4) [] statements }) in
-    no_more
-    (alone_fits _ rest m (left_statements (m + 4) [] statements ++ indented_lines (m + 4) end) (s.alt (s.tok (one_keyword (codes "else")) s.owned) s.done) header suite h.1
-    (inl (fits_followed else_header (s.sub s.suite s.done) header (suite ∷ []) (header_fits m (gap_to_margin m lines head.comments.before) head (of_else head h.0)) (refl, tt))))
+    no_more (inl (headed_fits m (gap_to_margin m lines head.comments.before) head (of_else head h.0) _ _ s.done (none_follows _ rest m _ h.1)))
 
 -- all of a statement
 branches_fit : (n : _) (r : Row_of-Branch n) (m : ℕ) (lines : Bytes) → AreHeaders (heads r) → Fits IsNonterminal (bzl_shape (first_kind r)) (branch_parts m lines r)
 branches_fit n end_of-Branch m lines h = absurd h
 branches_fit n (more_of-Branch head size statements end rest) m lines h =
     let gap : Bytes = gap_to_margin m lines head.comments.before in
-    let header : List Part = header_parts m gap head in
-    let suite : Part = p.Node (record { kind = k.Suite; parts = newline_part head.comments.suffix ∷ statement_parts (m + 4) [] statements }) in
-    let left : Bytes = left_statements (m + 4) [] statements ++ indented_lines (m + 4) end in
-    let others : List Part = branch_parts m left rest in
+    let FitsKind : Kind → Type 0 = λ z. Fits IsNonterminal (bzl_shape z) (branch_parts m lines (more_of-Branch head size statements end rest)) in
     elim h [
-      | inl g ↦ subst (λ z. Fits IsNonterminal (bzl_shape z) (header ++ suite ∷ others)) (sym g.0.kinds)
-          (alone_fits _ rest m left (bzl_shape k.Def) header suite g.1 (fits_followed def_header (s.sub s.suite s.done) header (suite ∷ []) (header_fits m gap head (of_function head g.0)) (refl, tt)))
-      | inr (inl g) ↦ subst (λ z. Fits IsNonterminal (bzl_shape z) (header ++ suite ∷ others)) (sym g.0.kinds)
-          (alone_fits _ rest m left (bzl_shape k.ForStmt) header suite g.1 (fits_followed for_header (s.sub s.suite s.done) header (suite ∷ []) (header_fits m gap head (of_loop head g.0)) (refl, tt)))
-      | inr (inr g) ↦ subst (λ z. Fits IsNonterminal (bzl_shape z) (header ++ suite ∷ others)) (sym g.0.kinds)
-          (fits_followed (test_header (one_keyword (codes "if"))) (s.sub s.suite s.branches) header (suite ∷ others) (header_fits m gap head (of_if head g.0)) (refl, alternatives_fit _ rest m left g.1))
+      | inl g ↦ subst FitsKind (sym g.0.kinds) (headed_fits m gap head (of_function head g.0) _ _ s.done (none_follows _ rest m _ g.1))
+      | inr (inl g) ↦ subst FitsKind (sym g.0.kinds) (headed_fits m gap head (of_loop head g.0) _ _ s.done (none_follows _ rest m _ g.1))
+      | inr (inr g) ↦ subst FitsKind (sym g.0.kinds) (headed_fits m gap head (of_if head g.0) _ _ s.branches (alternatives_fit _ rest m _ g.1))
     ]
 
 -- ---- statements have sorts
@@ -185,14 +176,6 @@ expr_legal here x h gap m = as_bzl (part_of x gap m) ((laid_out_good here x h).l
 
 -- what holds of marks and of all that is laid out of an expression holds of each part of a header
 module _ (P : Part → Type 0) (marks : (gap : Bytes) (n : ℕ) → P (p.Leaf (record { class = c.Mark; gap = gap; token = n ∷ [] }))) (laid_out : (here : Spot) (x : Expr) → ProperBy line_shape here x → (gap : Bytes) (m : ℕ) → P (part_of x gap m)) where
-  parts_each : (here : Spot) (xs : List Expr) → AreHeaderParts here xs → Each P marks (layouts xs)
-  parts_each here [] h = tt
-  parts_each here (x ∷ xs) h = (laid_out here x h.0, parts_each (after_expr Begins here x) xs h.2)
-
-  parameters_each : (xs : List Expr) → AreParameters xs → Each P marks (layouts xs)
-  parameters_each [] h = tt
-  parameters_each (x ∷ xs) h = (laid_out Within x h.0, parameters_each xs h.3)
-
   brackets_each : (brackets : Bool) (ps : List Part) → AllByRecursion P ps → AllByRecursion P ((if brackets then mark_leaf 40 ∷ ps else []) ++ mark_leaf 58 ∷ [])
   brackets_each true ps h = (marks [] 40, all_joined P ps (mark_leaf 58 ∷ []) h (marks [] 58, tt))
   brackets_each false ps h = (marks [] 58, tt)
@@ -200,9 +183,9 @@ module _ (P : Part → Type 0) (marks : (gap : Bytes) (n : ℕ) → P (p.Leaf (r
   pub header_each : (m : ℕ) (gap : Bytes) (f : Form) → Heading f → AllByRecursion P (header_parts m gap f)
   header_each m gap f h =
       all_joined P (map piece_part (rowed f.kind f.open_break m gap m (layouts f.parts))) _
-      (rowed_each P marks f.kind f.open_break m gap m (layouts f.parts) (parts_each Begins f.parts h.proper.parts))
+      (rowed_each P marks f.kind f.open_break m gap m (layouts f.parts) (parts_all (λ x. (gap : Bytes) (m : ℕ) → P (x.1 gap m)) laid_out Begins f.parts h.proper.parts))
       (brackets_each (is_def f) (map piece_part (laid_out_body f m 41))
-      (body_each P marks (is_broken f.kind f.seq.split f.seq.items f.seq.end) (is_tuple f.kind && nat_eq (length f.seq.items) 1) m 41 f.seq.end (layouts f.seq.items) (parameters_each f.seq.items h.proper.parameters)))
+      (body_each P marks (is_broken f.kind f.seq.split f.seq.items f.seq.end) (is_tuple f.kind && nat_eq (length f.seq.items) 1) m 41 f.seq.end (layouts f.seq.items) (parameters_all (λ x. (gap : Bytes) (m : ℕ) → P (x.1 gap m)) laid_out f.seq.items h.proper.parameters)))
 
 pub header_legal : (m : ℕ) (gap : Bytes) (f : Form) → Heading f → AllByRecursion LegalBzlPart (header_parts m gap f)
 header_legal m gap f h = header_each LegalBzlPart (λ gap n. tt) expr_legal m gap f h

@@ -15,8 +15,7 @@ use Rattle.bz_bzl_layout.specs.Layout.{bzl_layout}
 use Rattle.bz_bzl_layout.proofs.Shaped.{bzl_file}
 use Rattle.bz_bzl_layout.proofs.Indented.{bzl_indented}
 use Rattle.bz_bzl_layout.proofs.Spelled.{bzl_spelled}
-use Rattle.bz_bzl_layout.proofs.StatementGaps.{bzl_gaps}
-use Rattle.bz_bzl_layout.proofs.StatementTokens.{bzl_tokens}
+use Rattle.bz_bzl_layout.proofs.StatementTokens.{bzl_gaps, bzl_tokens}
 
 pub bzl_too_deep : (items : List BzlItem) → IsProperBzl items → depth_limit < depth_of (bzl_laid_out items) → NoBzlTree (bzl_layout items)
 bzl_too_deep items h deep new reads =

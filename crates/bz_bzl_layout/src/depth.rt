@@ -1,5 +1,5 @@
 //! Whether what a .bzl file says is too deep. No walk goes deeper than the bound.
-ghost use Rattle.std.specs.Prelude.{◌≤◌, ◌↔◌, ◌∷◌, [], IsTrue};
+ghost use Rattle.std.specs.Prelude.{◌≤◌, ◌↔◌, IsTrue};
 ghost use Rattle.bz_bzl_layout.specs.private.Depths as depths;
 
 use crate::leveling::is_def;
@@ -33,9 +33,9 @@ fn is_statement_within(statement: &Statement, depth: usize) -> bool
 
 /// Whether what is laid out of headers with their suites has at most this depth.
 #[cycle(depth)]
-#[tactic(auto, using(crate::proofs::Depths::branch_next))]
+#[tactic(auto, using(crate::proofs::Depths::deepest_next))]
 fn are_branches_within(branches: &[Branch], depth: usize) -> bool
-    ensures { IsTrue result ↔ (depths.deepest_branch branches.now ≤ depth) }
+    ensures { IsTrue result ↔ (depths.deepest_by depths.depth_branch branches.now ≤ depth) }
 {
     for branch in branches {
         if !is_branch_within(branch, depth) {
@@ -58,9 +58,9 @@ fn is_branch_within(branch: &Branch, depth: usize) -> bool
 
 /// Whether what is laid out of the statements of a suite has at most this depth.
 #[cycle(depth)]
-#[tactic(auto, using(crate::proofs::Depths::statement_next))]
+#[tactic(auto, using(crate::proofs::Depths::deepest_next))]
 fn are_statements_within(statements: &[Statement], depth: usize) -> bool
-    ensures { IsTrue result ↔ (depths.deepest_statement statements.now ≤ depth) }
+    ensures { IsTrue result ↔ (depths.deepest_by depths.depth_statement statements.now ≤ depth) }
 {
     for statement in statements {
         if !is_statement_within(statement, depth) {
@@ -71,7 +71,7 @@ fn are_statements_within(statements: &[Statement], depth: usize) -> bool
 }
 
 fn is_item_within(item: &BzlItem, depth: usize) -> bool
-    ensures { IsTrue result ↔ (depths.depth_bzl_items (item.now ∷ []) ≤ depth) }
+    ensures { IsTrue result ↔ (depths.depth_item item.now ≤ depth) }
 {
     match item {
         BzlItem::Block(_) => true,
@@ -80,9 +80,9 @@ fn is_item_within(item: &BzlItem, depth: usize) -> bool
 }
 
 /// Whether what is laid out of the items of a .bzl file has at most this depth.
-#[tactic(auto, using(crate::proofs::Depths::item_next))]
+#[tactic(auto, using(crate::proofs::Depths::deepest_next))]
 pub fn are_bzl_items_within(items: &[BzlItem], depth: usize) -> bool
-    ensures { IsTrue result ↔ (depths.depth_bzl_items items.now ≤ depth) }
+    ensures { IsTrue result ↔ (depths.deepest_by depths.depth_item items.now ≤ depth) }
 {
     for item in items {
         if !is_item_within(item, depth) {

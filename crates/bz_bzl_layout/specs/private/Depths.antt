@@ -27,20 +27,17 @@ abbrev mutual
   depth_statements end_of-Statement = 0
   depth_statements (more_of-Statement x rest) = max (depth_statement x) (depth_statements rest)
 
--- the same of lists
-abbrev pub deepest_statement : List Statement → ℕ
-deepest_statement [] = 0
-deepest_statement (x ∷ xs) = max (depth_statement x) (deepest_statement xs)
+-- ---- of lists
+
+-- the deepest one
+abbrev pub deepest_by : {X : Type 0} → (X → ℕ) → List X → ℕ
+deepest_by depth [] = 0
+deepest_by depth (x ∷ xs) = max (depth x) (deepest_by depth xs)
 
 abbrev pub depth_branch : Branch → ℕ
-depth_branch x = max (depth_header x.head) (suc (deepest_statement x.statements))
+depth_branch x = max (depth_header x.head) (suc (deepest_by depth_statement x.statements))
 
-abbrev pub deepest_branch : List Branch → ℕ
-deepest_branch [] = 0
-deepest_branch (x ∷ xs) = max (depth_branch x) (deepest_branch xs)
-
--- of the statements of a file
-abbrev pub depth_bzl_items : List BzlItem → ℕ
-depth_bzl_items [] = 0
-depth_bzl_items (b.Block texts ∷ items) = depth_bzl_items items
-depth_bzl_items (b.Statement x ∷ items) = max (depth_statement x) (depth_bzl_items items)
+-- of an item: comment lines are none
+abbrev pub depth_item : BzlItem → ℕ
+depth_item (b.Block texts) = 0
+depth_item (b.Statement x) = depth_statement x
