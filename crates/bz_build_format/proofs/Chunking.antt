@@ -4,7 +4,6 @@ use Rattle.std.proofs.Math.Seq.{take-add, take-length}
 use Rattle.std.proofs.lemmas.List.{map-append}
 use Rattle.bz_items.specs.Characters.{Bytes}
 use Rattle.bz_token.proofs.Tokens.{whole_rest}
-use Rattle.bz_grammar.specs.declared.tree.Node.{Node}
 use Rattle.bz_grammar.specs.Spell.{depth_of, depth_limit, limit}
 use Rattle.bz_value.specs.declared.value.Item.{Item}
 use Rattle.bz_hosts.specs.Joined.{ViewsJoin}
@@ -19,21 +18,11 @@ use Rattle.bz_bzl_layout.specs.Joined.{BzlLayoutsJoin, BzlDepthsJoin}
 use Rattle.bz_bzl_layout.specs.Laws.{BzlLayoutIsAccepted, BzlLayoutReadsBack, LevelKeepsLayout, LevelStays}
 use Rattle.bz_bzl_layout.specs.Layout.{bzl_layout}
 use Rattle.bz_bzl_layout.specs.Level.{level, level_item}
-use Rattle.bz_build_format.specs.private.Chunks.{SourceKind, build_files, bzl_files, ReadsAs, IsLast, IsFormattedAs, IsBegun, IsAppended}
+use Rattle.bz_build_format.specs.private.Chunks.{SourceKind, build_files, bzl_files, LayersJoin, ReadsAs, IsLast, IsFormattedAs, IsBegun, IsAppended}
 use Rattle.bz_build_format.specs.Faults.{FormatsBzlTo}
 use Rattle.bz_build_format.specs.Meaning.{gives, Formats}
 use Rattle.bz_build_format.proofs.BzlFormatting.{laid_out_given}
 use Rattle.bz_build_format.proofs.Writes.{written_given}
-
--- What the layers below promise of what is one after the other.
-pub record LayersJoin {I : Type 0} (kind : SourceKind I) : Type 0 where
-  pub views : (s t : Bytes) (n m : Node) → kind.ends n → kind.begins m → kind.reads s n → kind.reads t m → length (s ++ t) ≤ limit
-      → (new : Node) × kind.reads (s ++ t) new × (kind.view new ≡ kind.view n ++ kind.view m) × (kind.ends m → kind.ends new)
-  pub begins : (items : List I) (bare : Bool) (tree : Node) → kind.apart items bare → (bare ≡ true → kind.begins tree) → kind.begins tree
-  pub settled : (front items : List I) (bare : Bool) → kind.apart items bare → kind.settled (front ++ items) ≡ kind.settled front ++ kind.settled items
-  pub first : (items : List I) → kind.gap None items ≡ []
-  pub layouts : (front : List I) (item : I) (items : List I) → kind.text ((front ++ item ∷ []) ++ items) ≡ kind.text (front ++ item ∷ []) ++ (kind.gap (Some item) items ++ kind.text items)
-  pub depths : (front items : List I) (depth : ℕ) → depth_of (kind.tree front) ≤ depth → depth_of (kind.tree items) ≤ depth → depth_of (kind.tree (front ++ items)) ≤ depth
 
 pub build_layers : ViewsJoin → TidiedApart → LayoutsJoin → DepthsJoin → LayersJoin build_files
 build_layers views apart layouts depths = record {
@@ -111,7 +100,7 @@ pub still_within : (text : Bytes) (at len : ℕ) → at ≤ length text → len 
 still_within text at len inside h = omega (arith, inside, h, ap length (whole_rest text at inside), length-drop at text)
 
 -- a text that is not empty, up to its end
-whole_formatted : {I : Type 0} (kind : SourceKind I) (text out : Bytes) (at : ℕ) (last : Option I) (ends : Bool) → IsBegun kind (take at text) out last ends → at ≤ length text → length text ≤ at → 0 < length text → IsFormattedAs kind text out last ends
+pub whole_formatted : {I : Type 0} (kind : SourceKind I) (text out : Bytes) (at : ℕ) (last : Option I) (ends : Bool) → IsBegun kind (take at text) out last ends → at ≤ length text → length text ≤ at → 0 < length text → IsFormattedAs kind text out last ends
 whole_formatted kind text out at last ends g a b some =
     let all : at ≡ length text = omega (arith, a, b) in
     elim (subst (λ z. IsBegun kind z out last ends) (ap (λ n. take n text) all ∙ take-length text) g) [
@@ -122,16 +111,13 @@ whole_formatted kind text out at last ends g a b some =
     never : length text ≡ 0 → 0 < length text → ⊥
     never e h = omega (arith, e, h)
 
-pub build_formatted : (text out : Bytes) (at : ℕ) (last : Option Item) (ends : Bool) → IsBegun build_files (take at text) out last ends → at ≤ length text → length text ≤ at → 0 < length text → Formats text (gives out None)
-build_formatted text out at last ends g a b some =
-    let h : IsFormattedAs build_files text out last ends = whole_formatted build_files text out at last ends g a b some in
+pub build_formatted : (text out : Bytes) (last : Option Item) (ends : Bool) → IsFormattedAs build_files text out last ends → Formats text (gives out None)
+build_formatted text out last ends h =
     let (tree, reads, seen, begins, closed) = h.reads in
     (tree, reads, sym (written_given (view_of tree) (tidied h.items) out (ap tidied seen) h.formatted (subst (λ t. length t ≤ limit) h.formatted h.short) h.shallow None))
 
-pub bzl_formatted : BzlViewIsProper → LevelKeepsLayout → LevelStays → BzlLayoutIsAccepted → BzlLayoutReadsBack → (text out : Bytes) (at : ℕ) (last : Option BzlItem) (ends : Bool)
-    → IsBegun bzl_files (take at text) out last ends → at ≤ length text → length text ≤ at → 0 < length text → FormatsBzlTo text (Ok out)
-bzl_formatted proper keeps stays accepted back text out at last ends g a b some =
-    let h : IsFormattedAs bzl_files text out last ends = whole_formatted bzl_files text out at last ends g a b some in
+pub bzl_formatted : BzlViewIsProper → LevelKeepsLayout → LevelStays → BzlLayoutIsAccepted → BzlLayoutReadsBack → (text out : Bytes) (last : Option BzlItem) (ends : Bool) → IsFormattedAs bzl_files text out last ends → FormatsBzlTo text (Ok out)
+bzl_formatted proper keeps stays accepted back text out last ends h =
     let (tree, reads, says, begins, closed) = h.reads in
     let short : length (bzl_layout (level h.items)) ≤ limit = subst (λ t. length t ≤ limit) h.formatted h.short in
     laid_out_given proper keeps stays text out tree (level h.items) reads (ap level says) h.formatted short (λ good. accepted (level h.items) good short h.shallow) (back (level h.items))

@@ -7,7 +7,6 @@ use Rattle.bz_value.specs.Counted.{times}
 use Rattle.bz_grammar.specs.Laws.{OneReading}
 use Rattle.bz_value.specs.declared.value.Item.{Item}
 use Rattle.bz_items.specs.Characters.{Bytes}
-use Rattle.bz_value.specs.Proper.{IsProper}
 use Rattle.bz_hosts.specs.Kept.{CommentsKept}
 use Rattle.bz_hosts.specs.View.{view_of}
 use Rattle.bz_hosts.specs.Laws.{ViewsAreProper}
@@ -21,7 +20,8 @@ use Rattle.bz_layout.specs.Written.{layout}
 use Rattle.bz_build_format.specs.Meaning.{written}
 use Rattle.bz_build_format.specs.Fixed.{FixedPoint}
 use Rattle.bz_build_format.specs.TreePrograms.{ViewsKeepPrograms}
-use Rattle.bz_build_format.proofs.Writes.{IsGiven, given, limited}
+use Rattle.bz_build_format.proofs.Writes.{limited}
+use Rattle.bz_build_format.proofs.WrittenPrograms.{read_back}
 
 -- What the layers below promise: of reading, of the view, of the layout of a proper value, and of tidying.
 pub record LayersHold : Type 0 where
@@ -42,12 +42,8 @@ pub formatted_again : LayersHold → FixedPoint
 formatted_again layers text formatted formats =
     let tree : Node = formats.0 in
     let items : List Item = view_of tree in
-    let tidy : List Item = tidied items in
-    let proper : IsProper tidy = layers.proper items (layers.seen tree formats.1.0) in
-    let is : IsGiven items formatted None None = given items formatted None None (sym formats.2) in
-    let new : Node = laid_out tidy in
-    let reads : Reads formatted new = subst (λ (t : Bytes). Reads t new) (sym is.layout_is) (layers.accepted tidy proper is.long is.deep) in
-    let seen : view_of new ≡ tidy = layers.back tidy proper ∙ layers.settled items in
+    let new : Node = laid_out (tidied items) in
+    let (reads, seen) = read_back layers.accepted layers.back layers.proper layers.settled items formatted None (layers.seen tree formats.1.0) (sym formats.2) in
     let valued : (t u : Node) → Reads text t → Reads formatted u → view_of u ≡ tidied (view_of t) =
     λ t u h i. ap view_of (layers.one formatted u new i reads) ∙ seen ∙ ap (λ (n : Node). tidied (view_of n)) (layers.one text tree t formats.1 h) in
     let kept : (t u : Node) → Reads text t → Reads formatted u → KeepsProgram (view_of t) (view_of u) =

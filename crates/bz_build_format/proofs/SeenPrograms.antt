@@ -34,72 +34,58 @@ use Rattle.bz_build_format.specs.TreePrograms.{before_marks, bare_form, bare_hea
 abbrev Says : Seen → Expr → Type 0
 Says s x = (comments : HostComments) (break : Bool) → syntax_of (s.make comments break) ≡ x
 
+-- one by one
+data Each {X Y : Type 0} (R : X → Y → Type 0) : List X → List Y → Type 0 where
+  over : Each R [] []
+  step : (x : X) (y : Y) (xs : List X) (ys : List Y) → R x y → Each R xs ys → Each R (x ∷ xs) (y ∷ ys)
+
+each_taken : {X Y : Type 0} {R : X → Y → Type 0} {xs : List X} {ys : List Y} (n : ℕ) → Each R xs ys → Each R (take n xs) (take n ys)
+each_taken zero over = over
+each_taken zero (step x y xs ys a h) = over
+each_taken (suc n) over = over
+each_taken (suc n) (step x y xs ys a h) = step x y _ _ a (each_taken n h)
+
+each_dropped : {X Y : Type 0} {R : X → Y → Type 0} {xs : List X} {ys : List Y} (n : ℕ) → Each R xs ys → Each R (drop n xs) (drop n ys)
+each_dropped zero h = h
+each_dropped (suc n) over = over
+each_dropped (suc n) (step x y xs ys a h) = each_dropped n h
+
 abbrev EachSays : List Seen → List Expr → Type 0
-EachSays [] [] = Unit {0}
-EachSays (s ∷ ss) (x ∷ xs) = Says s x × EachSays ss xs
-EachSays _ _ = ⊥
+EachSays ss xs = Each Says ss xs
 
 -- ---- rows
 
-taken_say : (n : ℕ) (ss : List Seen) (xs : List Expr) → EachSays ss xs → EachSays (take n ss) (take n xs)
-taken_say zero [] [] h = tt
-taken_say zero (s ∷ ss) (x ∷ xs) h = tt
-taken_say zero [] (x ∷ xs) h = absurd h
-taken_say zero (s ∷ ss) [] h = absurd h
-taken_say (suc n) [] [] h = tt
-taken_say (suc n) [] (x ∷ xs) h = absurd h
-taken_say (suc n) (s ∷ ss) [] h = absurd h
-taken_say (suc n) (s ∷ ss) (x ∷ xs) h = (h.0, taken_say n ss xs h.1)
+plain_says : {ss : List Seen} {xs : List Expr} → EachSays ss xs → map syntax_of (map plain ss) ≡ xs
+plain_says over = refl
+plain_says (step s x ss xs a h) = both (λ y ys. y ∷ ys) (a no_comments false) (plain_says h)
 
-dropped_say : (n : ℕ) (ss : List Seen) (xs : List Expr) → EachSays ss xs → EachSays (drop n ss) (drop n xs)
-dropped_say zero ss xs h = h
-dropped_say (suc n) [] [] h = tt
-dropped_say (suc n) [] (x ∷ xs) h = absurd h
-dropped_say (suc n) (s ∷ ss) [] h = absurd h
-dropped_say (suc n) (s ∷ ss) (x ∷ xs) h = dropped_say n ss xs h.1
-
-plain_says : (ss : List Seen) (xs : List Expr) → EachSays ss xs → map syntax_of (map plain ss) ≡ xs
-plain_says [] [] h = refl
-plain_says [] (x ∷ xs) h = absurd h
-plain_says (s ∷ ss) [] h = absurd h
-plain_says (s ∷ ss) (x ∷ xs) h = both (λ y ys. y ∷ ys) (h.0 no_comments false) (plain_says ss xs h.1)
-
-row_says : (binary inside newline : Bool) (ss : List Seen) (xs : List Expr) → EachSays ss xs → map syntax_of (row_exprs binary inside newline ss) ≡ xs
-row_says binary inside newline [] [] h = refl
-row_says binary inside newline [] (x ∷ xs) h = absurd h
-row_says binary inside newline (s ∷ ss) [] h = absurd h
-row_says binary inside newline (s ∷ ss) (x ∷ xs) h = both (λ y ys. y ∷ ys) (h.0 _ _) (row_says binary (binary && is_operator (plain s)) (if inside then newline else has_newline s.gap) ss xs h.1)
+row_says : (binary inside newline : Bool) {ss : List Seen} {xs : List Expr} → EachSays ss xs → map syntax_of (row_exprs binary inside newline ss) ≡ xs
+row_says binary inside newline over = refl
+row_says binary inside newline (step s x ss xs a h) = both (λ y ys. y ∷ ys) (a _ _) (row_says binary (binary && is_operator (plain s)) (if inside then newline else has_newline s.gap) h)
 
 -- ---- sequences
 
 mutual
-  items_say : (above : List Bytes) (ss : List Seen) (xs : List Expr) → EachSays ss xs → map syntax_of (items_in above ss).0 ≡ before_marks xs
-  items_say above [] [] h = refl
-  items_say above [] (x ∷ xs) h = absurd h
-  items_say above (s ∷ ss) [] h = absurd h
-  items_say above (s ∷ ss) (x ∷ xs) h = item_says above s ss x xs h.0 h.1
+  items_say : (above : List Bytes) {ss : List Seen} {xs : List Expr} → EachSays ss xs → map syntax_of (items_in above ss).0 ≡ before_marks xs
+  items_say above over = refl
+  items_say above (step s x ss xs a h) = item_says above s x a h
 
-  item_says : (above : List Bytes) (s : Seen) (ss : List Seen) (x : Expr) (xs : List Expr) → Says s x → EachSays ss xs → map syntax_of (item_in above s ss).0 ≡ before_marks (x ∷ xs)
-  item_says above s [] x [] a h = refl
-  item_says above s [] x (y ∷ xs) a h = absurd h
-  item_says above s (mark ∷ ss) x [] a h = absurd h
-  item_says above s (mark ∷ []) x (y ∷ []) a h = both (λ z zs. z ∷ zs) (a _ false) refl
-  item_says above s (mark ∷ []) x (y ∷ z ∷ xs) a h = absurd h.1
-  item_says above s (mark ∷ t ∷ ss) x (y ∷ []) a h = absurd h.1
-  item_says above s (mark ∷ t ∷ ss) x (y ∷ z ∷ xs) a h = both (λ v vs. v ∷ vs) (a _ false) (item_says (all_in mark.gap ++ others_in t.gap) t ss z xs h.1.0 h.1.1)
+  item_says : (above : List Bytes) (s : Seen) (x : Expr) {ss : List Seen} {xs : List Expr} → Says s x → EachSays ss xs → map syntax_of (item_in above s ss).0 ≡ before_marks (x ∷ xs)
+  item_says above s x a over = refl
+  item_says above s x a (step mark y _ _ b over) = both (λ z zs. z ∷ zs) (a _ false) refl
+  item_says above s x a (step mark y _ _ b (step t z ss xs d h)) = both (λ v vs. v ∷ vs) (a _ false) (item_says (all_in mark.gap ++ others_in t.gap) t z d h)
 
 -- ---- nodes
 
 node_says : (f : Frame) (kind : Kind) (ss : List Seen) (xs : List Expr) → EachSays ss xs → Says (seen_node f kind ss) (node_syntax f kind xs)
 node_says row kind ss xs h comments break =
     syntax_Form (made kind (row_exprs (is_binary kind) false false ss) [] [] false (is_comprehension kind && is_open ss) comments)
-    ∙ ap (λ ps. bare_form kind ps []) (row_says (is_binary kind) false false ss xs h)
+    ∙ ap (λ ps. bare_form kind ps []) (row_says (is_binary kind) false false h)
 node_says (sequence opener closer) kind ss xs h comments break =
     let body : List Seen = drop (suc (lead kind)) ss in
     let found : List Expr × List Bytes = items_in (all_in (first_seen_gap body)) body in
     syntax_Form (made kind (map plain (take (lead kind) ss)) found.0 found.1 (is_split body) false comments)
-    ∙ both (λ ps items. bare_form kind ps items) (plain_says (take (lead kind) ss) (take (lead kind) xs) (taken_say (lead kind) ss xs h))
-    (items_say (all_in (first_seen_gap (drop (suc (lead kind)) ss))) (drop (suc (lead kind)) ss) (drop (suc (lead kind)) xs) (dropped_say (suc (lead kind)) ss xs h))
+    ∙ both (λ ps items. bare_form kind ps items) (plain_says (each_taken (lead kind) h)) (items_say (all_in (first_seen_gap body)) (each_dropped (suc (lead kind)) h))
 
 mutual
   part_says : (x : Part) → Says (seen x) (part_syntax x)
@@ -107,8 +93,8 @@ mutual
   part_says (Node' kind s parts) comments break = node_says (frame kind) kind (seen_row parts) (row_syntax parts) (each_says _ parts) comments break
 
   each_says : (m : _) (r : Row_of-Part m) → EachSays (seen_row r) (row_syntax r)
-  each_says m end_of-Part = tt
-  each_says m (more_of-Part x rest) = (part_says x, each_says _ rest)
+  each_says m end_of-Part = over
+  each_says m (more_of-Part x rest) = step _ _ _ _ (part_says x) (each_says _ rest)
 
 -- ---- the file
 
@@ -123,23 +109,15 @@ no_program ([] ∷ groups) ys = no_program groups ys
 no_program ((text ∷ group) ∷ groups) ys = no_program groups ys
 
 mutual
-  statements_say : (above : List Bytes) (ss : List Seen) (xs : List Expr) → EachSays ss xs → program (seen_statements above ss) ≡ before_marks xs
-  statements_say above [] [] h = refl
-  statements_say above [] (x ∷ xs) h = absurd h
-  statements_say above (s ∷ ss) [] h = absurd h
-  statements_say above (s ∷ []) (x ∷ []) h = refl
-  statements_say above (s ∷ []) (x ∷ y ∷ xs) h = absurd h.1
-  statements_say above (s ∷ mark ∷ ss) (x ∷ []) h = absurd h.1
-  statements_say above (s ∷ mark ∷ ss) (x ∷ y ∷ xs) h = statement_says above s mark ss x y xs h.0 h.1.1
+  statements_say : (above : List Bytes) {ss : List Seen} {xs : List Expr} → EachSays ss xs → program (seen_statements above ss) ≡ before_marks xs
+  statements_say above over = refl
+  statements_say above (step s x _ _ a over) = refl
+  statements_say above (step s x _ _ a (step mark y ss xs b h)) = statement_says above s mark x y a h
 
-  statement_says : (above : List Bytes) (s mark : Seen) (ss : List Seen) (x y : Expr) (xs : List Expr) → Says s x → EachSays ss xs → program (statement_before above s mark ss) ≡ before_marks (x ∷ y ∷ xs)
-  statement_says above s mark [] x y [] a h = ap (λ z. z ∷ []) (a _ false)
-  statement_says above s mark [] x y (z ∷ xs) a h = absurd h
-  statement_says above s mark (t ∷ ss) x y [] a h = absurd h
-  statement_says above s mark (t ∷ []) x y (z ∷ []) a h = ap (λ w. w ∷ []) (a _ false)
-  statement_says above s mark (t ∷ []) x y (z ∷ w ∷ xs) a h = absurd h.1
-  statement_says above s mark (t ∷ u ∷ ss) x y (z ∷ []) a h = absurd h.1
-  statement_says above s mark (t ∷ u ∷ ss) x y (z ∷ w ∷ xs) a h = both (λ v vs. v ∷ vs) (a _ false) (statement_says [] t u ss z w xs h.0 h.1.1)
+  statement_says : (above : List Bytes) (s mark : Seen) (x y : Expr) {ss : List Seen} {xs : List Expr} → Says s x → EachSays ss xs → program (statement_before above s mark ss) ≡ before_marks (x ∷ y ∷ xs)
+  statement_says above s mark x y a over = ap (λ z. z ∷ []) (a _ false)
+  statement_says above s mark x y a (step t z _ _ d over) = ap (λ w. w ∷ []) (a _ false)
+  statement_says above s mark x y a (step t z _ _ d (step u w ss xs e h)) = both (λ v vs. v ∷ vs) (a _ false) (statement_says [] t u z w d h)
 
 items_program : (left : List GapLine) (parts : List Part) → program (file_items left parts) ≡ lines_program parts
 items_program left [] = refl
@@ -150,7 +128,7 @@ items_program left (Node' kind s parts ∷ xs) =
     let more : List Item = file_items (after_first_line (lines_of (last_gap ss))) xs in
     program_append (line_items (left ++ lines_of (first_seen_gap ss)) ss) more
     ∙ both (λ ys zs. ys ++ zs)
-    (no_program (all_but_last groups) (seen_statements (last_group groups) ss) ∙ statements_say (last_group groups) ss (row_syntax parts) (each_says _ parts))
+    (no_program (all_but_last groups) (seen_statements (last_group groups) ss) ∙ statements_say (last_group groups) (each_says _ parts))
     (items_program (after_first_line (lines_of (last_gap ss))) xs)
 
 pub views_keep_programs : ViewsKeepPrograms
@@ -166,15 +144,11 @@ record Agrees (x : Stated) (y : Parsed) : Type 0 where
   suite : (after : List GapLine) → map statement_syntax (x.suite after).0.0 ≡ y.suite
 
 abbrev EachAgrees : List Stated → List Parsed → Type 0
-EachAgrees [] [] = Unit {0}
-EachAgrees (x ∷ xs) (y ∷ ys) = Agrees x y × EachAgrees xs ys
-EachAgrees _ _ = ⊥
+EachAgrees xs ys = Each Agrees xs ys
 
-parts_agree : (xs : List Stated) (ys : List Parsed) → EachAgrees xs ys → EachSays (map (λ x. x.part) xs) (parsed_parts ys)
-parts_agree [] [] h = tt
-parts_agree [] (y ∷ ys) h = absurd h
-parts_agree (x ∷ xs) [] h = absurd h
-parts_agree (x ∷ xs) (y ∷ ys) h = (h.0.part, parts_agree xs ys h.1)
+parts_agree : {xs : List Stated} {ys : List Parsed} → EachAgrees xs ys → EachSays (map (λ x. x.part) xs) (parsed_parts ys)
+parts_agree over = over
+parts_agree (step x y xs ys a h) = step _ _ _ _ a.part (parts_agree h)
 
 -- ---- statements one after the other
 
@@ -183,80 +157,66 @@ simple_syntax [] = refl
 simple_syntax (i.Block texts ∷ items) = simple_syntax items
 simple_syntax (i.Stmt x ∷ items) = ap (λ z. s.Simple (syntax_of x) ∷ z) (simple_syntax items)
 
-line_agrees : (above : List Bytes) (ss : List Seen) (xs : List Expr) → EachSays ss xs → map statement_syntax (simple_statements (seen_statements above ss)) ≡ map s.Simple (before_marks xs)
-line_agrees above ss xs h = simple_syntax (seen_statements above ss) ∙ ap (map s.Simple) (statements_say above ss xs h)
+line_agrees : (above : List Bytes) {ss : List Seen} {xs : List Expr} → EachSays ss xs → map statement_syntax (simple_statements (seen_statements above ss)) ≡ map s.Simple (before_marks xs)
+line_agrees above {ss} h = simple_syntax (seen_statements above ss) ∙ ap (map s.Simple) (statements_say above h)
 
-walk_agrees : (above : List GapLine) (xs : List Stated) (ys : List Parsed) (after : List GapLine) → EachAgrees xs ys → map statement_syntax (walked above xs after).0 ≡ statements_in ys
-walk_agrees above [] [] after h = refl
-walk_agrees above [] (y ∷ ys) after h = absurd h
-walk_agrees above (x ∷ xs) [] after h = absurd h
-walk_agrees above (x ∷ xs) (y ∷ ys) after h =
+walk_agrees : (above : List GapLine) {xs : List Stated} {ys : List Parsed} (after : List GapLine) → EachAgrees xs ys → map statement_syntax (walked above xs after).0 ≡ statements_in ys
+walk_agrees above after over = refl
+walk_agrees above after (step x y xs ys a h) =
     let one = x.statement (comments_in above) (indented_lines_before xs after) in
     map-append statement_syntax one.0 (walked one.1 xs after).0
-    ∙ both (λ us vs. us ++ vs) (h.0.statements (comments_in above) (indented_lines_before xs after)) (walk_agrees one.1 xs ys after h.1)
+    ∙ both (λ us vs. us ++ vs) (a.statements (comments_in above) (indented_lines_before xs after)) (walk_agrees one.1 after h)
 
 -- ---- headers
 
-head_agrees : (kind : Kind) (ss : List Seen) (xs : List Expr) (above : List Bytes) (suffix : Option Bytes) → EachSays ss xs → head_syntax (head kind ss above suffix) ≡ head_in kind xs
-head_agrees kind ss xs above suffix h = elim (cases_Bool (is_kind kind k.Def)) [
-  | inl w ↦ rw w (both (λ parts items. bare_head k.Def parts items) (plain_says (take 2 ss) (take 2 xs) (taken_say 2 ss xs h)) (items_say (all_in (first_seen_gap (drop 3 ss))) (drop 3 ss) (drop 3 xs) (dropped_say 3 ss xs h)))
-  | inr w ↦ rw w (ap (λ parts. bare_head kind parts []) (row_says false false false ss xs h))
+head_agrees : (kind : Kind) {ss : List Seen} {xs : List Expr} (above : List Bytes) (suffix : Option Bytes) → EachSays ss xs → head_syntax (head kind ss above suffix) ≡ head_in kind xs
+head_agrees kind {ss} above suffix h = elim (cases_Bool (is_kind kind k.Def)) [
+  | inl w ↦ rw w (both (λ parts items. bare_head k.Def parts items) (plain_says (each_taken 2 h)) (items_say (all_in (first_seen_gap (drop 3 ss))) (each_dropped 3 h)))
+  | inr w ↦ rw w (ap (λ parts. bare_head kind parts []) (row_says false false false h))
 ]
 
-one_more : (ss : List Seen) (xs : List Expr) (s : Seen) (x : Expr) → EachSays ss xs → Says s x → EachSays (ss ++ s ∷ []) (xs ++ x ∷ [])
-one_more [] [] s x h a = (a, tt)
-one_more [] (y ∷ xs) s x h a = absurd h
-one_more (t ∷ ss) [] s x h a = absurd h
-one_more (t ∷ ss) (y ∷ xs) s x h a = (h.0, one_more ss xs s x h.1 a)
+one_more : {ss : List Seen} {xs : List Expr} (s : Seen) (x : Expr) → EachSays ss xs → Says s x → EachSays (ss ++ s ∷ []) (xs ++ x ∷ [])
+one_more s x over a = step s x [] [] a over
+one_more s x (step t y ss xs b h) a = step t y _ _ b (one_more s x h a)
 
 mutual
-  headers_agree : (kind : Kind) (ss : List Seen) (ps : List Expr) (above : List Bytes) (left : List GapLine) (xs : List Stated) (ys : List Parsed) (after : List GapLine)
+  headers_agree : (kind : Kind) {ss : List Seen} {ps : List Expr} (above : List Bytes) (left : List GapLine) {xs : List Stated} {ys : List Parsed} (after : List GapLine)
       → EachSays ss ps → EachAgrees xs ys → map branch_syntax (branches kind ss above left xs after).0 ≡ headers_in kind ps ys
-  headers_agree kind ss ps above left [] [] after h a = refl
-  headers_agree kind ss ps above left [] (y ∷ ys) after h a = absurd a
-  headers_agree kind ss ps above left (x ∷ xs) [] after h a = absurd a
-  headers_agree kind ss ps above left (x ∷ xs) (y ∷ ys) after h a = elim (cases_Bool y.is_colon) [
-    | inl w ↦ let v : x.is_colon ≡ true = a.0.colon ∙ w in rw (v, w) (suites_agree kind ss ps above left xs ys after h a.1)
-    | inr w ↦ let v : x.is_colon ≡ false = a.0.colon ∙ w in rw (v, w) (headers_agree kind (ss ++ x.part ∷ []) (ps ++ y.part ∷ []) above left xs ys after (one_more ss ps x.part y.part h a.0.part) a.1)
+  headers_agree kind above left after h over = refl
+  headers_agree kind above left after h (step x y xs ys a hs) = elim (cases_Bool y.is_colon) [
+    | inl w ↦ let v : x.is_colon ≡ true = a.colon ∙ w in rw (v, w) (suites_agree kind above left after h hs)
+    | inr w ↦ let v : x.is_colon ≡ false = a.colon ∙ w in rw (v, w) (headers_agree kind above left after (one_more x.part y.part h a.part) hs)
   ]
 
-  suites_agree : (kind : Kind) (ss : List Seen) (ps : List Expr) (above : List Bytes) (left : List GapLine) (xs : List Stated) (ys : List Parsed) (after : List GapLine)
+  suites_agree : (kind : Kind) {ss : List Seen} {ps : List Expr} (above : List Bytes) (left : List GapLine) {xs : List Stated} {ys : List Parsed} (after : List GapLine)
       → EachSays ss ps → EachAgrees xs ys → map branch_syntax (with_suite kind ss above left xs after).0 ≡ suites_in kind ps ys
-  suites_agree kind ss ps above left [] [] after h a = refl
-  suites_agree kind ss ps above left [] (y ∷ ys) after h a = absurd a
-  suites_agree kind ss ps above left (x ∷ xs) [] after h a = absurd a
-  suites_agree kind ss ps above left (x ∷ xs) (y ∷ ys) after h a =
+  suites_agree kind above left after h over = refl
+  suites_agree kind above left after h (step x y xs ys a hs) =
       let own = x.suite (indented_lines_before xs after) in
       both (λ z zs. z ∷ zs)
-      (both (λ f own. record { head = f; statements = own; end = [] }) (head_agrees kind ss ps above x.suffix h) (a.0.suite (indented_lines_before xs after)))
-      (headers_agree kind [] [] (comments_in own.1) own.1 xs ys after tt a.1)
+      (both (λ f own. record { head = f; statements = own; end = [] }) (head_agrees kind above x.suffix h) (a.suite (indented_lines_before xs after)))
+      (headers_agree kind (comments_in own.1) own.1 after over hs)
 
 -- ---- parts of each kind
 
 compound_agrees : (kind : Kind) (xs : List Stated) (ys : List Parsed) (above : List Bytes) (after : List GapLine) → EachAgrees xs ys → map statement_syntax (compound_read kind xs above after).0 ≡ s.Compound (headers_in kind [] ys) ∷ []
 compound_agrees kind xs ys above after h =
-    ap (λ z. z ∷ []) (syntax_Compound (branches kind [] above after xs after).0 ∙ ap (λ z. s.Compound z) (headers_agree kind [] [] above after xs ys after tt h))
+    ap (λ z. z ∷ []) (syntax_Compound (branches kind [] above after xs after).0 ∙ ap (λ z. s.Compound z) (headers_agree kind above after after over h))
 
 statement_agrees : (kind : Kind) (xs : List Stated) (ys : List Parsed) (above : List Bytes) (after : List GapLine) → EachAgrees xs ys → map statement_syntax (statement_read kind xs above after).0 ≡ node_statements kind ys
 statement_agrees kind xs ys above after h = elim (cases_Bool (is_kind kind k.Line)) [
-  | inl w ↦ rw w (line_agrees above (map (λ x. x.part) xs) (parsed_parts ys) (parts_agree xs ys h))
+  | inl w ↦ rw w (line_agrees above (parts_agree h))
   | inr w ↦ elim (cases_Bool (is_compound kind)) [
     | inl v ↦ rw (w, v) (compound_agrees kind xs ys above after h)
     | inr v ↦ rw (w, v) refl
   ]
 ]
 
-after_newline : (xs : List Stated) (ys : List Parsed) → EachAgrees xs ys → EachAgrees (drop 1 xs) (drop 1 ys)
-after_newline [] [] h = tt
-after_newline [] (y ∷ ys) h = absurd h
-after_newline (x ∷ xs) [] h = absurd h
-after_newline (x ∷ xs) (y ∷ ys) h = h.1
-
 suite_agrees : (kind : Kind) (xs : List Stated) (ys : List Parsed) (after : List GapLine) → EachAgrees xs ys → map statement_syntax (suite_in kind xs after).0.0 ≡ suite_statements kind ys
 suite_agrees kind xs ys after h = elim (cases_Bool (is_kind kind k.Line)) [
-  | inl w ↦ rw w (line_agrees [] (map (λ x. x.part) xs) (parsed_parts ys) (parts_agree xs ys h))
+  | inl w ↦ rw w (line_agrees [] (parts_agree h))
   | inr w ↦ elim (cases_Bool (is_kind kind k.Suite)) [
-    | inl v ↦ rw (w, v) (walk_agrees (indented_lines_before (drop 1 xs) []) (drop 1 xs) (drop 1 ys) after (after_newline xs ys h))
+    | inl v ↦ rw (w, v) (walk_agrees (indented_lines_before (drop 1 xs) []) after (each_dropped 1 h))
     | inr v ↦ rw (w, v) refl
   ]
 ]
@@ -272,8 +232,8 @@ mutual
   }
 
   each_agrees : (m : _) (r : Row_of-Part m) → EachAgrees (stated_row r) (parsed_row r)
-  each_agrees m end_of-Part = tt
-  each_agrees m (more_of-Part x rest) = (part_agrees x, each_agrees _ rest)
+  each_agrees m end_of-Part = over
+  each_agrees m (more_of-Part x rest) = step _ _ _ _ (part_agrees x) (each_agrees _ rest)
 
 -- ---- the file
 

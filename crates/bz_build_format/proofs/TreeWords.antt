@@ -2,7 +2,7 @@
 use Rattle.std.proofs.Common.{ℕ, zero, suc, ◌+◌, Bool, true, false, ◌&&◌, ◌||◌, List, [], ◌∷◌, ◌++◌, ◌≡◌, refl, sym, ap, ◌∙◌, map, take, drop, subst, inl, inr, arith, codes, append_assoc, append-nil, true≢false, nat_eq, if◌then◌else◌}
 use Rattle.std.specs.Prelude.{bytes_eq}
 use Rattle.std.specs.List.{flat_map, AllByRecursion}
-use Rattle.std.proofs.lemmas.Bool.{cases_Bool, and_parts, eqb-true, cond-true, cond-false}
+use Rattle.std.proofs.lemmas.Bool.{cases_Bool, and_parts, or_left, or_right, eqb-true, cond-true, cond-false}
 use Rattle.std.proofs.lemmas.Grind.{flat_map-append}
 use Rattle.std.proofs.lemmas.List.{map-append}
 use Rattle.std.proofs.lemmas.Slice.Eq.{bytes_eq-Decides}
@@ -21,6 +21,7 @@ use Rattle.bz_grammar.specs.Shapes.{Nonterminal, Terminal, any, this, Fits, List
 use Rattle.bz_grammar.specs.Spell.{leaves_of, leaves_part, leaves_row}
 use Rattle.bz_grammar.proofs.Balance.{no_such}
 use Rattle.bz_grammar.proofs.Numbers.{same_kind}
+use Rattle.bz_grammar.proofs.Terminals.{subset, subset-one_of}
 use Rattle.bz_items.specs.Characters.{Bytes}
 use Rattle.bz_value.specs.declared.value.Form.{Form}
 use Rattle.bz_value.specs.declared.value.Expr.{Expr, Token, Form', Row_of-Expr, end_of-Expr, more_of-Expr, items-the_row-Expr}
@@ -29,6 +30,7 @@ use Rattle.bz_value.specs.Comments.{no_comments}
 use Rattle.bz_value.specs.Counted.{total}
 use Rattle.bz_value.specs.Frames.{Frame, row, sequence, frame, lead}
 use Rattle.bz_value.proofs.Totals.{append_total}
+use Rattle.bz_hosts.proofs.SeenParts.{all_parted}
 use Rattle.bz_passes.specs.Syntax.{token_sum, row_token_sum, one_if_token}
 use Rattle.bz_passes.proofs.Keeping.{both}
 use Rattle.bz_passes.proofs.Parts.{made, parts_after, items_after, parts_are, items_are}
@@ -47,59 +49,12 @@ use Rattle.bz_build_format.specs.Tokens.{marks_between, is_mark_between, is_bzl_
 abbrev IsSeparator : Part → Type 0
 IsSeparator x = has_token marks_between x ≡ true
 
-first_is : (a b : Bool) → a ≡ true → (a || b) ≡ true
-first_is true b h = refl
-first_is false b h = no_such h
+separates : (ts : List Terminal) → subset ts marks_between ≡ true → (x : Part) → has_token ts x ≡ true → IsSeparator x
+separates ts e (p.Leaf l) h = subset-one_of l ts marks_between e h
+separates ts e (Node' kind m r) h = no_such h
 
-later_is : (a b : Bool) → b ≡ true → (a || b) ≡ true
-later_is true b h = refl
-later_is false b h = h
-
-alone_is : (a : Bool) → (a || false) ≡ true → a ≡ true
-alone_is true h = refl
-alone_is false h = h
-
-among : (front back : List Terminal) (t : Terminal) (l : Leaf) → is_terminal t l ≡ true → is_one_of (front ++ t ∷ back) l ≡ true
-among [] back t l h = first_is _ _ h
-among (f ∷ front) back t l h = later_is (is_terminal f l) (is_one_of (front ++ t ∷ back) l) (among front back t l h)
-
--- the separator at this place of the table
-separating : (n : ℕ) (t : Terminal) → take n marks_between ++ t ∷ drop (suc n) marks_between ≡ marks_between → (x : Part) → has_token (t ∷ []) x ≡ true → IsSeparator x
-separating n t same (p.Leaf l) h = subst (λ ts. is_one_of ts l ≡ true) same (among (take n marks_between) (drop (suc n) marks_between) t l (alone_is (is_terminal t l) h))
-separating n t same (Node' kind m r) h = no_such h
-
-abbrev Separates : List Terminal → Type 0
-Separates ts = (x : Part) → has_token ts x ≡ true → IsSeparator x
-
-comma : Separates s.comma_mark
-comma = separating 0 _ refl
-
-semicolon : Separates s.semicolon
-semicolon = separating 1 _ refl
-
-newline : Separates s.newline
-newline = separating 2 _ refl
-
-end_of_file : Separates s.end
-end_of_file = separating 3 _ refl
-
-open_round : Separates s.open_round
-open_round = separating 4 _ refl
-
-close_round : Separates s.close_round
-close_round = separating 5 _ refl
-
-open_square : Separates s.open_square
-open_square = separating 6 _ refl
-
-close_square : Separates s.close_square
-close_square = separating 7 _ refl
-
-open_curly : Separates s.open_curly
-open_curly = separating 8 _ refl
-
-close_curly : Separates s.close_curly
-close_curly = separating 9 _ refl
+comma : (x : Part) → has_token s.comma_mark x ≡ true → IsSeparator x
+comma x h = separates s.comma_mark refl x h
 
 -- ---- where they are
 
@@ -115,30 +70,30 @@ SeparatorAt n [] = Unit {0}
 SeparatorAt zero (x ∷ xs) = IsSeparator x
 SeparatorAt (suc n) (x ∷ xs) = SeparatorAt n xs
 
-module _ (between close : List Terminal) (b : Separates between) (c : Separates close) where
+module _ (between close : List Terminal) (b : subset between marks_between ≡ true) (c : subset close marks_between ≡ true) where
   ends_paired : (x : Part) (xs : List Part) → Fits IsNonterminal (tok close done) (x ∷ xs) → Paired (x ∷ xs)
-  ends_paired x [] h = c x h.0
+  ends_paired x [] h = separates close c x h.0
   ends_paired x (y ∷ xs) h = absurd h.1
 
   listed_paired : (q : Nonterminal) (xs : List Part) → Listed (IsNonterminal q) between true (Fits IsNonterminal (tok close done)) xs → Paired xs
   listed_paired q [] h = absurd h
   listed_paired q (x ∷ []) h = absurd h.1
-  listed_paired q (x ∷ y ∷ []) (h, inl i) = (c y i.0, tt)
-  listed_paired q (x ∷ y ∷ []) (h, inr (m, i)) = (b y m, tt)
+  listed_paired q (x ∷ y ∷ []) (h, inl i) = (separates close c y i.0, tt)
+  listed_paired q (x ∷ y ∷ []) (h, inr (m, i)) = (separates between b y m, tt)
   listed_paired q (x ∷ y ∷ z ∷ xs) (h, inl i) = absurd i.1
-  listed_paired q (x ∷ y ∷ z ∷ xs) (h, inr (m, inl i)) = (b y m, listed_paired q (z ∷ xs) i)
-  listed_paired q (x ∷ y ∷ z ∷ xs) (h, inr (m, inr i)) = (b y m, ends_paired z xs i.1)
+  listed_paired q (x ∷ y ∷ z ∷ xs) (h, inr (m, inl i)) = (separates between b y m, listed_paired q (z ∷ xs) i)
+  listed_paired q (x ∷ y ∷ z ∷ xs) (h, inr (m, inr i)) = (separates between b y m, ends_paired z xs i.1)
 
-module _ (close : List Terminal) (c : Separates close) where
+module _ (close : List Terminal) (c : subset close marks_between ≡ true) where
   items_paired : (q : Nonterminal) (xs : List Part) → Fits IsNonterminal (items q close) xs → Paired xs
   items_paired q [] h = tt
-  items_paired q (x ∷ xs) (inl h) = ends_paired s.comma_mark close comma c x xs h
-  items_paired q (x ∷ xs) (inr h) = listed_paired s.comma_mark close comma c q (x ∷ xs) h
+  items_paired q (x ∷ xs) (inl h) = ends_paired s.comma_mark close refl c x xs h
+  items_paired q (x ∷ xs) (inr h) = listed_paired s.comma_mark close refl c q (x ∷ xs) h
 
   one_paired : (q : Nonterminal) (x : Part) (xs : List Part) → Fits IsNonterminal (s.alt (tok close done) (tok s.comma_mark (items q close))) xs → Paired (x ∷ xs)
   one_paired q x [] (inl h) = absurd h
   one_paired q x [] (inr h) = absurd h
-  one_paired q x (y ∷ []) (inl h) = (c y h.0, tt)
+  one_paired q x (y ∷ []) (inl h) = (separates close c y h.0, tt)
   one_paired q x (y ∷ z ∷ xs) (inl h) = absurd h.1
   one_paired q x (y ∷ xs) (inr h) = (comma y h.0, items_paired q xs h.1)
 
@@ -150,30 +105,30 @@ record Bracketed (kind : Kind) (xs : List Part) : Type 0 where
 call_bracketed : (xs : List Part) → Fits IsNonterminal (bzl_shape k.Call) xs → Bracketed k.Call xs
 call_bracketed [] h = absurd h
 call_bracketed (x ∷ []) h = absurd h.1
-call_bracketed (x ∷ y ∷ xs) h = record { opener = open_round y h.1.0; body = items_paired s.close_round close_round s.argument xs h.1.1 }
+call_bracketed (x ∷ y ∷ xs) h = record { opener = separates s.open_round refl y h.1.0; body = items_paired s.close_round refl s.argument xs h.1.1 }
 
 load_bracketed : (xs : List Part) → Fits IsNonterminal (bzl_shape k.Load) xs → Bracketed k.Load xs
 load_bracketed [] h = absurd h
 load_bracketed (x ∷ []) h = absurd h.1
 load_bracketed (x ∷ y ∷ []) h = absurd h.1.1
-load_bracketed (x ∷ y ∷ z ∷ xs) h = record { opener = open_round y h.1.0; body = one_paired s.close_round close_round s.loaded z xs h.1.1.1 }
+load_bracketed (x ∷ y ∷ z ∷ xs) h = record { opener = separates s.open_round refl y h.1.0; body = one_paired s.close_round refl s.loaded z xs h.1.1.1 }
 
 tuple_body : (xs : List Part) → Fits IsNonterminal (s.alt (tok s.close_round done) (s.sub s.test (tok s.comma_mark (items s.test s.close_round)))) xs → Paired xs
 tuple_body [] i = tt
-tuple_body (x ∷ xs) (inl i) = ends_paired s.comma_mark s.close_round comma close_round x xs i
-tuple_body (x ∷ xs) (inr i) = one_paired s.close_round close_round s.test x xs (inr i.1)
+tuple_body (x ∷ xs) (inl i) = ends_paired s.comma_mark s.close_round refl refl x xs i
+tuple_body (x ∷ xs) (inr i) = one_paired s.close_round refl s.test x xs (inr i.1)
 
 tuple_bracketed : (xs : List Part) → Fits IsNonterminal (bzl_shape k.Tuple) xs → Bracketed k.Tuple xs
 tuple_bracketed [] h = absurd h
-tuple_bracketed (y ∷ xs) h = record { opener = open_round y h.0; body = tuple_body xs h.1 }
+tuple_bracketed (y ∷ xs) h = record { opener = separates s.open_round refl y h.0; body = tuple_body xs h.1 }
 
 list_bracketed : (xs : List Part) → Fits IsNonterminal (bzl_shape k.List) xs → Bracketed k.List xs
 list_bracketed [] h = absurd h
-list_bracketed (y ∷ xs) h = record { opener = open_square y h.0; body = items_paired s.close_square close_square s.test xs h.1 }
+list_bracketed (y ∷ xs) h = record { opener = separates s.open_square refl y h.0; body = items_paired s.close_square refl s.test xs h.1 }
 
 dict_bracketed : (xs : List Part) → Fits IsNonterminal (bzl_shape k.Dict) xs → Bracketed k.Dict xs
 dict_bracketed [] h = absurd h
-dict_bracketed (y ∷ xs) h = record { opener = open_curly y h.0; body = items_paired s.close_curly close_curly s.entry xs h.1 }
+dict_bracketed (y ∷ xs) h = record { opener = separates s.open_curly refl y h.0; body = items_paired s.close_curly refl s.entry xs h.1 }
 
 abbrev BracketedIn : Frame → Kind → List Part → Type 0
 BracketedIn row kind xs = Unit {0}
@@ -283,13 +238,13 @@ module _ (silent : Class → Bytes → Bool) (quiet : (l : Leaf) → is_one_of m
 
   -- the statements of a line
   line_words : (xs : List Part) → Fits IsNonterminal (bzl_shape k.Line) xs → AllByRecursion Kept xs → all_words (before_marks (map part_syntax xs)) ≡ parts_words xs
-  line_words xs h g = front_kept xs (listed_paired s.semicolon s.newline semicolon newline s.small xs h) g
+  line_words xs h g = front_kept xs (listed_paired s.semicolon s.newline refl refl s.small xs h) g
 
   -- ---- BUILD files
 
   lines_kept : (xs : List Part) → Several (IsNonterminal s.line) (Fits IsNonterminal (tok s.end done)) xs → AllByRecursion LegalBzlPart xs → all_words (lines_program xs) ≡ parts_words xs
   lines_kept [] h g = absurd h
-  lines_kept (p.Leaf l ∷ []) (inl h) g = sym (nothing_before (part_words (p.Leaf l)) [] (quiet_part (p.Leaf l) (end_of_file (p.Leaf l) h.0)))
+  lines_kept (p.Leaf l ∷ []) (inl h) g = sym (nothing_before (part_words (p.Leaf l)) [] (quiet_part (p.Leaf l) (separates s.end refl (p.Leaf l) h.0)))
   lines_kept (p.Leaf l ∷ y ∷ xs) (inl h) g = absurd h.1
   lines_kept (p.Leaf l ∷ xs) (inr h) g = no_such h.0
   lines_kept (Node' kind m r ∷ xs) (inl h) g = no_such h.0
@@ -362,10 +317,6 @@ module _ (silent : Class → Bytes → Bool) (quiet : (l : Leaf) → is_one_of m
     kept_all [] h = tt
     kept_all (x ∷ xs) h = (h.0.kept, kept_all xs h.1)
 
-    known_front : (xs ys : List Part) → AllByRecursion Known (xs ++ ys) → AllByRecursion Known xs × AllByRecursion Known ys
-    known_front [] ys h = (tt, h)
-    known_front (x ∷ xs) ys h = let more = known_front xs ys h.1 in ((h.0, more.0), more.1)
-
     part_parsed : (x : Part) → (parsed x).part ≡ part_syntax x
     part_parsed (p.Leaf l) = refl
     part_parsed (Node' kind m r) = refl
@@ -436,7 +387,7 @@ module _ (silent : Class → Bytes → Bool) (quiet : (l : Leaf) → is_one_of m
     close_cut : (xs : List Part) → Fits IsNonterminal (tok s.close_round owned) xs → Cut (λ front. (y : Part) × (front ≡ y ∷ []) × IsSeparator y) [] xs
     close_cut [] h = absurd h
     close_cut (y ∷ xs) h =
-        one_more Nothing (λ front. (z : Part) × (front ≡ z ∷ []) × IsSeparator z) [] y xs (token_plain s.close_round y refl h.0) (λ front w. (y, ap (λ (zs : List Part). y ∷ zs) w, close_round y h.0)) (owned_cut xs h.1)
+        one_more Nothing (λ front. (z : Part) × (front ≡ z ∷ []) × IsSeparator z) [] y xs (token_plain s.close_round y refl h.0) (λ front w. (y, ap (λ (zs : List Part). y ∷ zs) w, separates s.close_round refl y h.0)) (owned_cut xs h.1)
 
     alone_paired : (front : List Part) → (y : Part) × (front ≡ y ∷ []) × IsSeparator y → Paired front
     alone_paired front w = subst Paired (sym w.1) w.2
@@ -503,7 +454,7 @@ module _ (silent : Class → Bytes → Bool) (quiet : (l : Leaf) → is_one_of m
     cut_kept : (kind : Kind) (P : List Part → Type 0) (word : Part) (back xs : List Part) (h : Cut P back xs) → NoColon word → HeadKept kind (word ∷ h.front) → AllByRecursion Known (word ∷ xs) → HeadersKept kind back → HeadersKept kind (word ∷ xs)
     cut_kept kind P word back xs h n w g b =
         let hs : List Part = word ∷ h.front in
-        let known = known_front h.front (h.mark ∷ h.own ∷ back) (subst (AllByRecursion Known) h.cut g.1) in
+        let known = all_parted Known h.front (h.mark ∷ h.own ∷ back) (subst (AllByRecursion Known) h.cut g.1) in
         let own : program_words (parsed h.own).suite ≡ part_words h.own = known.1.1.0.suite h.suite in
         subst (λ zs. HeadersKept kind (word ∷ zs)) (sym h.cut) (
         ap (flat_map branch_words) (header_ends kind hs h.mark h.own back (n, h.plain) h.colon)
@@ -519,7 +470,7 @@ module _ (silent : Class → Bytes → Bool) (quiet : (l : Leaf) → is_one_of m
     def_head hs w h = sequence_kept 2 hs w.0 w.1 h
 
     front_known : (word : Part) (P : List Part → Type 0) (back xs : List Part) (h : Cut P back xs) → AllByRecursion Known (word ∷ xs) → AllByRecursion Kept (word ∷ h.front)
-    front_known word P back xs h g = (g.0.kept, kept_all h.front (known_front h.front (h.mark ∷ h.own ∷ back) (subst (AllByRecursion Known) h.cut g.1)).0)
+    front_known word P back xs h g = (g.0.kept, kept_all h.front (all_parted Known h.front (h.mark ∷ h.own ∷ back) (subst (AllByRecursion Known) h.cut g.1)).0)
 
     row_headed : (kind : Kind) (P : List Part → Type 0) (word : Part) (back xs : List Part) → s.is_kind kind k.Def ≡ false → Cut P back xs → NoColon word → AllByRecursion Known (word ∷ xs) → HeadersKept kind back → HeadersKept kind (word ∷ xs)
     row_headed kind P word back xs f h n g b = cut_kept kind P word back xs h n (row_head kind (word ∷ h.front) f (front_known word P back xs h g)) g b
@@ -566,7 +517,7 @@ module _ (silent : Class → Bytes → Bool) (quiet : (l : Leaf) → is_one_of m
     def_statement (word ∷ name ∷ []) h g = absurd h.1.1
     def_statement (word ∷ name ∷ opener ∷ xs) h g =
         let inner : Cut Paired [] xs = enclosed_cut xs h.1.1.1 in
-        let opened : Cut (λ front. SeparatorAt 0 front × Paired (drop 1 front)) [] (opener ∷ xs) = one_more Paired (λ front. SeparatorAt 0 front × Paired (drop 1 front)) [] opener xs (token_plain s.open_round opener refl h.1.1.0) (λ front w. (open_round opener h.1.1.0, w)) inner in
+        let opened : Cut (λ front. SeparatorAt 0 front × Paired (drop 1 front)) [] (opener ∷ xs) = one_more Paired (λ front. SeparatorAt 0 front × Paired (drop 1 front)) [] opener xs (token_plain s.open_round opener refl h.1.1.0) (λ front w. (separates s.open_round refl opener h.1.1.0, w)) inner in
         let named : Cut (λ front. SeparatorAt 1 front × Paired (drop 2 front)) [] (name ∷ opener ∷ xs) = one_more (λ front. SeparatorAt 0 front × Paired (drop 1 front)) (λ front. SeparatorAt 1 front × Paired (drop 2 front)) [] name (opener ∷ xs) (token_plain s.name name refl h.1.0) (λ front w. w) opened in
         cut_kept k.Def (λ front. SeparatorAt 1 front × Paired (drop 2 front)) word [] (name ∷ opener ∷ xs) named (token_plain (s.one_keyword (codes "def")) word refl h.0)
         (def_head (word ∷ named.front) named.such (front_known word (λ front. SeparatorAt 1 front × Paired (drop 2 front)) [] (name ∷ opener ∷ xs) named g)) g refl
@@ -598,7 +549,7 @@ module _ (silent : Class → Bytes → Bool) (quiet : (l : Leaf) → is_one_of m
     suite_kept [] h g = absurd h
     suite_kept (x ∷ []) h g = absurd h.1
     suite_kept (x ∷ y ∷ xs) h g =
-        several_kept (y ∷ xs) (inr h.1) g.1 ∙ sym (nothing_before (part_words x) (parts_words (y ∷ xs)) (quiet_part x (newline x h.0)))
+        several_kept (y ∷ xs) (inr h.1) g.1 ∙ sym (nothing_before (part_words x) (parts_words (y ∷ xs)) (quiet_part x (separates s.newline refl x h.0)))
 
     node_suite : (kind : Kind) (xs : List Part) → nonterminal_has_kind s.suite kind ≡ true → Fits IsNonterminal (bzl_shape kind) xs → AllByRecursion Known xs → program_words (suite_statements kind (map parsed xs)) ≡ parts_words xs
     node_suite k.Line xs i h g = line_kept xs h g
@@ -629,7 +580,7 @@ module _ (silent : Class → Bytes → Bool) (quiet : (l : Leaf) → is_one_of m
     -- the end of a file is no statement
     end_kept : (xs : List Part) → Fits IsNonterminal (tok s.end done) xs → program_words (statements_in (map parsed xs)) ≡ parts_words xs
     end_kept [] h = absurd h
-    end_kept (p.Leaf l ∷ []) h = sym (nothing_before (part_words (p.Leaf l)) [] (quiet_part (p.Leaf l) (end_of_file (p.Leaf l) h.0)))
+    end_kept (p.Leaf l ∷ []) h = sym (nothing_before (part_words (p.Leaf l)) [] (quiet_part (p.Leaf l) (separates s.end refl (p.Leaf l) h.0)))
     end_kept (Node' kind m r ∷ xs) h = no_such h.0
     end_kept (p.Leaf l ∷ y ∷ xs) h = absurd h.1
 
@@ -708,6 +659,6 @@ formatted_tokens by_lines fixed text formatted formats tree new h i class token 
 
 pub formatted_words : BzlFixedPoint → FormattingKeepsWords
 formatted_words fixed text formatted formats tree new h i =
-    tree_kept is_bzl_separator (λ l m. first_is _ _ m) (λ l m. later_is _ _ m) new i.0
-    ∙ (ap (program_words is_bzl_separator (λ l m. first_is _ _ m) (λ l m. later_is _ _ m)) ((fixed text formatted formats).program tree new h i)
-    ∙ sym (tree_kept is_bzl_separator (λ l m. first_is _ _ m) (λ l m. later_is _ _ m) tree h.0))
+    tree_kept is_bzl_separator (λ l m. or_left _ _ m) (λ l m. or_right _ _ m) new i.0
+    ∙ (ap (program_words is_bzl_separator (λ l m. or_left _ _ m) (λ l m. or_right _ _ m)) ((fixed text formatted formats).program tree new h i)
+    ∙ sym (tree_kept is_bzl_separator (λ l m. or_left _ _ m) (λ l m. or_right _ _ m) tree h.0))

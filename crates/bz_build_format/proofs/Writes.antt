@@ -1,7 +1,7 @@
 -- What is written of a value: the layout of it tidied.
-use Rattle.std.proofs.Common.{◌∙◌, ◌≡◌, ◌≤◌, ◌<◌, ℕ, List, length, true, false, Bool, refl, [], Option, None, nat_lt, subst, sym, ap, arith, if◌then◌else◌}
+use Rattle.std.proofs.Common.{◌∙◌, ◌≡◌, ◌≤◌, ◌<◌, ℕ, List, length, true, false, Bool, refl, Option, nat_lt, subst, sym, ap, arith, if◌then◌else◌}
 use Rattle.std.proofs.lemmas.Bool.Decides.{nat_tests}
-use Rattle.std.proofs.lemmas.Bool.{ltb-false, false≢true}
+use Rattle.std.proofs.lemmas.Bool.{ltb-false}
 use Rattle.bz_grammar.specs.Spell.{depth_of, depth_limit, limit}
 use Rattle.bz_value.specs.declared.value.Item.{Item}
 use Rattle.bz_items.specs.Characters.{Bytes}
@@ -54,23 +54,11 @@ pub record IsGiven (items : List Item) (text : Bytes) (requested printed : Optio
   pub long : length (layout (tidied items)) ≤ limit
   pub deep : depth_of (laid_out (tidied items)) ≤ depth_limit
 
-abbrev text_in : Bytes → Meaning → Bytes
-text_in other (gives text printed) = text
-text_in other (refuses refusal) = other
-
-abbrev printed_in : Meaning → Option Bytes
-printed_in (gives text printed) = printed
-printed_in (refuses refusal) = None
-
-abbrev is_given : Meaning → Bool
-is_given (gives text printed) = true
-is_given (refuses refusal) = false
-
 -- what the tests say where a text is given
 within : (long deep : Bool) (all text : Bytes) (requested printed : Option Bytes)
     → (if long then refuses TooLarge else (if deep then refuses TooDeep else gives all requested)) ≡ gives text printed → (long ≡ false) × (deep ≡ false)
-within true deep all text requested printed e = absurd (false≢true (ap is_given e))
-within false true all text requested printed e = absurd (false≢true (ap is_given e))
+within true deep all text requested printed e = absurd cc
+within false true all text requested printed e = absurd cc
 within false false all text requested printed e = (refl, refl)
 
 limits : (depth : ℕ) (all text : Bytes) (requested printed : Option Bytes) → limited depth all requested ≡ gives text printed
@@ -80,7 +68,9 @@ limits depth all text requested printed e =
     let long : length all ≤ limit = ltb-false limit (length all) tests.0 in
     let deep : depth ≤ depth_limit = ltb-false depth_limit depth tests.1 in
     let same : gives all requested ≡ gives text printed = sym (fitting depth all requested long deep) ∙ e in
-    (sym (ap (text_in []) same), sym (ap printed_in same), long, deep)
+    let first : text ≡ all = cc in
+    let second : printed ≡ requested = cc in
+    (first, second, long, deep)
 
 pub given : (items : List Item) (text : Bytes) (requested printed : Option Bytes) → written items requested ≡ gives text printed → IsGiven items text requested printed
 given items text requested printed e =

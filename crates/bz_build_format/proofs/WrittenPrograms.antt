@@ -1,6 +1,5 @@
--- What is written of a proper value keeps its program.
-use Rattle.std.proofs.Common.{◌≡◌, ◌∙◌, List, ap, subst, sym}
-use Rattle.bz_grammar.specs.declared.tree.Node.{Node}
+-- What is written of a proper value is read back, and keeps its program.
+use Rattle.std.proofs.Common.{◌≡◌, ◌∙◌, List, Option, ap, subst, sym}
 use Rattle.bz_grammar.specs.Legal.{Reads}
 use Rattle.bz_grammar.specs.Laws.{OneReading}
 use Rattle.bz_value.specs.declared.value.Item.{Item}
@@ -12,15 +11,20 @@ use Rattle.bz_layout.specs.Laws.{LayoutIsAccepted, LayoutReadsBack}
 use Rattle.bz_passes.specs.Laws.{ProperStays, TidySettles}
 use Rattle.bz_passes.specs.Passes.{tidied}
 use Rattle.bz_passes.specs.Programs.{KeepsProgram, TidyingKeepsProgram}
+use Rattle.bz_build_format.specs.Meaning.{gives, written}
 use Rattle.bz_build_format.specs.Writing.{WritingKeepsProgram}
 use Rattle.bz_build_format.proofs.Writes.{IsGiven, given}
 
-pub written_program : OneReading → LayoutIsAccepted → LayoutReadsBack → ProperStays → TidySettles → TidyingKeepsProgram → WritingKeepsProgram
-written_program one accepted back stays settled kept items text printed proper e tree reads =
+-- it reads as the tree of the layout of the value tidied, which says just that
+pub read_back : LayoutIsAccepted → LayoutReadsBack → ProperStays → TidySettles → (items : List Item) (text : Bytes) (printed : Option Bytes) → IsProper items → written items printed ≡ gives text printed
+    → Reads text (laid_out (tidied items)) × (view_of (laid_out (tidied items)) ≡ tidied items)
+read_back accepted back stays settled items text printed proper e =
     let tidy : List Item = tidied items in
     let good : IsProper tidy = stays items proper in
     let is : IsGiven items text printed printed = given items text printed printed e in
-    let own : Node = laid_out tidy in
-    let own_reads : Reads text own = subst (λ (t : Bytes). Reads t own) (sym is.layout_is) (accepted tidy good is.long is.deep) in
-    let seen : view_of tree ≡ tidy = ap view_of (one text tree own reads own_reads) ∙ back tidy good ∙ settled items in
-    subst (KeepsProgram items) (sym seen) (kept items)
+    (subst (λ (t : Bytes). Reads t (laid_out tidy)) (sym is.layout_is) (accepted tidy good is.long is.deep), back tidy good ∙ settled items)
+
+pub written_program : OneReading → LayoutIsAccepted → LayoutReadsBack → ProperStays → TidySettles → TidyingKeepsProgram → WritingKeepsProgram
+written_program one accepted back stays settled kept items text printed proper e tree reads =
+    let own = read_back accepted back stays settled items text printed proper e in
+    subst (KeepsProgram items) (sym (ap view_of (one text tree (laid_out (tidied items)) reads own.0) ∙ own.1)) (kept items)

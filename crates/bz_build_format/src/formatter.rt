@@ -3,18 +3,21 @@ ghost use Rattle.std.specs.Prelude.{◌≡◌, ◌≢◌, ◌⊎◌, IfOk};
 ghost use Rattle.bz_build_format.specs.Faults.{FormatsTo, FormatsBzlTo};
 ghost use Rattle.bz_build_format.specs.Fixed.{IsFormatted, IsFormattedBzl};
 
-use crate::bzl_chunks::chunks_formatted as bzl_chunks_formatted;
 use crate::chunks::chunks_formatted;
 use crate::laws::{formatted_bzl_once, formatted_once};
 use crate::writing::written_text;
-use bz_bzl_layout::{level, level_keeps_layout, level_stays, set_bzl};
-use bz_bzl_value::{bzl_view_is_proper, view_bzl};
+use bz_bzl_layout::{
+    bzl_layout_is_accepted, bzl_layout_reads_back, bzl_layouts_join, level, level_keeps_layout,
+    level_stays, set_bzl,
+};
+use bz_bzl_value::{BzlFile, bzl_view_is_proper, bzl_views_join, view_bzl};
 use bz_grammar::ReadFault;
-use bz_hosts::into_view;
+use bz_hosts::{into_view, views_join};
 use bz_items::Text;
-use bz_layout::SetFault;
+use bz_layout::{SetFault, layouts_join};
+use bz_passes::tidied_apart;
 use bz_tree::{parse, parse_bzl};
-use bz_value::Refusal;
+use bz_value::{File, Refusal};
 use std::alloc::Global;
 use thiserror::Error;
 
@@ -53,7 +56,10 @@ pub fn format(alloc: Global, text: &[u8]) -> Result<Text, FormatFault>
     ensures fixed { IfOk result (λ formatted. IsFormatted text.now formatted) }
 {
     formatted_once();
-    if let Some(formatted) = chunks_formatted(alloc, text) {
+    views_join();
+    tidied_apart();
+    layouts_join();
+    if let Some(formatted) = chunks_formatted::<File>(alloc, text) {
         return Ok(formatted);
     }
     let tree = match parse(alloc, text) {
@@ -78,10 +84,14 @@ pub fn format_bzl(alloc: Global, text: &[u8]) -> Result<Text, FormatFault>
     ensures fixed { IfOk result (λ formatted. IsFormattedBzl text.now formatted) }
 {
     formatted_bzl_once();
+    bzl_views_join();
     bzl_view_is_proper();
+    bzl_layouts_join();
+    bzl_layout_is_accepted();
+    bzl_layout_reads_back();
     level_keeps_layout();
     level_stays();
-    if let Some(formatted) = bzl_chunks_formatted(alloc, text) {
+    if let Some(formatted) = chunks_formatted::<BzlFile>(alloc, text) {
         return Ok(formatted);
     }
     let tree = match parse_bzl(alloc, text) {

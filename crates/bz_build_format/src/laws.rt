@@ -33,12 +33,14 @@ pub fn formatted_once()
 }
 
 /// The program of the value of a tree is that of the tree: nothing is lost but gaps, brackets and the marks between parts.
+#[tactic(auto, using(crate::proofs::SeenPrograms::views_keep_programs))]
 pub fn views_keep_programs()
     ensures { ViewsKeepPrograms }
 {}
 
 /// Each token of a text is in its program as often, and in the formatted text as often as in the text, but for strings, commas,
 /// semicolons, brackets and newlines.
+#[tactic(auto, using(crate::proofs::TreeWords::tree_tokens, crate::proofs::TreeWords::formatted_tokens))]
 pub fn tokens_kept()
     ensures program { TreeProgramsKeepTokens }
     ensures formatted { FormattingKeepsTokens }
@@ -48,6 +50,7 @@ pub fn tokens_kept()
 }
 
 /// The text that is written of a proper value, as of what a command makes of one, keeps the value's program.
+#[tactic(auto, using(crate::proofs::WrittenPrograms::written_program))]
 pub fn writing_keeps_program()
     ensures { WritingKeepsProgram }
 {
@@ -60,6 +63,7 @@ pub fn writing_keeps_program()
 }
 
 /// The program of what a tree says is that of the tree: nothing is lost but gaps, brackets and the marks between parts.
+#[tactic(auto, using(crate::proofs::SeenPrograms::bzl_views_keep_programs))]
 pub fn bzl_views_keep_programs()
     ensures { BzlViewsKeepPrograms }
 {}
@@ -78,6 +82,7 @@ pub fn formatted_bzl_once()
 }
 
 /// The formatted text of a .bzl text has the same tokens in the same order, but for commas, semicolons, colons, brackets and newlines.
+#[tactic(auto, using(crate::proofs::TreeWords::formatted_words))]
 pub fn words_kept()
     ensures { FormattingKeepsWords }
 {

@@ -2,7 +2,6 @@
 //! Parts of a tree that come anew, read of their texts: as few lines as differ.
 #![tactic(auto)]
 
-mod bzl_chunks;
 mod chunks;
 mod cut;
 mod ends;

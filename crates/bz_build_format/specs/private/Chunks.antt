@@ -1,5 +1,5 @@
 -- A text that is formatted chunk by chunk, as the private functions that do so state it.
-use Rattle.std.specs.Prelude.{◌≡◌, ◌≤◌, Bool, true, false, List, [], ◌∷◌, ◌++◌, ◌⊎◌, Option, Some, None, length}
+use Rattle.std.specs.Prelude.{◌≡◌, ◌≤◌, ℕ, Bool, true, false, List, [], ◌∷◌, ◌++◌, ◌⊎◌, Option, Some, None, length}
 use Rattle.bz_items.specs.Characters.{Bytes}
 use Rattle.bz_grammar.specs.declared.tree.Node.{Node}
 use Rattle.bz_grammar.specs.Legal.{Reads, ReadsBzl}
@@ -38,6 +38,16 @@ build_files = record { reads = Reads; begins = λ tree. Unit {0}; ends = EndsWit
 
 abbrev pub bzl_files : SourceKind BzlItem
 bzl_files = record { reads = ReadsBzl; begins = BeginsBare; ends = EndsWithStatement; view = bzl_view_of; apart = λ items bare. bare ≡ true; settled = level; gap = bzl_gap_below; text = bzl_layout; tree = bzl_laid_out }
+
+-- What the layers below promise of what is one after the other.
+pub record LayersJoin {I : Type 0} (kind : SourceKind I) : Type 0 where
+  pub views : (s t : Bytes) (n m : Node) → kind.ends n → kind.begins m → kind.reads s n → kind.reads t m → length (s ++ t) ≤ limit
+      → (new : Node) × kind.reads (s ++ t) new × (kind.view new ≡ kind.view n ++ kind.view m) × (kind.ends m → kind.ends new)
+  pub begins : (items : List I) (bare : Bool) (tree : Node) → kind.apart items bare → (bare ≡ true → kind.begins tree) → kind.begins tree
+  pub settled : (front items : List I) (bare : Bool) → kind.apart items bare → kind.settled (front ++ items) ≡ kind.settled front ++ kind.settled items
+  pub first : (items : List I) → kind.gap None items ≡ []
+  pub layouts : (front : List I) (item : I) (items : List I) → kind.text ((front ++ item ∷ []) ++ items) ≡ kind.text (front ++ item ∷ []) ++ (kind.gap (Some item) items ++ kind.text items)
+  pub depths : (front items : List I) (depth : ℕ) → depth_of (kind.tree front) ≤ depth → depth_of (kind.tree items) ≤ depth → depth_of (kind.tree (front ++ items)) ≤ depth
 
 -- The text reads as a file of these items, and where `bare` and `ends` say so it may follow another one, and be followed.
 abbrev pub ReadsAs : {I : Type 0} → SourceKind I → Bytes → List I → Bool → Bool → Type 0

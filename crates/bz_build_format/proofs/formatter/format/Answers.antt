@@ -3,7 +3,8 @@ use Rattle.std.specs.Prelude.{◌≢◌}
 use Rattle.bz_grammar.specs.Legal.{Accepted}
 use Rattle.bz_value.specs.declared.value.Item.{Item}
 use Rattle.bz_build_format.specs.Faults.{FormatsTo}
-use Rattle.bz_build_format.specs.Meaning.{written}
+use Rattle.bz_build_format.specs.Meaning.{gives, written, Formats}
+use Rattle.bz_build_format.proofs.Chunking.{build_formatted, build_layers}
 use Rattle.bz_build_format.proofs.ReadFaults.{unread_answered}
 use Rattle.bz_build_format.proofs.formatter.format.Goals as goal
 
@@ -21,5 +22,10 @@ returns-in-Ok-written_text-clause-fixed c = c.formatted_once.ensures c.args.text
   sym (c.in-Ok-written_text.ensures.ok None) ∙ ap (λ (items : List Item). written items None) c.in-Ok-into_view.ensures.value,
 )
 
-pub returns-in-Some-clause-fixed : goal.returns-in-Some-clause-fixed
-returns-in-Some-clause-fixed c = c.formatted_once.ensures c.args.text.now c.in-Some.formatted c.in-Some.ensures
+pub chunks_formatted-requires : goal.chunks_formatted-requires
+chunks_formatted-requires c = build_layers c.views_join.ensures.joined c.tidied_apart.ensures c.layouts_join.ensures.text c.layouts_join.ensures.depth
+
+pub returns-in-Some : goal.returns-in-Some
+returns-in-Some c =
+    let formats : Formats c.args.text.now (gives c.in-Some.formatted None) = build_formatted c.args.text.now c.in-Some.formatted _ _ c.in-Some.ensures.2 in
+    record { formats = formats; fixed = c.formatted_once.ensures c.args.text.now c.in-Some.formatted formats }

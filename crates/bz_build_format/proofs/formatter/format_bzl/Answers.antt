@@ -1,8 +1,9 @@
-use Rattle.std.proofs.Common.{Err, ap, ◌∙◌}
+use Rattle.std.proofs.Common.{Err, Ok, ap, ◌∙◌}
 use Rattle.bz_grammar.specs.Legal.{NoBzlTree}
 use Rattle.bz_bzl_layout.specs.Level.{level}
 use Rattle.bz_build_format.specs.Faults.{FormatsBzlTo}
 use Rattle.bz_build_format.proofs.BzlFormatting.{laid_out_given}
+use Rattle.bz_build_format.proofs.Chunking.{bzl_formatted, bzl_layers}
 use Rattle.bz_build_format.proofs.ReadFaults.{unread_answered}
 use Rattle.bz_build_format.proofs.formatter.format_bzl.Goals as goal
 
@@ -13,8 +14,14 @@ returns-in-Err c = record {
   fixed = tt;
 }
 
-pub returns-in-Some-clause-fixed : goal.returns-in-Some-clause-fixed
-returns-in-Some-clause-fixed c = c.formatted_bzl_once.ensures c.args.text.now c.in-Some.formatted c.in-Some.ensures
+pub chunks_formatted-requires : goal.chunks_formatted-requires
+chunks_formatted-requires c = bzl_layers c.bzl_views_join.ensures c.bzl_layouts_join.ensures.text c.bzl_layouts_join.ensures.depth
+
+pub returns-in-Some : goal.returns-in-Some
+returns-in-Some c =
+    let formats : FormatsBzlTo c.args.text.now (Ok c.in-Some.formatted) = bzl_formatted c.bzl_view_is_proper.ensures c.level_keeps_layout.ensures c.level_stays.ensures
+    c.bzl_layout_is_accepted.ensures c.bzl_layout_reads_back.ensures c.args.text.now c.in-Some.formatted _ _ c.in-Some.ensures.2 in
+    record { formats = formats; fixed = c.formatted_bzl_once.ensures c.args.text.now c.in-Some.formatted formats }
 
 pub returns-in-Ok-set_bzl-clause-fixed : goal.returns-in-Ok-set_bzl-clause-fixed
 returns-in-Ok-set_bzl-clause-fixed c =

@@ -1,9 +1,0 @@
-use Rattle.std.proofs.Common.{length, ◌-◌, ◌≤◌, take}
-use Rattle.bz_build_format.specs.private.Chunks.{bzl_files, IsBegun}
-use Rattle.bz_build_format.proofs.bzl_chunks.chunks_formatted.Given as goal
-
-abbrev pub invariant-loop-at : goal.invariant-loop-at
-invariant-loop-at l = IsBegun bzl_files (take l.at l.text) l.out.items l.last l.ends × (l.at ≤ length l.text)
-
-abbrev pub decreases-loop-at : goal.decreases-loop-at
-decreases-loop-at l = length l.text - l.at

@@ -1,5 +1,0 @@
-use Rattle.bz_build_format.proofs.SeenPrograms.{views_keep_programs}
-use Rattle.bz_build_format.proofs.laws.views_keep_programs.Goals as goal
-
-pub returns : goal.returns
-returns c = views_keep_programs
