@@ -26,30 +26,25 @@ use Rattle.bz_edit.specs.Trails.{IsSmall}
 
 -- ---- commands, in a history
 
--- a meaning in the package and on the text of a history
-pub meant_there : (operation : Operation) (target : Target) (h : History) (current here : Bytes) (m : Meaning) → current ≡ h.package → here ≡ present h
-    → Means operation target current here m → Means operation target h.package (present h) m
-meant_there operation target h current here m own is means =
-    subst (λ (c : Bytes). Means operation target c (present h) m) own (subst (λ (text : Bytes). Means operation target current text m) is means)
+-- by what a command means in the package and on the text of a history
+pub acts_by : (note : Bytes) (operation : Operation) (target : Target) (h : History) (current here : Bytes) (m : Meaning) (answer : Answer) (after : History)
+    → current ≡ h.package → here ≡ present h → Means operation target current here m
+    → ((answer, after) ≡ after_meaning note h m) ⊎ ((answer ≡ Err Memory) × (after ≡ h)) → MakesOrWants (Do operation target) note h answer after
+acts_by note operation target h current here m answer after own is means (inl led) =
+    inl (m, subst (λ (c : Bytes). Means operation target c (present h) m) own (subst (λ (text : Bytes). Means operation target current text m) is means), led)
+acts_by note operation target h current here m answer after own is means (inr memory) = inr (λ none. none, memory.0, memory.1)
 
 pub acts_refused : (note : Bytes) (operation : Operation) (target : Target) (h : History) (current here : Bytes) (refusal : Refusal) → current ≡ h.package → here ≡ present h
     → Means operation target current here (refuses refusal) ⊎ (refusal ≡ Memory) → MakesOrWants (Do operation target) note h (Err refusal) h
-acts_refused note operation target h current here refusal own is (inl means) = inl (refuses refusal, meant_there operation target h current here (refuses refusal) own is means, refl)
+acts_refused note operation target h current here refusal own is (inl means) = acts_by note operation target h current here (refuses refusal) (Err refusal) h own is means (inl refl)
 acts_refused note operation target h current here refusal own is (inr memory) = inr (λ none. none, ap Err memory, refl)
 
 pub acts_same : (note : Bytes) (operation : Operation) (target : Target) (h : History) (current here : Bytes) (printed : Option Bytes) (reply : Reply) → current ≡ h.package → here ≡ present h
     → Means operation target current here (gives here printed) → reply ≡ unchanged printed → MakesOrWants (Do operation target) note h (Ok reply) h
-acts_same note operation target h current here printed reply own is means printed_answer =
-    let same : bytes_eq (present h) (present h) ≡ true = (bytes_eq-Decides (present h) (present h)).1 refl in
-    let led : ◌≡◌ {A = Answer × History} (Ok reply, h) (after_text note h (present h) printed) = rw (same, printed_answer) in
-    let given : Means operation target current here (gives (present h) printed) = subst (λ (text : Bytes). Means operation target current here (gives text printed)) is means in
-    inl (gives (present h) printed, meant_there operation target h current here (gives (present h) printed) own is given, led)
-
-pub acts_given : (note : Bytes) (operation : Operation) (target : Target) (h : History) (current here text : Bytes) (printed : Option Bytes) (answer : Answer) (after : History)
-    → current ≡ h.package → here ≡ present h → Means operation target current here (gives text printed)
-    → ((answer, after) ≡ after_text note h text printed) ⊎ ((answer ≡ Err Memory) × (after ≡ h)) → MakesOrWants (Do operation target) note h answer after
-acts_given note operation target h current here text printed answer after own is means (inl led) = inl (gives text printed, meant_there operation target h current here (gives text printed) own is means, led)
-acts_given note operation target h current here text printed answer after own is means (inr memory) = inr (λ none. none, memory.0, memory.1)
+acts_same note operation target h current here printed reply own is means replied =
+    let same : bytes_eq here (present h) ≡ true = (bytes_eq-Decides here (present h)).1 is in
+    let led : ◌≡◌ {A = Answer × History} (Ok reply, h) (after_text note h here printed) = rw (same, replied) refl in
+    acts_by note operation target h current here (gives here printed) (Ok reply) h own is means (inl led)
 
 -- what an effect means on the value that was seen and the lines that were counted, it means on the text
 pub means_on : (operation : Operation) (target : Target) (current text : Bytes) (m : Meaning) (tree : Node) (value : List Item) (lines : List ℕ)
@@ -72,10 +67,6 @@ module _ (note : Bytes) (h : History) (tree : Node) (value : List Item) (is : sp
   pub formats_made : (answer : Answer) (after : History) → ((answer, after) ≡ after_meaning note h (written value None)) ⊎ ((answer ≡ Err Memory) × (after ≡ h)) → MakesOrWants Format note h answer after
   formats_made answer after (inl led) = inl (written value None, (tree, subst (λ (t : Bytes). Reads t tree) is reads, ap (λ (xs : List Item). written xs None) seen), led)
   formats_made answer after (inr memory) = inr (λ none. none, memory.0, memory.1)
-
-  pub formats_refused : (refusal : Refusal) → ((printed : Option Bytes) → written value printed ≡ refuses refusal) ⊎ (refusal ≡ Memory) → MakesOrWants Format note h (Err refusal) h
-  formats_refused refusal (inl made) = inl (refuses refusal, (tree, subst (λ (t : Bytes). Reads t tree) is reads, sym (made None) ∙ ap (λ (xs : List Item). written xs None) seen), refl)
-  formats_refused refusal (inr memory) = inr (λ none. none, ap Err memory, refl)
 
 -- ---- back and forward
 

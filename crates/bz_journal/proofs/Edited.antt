@@ -1,6 +1,6 @@
 -- What a command on the value beside a session does is what the history says.
-use Rattle.std.proofs.Common.{◌≡◌, ◌≢◌, ◌⊎◌, ◌<◌, ◌∙◌, inl, inr, List, length, Result, Ok, Err, Option, None, Some, refl, sym, subst, ap}
-use Rattle.std.specs.Prelude.{IfSome, OnErr}
+use Rattle.std.proofs.Common.{◌≡◌, [], ◌≢◌, ◌⊎◌, ◌<◌, inl, inr, List, length, Result, Ok, Err, Option, refl, sym, subst, ap}
+use Rattle.std.specs.Prelude.{OnErr}
 use Rattle.bz_grammar.specs.declared.tree.Node.{Node}
 use Rattle.bz_grammar.specs.Legal.{Reads}
 use Rattle.bz_grammar.specs.Spell.{spell_node}
@@ -12,15 +12,21 @@ use Rattle.bz_value.specs.Proper.{IsProper}
 use Rattle.bz_hosts.specs.View.{view_of}
 use Rattle.bz_command_syntax.specs.declared.command.Operation.{Operation}
 use Rattle.bz_command.specs.Effect.{effect, printed}
+use Rattle.bz_command.specs.declared.outcome.Ran.{Ran}
+use Rattle.bz_passes.specs.Passes.{tidied}
+use Rattle.bz_build_format.proofs.Writes.{written_too_large}
 use Rattle.bz_value.specs.declared.refusal.Refusal.{Refusal}
-use Rattle.bz_value.specs.declared.refusal.Refusal.TheVariants.{Memory}
+use Rattle.bz_value.specs.declared.refusal.Refusal.TheVariants.{Memory, TooLarge}
 use Rattle.bz_journal.specs.Actions.{Do}
 use Rattle.bz_journal.specs.declared.action.Reply.{Reply}
 use Rattle.bz_journal.specs.Meaning.{Meaning, Means, gives, refuses, printed_answer, written, EffectMeans}
 use Rattle.bz_journal.specs.History.{History, Answer, present, unchanged, after_meaning, MakesOrWants}
 use Rattle.bz_journal.specs.Editing.{IsTidyLayoutOf, WrittenIsLaidOut}
+use Rattle.bz_journal.specs.Shown.{session_history}
 use Rattle.bz_journal.specs.State.{SessionState}
-use Rattle.bz_journal.proofs.Acting.{acts_same, meant_there, means_on, printed_answer_of}
+use Rattle.bz_journal.specs.private.Doing.{EndsAt, RunsIn}
+use Rattle.bz_journal.specs.private.Filling.{Overfills}
+use Rattle.bz_journal.proofs.Acting.{acts_by, acts_same, means_on, printed_answer_of}
 
 -- ---- what a command means by its effect on the value that was seen of a tree, and what it prints of that
 
@@ -43,6 +49,15 @@ module _ (operation : Operation) (target : Target) (current : Bytes) (tree : Nod
   means_refused refusal (inl made) = inl (meant_by (Err refusal) (refuses refusal) made refl)
   means_refused refusal (inr memory) = inr memory
 
+  too_large : (made : Result (List Item) Refusal) (answer : Option Bytes) → Overfills value made → EffectMeans made answer value (spell_node tree) (refuses TooLarge)
+  too_large (Err refusal) answer over = absurd over
+  too_large (Ok new) answer over = inr (over.0, sym (written_too_large new (tidied new) refl over.1 answer))
+
+  -- a command that is refused, or is past the limit
+  pub means_not : (refusal : Refusal) → ((Made ≡ Err refusal) ⊎ (refusal ≡ Memory)) ⊎ ((refusal ≡ TooLarge) × Overfills value Made) → Meant (refuses refusal) ⊎ (refusal ≡ Memory)
+  means_not refusal (inl made) = means_refused refusal made
+  means_not refusal (inr over) = inl (subst (λ (r : Refusal). Meant (refuses r)) (sym over.0) (meant_by Made (refuses TooLarge) refl (too_large Made (printed_answer operation Out) over.1)))
+
   -- `out` was printed
   module _ (new : List Item) (out : Bytes) (answer : Option Bytes) (made : Made ≡ Ok new) (printed_is : Out ≡ Ok out) (answer_is : answer ≡ printed_answer operation (Ok out)) where
     answered_is : answer ≡ printed_answer operation Out
@@ -53,6 +68,11 @@ module _ (operation : Operation) (target : Target) (current : Bytes) (tree : Nod
 
     pub means_made : new ≢ value → Meant (written new answer)
     means_made apart = meant_by (Ok new) (written new answer) made (inr (apart, ap (written new) answered_is))
+
+  -- by what it did to the value in place
+  pub means_ran : (new : List Item) (ran : Ran) (answer : Option Bytes) → RunsIn Made Out value (Ok ran) new → (ran.windows ≡ [] → ⊥) → answer ≡ printed_answer operation (Ok ran.printed)
+      → Meant (written new answer)
+  means_ran new ran answer runs other answer_is = means_made new ran.printed answer runs.ok runs.printed answer_is (λ same. other (runs.same.1 same))
 
 -- ---- what it answers beside a session
 
@@ -65,19 +85,14 @@ edited_same note operation target h current tree value new out answer reply own 
     acts_same note operation target h current (spell_node tree) answer reply own is
     (means_same operation target current tree value reads seen new out answer made printed_is answer_is same) replied
 
-pub edited_made : (note : Bytes) (operation : Operation) (target : Target) (h after : History) (current : Bytes) (tree : Node) (value new : List Item) (out : Bytes) (answer : Option Bytes) (reply : Answer)
+pub edited_made : (note : Bytes) (operation : Operation) (target : Target) (h after : History) (current : Bytes) (tree : Node) (value new : List Item) (ran : Ran) (answer : Option Bytes) (reply : Answer)
     → current ≡ h.package → spell_node tree ≡ present h → Reads (spell_node tree) tree → value ≡ view_of tree
-    → effect operation target current (lines_of tree) value ≡ Ok new → new ≢ value
-    → printed operation target current (lines_of tree) value ≡ Ok out → answer ≡ printed_answer operation (Ok out)
+    → RunsIn (effect operation target current (lines_of tree) value) (printed operation target current (lines_of tree) value) value (Ok ran) new → (ran.windows ≡ [] → ⊥)
+    → answer ≡ printed_answer operation (Ok ran.printed)
     → ((reply, after) ≡ after_meaning note h (written new answer)) ⊎ ((reply ≡ Err Memory) × (after ≡ h)) → MakesOrWants (Do operation target) note h reply after
-edited_made note operation target h after current tree value new out answer reply own is reads seen made apart printed_is answer_is (inr memory) = inr (λ none. none, memory.0, memory.1)
-edited_made note operation target h after current tree value new out answer reply own is reads seen made apart printed_is answer_is (inl led) =
-    inl (
-      written new answer,
-      meant_there operation target h current (spell_node tree) (written new answer) own is
-          (means_made operation target current tree value reads seen new out answer made printed_is answer_is apart),
-      led,
-    )
+edited_made note operation target h after current tree value new ran answer reply own is reads seen runs other answer_is led =
+    acts_by note operation target h current (spell_node tree) (written new answer) reply after own is
+    (means_ran operation target current tree value reads seen new ran answer runs other answer_is) led
 
 -- ---- what stays beside the session
 
@@ -90,12 +105,13 @@ value_taken laid_out items answer note h after reply tree proper within (inr mem
 value_taken laid_out items answer note h after reply tree proper within (inl led) reads is =
     laid_out items answer note h after reply tree proper within led (subst (λ (t : Bytes). Reads t tree) is reads)
 
--- a value that is kept, if any, is what the tree is seen as
-pub kept_seen : (kept : Option (List Item)) (items seen : List Item) → IfSome kept (λ own. own ≡ items) → items ≡ seen → IfSome kept (λ own. own ≡ seen)
-kept_seen None items seen is same = tt
-kept_seen (Some own) items seen is same = is ∙ same
-
 -- a session that nothing was done to
 pub stays_put : (answer : Answer) (s : SessionState) → OnErr answer (s ≡ s)
 stays_put (Ok reply) s = tt
 stays_put (Err refusal) s = refl
+
+-- what refuses that a value is written is answered
+pub refused_end : (note : Bytes) (s : SessionState) (file : List Item) (printed : Option Bytes) (refusal : Refusal) → ((printed : Option Bytes) → written file printed ≡ refuses refusal) ⊎ (refusal ≡ Memory)
+    → EndsAt (after_meaning note (session_history s) (written file printed)) s (Err refusal) s
+refused_end note s file printed refusal (inl made) = record { made = inl (sym (ap (after_meaning note (session_history s)) (made printed))); unmoved = refl; small = λ own. own }
+refused_end note s file printed refusal (inr memory) = record { made = inr (ap Err memory, refl); unmoved = refl; small = λ own. own }

@@ -23,23 +23,23 @@ present_changed note h text within =
     let long : length (take (h.cursor + 1) h.texts) ≡ h.cursor + 1 = rw length-take (omega arith) in
     subst (λ (n : ℕ). get_or (take (h.cursor + 1) h.texts ++ text ∷ []) n [] ≡ text) long (get_or-append_seam (take (h.cursor + 1) h.texts) text [] [])
 
--- what the text is where an answer is none of Full
-after_is : (same below : Bool) (note : Bytes) (h after : History) (text : Bytes) (reply : Reply) → h.cursor < length h.texts → (same ≡ true → text ≡ present h)
-    → ◌≡◌ {A = Answer × History} (Ok reply, after) (if same then (Ok (unchanged None), h) else (if below then (Ok Changed, changed note h text) else (Err Full, h)))
-    → present after ≡ text
-after_is true below note h after text reply within is led = ap (λ (z : Answer × History). present z.1) led ∙ sym (is refl)
-after_is false true note h after text reply within is led = ap (λ (z : Answer × History). present z.1) led ∙ present_changed note h text within
-after_is false false note h after text reply within is led = let answer = ap (λ (z : Answer × History). z.0) led in absurd (cc)
+-- the text that is present where an answer is no refusal
+pub text_after : (note : Bytes) (h after : History) (text : Bytes) (printed : Option Bytes) (reply : Reply) → h.cursor < length h.texts
+    → ◌≡◌ {A = Answer × History} (Ok reply, after) (after_text note h text printed) → present after ≡ text
+text_after note h after text printed reply within led = by_tests (bytes_eq text (present h)) (nat_lt h.cursor most_steps) (bytes_eq-Decides text (present h)).0 led
+  where
+    by_tests : (same below : Bool) → (same ≡ true → text ≡ present h)
+        → ◌≡◌ {A = Answer × History} (Ok reply, after) (if same then (Ok (unchanged printed), h) else (if below then (Ok Changed, changed note h text) else (Err Full, h)))
+        → present after ≡ text
+    by_tests true below is led = ap (λ (z : Answer × History). present z.1) led ∙ sym (is refl)
+    by_tests false true is led = ap (λ (z : Answer × History). present z.1) led ∙ present_changed note h text within
+    by_tests false false is led = let answer = ap (λ (z : Answer × History). z.0) led in absurd (cc)
 
 by_meaning : FixedPoint → (note : Bytes) (h after : History) (reply : Reply) (m : Meaning) → h.cursor < length h.texts → Formats (present h) m
     → ◌≡◌ {A = Answer × History} (Ok reply, after) (after_meaning note h m) → IsFormatted (present h) (present after)
 by_meaning fixed note h after reply (gives text printed) within formats led =
-    let none : printed ≡ None = prints_none (present h) text printed formats in
-    let first : Formats (present h) (gives text None) = subst (λ (p : Option Bytes). Formats (present h) (gives text p)) none formats in
-    let led_none : ◌≡◌ {A = Answer × History} (Ok reply, after) (after_text note h text None) = led ∙ ap (λ (p : Option Bytes). after_text note h text p) none in
-    let new : present after ≡ text =
-    after_is (bytes_eq text (present h)) (nat_lt h.cursor most_steps) note h after text reply within (bytes_eq-Decides text (present h)).0 led_none in
-    subst (IsFormatted (present h)) (sym new) (fixed (present h) text first)
+    let first : Formats (present h) (gives text None) = subst (λ (p : Option Bytes). Formats (present h) (gives text p)) (prints_none (present h) text printed formats) formats in
+    subst (IsFormatted (present h)) (sym (text_after note h after text printed reply within led)) (fixed (present h) text first)
 by_meaning fixed note h after reply (refuses refusal) within formats led = let answer = ap (λ (z : Answer × History). z.0) led in absurd (cc)
 
 pub formatted_after : FixedPoint → (note : Bytes) (h after : History) (answer : Answer) → h.cursor < length h.texts → MakesOrWants Format note h answer after

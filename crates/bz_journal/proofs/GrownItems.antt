@@ -17,17 +17,11 @@ use Rattle.bz_journal.specs.private.Filling.{AllGrow, Grows, Overfills, ArePrope
 use Rattle.bz_command.proofs.ProperEffects.{each_keeps}
 use Rattle.bz_journal.proofs.HeldAlone.{held_alone}
 
-same_first : (x y : Item) (xs ys : List Item) → x ∷ xs ≡ y ∷ ys → x ≡ y
-same_first x y xs ys e = cc
-
-same_after : (x y : Item) (xs ys : List Item) → x ∷ xs ≡ y ∷ ys → xs ≡ ys
-same_after x y xs ys e = cc
-
 -- one of both differs
 either_differs : (a b : Bool) (new item : Item) (others items : List Item) → (a ≡ true → others ≢ items) → (b ≡ true → new ≢ item)
     → (a || b) ≡ true → new ∷ others ≢ item ∷ items
-either_differs true b new item others items h g e = λ same. h refl (same_after new item others items same)
-either_differs false b new item others items h g e = λ same. g e (same_first new item others items same)
+either_differs true b new item others items h g e = λ same. let rest : others ≡ items = cc in h refl rest
+either_differs false b new item others items h g e = λ same. let first : new ≡ item = cc in g e first
 
 -- an item before the others
 first_grows : (size own : ℕ) (other differs mark : Bool) (item : Item) (marks : List Bool) (items : List Item) (one : NewItem) (rest : Result (List Item) Refusal)
@@ -38,9 +32,6 @@ first_grows size own other differs mark item marks items (Ok new) (Ok others) g 
     let first : own ≤ (if mark then alone_length new else 0) = g.0 in
     let following : size ≤ marked_alone marks others = h.0 in
     (omega (arith, first, following), either_differs other differs new item others items h.1 g.1)
-
-first_refuses : (one : NewItem) (rest : Result (List Item) Refusal) (refusal : Refusal) → one ≡ Err refusal → with_item_first one rest ≡ Err refusal
-first_refuses one rest refusal e = ap (λ (o : NewItem). with_item_first o rest) e
 
 later_refuses : (own : ℕ) (differs mark : Bool) (item : Item) (one : NewItem) (rest : Result (List Item) Refusal) (refusal : Refusal)
     → Grows own differs mark item one → rest ≡ Err refusal → with_item_first one rest ≡ Err refusal
@@ -64,10 +55,6 @@ or_turned false b true e = refl
 or_turned false true false e = refl
 or_turned false false false e = e
 
-or_nothing : (a : Bool) → (a || false) ≡ true → a ≡ true
-or_nothing true e = refl
-or_nothing false e = e
-
 -- where none is left
 none_grows : (change : Item → NewItem) (ms : List Bool) (xs : List Item) → (ms ≡ []) ⊎ (xs ≡ []) → AllGrow 0 false ms xs (on_meant change ms xs)
 none_grows change [] xs none = (omega arith, λ e. absurd (false≢true e))
@@ -83,12 +70,6 @@ pub record AreTried (change : Item → NewItem) (marks : List Bool) (items : Lis
   pub refuse : (refusal : Refusal) → on_meant change ms xs ≡ Err refusal → on_meant change marks items ≡ Err refusal
 
 module _ (change : Item → NewItem) (marks : List Bool) (items : List Item) where
-  pub none_tried : AreTried change marks items (limit + 1) false marks items
-  none_tried = record {
-    grow = λ size other h. weaker (size + (limit + 1 - (limit + 1))) size (other || false) other marks items (on_meant change marks items) (omega arith) (or_nothing other) h;
-    refuse = λ refusal e. e;
-  }
-
   module _ (left : ℕ) (differs mark : Bool) (item : Item) (ms : List Bool) (xs : List Item) (tried : AreTried change marks items left differs (mark ∷ ms) (item ∷ xs)) where
     pub next_tried : (own : ℕ) (another : Bool) → Grows own another mark item (one_where change mark item) → AreTried change marks items (left - own) (differs || another) ms xs
     next_tried own another g = record {
@@ -100,9 +81,6 @@ module _ (change : Item → NewItem) (marks : List Bool) (items : List Item) whe
           (omega arith) (or_turned other differs another) (tried.grow (size + own) (other || another) first);
       refuse = λ refusal e. tried.refuse refusal (meant_first change mark item ms xs ∙ later_refuses own another mark item (one_where change mark item) (on_meant change ms xs) refusal g e);
     }
-
-    pub refused_tried : (refusal : Refusal) → one_where change mark item ≡ Err refusal → on_meant change marks items ≡ Err refusal
-    refused_tried refusal e = tried.refuse refusal (meant_first change mark item ms xs ∙ first_refuses (one_where change mark item) (on_meant change ms xs) refusal e)
 
   pub all_tried : (left : ℕ) (differs : Bool) (ms : List Bool) (xs : List Item) → AreTried change marks items left differs ms xs → (ms ≡ []) ⊎ (xs ≡ [])
       → differs ≡ true → left ≡ 0 → Overgrows marks items (on_meant change marks items)
@@ -131,8 +109,7 @@ pub ones_proper : (operation : Operation) (current : Bytes) (found : Option Expr
     → AreProperMade (item_made operation current found) xs
 ones_proper operation current found items xs p h same_value same_items =
     let proper : AllByRecursion IsProperItem items = recursion_from_All IsProperItem items h in
-    subst (λ (ys : List Item). AreProperMade (item_made operation current found) ys) (sym same_items)
-    (subst (λ (o : Option Expr). AreProperMade (item_made operation current o) items) (sym same_value) (each_proper operation current items proper p items proper))
+    rw (same_items, same_value) (each_proper operation current items proper p items proper)
 
 -- ---- what a command makes of a file: `ms`, `xs` and `found` are the marks, the items and the value that is copied as they are handed on
 
@@ -140,11 +117,7 @@ module _ (operation : Operation) (current : Bytes) (found : Option Expr) (marks 
     (same_value : found ≡ source_of operation items) (same_marks : ms ≡ marks) (same_items : xs ≡ items) (each : made ≡ on_each operation current marks items) where
   one_by_one : made ≡ on_meant (item_made operation current found) ms xs
   unfolding item_made
-  one_by_one =
-      each
-      ∙ (ap (λ (o : Option Expr). on_meant (item_made operation current o) marks items) (sym same_value)
-      ∙ (ap (λ (bs : List Bool). on_meant (item_made operation current found) bs items) (sym same_marks)
-      ∙ ap (λ (ys : List Item). on_meant (item_made operation current found) ms ys) (sym same_items)))
+  one_by_one = rw (same_value, same_marks, same_items) each
 
   pub overfilled : Overgrows ms xs (on_meant (item_made operation current found) ms xs) → Overfills items made
   overfilled g =

@@ -1,5 +1,5 @@
 -- What the histories of sessions keep, and what a new text makes of a session.
-use Rattle.std.proofs.Common.{◌≡◌, ◌<◌, ◌+◌, ◌-◌, ℕ, zero, suc, List, [], ◌∷◌, ◌++◌, length, take, sym, ap, subst, ◌∙◌, ◌≤◌, map, arith, length-append, length-take-le}
+use Rattle.std.proofs.Common.{◌≡◌, ◌<◌, ◌+◌, ◌-◌, ℕ, zero, suc, List, [], ◌∷◌, ◌++◌, length, take, refl, sym, ap, subst, ◌∙◌, ◌≤◌, map, arith, length-append, length-take-le}
 use Rattle.std.specs.List.{AllByRecursion}
 use Rattle.std.proofs.lemmas.List.{length-map, take-map, take_at}
 use Rattle.sha2.specs.Sha256.{sha256}
@@ -7,26 +7,22 @@ use Rattle.bz_grammar.specs.declared.tree.Node.{Node}
 use Rattle.bz_grammar.specs.Spell.{spell_node}
 use Rattle.bz_edit.specs.declared.edit.Edit.{Edit}
 use Rattle.bz_edit.specs.Trails.{IsSmall, IsTrail, trail_at}
-use Rattle.bz_edit.specs.Shown.{Moves, SmallIsBetween, SmallIsLeast, TakesUp, TrailsKeep, TrailsLead, texts_of}
+use Rattle.bz_edit.specs.Shown.{Moves, TakesUp, TrailsKeep, texts_of}
 use Rattle.bz_journal_format.proofs.Beginnings.{lines_stay}
 use Rattle.bz_journal_format.specs.FirstLines.{AreFirstLines}
 use Rattle.bz_journal_format.specs.Texts.{IsNote}
 use Rattle.bz_journal_format.specs.declared.content.Version.TheVariants.{Two}
 use Rattle.bz_journal_format.specs.declared.kept.KeptLines.{KeptLines}
 use Rattle.bz_items.specs.Characters.{Bytes}
-use Rattle.bz_journal.specs.History.{History, IsKept, changed, most_steps, present}
+use Rattle.bz_journal.specs.History.{IsKept, changed, most_steps, present}
 use Rattle.bz_journal.specs.State.{SessionState, IsSession, session_trail}
 use Rattle.bz_journal.specs.private.Kept.{AreKeptOf}
-use Rattle.bz_journal.specs.Shown.{HoldsSteps, session_history}
+use Rattle.bz_journal.specs.Shown.{session_history}
 
 pub session_kept : TrailsKeep → (s : SessionState) → IsSession s → IsKept (session_history s)
 session_kept keep s h =
     let k = keep (session_trail s) h.trail in
     record { accepted = k.accepted; noted = omega (arith, k.counted, h.noted); within = k.within; known = omega (arith, k.counted, h.known); bounded = omega (arith, k.counted, h.bounded) }
-
-pub steps_held : TrailsKeep → TrailsLead → SmallIsBetween → SmallIsLeast → (s : SessionState) → IsSession s → HoldsSteps s
-steps_held keep lead between least s h =
-    record { kept = ∣ session_kept keep s h ∣₁; lead = lead (session_trail s) h.trail; between = between (session_trail s) h.trail; least = least (session_trail s) }
 
 pub session_present : TrailsKeep → (s : SessionState) → IsSession s → spell_node s.tree ≡ present (session_history s)
 session_present keep s h = let k = keep (session_trail s) h.trail in sym k.present
@@ -34,17 +30,11 @@ session_present keep s h = let k = keep (session_trail s) h.trail in sym k.prese
 pub session_counted : TrailsKeep → (s : SessionState) → IsSession s → length s.steps + 1 ≡ length (texts_of (session_trail s))
 session_counted keep s h = let k = keep (session_trail s) h.trail in sym k.counted
 
-pub session_ahead : TrailsKeep → (s : SessionState) (steps cursor : ℕ) → IsSession s → steps ≡ length s.steps → cursor ≡ s.cursor → s.cursor + (steps - cursor) + 1 ≡ length (texts_of (session_trail s))
-session_ahead keep s steps cursor h a b = omega (arith, session_counted keep s h, h.trail.within, a, b)
-
 -- ---- nothing is done
 
 pub as_before : (was s : SessionState) (tree : Node) (steps : List (List Edit)) (notes : List Bytes) → was ≡ s → tree ≡ was.tree → steps ≡ was.steps → notes ≡ was.notes
     → ◌≡◌ {A = SessionState} (record { tree = tree; steps = steps; notes = notes; «package» = was.«package»; cursor = was.cursor; before = was.before }) s
-as_before was s tree steps notes is same_tree same_steps same_notes =
-    ap (λ (n : Node). let v : SessionState = record { tree = n; steps = steps; notes = notes; «package» = was.«package»; cursor = was.cursor; before = was.before } in v) same_tree
-    ∙ ap (λ (l : List (List Edit)). let v : SessionState = record { tree = was.tree; steps = l; notes = notes; «package» = was.«package»; cursor = was.cursor; before = was.before } in v) same_steps
-    ∙ ap (λ (l : List Bytes). let v : SessionState = record { tree = was.tree; steps = was.steps; notes = l; «package» = was.«package»; cursor = was.cursor; before = was.before } in v) same_notes ∙ is
+as_before was s tree steps notes is same_tree same_steps same_notes = rw (same_tree, same_steps, same_notes) is
 
 -- ---- the cursor moves
 
@@ -105,9 +95,7 @@ extended keep s next tree steps notes note h room fits t put =
         bounded = omega (arith, size, room);
       };
       texts = t.texts;
-      history =
-          ap (λ (l : List Bytes). let g : History = record { «package» = s.«package»; texts = l; notes = notes; cursor = to; before = s.cursor } in g) t.texts
-          ∙ ap (λ (l : List Bytes). let g : History = record { «package» = s.«package»; texts = take to texts ++ spell_node next ∷ []; notes = l; cursor = to; before = s.cursor } in g) put;
+      history = rw (t.texts, put) refl;
       small = t.small;
     }
 
@@ -115,9 +103,7 @@ extended keep s next tree steps notes note h room fits t put =
 
 -- those of equal lists
 pub first_of_same : (ds es ns ms : List Bytes) (ss ts : List (List Edit)) (kept : KeptLines) → es ≡ ds → ms ≡ ns → ts ≡ ss → AreFirstLines Two ds ns ss kept → AreFirstLines Two es ms ts kept
-first_of_same ds es ns ms ss ts kept digests notes steps first =
-    subst (λ (l : List Bytes). AreFirstLines Two l ms ts kept) (sym digests)
-    (subst (λ (l : List Bytes). AreFirstLines Two ds l ts kept) (sym notes) (subst (λ (l : List (List Edit)). AreFirstLines Two ds ns l kept) (sym steps) first))
+first_of_same ds es ns ms ss ts kept digests notes steps first = rw (digests, notes, steps) first
 
 -- those before a new text stay
 pub kept_on : TrailsKeep → (s : SessionState) (next tree : Node) (steps : List (List Edit)) (notes : List Bytes) (note : Bytes) (kept : KeptLines) → IsSession s

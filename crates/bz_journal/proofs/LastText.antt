@@ -1,5 +1,5 @@
 -- What is done to the texts of a file that are kept alone.
-use Rattle.std.proofs.Common.{◌≡◌, ◌≤◌, ◌∙◌, ◌+◌, arith, ℕ, List, [], ◌∷◌, length, Option, None, Some, Ok, refl, sym, ap, subst, inl}
+use Rattle.std.proofs.Common.{◌≡◌, ◌∙◌, arith, ℕ, List, [], ◌∷◌, length, Option, Ok, refl, sym, ap, subst, inl}
 use Rattle.std.specs.Prelude.{slice_index_or}
 use Rattle.bz_grammar.specs.declared.tree.Node.{Node}
 use Rattle.bz_grammar.specs.Spell.{spell_node}
@@ -7,12 +7,11 @@ use Rattle.bz_label.specs.declared.target.Target.{Target}
 use Rattle.bz_items.specs.Characters.{Bytes}
 use Rattle.bz_command_syntax.specs.declared.command.Operation.{Operation}
 use Rattle.bz_journal.specs.Actions.{Do}
-use Rattle.bz_journal.specs.private.Alone.{history_made, text_or}
-use Rattle.bz_journal.specs.declared.alone.Made.{Made}
+use Rattle.bz_journal.specs.private.Alone.{text_or}
 use Rattle.bz_journal.specs.declared.action.Reply.{Reply}
 use Rattle.bz_journal.specs.Meaning.{Means, gives}
 use Rattle.bz_journal.specs.History.{Answer, History, IsKept, MakesOrWants, after_text, opened, present}
-use Rattle.bz_journal.proofs.Acting.{acts_given}
+use Rattle.bz_journal.proofs.Acting.{acts_by}
 
 -- ---- one text
 
@@ -25,25 +24,17 @@ no_notes : (notes : List Bytes) → length notes ≡ 0 → notes ≡ []
 no_notes [] none = refl
 no_notes (first ∷ more) none = absurd (omega (arith, none))
 
+same_parts : (current : Bytes) (ts us ns ms : List Bytes) (c d b e : ℕ) → ts ≡ us → ns ≡ ms → c ≡ d → b ≡ e
+    → ◌≡◌ {A = History} (record { «package» = current; texts = ts; notes = ns; cursor = c; before = b }) (record { «package» = current; texts = us; notes = ms; cursor = d; before = e })
+same_parts current ts us ns ms c d b e texts notes cursor before = rw (texts, notes, cursor, before) refl
+
 pub opened_first : (h : History) (text : Bytes) → IsKept h → length h.texts ≡ 1 → text ≡ present h → h ≡ opened h.«package» text
 opened_first h text kept one is =
     let cursor : h.cursor ≡ 0 = omega (arith, kept.within, one) in
     let before : h.before ≡ 0 = omega (arith, kept.known, one) in
     let notes : h.notes ≡ [] = no_notes h.notes (omega (arith, kept.noted, one)) in
     let texts : h.texts ≡ text ∷ [] = one_text h.texts text one (is ∙ ap (λ (n : ℕ). slice_index_or h.texts n []) cursor) in
-    ap (λ (l : List Bytes). let g : History = record h { texts = l } in g) texts
-    ∙ ap (λ (l : List Bytes). let g : History = record { «package» = h.«package»; texts = text ∷ []; notes = l; cursor = h.cursor; before = h.before } in g) notes
-    ∙ ap (λ (n : ℕ). let g : History = record { «package» = h.«package»; texts = text ∷ []; notes = []; cursor = n; before = h.before } in g) cursor
-    ∙ ap (λ (n : ℕ). let g : History = record { «package» = h.«package»; texts = text ∷ []; notes = []; cursor = 0; before = n } in g) before
-
--- no step is after the last text
-pub at_the_end : (current text : Bytes) (made : Option Made) → (history_made current text made).cursor + 0 + 1 ≡ length (history_made current text made).texts
-at_the_end current text None = refl
-at_the_end current text (Some made) = refl
-
-pub few : (current text : Bytes) (made : Option Made) → length (history_made current text made).texts ≤ 2
-few current text None = omega arith
-few current text (Some made) = omega arith
+    same_parts h.«package» h.texts (text ∷ []) h.notes [] h.cursor 0 h.before 0 texts notes cursor before
 
 -- ---- a command on one text
 
@@ -54,6 +45,6 @@ pub last_done : (note : Bytes) (operation : Operation) (target : Target) (h afte
 last_done note operation target h after current own text tree made printed reply is spelled named means led =
     let given : ◌≡◌ {A = Answer × History} (Ok reply, after) (after_text note (opened own text) (text_or (spell_node tree) made) printed) =
     led ∙ ap (λ (t : Bytes). after_text note (opened own text) (text_or t made) printed) spelled in
-    acts_given note operation target h current (spell_node tree) (text_or (spell_node tree) made) printed (Ok reply) after
+    acts_by note operation target h current (spell_node tree) (gives (text_or (spell_node tree) made) printed) (Ok reply) after
     (named ∙ sym (ap (λ (g : History). g.«package») is)) (sym spelled ∙ sym (ap present is)) means
     (inl (subst (λ (g : History). ◌≡◌ {A = Answer × History} (Ok reply, after) (after_text note g (text_or (spell_node tree) made) printed)) (sym is) given))

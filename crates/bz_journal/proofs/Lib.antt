@@ -9,7 +9,6 @@ pub mod Hashes
 pub mod Kept
 pub mod LastText
 pub mod Layouts
-pub mod Meant
 pub mod MovedLines
 pub mod Digested
 pub mod Edited
@@ -21,5 +20,4 @@ pub mod InForm
 pub mod Opening
 pub mod Persisting
 pub mod Running
-pub mod Overfull
 pub mod Stopped

@@ -26,15 +26,14 @@ spelled n = spell_Node n
 
 -- ---- lines with one statement
 
-of_two : (front : List ℕ) (s e : Part) → is_node s ≡ true → is_node e ≡ false → fronts_in front (s ∷ e ∷ []) ≡ (front ++ gap_of s) ∷ []
-of_two front s e node leaf = rw (node, leaf) refl
-
 two_front : (xs : List Part) (s e : Part) (front : List ℕ) → length xs ≡ 2 → s ≡ get_or xs 0 s → e ≡ get_or xs 1 e → true ≡ is_node s → false ≡ is_node e
     → fronts_in front xs ≡ (front ++ first_gap (flat_map leaves_part (take 1 xs))) ∷ []
 two_front [] s e front count is next node leaf = absurd (omega arith)
 two_front (a ∷ []) s e front count is next node leaf = absurd (omega arith)
 two_front (a ∷ b ∷ []) s e front count is next node leaf =
-    of_two front a b (ap is_node (sym is) ∙ sym node) (ap is_node (sym next) ∙ sym leaf) ∙ ap (λ (ls : List Leaf). (front ++ first_gap ls) ∷ []) (sym (append-nil (leaves_part a)))
+    let first : is_node a ≡ true = ap is_node (sym is) ∙ sym node in
+    let last : is_node b ≡ false = ap is_node (sym next) ∙ sym leaf in
+    rw (first, last, append-nil (leaves_part a)) refl
 two_front (a ∷ b ∷ c ∷ xs) s e front count is next node leaf = absurd (omega arith)
 
 pub line_of_one : (line : Node) (x : Part) (xs : List Part) (s e : Part) → x ≡ p.Node line → xs ≡ line.parts → length xs ≡ 2 → s ≡ get_or xs 0 s → e ≡ get_or xs 1 e
@@ -57,25 +56,17 @@ opening x xs first front one is = one.begun front ∙ ap (λ (gap : List ℕ). (
 abbrev pub OneEach : List Part → ℕ → Type 0
 OneEach xs i = (front : List ℕ) → length (fronts front xs) ≡ i + length (fronts (text_to front xs i) (drop i xs))
 
-copied_some : {T : Type 0} (o : Option (Bor T)) → is_some o ≡ true → is_some (option_copied o) ≡ true
-copied_some None e = e
-copied_some (Some b) e = refl
-
-one_more : (xs : List Part) (i : ℕ) (d : Part) (found : Option (List Part)) → i < length xs → d ≡ get_or xs i d → is_some found ≡ true → IfSome found (λ parts. IsLineOfOne d parts)
-    → OneEach xs i → OneEach xs (i + 1)
-one_more xs i d None within is some one so_far = absurd (false≢true some)
-one_more xs i d (Some parts) within is some one so_far = λ front.
+pub found_more : (xs : List Part) (i : ℕ) (d : Part) (found : Option (Bor (List Part))) → i < length xs → d ≡ get_or xs i d → is_some found ≡ true
+    → IfSome (option_copied found) (λ parts. IsLineOfOne d parts) → OneEach xs i → OneEach xs (i + 1)
+found_more xs i d None within is some one so_far = absurd (false≢true some)
+found_more xs i d (Some found) within is some one so_far = λ front.
     let here : List ℕ = text_to front xs i in
     let rest : List Part = drop (i + 1) xs in
-    let gap : List ℕ = first_gap (flat_map leaves_part (take 1 parts)) in
+    let gap : List ℕ = first_gap (flat_map leaves_part (take 1 found.now)) in
     let next : drop i xs ≡ d ∷ rest = drop_more xs i d within ∙ ap (λ (y : Part). y ∷ rest) (sym is) in
     let begun : fronts here (drop i xs) ≡ (here ++ gap) ∷ fronts (text_to front xs (i + 1)) rest =
     ap (fronts here) next ∙ ap (λ (ts : List (List ℕ)). ts ++ fronts (here ++ spell_part d) rest) (one.begun here) ∙ ap (λ (t : List ℕ). (here ++ gap) ∷ fronts t rest) (text_more front xs i d within is) in
     omega (arith, so_far front, ap length begun)
-
-pub found_more : (xs : List Part) (i : ℕ) (d : Part) (found : Option (Bor (List Part))) → i < length xs → d ≡ get_or xs i d → is_some found ≡ true
-    → IfSome (option_copied found) (λ parts. IsLineOfOne d parts) → OneEach xs i → OneEach xs (i + 1)
-found_more xs i d found within is some one so_far = one_more xs i d (option_copied found) within is (copied_some found some) one so_far
 
 pub all_one : (xs : List Part) (i : ℕ) → length xs ≤ i → i ≤ length xs → OneEach xs i → (front : List ℕ) → length (fronts front xs) ≡ length xs
 all_one xs i past within each = λ front. omega (arith, each front, ap (λ (ys : List Part). length (fronts (text_to front xs i) ys)) (drop_all i xs past), past, within)
@@ -100,9 +91,7 @@ in_moved f g (x ∷ xs) gone come e =
 
 both_moved : (a b c d : List (List ℕ)) (gone come : ℕ) → map line_following c ≡ map (moved gone come) (map line_following a) → map line_following d ≡ map (moved gone come) (map line_following b)
     → map line_following (c ++ d) ≡ map (moved gone come) (map line_following (a ++ b))
-both_moved a b c d gone come e f =
-    map-append line_following c d ∙ ap (λ (lines : List ℕ). lines ++ map line_following d) e ∙ ap (λ (lines : List ℕ). map (moved gone come) (map line_following a) ++ lines) f
-    ∙ sym (ap (map (moved gone come)) (map-append line_following a b) ∙ map-append (moved gone come) (map line_following a) (map line_following b))
+both_moved a b c d gone come e f = simp (map-append, e, f)
 
 among_moved : (f g : List ℕ) (xs : List Part) (gone come : ℕ) → newlines g + gone ≡ newlines f + come → lines_among g xs ≡ map (moved gone come) (lines_among f xs)
 among_moved f g [] gone come e = refl

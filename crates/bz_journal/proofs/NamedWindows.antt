@@ -1,7 +1,6 @@
 -- An index of names is that of other items too, where each that changed has the name which is listed at its place.
 use Rattle.std.proofs.Common.{arith, ◌≡◌, ◌+◌, ◌++◌, ◌∷◌, ◌∙◌, ◌⊎◌, ◌||◌, ◌==◌, inl, inr, ℕ, zero, suc, [], List, Bool, true, false, true≢false, Option, Some, None, map, take, drop, length, refl, sym, ap, ap₂, subst, eqb-true}
-use Rattle.std.specs.Prelude.{unwrap_or}
-use Rattle.std.specs.List.{list_any, slice_get}
+use Rattle.std.specs.List.{list_any}
 use Rattle.std.proofs.lemmas.List.{drop-drop, length-drop, length-take-le, map-append, take-append-drop}
 use Rattle.std.proofs.lemmas.Slice.Eq.{bytes_eq-Decides}
 use Rattle.bz_items.specs.Characters.{Bytes}
@@ -21,7 +20,7 @@ either false b is = inr is
 
 -- the item of a place that is listed under a name
 abbrev At : Bytes → ℕ → List Item → ℕ → Type 0
-At name at items place = (k : ℕ) × (item : Item) × (place ≡ at + k) × (slice_get items k ≡ Some item) × (has_name name item ≡ true)
+At name at items place = (k : ℕ) × (item : Item) × (place ≡ at + k) × (drop k items ≡ item ∷ drop (suc k) items) × (has_name name item ≡ true)
 
 one_later : (name : Bytes) (x : Item) (xs : List Item) (at place : ℕ) → At name (at + 1) xs place → At name at (x ∷ xs) place
 one_later name x xs at place (k, item, place_is, there, named) = (suc k, item, omega (arith, place_is), there, named)
@@ -45,25 +44,19 @@ text_is name None is = absurd (true≢false (sym is))
 text_is name (Some other) is = ap Some ((bytes_eq-Decides other name).0 is)
 
 module _ (index : Index) (before : List Item) (own : IsIndexOf index before) where
-  same_there : (at : ℕ) (item : Item) → HasListedName index at item → (old : Item) × (slice_get before at ≡ Some old) × (held_name old ≡ held_name item)
+  same_there : (at : ℕ) (item : Item) → HasListedName index at item → (old : Item) × (drop at before ≡ old ∷ drop (at + 1) before) × (held_name old ≡ held_name item)
   same_there at item (name, is, listed) =
       let (k, old, at_is, there, named) = listed_has name before 0 at (listed before own) in
-      let here : k ≡ at = omega (arith, at_is) in (old, subst (λ (n : ℕ). slice_get before n ≡ Some old) here there, text_is name (held_name old) named ∙ sym is)
-
-  drop_next : (xs : List Item) (at : ℕ) (x : Item) → slice_get xs at ≡ Some x → drop at xs ≡ x ∷ drop (suc at) xs
-  drop_next [] at x is = absurd (let e = is in cc)
-  drop_next (y ∷ ys) zero x is = ap (λ (found : Option Item). unwrap_or found y ∷ ys) is
-  drop_next (y ∷ ys) (suc at) x is = drop_next ys at x is
-
-  drop_there : (xs : List Item) (at : ℕ) (x : Item) → slice_get xs at ≡ Some x → drop at xs ≡ x ∷ drop (at + 1) xs
-  drop_there xs at x is = let next : suc at ≡ at + 1 = omega arith in drop_next xs at x is ∙ ap (λ (n : ℕ). x ∷ drop n xs) next
+      let here : k ≡ at = omega (arith, at_is) in
+      let next : suc k ≡ at + 1 = omega (arith, at_is) in
+      (old, ap (λ (n : ℕ). drop n before) (sym here) ∙ there ∙ ap (λ (n : ℕ). old ∷ drop n before) next, text_is name (held_name old) named ∙ sym is)
 
   same_names : (items : List Item) (at : ℕ) → HaveListedNames index at items → map held_name items ≡ map held_name (take (length items) (drop at before))
   same_names [] at listed = refl
   same_names (item ∷ items) at (is, listed) =
       let (old, there, same) = same_there at item is in
       ap₂ (λ (x : Option Bytes) (xs : List (Option Bytes)). x ∷ xs) (sym same) (same_names items (at + 1) listed)
-      ∙ ap (λ (rest : List Item). map held_name (take (suc (length items)) rest)) (sym (drop_there before at old there))
+      ∙ ap (λ (rest : List Item). map held_name (take (suc (length items)) rest)) (sym there)
 
   -- ---- windows
 

@@ -55,9 +55,6 @@ module _ (ws : List PartWindow) (parts : List Part) (i old new : ℕ) (w : PartW
         three.2 ∙ ap (drop (length w.parts)) one ∙ drop-drop (length w.parts) (new + w.from) parts,
       )
 
-  pub between_differs : (take w.from (drop new parts) ≡ take w.from (drop old parts) → ⊥) → window_parts ws parts ≡ parts → ⊥
-  between_differs other same = other (found same).0
-
   pub parts_differ : (take (length w.parts) (drop (new + w.from) parts) ≡ w.parts → ⊥) → window_parts ws parts ≡ parts → ⊥
   parts_differ other same = other (found same).1
 

@@ -13,13 +13,11 @@ use Rattle.bz_items.specs.Characters.{Bytes}
 use Rattle.bz_resume.specs.declared.fault.ResumeFault.{ResumeFault}
 use Rattle.bz_resume.specs.declared.fault.ResumeFault.TheVariants as f
 use Rattle.bz_resume.specs.declared.resumed.Resumed.{Resumed}
-use Rattle.bz_resume.specs.Journals.{AreSmall, Journal, MaySave}
+use Rattle.bz_resume.specs.Journals.{AreSmall, MaySave}
 use Rattle.bz_resume.specs.Resumed as r
 use Rattle.bz_resume.specs.Resumed.{StandsFor}
-use Rattle.bz_journal.specs.History.{History, present}
-use Rattle.bz_files.specs.Folder.{Folder}
-use Rattle.bz_resume.specs.Resuming.{FollowsKept, MayResume, Resumes}
-use Rattle.bz_journal.specs.Lasting.{GoesOn, IsKnownSession, IsResumedSession, IsSavedSession, saved}
+use Rattle.bz_journal.specs.History.{History}
+use Rattle.bz_journal.specs.Lasting.{GoesOn, IsKnownSession, IsResumedSession}
 use Rattle.bz_journal.specs.Shown.{session_history}
 use Rattle.bz_journal.specs.State.{SessionState, IsSession, session_trail}
 
@@ -28,10 +26,7 @@ use Rattle.bz_journal.specs.State.{SessionState, IsSession, session_trail}
 pub same_state : (n : Node) (es fs : List (List Edit)) (ns ms : List Bytes) (p q : Bytes) (c b : ℕ) → es ≡ fs → ns ≡ ms → p ≡ q
     → (let s : SessionState = record { tree = n; steps = es; notes = ns; «package» = p; cursor = c; before = b } in s)
     ≡ (let s : SessionState = record { tree = n; steps = fs; notes = ms; «package» = q; cursor = c; before = b } in s)
-same_state n es fs ns ms p q c b steps notes named =
-    ap (λ z. let s : SessionState = record { tree = n; steps = z; notes = ns; «package» = p; cursor = c; before = b } in s) steps
-    ∙ ap (λ z. let s : SessionState = record { tree = n; steps = fs; notes = z; «package» = p; cursor = c; before = b } in s) notes
-    ∙ ap (λ z. let s : SessionState = record { tree = n; steps = fs; notes = ms; «package» = z; cursor = c; before = b } in s) named
+same_state n es fs ns ms p q c b steps notes named = rw (steps, notes, named) refl
 
 -- ---- saving
 
@@ -81,13 +76,6 @@ lasts keep bytes text current s (h, es, journal, stood) is =
 pub knows : (bytes text : Bytes) (s : Resumed) → r.IsResumed bytes text s → s.digests ≡ map sha256 (texts_of (r.trail_of s))
 knows bytes text s (h, es, journal, stood) = stood.digests ∙ ap (map sha256) (sym stood.texts)
 
-same_history : (p q : Bytes) (ts us ns ms : List Bytes) (c : ℕ) → q ≡ p → us ≡ ts → ms ≡ ns
-    → (let h : History = record { «package» = q; texts = us; notes = ms; cursor = c; before = c } in h) ≡ (let h : History = record { «package» = p; texts = ts; notes = ns; cursor = c; before = c } in h)
-same_history p q ts us ns ms c e f g =
-    ap (λ z. let h : History = record { «package» = z; texts = us; notes = ms; cursor = c; before = c } in h) e
-    ∙ ap (λ z. let h : History = record { «package» = p; texts = z; notes = ms; cursor = c; before = c } in h) f
-    ∙ ap (λ z. let h : History = record { «package» = p; texts = ts; notes = z; cursor = c; before = c } in h) g
-
 pub resumed_made : (bytes text : Bytes) (s : Resumed) (result : Result SessionState ResumeFault) → r.IsResumed bytes text s
     → IfOk result (λ t. (h : History) (es : List (List Edit)) (text : Bytes) → StandsFor h es text s → GoesOn h es text t) → IfOk result (IsResumedSession bytes text)
 resumed_made bytes text s (Ok t) (h, es, journal, stood) made = (h, es, journal, made h es text stood)
@@ -98,16 +86,3 @@ pub known_made : (h : History) (es : List (List Edit)) (text : Bytes) (s : Resum
     → IsKnownSession h es text result
 known_made h es text s (Ok t) stood made memory = made h es text stood
 known_made h es text s (Err fault) stood made memory = subst (λ (x : ResumeFault). IsKnownSession h es text (Err x)) (sym memory) tt
-
--- ---- keeping
-
-pub may_resume : (folder : Folder) (file standing stored text : Bytes) (h : History) (s : SessionState) → standing ≡ present h → stored ≡ saved s → text ≡ present (session_history s)
-    → IsSavedSession s → FollowsKept h (session_history s) → Resumes folder file h.«package» h.texts
-    → MayResume folder file standing stored text h (session_history s) s.steps
-may_resume folder file standing stored text h s begun journal written own follows resumes = record {
-  resumes = resumes;
-  begun = begun;
-  follows = follows;
-  journal = subst (λ (j : Bytes). Journal j (session_history s) s.steps) (sym journal) own;
-  written = written;
-}

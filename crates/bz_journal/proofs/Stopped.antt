@@ -45,29 +45,24 @@ resumes_at recorded es current texts text place (Err f.Stale) own are standing k
 resumes_at recorded es current texts text place (Err f.Damaged) own are standing known = known
 resumes_at recorded es current texts text place (Err f.Version) own are standing known = known
 
--- what is resumed of a file that goes on with these texts
-abbrev Known : Bytes → Bytes → Result SessionState ResumeFault → Type 0
-Known bytes text result = (recorded : History) (es : List (List Edit)) → Journal bytes recorded es → IsKnownSession recorded es text result
+-- what is resumed of a file and a journal at some moment
+module _ (file : Bytes) (now : Folder) (text bytes : Bytes) (result : Result SessionState ResumeFault) (is : get now file ≡ Some text) (journal : get now (journal_name file) ≡ Some bytes)
+    (known : (recorded : History) (es : List (List Edit)) → Journal bytes recorded es → IsKnownSession recorded es text result) where
+  by_history : (current : Bytes) (texts : List Bytes) → IsRecordedBy now file current text texts → ResumesAt current texts text result
+  by_history current texts (inl none) = absurd (none_some bytes (sym none.0 ∙ journal))
+  by_history current texts (inr (own, recorded, es, place, there_is, stored, called, are, standing)) =
+      resumes_at recorded es current texts text place result called are standing (known recorded es (subst (λ (b : Bytes). Journal b recorded es) (some_same own bytes (sym there_is ∙ journal)) stored))
 
-by_history : (folder : Folder) (file current text bytes : Bytes) (texts : List Bytes) (result : Result SessionState ResumeFault) → get folder (journal_name file) ≡ Some bytes → Known bytes text result
-    → IsRecordedBy folder file current text texts → ResumesAt current texts text result
-by_history folder file current text bytes texts result journal known (inl none) = absurd (none_some bytes (sym none.0 ∙ journal))
-by_history folder file current text bytes texts result journal known (inr (own, recorded, es, place, there_is, is, called, are, standing)) =
-    resumes_at recorded es current texts text place result called are standing (known recorded es (subst (λ (b : Bytes). Journal b recorded es) (some_same own bytes (sym there_is ∙ journal)) is))
+  held : (current other : Bytes) (texts : List Bytes) → Holds now file current other texts → ResumesAt current texts text result
+  held current other texts holds =
+      by_history current texts (subst (λ (t : Bytes). IsRecordedBy now file current t texts) (some_same other text (sym holds.holds ∙ is)) holds.history)
 
-held : (folder : Folder) (file current text other bytes : Bytes) (texts : List Bytes) (result : Result SessionState ResumeFault) → get folder file ≡ Some text → get folder (journal_name file) ≡ Some bytes
-    → Known bytes text result → Holds folder file current other texts → ResumesAt current texts text result
-held folder file current text other bytes texts result is journal known holds =
-    by_history folder file current text bytes texts result journal known
-    (subst (λ (t : Bytes). IsRecordedBy folder file current t texts) (some_same other text (sym holds.holds ∙ is)) holds.history)
-
-by_holds : (file : Bytes) (h after : History) (now : Folder) (text bytes : Bytes) (result : Result SessionState ResumeFault)
-    → get now file ≡ Some text → get now (journal_name file) ≡ Some bytes → Known bytes text result
-    → Holds now file h.«package» (present h) h.texts ⊎ (Holds now file h.«package» (present h) after.texts ⊎ Holds now file h.«package» (present after) after.texts)
-    → ResumesAt h.«package» h.texts text result ⊎ ResumesAt h.«package» after.texts text result
-by_holds file h after now text bytes result is journal known (inl before) = inl (held now file h.«package» text (present h) bytes h.texts result is journal known before)
-by_holds file h after now text bytes result is journal known (inr (inl between)) = inr (held now file h.«package» text (present h) bytes after.texts result is journal known between)
-by_holds file h after now text bytes result is journal known (inr (inr following)) = inr (held now file h.«package» text (present after) bytes after.texts result is journal known following)
+  by_holds : (h after : History)
+      → Holds now file h.«package» (present h) h.texts ⊎ (Holds now file h.«package» (present h) after.texts ⊎ Holds now file h.«package» (present after) after.texts)
+      → ResumesAt h.«package» h.texts text result ⊎ ResumesAt h.«package» after.texts text result
+  by_holds h after (inl before) = inl (held h.«package» (present h) h.texts before)
+  by_holds h after (inr (inl between)) = inr (held h.«package» (present h) after.texts between)
+  by_holds h after (inr (inr following)) = inr (held h.«package» (present after) after.texts following)
 
 pub stopped_is_resumed : StoppedIsResumed
-stopped_is_resumed file h after old now text bytes result survives is journal known = by_holds file h after now text bytes result is journal known survives.holds
+stopped_is_resumed file h after old now text bytes result survives is journal known = by_holds file now text bytes result is journal known h after survives.holds

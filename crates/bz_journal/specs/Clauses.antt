@@ -21,7 +21,7 @@ pub use Rattle.bz_journal.specs.Listing.{lines_of_texts, listing, noted, text_li
 pub use Rattle.bz_journal.specs.Lookups.{AreLookupsOf}
 pub use Rattle.bz_journal.specs.Meaning.{Means, gives, refuses, printed_answer, written}
 pub use Rattle.bz_journal.specs.Shown.{HoldsSteps, IsOverEven, OpensText, session_history}
-pub use Rattle.bz_journal.specs.State.{SessionState, session_trail}
+pub use Rattle.bz_journal.specs.State.{IsSession, SessionState, session_trail}
 pub use Rattle.bz_journal.specs.Stopping.{StoppedIsResumed}
 pub use Rattle.bz_journal.specs.Worked.{WorkedHistories}
 pub use Rattle.bz_journal.specs.declared.action.Reply.{Reply}

@@ -60,39 +60,6 @@ IsWrittenSince t from (Ok None) = t.cursor ≡ from
 IsWrittenSince t from (Ok (Some w)) = (t.cursor ≢ from) × IsWrittenOf t w
 IsWrittenSince t from (Err e) = t.cursor ≢ from
 
--- What doing an action in a session and keeping it does to the session, to its file and to the journal.
-pub record KeepsPair {F : Type 0} (files : FilesOf F) (action : Action) (note file : Bytes) (s : SessionState) (answer : Result Reply KeepFault) (t : SessionState) (old new : F) : Type 0 where
-  pub keeps : Keeps action note (session_history s) answer (session_history t)
-  pub refused : IfErr answer (λ fault. IsRefused fault → (t ≡ s) × (new ≡ old))
-  pub even : length note ≤ note_limit → IsOverEven action (session_trail s) → IfErr answer (λ fault. IsRefused fault → ⊥)
-  pub small : IsSmall (session_trail s) → IsSmall (session_trail t)
-  -- A stop at any moment leaves a file that goes on with the texts of before or after, and that holds the present text of either.
-  pub each : files.honest old ≡ true → Resumes (files.folder old) file (session_history s).«package» (session_history s).texts
-      → (now : Folder) → files.since new (files.moment old) now
-      → (now ≡ files.folder old) ⊎ Survives file (session_history s) (session_history t) (files.folder old) now
-  pub time : files.honest old ≡ true → Resumes (files.folder old) file (session_history s).«package» (session_history s).texts
-      → Elapses (files.moment old) (files.moment new) (files.since old) (files.since new)
-      (λ now. (now ≡ files.folder old) ⊎ Survives file (session_history s) (session_history t) (files.folder old) now)
-  pub kept : files.honest old ≡ true → Resumes (files.folder old) file (session_history s).«package» (session_history s).texts
-      → OnOk answer (t.cursor ≢ s.cursor
-      → Holds (files.folder new) file (session_history s).«package» (present (session_history t)) (session_history t).texts
-      × OthersStay file (files.folder old) (files.folder new))
-  -- The journal is as before or the session's, at every moment, and the session's where the text is another one.
-  pub stored : files.honest old ≡ true → (now : Folder) → files.since new (files.moment old) now
-      → (get now (journal_name file) ≡ get (files.folder old) (journal_name file)) ⊎ (get now (journal_name file) ≡ Some (saved t))
-  pub journal : files.honest old ≡ true → OnOk answer (t.cursor ≢ s.cursor → get (files.folder new) (journal_name file) ≡ Some (saved t))
-  -- That the file holds another text is said only where it does. Nothing is replaced where the present text stays, and at every
-  -- fault but Write.
-  pub changed : files.honest old ≡ true → IsErrOf answer (Pair f.Changed) → get (files.folder old) file ≢ Some (present (session_history s))
-  pub still : OnOk answer (t.cursor ≡ s.cursor → new ≡ old)
-  pub untouched : files.honest old ≡ true → IfErr answer (λ fault. fault ≢ Pair f.Write
-      → (now : Folder) → files.since new (files.moment old) now → now ≡ files.folder old)
-  -- A Write and an Open are counted, and nothing else.
-  pub cause : IsWriteOrOpen answer → Rises (files.faults old) (files.faults new)
-  pub rest : (IsWriteOrOpen answer → ⊥) → files.faults new ≡ files.faults old
-  pub count : files.faults old ≤ files.faults new
-  pub honest : files.honest new ≡ files.honest old
-
 -- What keeping an action does to files: to the file of this name and to its journal, by the history before and the one after it, and
 -- by what was answered. (The files before and after.)
 pub record KeepsFile {F : Type 0} (files : FilesOf F) (name : Bytes) (before after : History) (answer : Result Reply KeepFault) (old new : F) : Type 0 where
@@ -122,3 +89,12 @@ pub record KeepsFile {F : Type 0} (files : FilesOf F) (name : Bytes) (before aft
   pub rest : (IsWriteOrOpen answer → ⊥) → files.faults new ≡ files.faults old
   pub count : files.faults old ≤ files.faults new
   pub honest : files.honest new ≡ files.honest old
+
+-- What doing an action in a session and keeping it does to the session, and to its file and the journal, which has the steps of the session.
+pub record KeepsPair {F : Type 0} (files : FilesOf F) (action : Action) (note file : Bytes) (s : SessionState) (answer : Result Reply KeepFault) (t : SessionState) (old new : F) : Type 0 where
+  pub keeps : Keeps action note (session_history s) answer (session_history t)
+  pub refused : IfErr answer (λ fault. IsRefused fault → t ≡ s)
+  pub even : length note ≤ note_limit → IsOverEven action (session_trail s) → IfErr answer (λ fault. IsRefused fault → ⊥)
+  pub small : IsSmall (session_trail s) → IsSmall (session_trail t)
+  pub pair : KeepsFile files file (session_history s) (session_history t) answer old new
+  pub steps_are : pair.steps ≡ t.steps

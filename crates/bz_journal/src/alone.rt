@@ -1,5 +1,5 @@
 //! The texts of a file alone: what a run has of it once the last command on it is done.
-ghost use Rattle.std.specs.Prelude.{◌≡◌, ◌≢◌, ◌≤◌, Ok, IfOk, length, string_bytes};
+ghost use Rattle.std.specs.Prelude.{◌≡◌, ◌≢◌, ◌≤◌, ◌+◌, Ok, IfOk, length, string_bytes};
 ghost use Rattle.bz_journal.specs.Clauses.{Acts, Answer, Bytes, History, IsSmall, action_in, after_text, changed, note_limit, opened, present, session_history, session_trail, text_or};
 
 use crate::action::{Action, Reply};
@@ -103,21 +103,16 @@ fn take_up_again(course: Course, made: &Made) -> Result<Course, Memory>
 }
 
 impl Alone {
-    /// The number of the present text; the first is 0.
+    /// The number of the present text, which is the last one; the first is 0.
     pub(crate) fn cursor(&self) -> u32
-        ensures { result ≡ self.now.cursor }
+        ensures present { result ≡ self.now.cursor }
+        ensures last { self.now.cursor + 1 ≡ length self.now.texts }
+        ensures few { length self.now.texts ≤ 2 }
     {
         match &self.made {
             Some(_) => 1,
             None => 0,
         }
-    }
-
-    /// They are two at most.
-    pub(crate) fn are_few(&self)
-        ensures { length self.now.texts ≤ 2 }
-    {
-        let _made = &self.made;
     }
 
     /// The present text.
@@ -149,7 +144,6 @@ impl Alone {
     pub(crate) fn wanting(&self, action: &Action<'_>, note: &str) -> Result<Reply, Refusal>
         ensures { Acts (action_in action.now) note.now self.now result self.now }
     {
-        let _made = &self.made;
         let ahead = 0; // no step is after the last text
         match at_once(action, note, self.cursor(), ahead) {
             Some(answer) => answer,

@@ -1,6 +1,6 @@
 //! Commands that leave the present text as it is, answered by the value beside a session.
 ghost use Rattle.std.specs.Prelude.{◌≡◌, ◌⊎◌, None, Ok, Err, IfErr, IfOk, IfSome};
-ghost use Rattle.bz_journal.specs.Clauses.{AreLookupsOf, Bytes, IsSeenIn, IsIndexOf, MakesOrWants, Node, Refusal, effect, lines_of, printed, session_history, view_of};
+ghost use Rattle.bz_journal.specs.Clauses.{AreLookupsOf, Bytes, HasMade, IsSeenIn, IsIndexOf, Node, Refusal, effect, lines_of, printed, session_history, view_of};
 ghost use Rattle.bz_journal.specs.Actions as a;
 
 use crate::action::Reply;
@@ -79,7 +79,7 @@ fn answer_of(
 ) -> Option<Result<Reply, Refusal>>
     requires value { file.now ≡ view_of course.now.tree }
     requires lookups { AreLookupsOf lookups.now course.now.tree }
-    ensures { IfSome result (λ answer. (note : Bytes) → MakesOrWants (a.Do command.now target.now) note (session_history course.now) answer (session_history course.now)) }
+    ensures { IfSome result (λ answer. (note : Bytes) → HasMade (a.Do command.now target.now) note course.now answer course.now) }
 {
     let alloc = course.alloc();
     let here = course.present();
@@ -98,7 +98,7 @@ fn answer_of(
 
 /// Looks up the lines on which statements begin, where a command or its target looks at them and they aren't there yet. The error: memory
 /// was refused.
-pub(crate) fn look_up_lines(
+fn look_up_lines(
     alloc: Global,
     command: &Command,
     target: &Target,
@@ -115,7 +115,7 @@ pub(crate) fn look_up_lines(
 }
 
 /// Makes the index of the names in the value of a tree, where it isn't there yet. The error: memory was refused.
-pub(crate) fn look_up_names(
+fn look_up_names(
     alloc: Global,
     lookups: &mut Lookups,
     tree: &Tree,
@@ -136,11 +136,13 @@ pub(crate) fn is_by_name(target: &Target) -> bool {
     matches!(target.which, Which::Name(_))
 }
 
-/// Looks up what a command and its target need of a tree and its value, and isn't there yet. The error: memory was refused.
-fn look_up(
+/// Looks up what a command and its target need of a tree and its value, and isn't there yet: the index of names where it is said that this is
+/// of use again. The error: memory was refused.
+pub(crate) fn look_up(
     alloc: Global,
     command: &Command,
     target: &Target,
+    again: bool,
     lookups: &mut Lookups,
     tree: &Tree,
     file: &File,
@@ -150,13 +152,14 @@ fn look_up(
     ensures { AreLookupsOf lookups.new tree.now }
 {
     look_up_lines(alloc, command, target, lookups, tree)?;
-    if is_by_name(target) {
+    if again && is_by_name(target) {
         look_up_names(alloc, lookups, tree, file)?;
     }
     Ok(())
 }
 
-/// What a command answers by the value of the present text, which is kept with what is looked up; none where it would change the text.
+/// What a command that prints answers by the value of the present text, which is kept with what is looked up; none where it would change the
+/// text, or where the value isn't worth keeping: not that of a layout, and the command before printed nothing.
 pub(crate) fn answer(
     course: &Course,
     seen: &mut Seen,
@@ -164,15 +167,20 @@ pub(crate) fn answer(
     target: &Target,
 ) -> Option<Result<Reply, Refusal>>
     requires { IsSeenIn course.now.tree seen.old }
-    ensures makes { IfSome result (λ answer. (note : Bytes) → MakesOrWants (a.Do command.now target.now) note (session_history course.now) answer (session_history course.now)) }
+    ensures made { IfSome result (λ answer. (note : Bytes) → HasMade (a.Do command.now target.now) note course.now answer course.now) }
     ensures seen { IsSeenIn course.now.tree seen.new }
 {
+    let is_kept = seen.written || seen.printed_last;
+    seen.printed_last = command.prints();
+    if !seen.printed_last || !is_kept {
+        return None;
+    }
     let alloc = course.alloc();
     let here = course.present();
     let Ok(file) = value_of(alloc, seen.value.take(), here) else {
         return Some(Err(Refusal::Memory));
     };
-    if look_up(alloc, command, target, &mut seen.lookups, here, &file).is_err() {
+    if look_up(alloc, command, target, true, &mut seen.lookups, here, &file).is_err() {
         return Some(Err(Refusal::Memory));
     }
     let answer = answer_of(course, command, target, &seen.lookups, &file);

@@ -1,6 +1,6 @@
 //! The course of a file: its texts as one tree and the steps between them, and what actions make of it.
 ghost use Rattle.std.specs.Prelude.{◌≡◌, ◌≤◌, ◌<◌, ◌+◌, ◌↔◌, true, false, take, Err, None, Ok, Result, ℕ, List, IfOk, OnOk, OnErr, IsOk, IsTrue, length, string_bytes};
-ghost use Rattle.bz_journal.specs.Clauses.{AreThere, EndsAt, IsAtOnce, IsSmall, IsTree, MakesOrWants, OpensText, Refusal, action_in, after_text, are_even, changed, most_steps, note_limit, opened, present, session_history, session_trail, spell_node, steps_back, steps_forward, unchanged, with_windows};
+ghost use Rattle.bz_journal.specs.Clauses.{AreThere, EndsAt, IsAtOnce, IsKept, IsSession, IsSmall, IsTree, MakesOrWants, OpensText, Refusal, action_in, after_text, are_even, changed, most_steps, note_limit, opened, present, session_history, session_trail, spell_node, steps_back, steps_forward, unchanged, with_windows};
 ghost use Rattle.bz_journal.specs.Actions as a;
 
 use crate::action::{Action, Reply};
@@ -117,11 +117,22 @@ impl Course {
         self.cursor // from 0
     }
 
+    /// What a course keeps. Nothing is done.
+    pub(crate) fn holds(&self)
+        ensures own { IsSession self.now }
+        ensures kept { IsKept (session_history self.now) }
+        ensures text { spell_node self.now.tree ≡ present (session_history self.now) }
+        ensures steps { length self.now.steps + 1 ≡ length (session_history self.now).texts }
+    {
+        texts_kept();
+        let _tree = &self.tree;
+    }
+
     /// How many steps there are between the first text and the last.
     pub(crate) fn steps(&self) -> u32
         ensures { result + 1 ≡ length (session_history self.now).texts }
     {
-        texts_kept();
+        self.holds();
         self.steps.len() as u32
     }
 
@@ -131,7 +142,7 @@ impl Course {
         ensures text { spell_node result.now ≡ present (session_history self.now) }
         ensures within { (session_history self.now).cursor < length (session_history self.now).texts }
     {
-        texts_kept();
+        self.holds();
         &self.tree
     }
 
@@ -148,7 +159,7 @@ impl Course {
         ensures first { session_history self ≡ opened (string_bytes result.1) (spell_node result.0) }
         ensures path { length (string_bytes result.1) ≤ 65536 }
     {
-        texts_kept();
+        self.holds();
         let Course {
             tree,
             steps,
@@ -168,7 +179,7 @@ impl Course {
         ensures steps { self.now.cursor + result ≡ length self.now.steps }
         ensures texts { (session_history self.now).cursor + result + 1 ≡ length (session_history self.now).texts }
     {
-        texts_kept();
+        self.holds();
         self.steps.len() as u32 - self.cursor
     }
 

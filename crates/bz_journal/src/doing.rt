@@ -5,7 +5,7 @@ ghost use Rattle.bz_journal.specs.Clauses.{AreOver, Bytes, EndsAt, HasActed, Has
 ghost use Rattle.bz_journal.specs.Actions as a;
 
 use crate::action::{Action, Reply};
-use crate::answering::{Lookups, answer, is_by_name, look_up_lines, look_up_names};
+use crate::answering::{Lookups, answer, is_by_name, look_up};
 use crate::course::{Course, at_once, unchanged};
 use crate::laws::written_is_laid_out;
 use crate::making::{Made, made_by_text, made_by_windows};
@@ -15,7 +15,7 @@ use bz_build_format::{formatted_once, reads_back};
 use bz_command_syntax::Command;
 use bz_grammar::Tree;
 use bz_grammar::laws::one_reading;
-use bz_items::{Items, Memory, Text};
+use bz_items::{Items, Text};
 use bz_label::Target;
 use bz_rule::take_apart;
 use bz_value::{File, Refusal, Window};
@@ -144,6 +144,25 @@ fn take_up_made(
     }
 }
 
+/// The same where the lines were made; or what refused them. Either is of a value that is to be written.
+fn take_up_lines(
+    course: &mut Course,
+    seen: &mut Seen,
+    made: Result<Made, Refusal>,
+    printed: Option<Text>,
+    note: &str,
+) -> Result<Reply, Refusal>
+    requires ready { IsReady note.now course.old.tree seen.old }
+    requires made { (file : List Item) × MakesLines file course.old.tree made }
+    ensures end { (file : List Item) → MakesLines file course.old.tree made → EndsAt (after_meaning note.now (session_history course.old) (written file printed)) course.old result course.new }
+    ensures seen { IsSeenIn course.new.tree seen.new }
+{
+    match made {
+        Ok(made) => take_up_made(course, seen, made, printed, note),
+        Err(refusal) => Err(refusal),
+    }
+}
+
 /// About how many bytes the present text has; a look at the whole of it where that isn't known.
 fn length_about(seen: &Seen, here: &Tree) -> usize {
     if seen.written {
@@ -175,25 +194,6 @@ fn made_of(
     }
 }
 
-/// Makes the index of names where the last command had use of it, and this one is for a rule by its name. The error: memory was refused.
-fn name_again(
-    alloc: Global,
-    target: &Target,
-    seen: &mut Seen,
-    tree: &Tree,
-    file: &File,
-) -> Result<(), Memory>
-    requires seen { IsSeenIn tree.now seen.old }
-    requires value { file.now ≡ view_of tree.now }
-    ensures seen { IsSeenIn tree.now seen.new }
-    ensures value { seen.new.value ≡ seen.old.value }
-{
-    if seen.names_last && is_by_name(target) {
-        look_up_names(alloc, &mut seen.lookups, tree, file)?;
-    }
-    Ok(())
-}
-
 /// Does a command with a note on the present text. At an error the course is as before. Errors: those of the command; `TooLarge` and
 /// `TooDeep` where the new text would be past a limit; `Full` at the most steps; `Memory`: a growth was refused.
 fn edit(
@@ -211,9 +211,19 @@ fn edit(
     let alloc = course.alloc();
     let here = course.present();
     reads_back(here);
-    look_up_lines(alloc, command, target, &mut seen.lookups, here)?;
+    let again = seen.names_last;
     let mut file = value_of(alloc, seen.value.take(), here)?;
-    if name_again(alloc, target, seen, here, &file).is_err() {
+    if look_up(
+        alloc,
+        command,
+        target,
+        again,
+        &mut seen.lookups,
+        here,
+        &file,
+    )
+    .is_err()
+    {
         take_apart(file);
         return Err(Refusal::Memory);
     }
@@ -231,10 +241,8 @@ fn edit(
                 seen.value = seen.written.then_some(file);
                 return Ok(unchanged(printed));
             }
-            match made_of(alloc, seen, ran.windows, file, here) {
-                Ok(made) => take_up_made(course, seen, made, printed, note),
-                Err(refusal) => Err(refusal),
-            }
+            let made = made_of(alloc, seen, ran.windows, file, here);
+            take_up_lines(course, seen, made, printed, note)
         }
         Err(refusal) => {
             take_apart(file);
@@ -257,34 +265,8 @@ fn format(course: &mut Course, seen: &mut Seen, note: &str) -> Result<Reply, Ref
     reads_back(here);
     let len = length_about(seen, here);
     let file = value_of(alloc, seen.value.take(), here)?;
-    match made_by_text(alloc, file, here, len) {
-        Ok(made) => take_up_made(course, seen, made, None, note),
-        Err(refusal) => Err(refusal),
-    }
-}
-
-/// Does a command with a note; one that prints is answered by the value beside the course, where that is worth keeping.
-fn do_command(
-    course: &mut Course,
-    seen: &mut Seen,
-    command: &Command,
-    target: &Target,
-    note: &str,
-) -> Result<Reply, Refusal>
-    requires short { length note.now ≤ note_limit }
-    requires seen { IsSeenIn course.old.tree seen.old }
-    ensures made { HasMade (a.Do command.now target.now) note.now course.old result course.new }
-    ensures seen { IsSeenIn course.new.tree seen.new }
-{
-    let only_prints = command.prints();
-    if only_prints
-        && (seen.written || seen.printed_last)
-        && let Some(answer) = answer(course, seen, command, target)
-    {
-        return answer;
-    }
-    seen.printed_last = only_prints;
-    edit(course, seen, command, target, note)
+    let made = made_by_text(alloc, file, here, len);
+    take_up_lines(course, seen, made, None, note)
 }
 
 /// Does an action with a note by what is kept beside the course, as `Session::act_noted` says. The errors are those.
@@ -303,7 +285,10 @@ pub(crate) fn act(
         return answer;
     }
     match *action {
-        Action::Do(command, target) => do_command(course, seen, command, target, note),
+        Action::Do(command, target) => match answer(course, seen, command, target) {
+            Some(answer) => answer,
+            None => edit(course, seen, command, target, note),
+        },
         Action::Format => format(course, seen, note),
         Action::Undo(n) => {
             seen.forget();

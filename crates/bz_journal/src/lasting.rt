@@ -21,7 +21,7 @@ impl Course {
         requires { digests.now ≡ map sha256 (session_history self.now).texts }
         ensures { IfOk result (λ text. text ≡ listing (session_history self.now)) }
     {
-        texts_kept();
+        self.holds();
         listed(alloc, self.cursor as usize, self.notes.as_slice(), digests)
     }
 

@@ -6,7 +6,7 @@ ghost use Rattle.bz_journal.specs.Clauses.{AlikeActs, AlikeGoesOn, HoldsSteps, I
 use crate::course::Course;
 use crate::past::{Form, Past};
 use crate::session::Session;
-use bz_edit::laws::{small_steps, steps_lead, texts_kept};
+use bz_edit::laws::{small_steps, steps_lead};
 use bz_grammar::laws::one_reading;
 use bz_layout::{layout_is_accepted, layout_reads_back};
 use bz_passes::{proper_stays, tidy_settles, tidy_stays};
@@ -32,8 +32,7 @@ pub fn stopped_is_resumed()
 pub fn history_kept(session: &Session)
     ensures { ∥ IsKept (session_history session.now) ∥₁ }
 {
-    texts_kept();
-    let _tree = &session.tree;
+    session.holds();
 }
 
 /// What a session holds: each step leads between the trees of two texts that follow one another and differ; those of a small
@@ -41,10 +40,9 @@ pub fn history_kept(session: &Session)
 pub fn session_holds(session: &Session)
     ensures { HoldsSteps session.now }
 {
-    texts_kept();
+    session.holds();
     steps_lead();
     small_steps();
-    let _tree = &session.tree;
 }
 
 /// The same of what a run has of a file, where that is a course; texts alone are two at most.
@@ -53,7 +51,9 @@ pub fn past_holds(past: &Past)
 {
     match &past.form {
         Form::Course(course) => course_holds(course),
-        Form::Alone(texts) => texts.are_few(),
+        Form::Alone(texts) => {
+            let _last = texts.cursor();
+        }
     }
 }
 
@@ -61,10 +61,9 @@ pub fn past_holds(past: &Past)
 fn course_holds(course: &Course)
     ensures { HoldsSteps course.now }
 {
-    texts_kept();
+    course.holds();
     steps_lead();
     small_steps();
-    let _tree = &course.tree;
 }
 
 /// Where a value is written and the answer is no refusal, the tree of the present text is the layout of the value tidied.

@@ -1,6 +1,6 @@
 //! A session: the history of one file, with the SHA-256 of each text.
 ghost use Rattle.std.specs.Prelude.{◌≡◌, ◌≤◌, ◌<◌, ◌+◌, ◌++◌, List, map, slice_get, option_map, vec_len, vec_capacity, Err, IfOk, OnOk, OnErr, IsOk, [], length, Result};
-ghost use Rattle.bz_journal.specs.Clauses.{HasActed, IsSmall, IsWrittenSince, KeepsPair, MakesText, OpensText, Refusal, Reply, Runs, action_in, limit, listing, present, session_history, session_trail, sha256, spell_node};
+ghost use Rattle.bz_journal.specs.Clauses.{HasActed, IsKept, IsSession, IsSmall, IsWrittenSince, KeepsPair, MakesText, OpensText, Refusal, Reply, Runs, action_in, limit, listing, present, session_history, session_trail, sha256, spell_node};
 ghost use Rattle.bz_edit.specs.Steps.{weight as weight_held};
 
 use crate::action::{Action, Reply, is_changed};
@@ -117,11 +117,22 @@ impl Session {
         self.cursor
     }
 
+    /// What a session keeps. Nothing is done.
+    pub(crate) fn holds(&self)
+        ensures own { IsSession self.now }
+        ensures kept { IsKept (session_history self.now) }
+        ensures text { spell_node self.now.tree ≡ present (session_history self.now) }
+        ensures steps { length self.now.steps + 1 ≡ length (session_history self.now).texts }
+    {
+        texts_kept();
+        let _tree = &self.tree;
+    }
+
     /// How many steps there are between the first text and the last.
     pub fn steps(&self) -> u32
         ensures { result + 1 ≡ length (session_history self.now).texts }
     {
-        texts_kept();
+        self.holds();
         self.steps.len() as u32
     }
 
@@ -141,7 +152,7 @@ impl Session {
         ensures text { spell_node result.now ≡ present (session_history self.now) }
         ensures within { (session_history self.now).cursor < length (session_history self.now).texts }
     {
-        texts_kept();
+        self.holds();
         &self.tree
     }
 
@@ -158,7 +169,7 @@ impl Session {
     pub fn listing(&self, alloc: Global) -> Result<Text, Memory>
         ensures { IfOk result (λ text. text ≡ listing (session_history self.now)) }
     {
-        texts_kept();
+        self.holds();
         let notes = self.notes.as_slice();
         listed(alloc, self.cursor as usize, notes, self.digests())
     }

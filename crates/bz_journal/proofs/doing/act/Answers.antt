@@ -1,5 +1,5 @@
 use Rattle.std.proofs.Common.{ap, subst, sym}
-use Rattle.bz_journal.specs.Actions.{Action, Redo, Undo, action_in}
+use Rattle.bz_journal.specs.Actions.{Action, Do, Redo, Undo, action_in}
 use Rattle.bz_journal.specs.Keeping.{HasActed}
 use Rattle.bz_journal.proofs.Acting.{has_gone}
 use Rattle.bz_journal.proofs.AtOnce.{acted_at_once}
@@ -9,6 +9,13 @@ pub returns-in-Some-clause-acted : goal.returns-in-Some-clause-acted
 returns-in-Some-clause-acted c =
     acted_at_once (action_in c.args.action.now) c.args.note.now c.args.course.now c.cursor.result c.steps_ahead.result c.in-Some.answer c.present-before.ensures.within
     c.cursor.ensures c.steps_ahead.ensures.steps c.steps_ahead.ensures.texts c.in-Some.ensures
+
+pub returns-in-Some-answer-clause-acted : goal.returns-in-Some-answer-clause-acted
+returns-in-Some-answer-clause-acted c =
+    let made = c.in-Some-answer.ensures.made c.args.note.now in
+    subst (λ (a : Action). HasActed a c.args.note.now c.args.course.now c.in-Some-answer.answer c.args.course.now) (sym (ap action_in c.in-Do.is))
+    (has_gone (Do c.in-Do.command.now c.in-Do.target.now) c.args.note.now c.args.course.now c.in-Some-answer.answer c.args.course.now (λ is. is) c.present-before.ensures.within c.in_default.ensures.0
+    made.makes made.unmoved (λ over. absurd over) made.small)
 
 pub returns-in-Undo-clause-acted : goal.returns-in-Undo-clause-acted
 returns-in-Undo-clause-acted c =

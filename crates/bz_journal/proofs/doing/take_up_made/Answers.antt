@@ -17,7 +17,7 @@ use Rattle.bz_journal.specs.History.{after_meaning}
 use Rattle.bz_journal.specs.Shown.{session_history}
 use Rattle.bz_journal.specs.private.Doing.{EndsAt}
 use Rattle.bz_journal.specs.private.Making.{IsMadeOf}
-use Rattle.bz_journal.proofs.Edited.{kept_seen, value_taken}
+use Rattle.bz_journal.proofs.Edited.{value_taken}
 use Rattle.bz_journal.proofs.MadeLines.{lines_written}
 use Rattle.bz_journal.proofs.doing.take_up_made.Goals as goal
 
@@ -34,10 +34,11 @@ returns-in-Ok-clause-seen c =
     let next : with_windows c.args.made.windows c.args.course.now.tree ≡ here = c.one_reading.ensures (layout (tidied file)) _ here made.lines.reads reads in
     let moved : with_windows c.as_slice.result.now c.present-before.result.now ≡ c.take_up.new.self.tree =
     ap (λ ws. with_windows ws c.present-before.result.now) c.as_slice.ensures ∙ ap (with_windows c.args.made.windows) c.present-before.ensures.tree ∙ next ∙ c.present.ensures.tree in
+    let seen : tidied file ≡ view_of c.take_up.new.self.tree = sym laid.1 ∙ ap view_of c.present.ensures.tree in
     record {
-      value = kept_seen c.args.made.value (tidied file) _ made.own (sym laid.1 ∙ ap view_of c.present.ensures.tree);
+      value = subst (λ (xs : List Item). IfSome c.args.made.value (λ own. own ≡ xs)) seen made.own;
       looked = record {
-        named = subst (λ (xs : List Item). IfSome c.args.made.names (λ index. IsIndexOf index xs)) (sym laid.1 ∙ ap view_of c.present.ensures.tree) made.named;
+        named = subst (λ (xs : List Item). IfSome c.args.made.names (λ index. IsIndexOf index xs)) seen made.named;
         begun = subst (λ (n : Node). IfSome c.begins_after-begins.result (λ own. own ≡ lines_of n)) moved c.begins_after-begins.ensures;
       };
       written = λ _. subst (λ (n : Node). IsWritten (view_of n) n) c.present.ensures.tree (subst (λ (xs : List Item). IsWritten xs here) (sym laid.1) laid.0);

@@ -1,18 +1,16 @@
 use Rattle.std.proofs.Common.{◌≡◌, subst, sym}
-use Rattle.bz_journal.specs.State.{SessionState, IsSession}
-use Rattle.bz_journal.proofs.LastText.{opened_first}
-use Rattle.bz_journal.proofs.Kept.{session_kept, session_present}
-use Rattle.bz_journal.specs.Shown.{session_history}
-use Rattle.bz_journal.specs.History.{opened}
 use Rattle.bz_grammar.specs.Spell.{spell_node}
+use Rattle.bz_journal.specs.History.{opened}
+use Rattle.bz_journal.specs.Shown.{session_history}
+use Rattle.bz_journal.specs.State.{SessionState}
+use Rattle.bz_journal.proofs.LastText.{opened_first}
 use Rattle.bz_journal.proofs.course.Course.into_first.Goals as goal
 
 pub returns-clause-first : goal.returns-clause-first
 returns-clause-first c =
     let s : SessionState = c.args.self in
-    let own : IsSession s = subst (λ (t : SessionState). IsSession t) c.self.view_is c.self.invariant.0 in
     subst (λ (t : SessionState). session_history s ≡ opened t.«package» (spell_node t.tree)) (sym c.self.view_is)
-    (opened_first (session_history s) (spell_node s.tree) (session_kept c.texts_kept.ensures s own) c.requires (session_present c.texts_kept.ensures s own))
+    (opened_first (session_history s) (spell_node s.tree) c.holds.ensures.kept c.requires c.holds.ensures.text)
 
 pub returns-clause-path : goal.returns-clause-path
 returns-clause-path c = c.self.invariant.0.named

@@ -1,14 +1,14 @@
-use Rattle.std.proofs.Common.{ℕ, refl, subst, sym}
+use Rattle.std.proofs.Common.{ℕ, subst, sym}
 use Rattle.bz_journal.specs.Actions.{Action, action_in}
 use Rattle.bz_journal.specs.Editing.{IsSeenIn}
 use Rattle.bz_journal.specs.Forms.{past_history}
 use Rattle.bz_journal.specs.History.{History}
-use Rattle.bz_journal.specs.Keeping.{IsWrittenSince, KeepsFile}
+use Rattle.bz_journal.specs.Keeping.{IsWrittenSince, Keeps, KeepsFile, KeepsPair}
 use Rattle.bz_journal.specs.Shown.{session_history}
 use Rattle.bz_journal.specs.State.{SessionState}
 use Rattle.bz_journal.specs.declared.past.Form.{Form}
 use Rattle.bz_journal.proofs.InForm.{made_as, same_history}
-use Rattle.bz_journal.proofs.Persisting.{acted_as, file_kept, file_unkept}
+use Rattle.bz_journal.proofs.Persisting.{file_unkept}
 use Rattle.bz_journal.proofs.past.Past.keep_noted.Goals as goal
 
 pub returns-in-Alone-clause-pair : goal.returns-in-Alone-clause-pair
@@ -33,6 +33,17 @@ returns-clause-pair g c =
     subst (λ (k : ℕ). IsWrittenSince t k c.written_since-written.result) c.cursor-from.ensures c.written_since-written.ensures.written in
     subst (λ (h : History). KeepsFile g.F.Files c.args.file.now h (session_history t) c.persist-kept.result c.args.files.now c.persist-kept.new.files)
     (same_history c.args.self.now s (made_as c.args.self.now _ _ _ c.make_course.ensures c.self.view_is c.in-Course.is))
-    (file_kept g.F.Files action c.args.note.now c.args.file.now s c.persist-kept.result t c.args.files.now c.persist-kept.new.files
-    (c.persist-kept.ensures s t action c.args.note.now c.known_text-standing.ensures.text written
-    (acted_as action c.args.note.now s c.act_in-answer.result c.act_in-answer.result c.act_in-answer.new.course t refl c.written_since-written.ensures.stays c.act_in-answer.ensures.acted)))
+    (KeepsPair.pair (c.persist-kept.ensures s t action c.args.note.now c.known_text-standing.ensures.text written
+    (rw c.written_since-written.ensures.stays c.act_in-answer.ensures.acted)))
+
+pub returns-clause-keeps : goal.returns-clause-keeps
+returns-clause-keeps g c =
+    let action : Action = action_in c.args.action.now in
+    let s : SessionState = c.in-Course.course in
+    let t : SessionState = c.written_since-written.new.course in
+    let written : IsWrittenSince t s.cursor c.written_since-written.result =
+    subst (λ (k : ℕ). IsWrittenSince t k c.written_since-written.result) c.cursor-from.ensures c.written_since-written.ensures.written in
+    subst (λ (h : History). Keeps action c.args.note.now h c.persist-kept.result (session_history t))
+    (same_history c.args.self.now s (made_as c.args.self.now _ _ _ c.make_course.ensures c.self.view_is c.in-Course.is))
+    (KeepsPair.keeps (c.persist-kept.ensures s t action c.args.note.now c.known_text-standing.ensures.text written
+    (rw c.written_since-written.ensures.stays c.act_in-answer.ensures.acted)))
