@@ -1,23 +1,95 @@
--- What an action leaves in the files of a run.
-use Rattle.std.proofs.Common.{◌≡◌, ◌≢◌, ◌∙◌, inl, inr, ℕ, zero, suc, List, [], ◌∷◌, Bool, Option, Some, None, Ok, Err, refl, sym, ap, subst, true, false, true≢false}
-use Rattle.std.specs.Prelude.{map, slice_get, is_some, unwrap_or, IsSome, bytes_eq, nat_lt, if◌then◌else◌}
+-- What an action leaves, and what a step does in the open file of its package, without journals and with them.
+use Rattle.std.proofs.Common.{◌≡◌, ◌≢◌, ◌⊎◌, ◌∙◌, ◌+◌, ◌-◌, arith, ℕ, Bool, true, false, true≢false, eq-eqb, refl, sym, ap, inl, inr, Option, Ok, Err, nat_lt, if◌then◌else◌, zero, suc, List, [], ◌∷◌, Some, None, subst, ◌||◌, not, ◌++◌, ◌&&◌}
+use Rattle.std.specs.Prelude.{◌==◌, bytes_eq, length, map, slice_get, is_some, unwrap_or, IsSome}
+use Rattle.bz_items.specs.Characters.{Bytes}
+use Rattle.bz_value.specs.declared.refusal.Refusal.TheVariants.{TooFar, Full, NoteTooLong, Memory}
+use Rattle.bz_buildozer.specs.Sessions.{Action, Do, Format, Undo, Redo, Reply, Changed, Moved, Meaning, gives, History, Answer, Acts, Makes, after_meaning, changed, present, Leads, Means, Printed, listing, Pair}
+use Rattle.bz_journal.specs.Meaning.{refuses}
+use Rattle.bz_journal.specs.History.{most_steps, moved, unchanged}
+use Rattle.bz_buildozer.specs.Keeps.{StillIsSame, after_keeping, FolderAfter, file_after, is_left_at, left_out}
 use Rattle.bz_grammar.specs.Legal.{Reads}
 use Rattle.bz_grammar.specs.declared.tree.Node.{Node}
-use Rattle.bz_items.specs.Characters.{Bytes}
 use Rattle.bz_label.specs.declared.target.Target.{Target}
 use Rattle.bz_command_syntax.specs.declared.command.Operation.{Operation}
-use Rattle.bz_journal.specs.History.{most_steps, unchanged}
-use Rattle.bz_journal.specs.Meaning.{refuses}
 use Rattle.bz_value.specs.declared.refusal.Refusal.{Refusal}
-use Rattle.bz_value.specs.declared.refusal.Refusal.TheVariants.{Full, Memory, NoteTooLong}
-use Rattle.bz_buildozer.specs.Sessions.{Action, Answer, Do, Reply, Changed, History, Acts, Leads, Meaning, Means, gives, after_meaning, changed, present}
-use Rattle.bz_streams.specs.Faults.{AppendsUnlessFailed}
-use Rattle.bz_streams.specs.Outputs.{Reports}
+use Rattle.bz_streams.specs.declared.sink.Sink.{Ghosts as SinkOf}
+use Rattle.bz_buildozer.specs.Calls.{ReportsLine, ReportsLines}
 use Rattle.bz_buildozer.specs.Found.{Opened, Used, file_at, with_opened}
-use Rattle.bz_buildozer.specs.private.ShownFiles.{used_in}
-use Rattle.bz_buildozer.specs.declared.used.Used as d
-use Rattle.bz_buildozer.specs.Run.{reported_of}
-use Rattle.bz_buildozer.specs.Reported.{refusal_line}
+use Rattle.bz_buildozer.specs.Run.{reported_of, Answers, AnswersIn, AreHints, FailsAt, IsKeptAt, LeadsBy, Progress, reply_notes, printed_in, state_after}
+use Rattle.bz_buildozer.specs.Reported.{refusal_line, unkept_line}
+use Rattle.bz_resume.specs.declared.pair_fault.PairFault.{PairFault}
+use Rattle.std.proofs.Math.Bool.{or-false, or-true}
+use Rattle.std.proofs.lemmas.List.{append-nil}
+use Rattle.bz_files.specs.Folder.{Folder}
+use Rattle.bz_command_line.specs.declared.verb.Verb.{Verb}
+use Rattle.bz_streams.specs.declared.exit.Cut.{Cut}
+use Rattle.bz_streams.specs.declared.exit.Cut.TheVariants as c
+use Rattle.bz_buildozer.specs.Steps.{RunStep, action_of}
+
+-- ---- what an action leaves of a history
+
+-- The history is as it was; or it was answered well, another text is the present one, and its package is the same.
+abbrev pub Leaves : History → Answer → History → Type 0
+Leaves h answer after = (after ≡ h) ⊎ (((reply : Reply) × (answer ≡ Ok reply)) × (after.cursor ≢ h.cursor) × (after.«package» ≡ h.«package»))
+
+stays : (h after : History) (one answer : Answer) → ◌≡◌ {A = Answer × History} (one, after) (answer, h) → Leaves h one after
+stays h after one answer e = inl (ap (λ (z : Answer × History). z.1) e)
+
+goes : (h after to : History) (one : Answer) (reply : Reply) → to.cursor ≢ h.cursor → to.«package» ≡ h.«package»
+    → ◌≡◌ {A = Answer × History} (one, after) (Ok reply, to) → Leaves h one after
+goes h after to one reply other same e =
+    let is : after ≡ to = ap (λ (z : Answer × History). z.1) e in
+    inr ((reply, ap (λ (z : Answer × History). z.0) e), (λ back. other (sym (ap (λ (g : History). g.cursor) is) ∙ back)), ap (λ (g : History). g.«package») is ∙ same)
+
+by_text : (same below : Bool) (note : Bytes) (h after : History) (text : Bytes) (printed : Option Bytes) (answer : Answer)
+    → ◌≡◌ {A = Answer × History} (answer, after) (if same then (Ok (unchanged printed), h) else (if below then (Ok Changed, changed note h text) else (Err Full, h)))
+    → Leaves h answer after
+by_text true below note h after text printed answer e = stays h after answer (Ok (unchanged printed)) e
+by_text false true note h after text printed answer e = goes h after (changed note h text) answer Changed (λ back. omega (arith, back)) refl e
+by_text false false note h after text printed answer e = stays h after answer (Err Full) e
+
+by_meaning : (note : Bytes) (h after : History) (m : Meaning) (answer : Answer) → ◌≡◌ {A = Answer × History} (answer, after) (after_meaning note h m) → Leaves h answer after
+by_meaning note h after (gives text printed) answer e = by_text (bytes_eq text (present h)) (nat_lt h.cursor most_steps) note h after text printed answer e
+by_meaning note h after (refuses refusal) answer e = stays h after answer (Err refusal) e
+
+differ : (m n : ℕ) → (m == n) ≡ false → m ≡ n → ⊥
+differ m n is same = true≢false (sym (eq-eqb m n same) ∙ is)
+
+by_move : (same : Bool) (h after : History) (cursor : ℕ) (answer : Answer) → (cursor == h.cursor) ≡ same
+    → ◌≡◌ {A = Answer × History} (answer, after) (Ok Moved, if same then h else record h { cursor = cursor; before = h.cursor }) → Leaves h answer after
+by_move true h after cursor answer is e = stays h after answer (Ok Moved) e
+by_move false h after cursor answer is e = goes h after (record h { cursor = cursor; before = h.cursor }) answer Moved
+    (λ back. differ cursor h.cursor is back) refl e
+
+by_undo : (far : Bool) (h after : History) (cursor : ℕ) (answer : Answer)
+    → ◌≡◌ {A = Answer × History} (answer, after) (if far then (Err TooFar, h) else (Ok Moved, moved h cursor)) → Leaves h answer after
+by_undo true h after cursor answer e = stays h after answer (Err TooFar) e
+by_undo false h after cursor answer e = by_move (cursor == h.cursor) h after cursor answer refl e
+
+by_redo : (there : Bool) (h after : History) (cursor : ℕ) (answer : Answer)
+    → ◌≡◌ {A = Answer × History} (answer, after) (if there then (Ok Moved, moved h cursor) else (Err TooFar, h)) → Leaves h answer after
+by_redo true h after cursor answer e = by_move (cursor == h.cursor) h after cursor answer refl e
+by_redo false h after cursor answer e = stays h after answer (Err TooFar) e
+
+made_leaves : (action : Action) (note : Bytes) (h after : History) (answer : Answer) → Makes action note h answer after → Leaves h answer after
+made_leaves (Do command target) note h after answer (m, means, e) = by_meaning note h after m answer e
+made_leaves Format note h after answer (m, formats, e) = by_meaning note h after m answer e
+made_leaves (Undo n) note h after answer e = by_undo (nat_lt h.cursor n) h after (h.cursor - n) answer e
+made_leaves (Redo n) note h after answer e = by_redo (nat_lt (h.cursor + n) (length h.texts)) h after (h.cursor + n) answer e
+
+pub acts_leaves : (action : Action) (note : Bytes) (h after : History) (answer : Answer) → Acts action note h answer after → Leaves h answer after
+acts_leaves action note h after answer (inl (long, e)) = stays h after answer (Err NoteTooLong) e
+acts_leaves action note h after answer (inr (short, inl makes)) = made_leaves action note h after answer makes
+acts_leaves action note h after answer (inr (short, inr (takes, memory, same))) = inl same
+
+pub still_same : StillIsSame
+still_same action note h after answer acts = go (acts_leaves action note h after answer acts)
+  where
+    go : Leaves h answer after → (after.«package» ≡ h.«package») × (after.cursor ≡ h.cursor → after ≡ h)
+    go (inl same) = (ap (λ (g : History). g.«package») same, λ _. same)
+    go (inr went) = (went.2, λ back. absurd (went.1 back))
+
+-- ---- what an action leaves in the files of a run
 
 -- the file that takes the place of one that is there
 put_there : (place : ℕ) (used : List Used) (file new : Opened) → file_at place used ≡ Some file → file_at place (with_opened place (Some new) used) ≡ Some new
@@ -33,13 +105,6 @@ file_put place used after file new there put = ap (file_at place) put ∙ put_th
 pub still_open : (place : ℕ) (used after : List Used) (file new : Opened) → file_at place used ≡ Some file → after ≡ with_opened place (Some new) used
     → IsSome (file_at place after)
 still_open place used after file new there put = ap is_some (file_put place used after file new there put)
-
-pub same_of : (one other : Opened) → ◌≡◌ {A = Option Opened} (Some one) (Some other) → one ≡ other
-same_of one other same = ap (λ (found : Option Opened). unwrap_or found one) same
-
--- the name of the file that is there
-pub named_by : (one other : Opened) (name : Bytes) → name ≡ one.name → ◌≡◌ {A = Option Opened} (Some one) (Some other) → name ≡ other.name
-named_by one other name is same = is ∙ ap (λ (found : Option Opened). (unwrap_or found one).name) same
 
 -- a refusal for another cause than memory is what an action leads to
 pub led_to : (h after : History) (action : Action) (note : Bytes) (refusal : Refusal) → Acts action note h (Err refusal) after → (refusal ≡ Memory → ⊥)
@@ -72,45 +137,164 @@ led_on h after action note reply (inl long) = inl long
 led_on h after action note reply (inr (short, inl makes)) = inr (short, makes)
 led_on h after action note reply (inr (short, inr refused_memory)) = let e = refused_memory.1 in absurd (cc)
 
--- a file that is there
-pub some_of : (found : Option Opened) → IsSome found → (file : Opened) × (found ≡ Some file)
-some_of None is = absurd (true≢false (sym is))
-some_of (Some file) is = (file, refl)
-
-pub is_there : (found : Option Opened) (file : Opened) → found ≡ Some file → IsSome found
-is_there None file is = absurd (let e = is in cc)
-is_there (Some one) file is = refl
-
 -- a file that takes its own place
 pub put_again : (place : ℕ) (used : List Used) (file : Opened) → file_at place used ≡ Some file → with_opened place (Some file) used ≡ used
 put_again place [] file there = refl
 put_again zero (one ∷ more) file there = ap (λ (f : Option Opened). record one { file = f } ∷ more) (sym there)
 put_again (suc place) (one ∷ more) file there = ap (λ (rest : List Used). one ∷ rest) (put_again place more file there)
 
--- a refusal is reported by the name of the file
-pub reported_by : (f f' : ℕ) (old new : Option Bytes) (journals : Bool) (name other command : Bytes) (refusal : Refusal) → name ≡ other
-    → AppendsUnlessFailed f f' old new (refusal_line journals name command refusal) → Reports f f' old new (reported_of journals other command (Err refusal) [])
-reported_by f f' old new journals name other command refusal is reported =
-    (f', new, subst (λ (text : Bytes). AppendsUnlessFailed f f' old new (refusal_line journals text command refusal)) is reported, (refl, refl))
+-- what is reported by the name of a file that is there
+reported_of_file : {E : Type 0} (sink : SinkOf E) (old new : E) (line : Bytes → Bytes) (one other : Opened) (name : Bytes) → name ≡ one.name
+    → ◌≡◌ {A = Option Opened} (Some one) (Some other) → ReportsLine sink old new (line name) → ReportsLine sink old new (line other.name)
+reported_of_file sink old new line one other name is same =
+    subst (λ (text : Bytes). ReportsLine sink old new (line text)) (is ∙ ap (λ (found : Option Opened). (unwrap_or found one).name) same)
 
--- ---- a package by its number
+-- a refusal, and that a file could not be written with its journal
+pub reported_by : {E : Type 0} (sink : SinkOf E) (old new : E) (journals : Bool) (one other : Opened) (name command : Bytes) (refusal : Refusal) → name ≡ one.name
+    → ◌≡◌ {A = Option Opened} (Some one) (Some other) → ReportsLine sink old new (refusal_line journals name command refusal)
+    → ReportsLines sink old new (reported_of journals other.name command (Err refusal) [])
+reported_by sink old new journals one other name command refusal is same told = (
+  sink.faults new,
+  sink.contents new,
+  reported_of_file sink old new (λ (text : Bytes). refusal_line journals text command refusal) one other name is same told,
+  (refl, refl),
+)
 
-abbrev file_of : Option d.Used → Option Opened
-file_of None = None
-file_of (Some one) = (used_in one).file
+pub unkept_by : {E : Type 0} (sink : SinkOf E) (old new : E) (one other : Opened) (name : Bytes) (fault why : PairFault) → name ≡ one.name
+    → ◌≡◌ {A = Option Opened} (Some one) (Some other) → fault ≡ why → ReportsLine sink old new (unkept_line name why)
+    → ReportsLine sink old new (unkept_line other.name fault)
+unkept_by sink old new one other name fault why is same faulted told =
+    reported_of_file sink old new (λ (text : Bytes). unkept_line text fault) one other name is same
+    (subst (λ (it : PairFault). ReportsLine sink old new (unkept_line name it)) (sym faulted) told)
 
-file_shown : (items : List d.Used) (place : ℕ) → file_at place (map used_in items) ≡ file_of (slice_get items place)
-file_shown [] zero = refl
-file_shown [] (suc place) = refl
-file_shown (one ∷ more) zero = refl
-file_shown (one ∷ more) (suc place) = file_shown more place
+-- ---- a file after an action that was kept, or not
 
-pub shown_at : (items : List d.Used) (used : List Used) (place : ℕ) (one : d.Used) (file : Opened) → map used_in items ≡ used
-    → Some one ≡ slice_get items place → file_at place used ≡ Some file → (used_in one).file ≡ Some file
-shown_at items used place one file shown is there =
-    ap file_of is ∙ (sym (file_shown items place) ∙ (ap (file_at place) shown ∙ there))
+-- the file with what was marked; `mid` is it before
+pub marked_written : (after : History) (file mid : Opened) (written : Bool) (from to : ℕ) → mid ≡ record file { history = after }
+    → written ≡ (mid.written || not (to == from)) → from ≡ file.history.cursor → to ≡ after.cursor
+    → record mid { written = written } ≡ record file { history = after; written = file.written || not (after.cursor == file.history.cursor) }
+marked_written after file mid written from to same marked begun ended =
+    let wrote : written ≡ (file.written || not (after.cursor == file.history.cursor)) =
+    marked ∙ ap (λ (f : Opened). f.written || not (to == from)) same ∙ ap (λ (n : ℕ). file.written || not (to == n)) begun
+    ∙ ap (λ (n : ℕ). file.written || not (n == file.history.cursor)) ended in
+    ap (λ (f : Opened). record f { written = written }) same ∙ ap (λ (b : Bool). record file { history = after; written = b }) wrote
 
-pub none_at : (items : List d.Used) (used : List Used) (place : ℕ) (file : Opened) → map used_in items ≡ used → None ≡ slice_get items place
-    → file_at place used ≡ Some file → ⊥
-none_at items used place file shown is there =
-    let e : None ≡ Some file = ap file_of is ∙ (sym (file_shown items place) ∙ (ap (file_at place) shown ∙ there)) in cc
+pub marked_left : (fault : PairFault) (after : History) (file mid : Opened) → mid ≡ record file { history = after }
+    → record mid { left = true } ≡ after_keeping (Err (Pair fault)) after file
+marked_left fault after file mid same = ap (λ (f : Opened). record f { left = true }) same
+
+-- ---- what a step does in the open file of its package, without journals and with them
+
+-- a command on a target, by its parts
+abbrev pub step_at : Target → Verb → Bytes → RunStep
+step_at target verb text = record { target = target; request = record { verb = verb; text = text } }
+
+-- ---- files that are left alone
+
+pub free_file : (journals : Bool) (place : ℕ) (used : List Used) (file : Opened) → file_at place used ≡ Some file → journals && is_left_at place used ≡ false
+    → left_out journals (file_at place used) ≡ Some file
+free_file journals place used file there free = ap (λ (left : Bool). if left then None else file_at place used) free ∙ there
+
+pub left_answers : (journals : Bool) (step : RunStep) (place : ℕ) (folder : Folder) (state : Progress) → journals && is_left_at place state.used ≡ true
+    → Answers c.Whole journals step (Some place) folder state [] folder (record state { failed = true })
+left_answers journals step place folder state left =
+    subst (λ (found : Option Opened). AnswersIn journals step place found folder state [] folder (record state { failed = true }))
+    (sym (ap (λ (it : Bool). if it then None else file_at place state.used) left)) (refl, refl, refl)
+
+-- ---- memory is refused
+
+-- to a step that prints nothing and fails, and leaves the file so
+pub fails_at : (place : ℕ) (file : Opened) (before after : Progress) (used : List Used) (printed line : Bytes) → used ≡ with_opened place (Some file) before.used
+    → printed ≡ before.printed → after ≡ record { used = used; printed = printed; failed = true } → FailsAt place before (line ∷ []) after
+fails_at place file before after used printed line put same is = (
+  (line, refl),
+  (
+    Some file,
+    is ∙ ap (λ (text : Bytes). record { used = used; printed = text; failed = true }) same ∙ ap (λ (u : List Used). record before { used = u; failed = true }) put,
+  ),
+)
+
+pub memory_answers : (result : Cut) (journals : Bool) (step : RunStep) (place : ℕ) (folder folder' : Folder) (before after : Progress) (lines : List Bytes) → result ≡ c.Memory
+    → FailsAt place before lines after → (folder' ≡ folder) ⊎ ((journals ≡ true) × IsKeptAt place after.used folder folder')
+    → Answers result journals step (Some place) folder before lines folder' after
+memory_answers result journals step place folder folder' before after lines is fails left =
+    subst (λ (it : Cut). Answers it journals step (Some place) folder before lines folder' after) (sym is) (fails, left)
+
+-- ---- an answer
+
+pub leads_by : (target : Target) (verb : Verb) (note : Bytes) (action : Action) (h after : History) (answer : Answer) → action_of target verb ≡ Some action
+    → Leads action note h answer after → LeadsBy (action_of target verb) note h answer after
+leads_by target verb note action h after answer requested leads = subst (λ (it : Option Action). LeadsBy it note h answer after) (sym requested) leads
+
+pub hints_by : (target : Target) (verb : Verb) (action : Action) (name : Bytes) (h : History) (answer : Answer) (hint : List Bytes) → action_of target verb ≡ Some action
+    → AreHints answer (Some action) name h hint → AreHints answer (action_of target verb) name h hint
+hints_by target verb action name h answer hint requested = subst (λ (it : Option Action). AreHints answer it name h hint) (sym requested)
+
+module _ (journals : Bool) (step : RunStep) (place : ℕ) (file : Opened) (history : History) (folder folder' : Folder) (before after : Progress) (used : List Used)
+    (there : left_out journals (file_at place before.used) ≡ Some file) where
+  -- what the step leads to
+  abbrev pub LeadsTo : Answer → Type 0
+  LeadsTo answer = LeadsBy (action_of step.target step.request.verb) step.request.text file.history answer history
+
+  answers_so : (answer : Answer) (hint : List Bytes) → LeadsTo answer → AreHints answer (action_of step.target step.request.verb) file.name history hint
+      → FolderAfter journals answer file history folder folder' → after ≡ state_after journals place file answer history before
+      → Answers c.Whole journals step (Some place) folder before (reported_of journals file.name step.request.text answer hint) folder' after
+  answers_so answer hint leads hints following is =
+      subst (λ (found : Option Opened). AnswersIn journals step place found folder before (reported_of journals file.name step.request.text answer hint) folder' after) (sym there)
+      (answer, history, leads, following, (hint, hints, refl), is)
+
+  -- A reply is given, and what it prints is kept.
+  pub replied : (reply : Reply) (printed : Bytes) (notes : List Bytes) → AreHints (Ok reply) (action_of step.target step.request.verb) file.name history notes
+      → LeadsTo (Ok reply) → FolderAfter journals (Ok reply) file history folder folder'
+      → used ≡ with_opened place (Some (file_after journals (Ok reply) history file)) before.used → printed ≡ before.printed ++ printed_in reply
+      → after ≡ record before { used = used; printed = printed } → Answers c.Whole journals step (Some place) folder before notes folder' after
+  replied reply printed notes noted leads following put said is =
+      let put_in = with_opened place (Some (file_after journals (Ok reply) history file)) before.used in
+      answers_so (Ok reply) notes leads noted following (
+      is
+      ∙ ap (λ (u : List Used). record before { used = u; printed = printed }) put
+      ∙ ap (λ (text : Bytes). record before { used = put_in; printed = text }) said
+      ∙ ap (λ (b : Bool). record { used = put_in; printed = before.printed ++ printed_in reply; failed = b }) (sym (or-false before.failed))
+      )
+
+  -- It is refused, for memory or something else.
+  pub refused : (result : Cut) (refusal : Refusal) (hint : List Bytes) → (result ≡ c.Whole) ⊎ (result ≡ c.Memory) → (result ≡ c.Whole → LeadsTo (Err refusal))
+      → (result ≡ c.Whole → AreHints (Err refusal) (action_of step.target step.request.verb) file.name history hint) → (result ≡ c.Memory → hint ≡ []) → folder' ≡ folder
+      → used ≡ with_opened place (Some (record file { history = history })) before.used → after ≡ record before { used = used; failed = true }
+      → Answers result journals step (Some place) folder before (reported_of journals file.name step.request.text (Err refusal) hint) folder' after
+  refused result refusal hint (inl whole) leads hints none still put is =
+      let put_in = with_opened place (Some (record file { history = history })) before.used in
+      subst (λ (it : Cut). Answers it journals step (Some place) folder before (reported_of journals file.name step.request.text (Err refusal) hint) folder' after) (sym whole)
+      (answers_so (Err refusal) hint (leads whole) (hints whole) still (
+      is
+      ∙ ap (λ (u : List Used). record before { used = u; failed = true }) put
+      ∙ ap (λ (text : Bytes). record { used = put_in; printed = text; failed = true }) (sym (append-nil before.printed))
+      ∙ ap (λ (b : Bool). record { used = put_in; printed = before.printed ++ []; failed = b }) (sym (or-true before.failed))
+      ))
+  refused result refusal hint (inr memory) leads hints none still put is =
+      subst (λ (it : List Bytes). Answers result journals step (Some place) folder before (reported_of journals file.name step.request.text (Err refusal) it) folder' after)
+      (sym (none memory)) (memory_answers result journals step place folder folder' before after (reported_of journals file.name step.request.text (Err refusal) []) memory
+      (fails_at place (record file { history = history }) before after used before.printed (refusal_line journals file.name step.request.text refusal) put refl is) (inl still))
+
+-- ---- the texts of a file are listed
+
+folder_still : (journals : Bool) (reply : Reply) (file : Opened) (folder : Folder) → FolderAfter journals (Ok reply) file file.history folder folder
+folder_still false reply file folder = refl
+folder_still true reply file folder = inl (refl, refl)
+
+file_still : (journals : Bool) (reply : Reply) (file : Opened) → file_after journals (Ok reply) file.history file ≡ file
+file_still false reply file = refl
+file_still true reply file =
+    let same : file.history.cursor == file.history.cursor ≡ true = eq-eqb file.history.cursor file.history.cursor refl in
+    ap (λ (b : Bool). record file { written = file.written || not b }) same ∙ ap (λ (b : Bool). record file { written = b }) (or-false file.written)
+
+pub listed : (journals : Bool) (step : RunStep) (place : ℕ) (file : Opened) (folder : Folder) (before after : Progress) (printed text : Bytes)
+    → file_at place before.used ≡ Some file → journals && is_left_at place before.used ≡ false → action_of step.target step.request.verb ≡ None
+    → text ≡ listing file.history → printed ≡ before.printed ++ text → after ≡ record before { printed = printed }
+    → Answers c.Whole journals step (Some place) folder before [] folder after
+listed journals step place file folder before after printed text there free none is said =
+    let reply : Reply = Printed (listing file.history) in
+    replied journals step place file file.history folder folder before after before.used (free_file journals place before.used file there free) reply printed []
+    (sym (ap (λ (it : Option Action). reply_notes it reply file.name) none)) (subst (λ (it : Option Action). LeadsBy it step.request.text file.history (Ok reply) file.history) (sym none) (refl, refl)) (folder_still journals reply file folder)
+    (sym (ap (λ (f : Opened). with_opened place (Some f) before.used) (file_still journals reply file) ∙ put_again place before.used file there))
+    (said ∙ ap (λ (t : Bytes). before.printed ++ t) is)

@@ -18,17 +18,11 @@ cut_more c.Files later r s t f g h first more read_faults read_faults' files fil
 
 pub whole_before : (cut later : Cut) → first_cut cut later ≡ c.Whole → cut ≡ c.Whole
 whole_before c.Whole later is = refl
-whole_before c.Memory later is = is
-whole_before c.Read later is = is
-whole_before c.Write later is = is
-whole_before c.Files later is = is
+whole_before _ later is = is
 
 pub whole_after : (cut later : Cut) → first_cut cut later ≡ c.Whole → later ≡ c.Whole
 whole_after c.Whole later is = is
-whole_after c.Memory later is = absurd (cc is)
-whole_after c.Read later is = absurd (cc is)
-whole_after c.Write later is = absurd (cc is)
-whole_after c.Files later is = absurd (cc is)
+whole_after _ later is = absurd (cc is)
 
 pub files_cut : (cut later : Cut) (f g h : ℕ) → CutsFiles cut f g → CutsFiles later g h → Counts f g → Counts g h → CutsFiles (first_cut cut later) f h
 files_cut cut later f g h (inl whole) more counts counts' = rw (whole.0) (subst (λ (n : ℕ). CutsFiles later n h) whole.1 more)
@@ -51,10 +45,7 @@ cut_after cut later result r s f g h is works first read_faults counts counts' =
 
 pub neither_read : (cut later : Cut) → cut ≢ c.Read → later ≢ c.Read → first_cut cut later ≢ c.Read
 neither_read c.Whole later first more = more
-neither_read c.Memory later first more = first
-neither_read c.Read later first more = first
-neither_read c.Write later first more = first
-neither_read c.Files later first more = first
+neither_read _ later first more = first
 
 pub works_unread : (cut : Cut) (f g : ℕ) → CutsFiles cut f g → cut ≢ c.Read
 works_unread cut f g (inl whole) = λ is. absurd (let e = sym whole.0 ∙ is in cc)

@@ -11,7 +11,6 @@ use Rattle.bz_files.specs.declared.files.Files.{Ghosts as FilesOf}
 use Rattle.bz_command_line.specs.declared.line.Options.{Options}
 use Rattle.bz_streams.specs.Exits.{first_cut}
 use Rattle.bz_streams.specs.Faults.{Rises}
-use Rattle.bz_streams.specs.Outputs.{Reports}
 use Rattle.bz_streams.specs.Reported.{named_line}
 use Rattle.bz_streams.specs.declared.exit.Cut.{Cut}
 use Rattle.bz_streams.specs.declared.exit.Cut.TheVariants as c
@@ -24,7 +23,7 @@ use Rattle.bz_buildozer.specs.Sessions.{present}
 use Rattle.bz_buildozer.specs.Steps.{input_package}
 use Rattle.bz_buildozer.specs.declared.used.Used as d
 use Rattle.bz_buildozer.specs.private.ShownFiles.{used_in}
-use Rattle.bz_buildozer.proofs.FailSteps.{cut_alone, cuts_assoc}
+use Rattle.bz_buildozer.proofs.FailSteps.{cut_alone, cuts_assoc, one_line}
 use Rattle.bz_buildozer.proofs.StandSteps.{not_input}
 
 -- ---- one file
@@ -84,11 +83,11 @@ module _ {F E : Type 0} (files : FilesOf F) (sink : SinkOf E) (options : Options
       ) (reported whole.0)
       go (inr (inl is)) = let done = memory is in
           tried_so c.Memory (named_line done.1.0.name (codes "Memory") ∷ []) is (done.0, (done.1.0, done.1.1, refl, ap files.folder done.1.3))
-          (sink.faults new, sink.contents new, done.1.2, (refl, refl))
+          (one_line sink old new (named_line done.1.0.name (codes "Memory")) done.1.2)
       go (inr (inr is)) = let done = unwritten is.0 in
           tried_so c.Files (named_line done.2.0.name (codes "cannot write") ∷ []) is.0
           (done.0, (done.2.0, done.2.1, refl, done.2.3 (trusted (files.honest held) used done.1 premise)))
-          (sink.faults new, sink.contents new, done.2.2, (refl, refl))
+          (one_line sink old new (named_line done.2.0.name (codes "cannot write")) done.2.2)
 
 -- ---- many files
 
@@ -127,11 +126,6 @@ tries_more why later options (one ∷ used) last before mid after lines more (fi
 
 -- ---- standard output
 
--- what is reported by a writer that nothing was written to before
-pub reports_from : (f f' g : ℕ) (old old' new : Option Bytes) (lines : List Bytes) → f' ≡ f → old' ≡ old → Reports f' g old' new lines → Reports f g old new lines
-reports_from f f' g old old' new lines same still reported =
-    subst (λ (n : ℕ). Reports n g old new lines) same (subst (λ (held : Option Bytes). Reports f' g held new lines) still reported)
-
 -- why standard output was not given all
 pub prints_err : {W : Type 0} (sink : SinkOf W) (why : Cut) (out out' : W) (bytes : Bytes)
     → ((why ≡ c.Memory) × (out' ≡ out)) ⊎ ((why ≡ c.Write) × PrintsSome sink out out' bytes × Rises (sink.faults out) (sink.faults out'))
@@ -147,8 +141,7 @@ prints_none {W = W} sink why out out' bytes is prints = go why (subst (PrintsUnt
     go c.Whole all = all
     go c.Memory same = subst (λ (now : W). PrintsAll sink out now []) (sym same) (appends_nothing (sink.contents out))
     go c.Write some = subst (PrintsAll sink out out') (take-nil some.0.count) some.0.appends
-    go c.Read never = absurd never
-    go c.Files never = absurd never
+    go _ never = absurd never
 
 pub not_whole : (later : Cut) (P Q R : Type 0) → ((later ≡ c.Memory) × P) ⊎ ((later ≡ c.Write) × Q × R) → later ≢ c.Whole
 not_whole later P Q R (inl memory) is = absurd (cc (sym memory.0 ∙ is))

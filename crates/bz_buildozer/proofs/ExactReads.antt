@@ -1,33 +1,121 @@
 -- Runs that standard input or standard output cuts: what is printed, and what a run leaves that nothing cuts.
-use Rattle.std.proofs.Common.{◌≡◌, ◌≢◌, ◌⊎◌, inl, inr, ◌∙◌, ◌++◌, ℕ, zero, suc, List, [], ◌∷◌, Option, None, Bool, Result, Ok, Err, IfOk, refl, sym, ap, subst}
-use Rattle.std.specs.Option.{option_map}
-use Rattle.std.proofs.lemmas.List.{append-nil}
+use Rattle.std.proofs.Common.{◌≡◌, inl, inr, ℕ, zero, suc, List, [], ◌∷◌, ◌++◌, map, Option, Some, None, Bool, false, true≢false, subst, sym, arith, ◌≢◌, ◌⊎◌, ◌∙◌, Result, Ok, Err, IfOk, refl, ap}
+use Rattle.std.specs.List.{All, flat_map}
+use Rattle.std.proofs.lemmas.List.Elements.{All-head, All-tail}
 use Rattle.bz_items.specs.Characters.{Bytes}
 use Rattle.bz_files.specs.Folder.{Folder}
-use Rattle.bz_command_line.specs.Requested.{Requested, Usage}
+use Rattle.bz_label.specs.declared.target.Target.{Target}
+use Rattle.bz_command_line.specs.Requested.{Requested, Request, Usage}
+use Rattle.bz_streams.specs.declared.exit.Cut.{Cut}
+use Rattle.bz_streams.specs.declared.exit.Cut.TheVariants as c
+use Rattle.bz_buildozer.specs.Found.{Opened, Used, with_opened, file_at, package_number}
+use Rattle.bz_buildozer.specs.Outcome.{AreOfInput, GivenOutcome, IsOfInput, LineOutcome, NamesNoFile, WordsOutcome}
+use Rattle.bz_buildozer.specs.Run.{Answers, AnswersIn, Does, World, Progress, RunsSteps, Uses, nothing_done}
+use Rattle.bz_buildozer.specs.Steps.{RunStep, step_of, steps_requested, all_steps, input_package, shows_input}
+use Rattle.bz_buildozer.proofs.FailSteps.{answers_stay, stay_used}
+use Rattle.std.specs.Option.{option_map}
+use Rattle.std.proofs.lemmas.List.{append-nil}
 use Rattle.bz_command_line.specs.Line.{Given, operands, script, CommandLine, LineUsage, command_line_of}
 use Rattle.bz_command_line.specs.declared.line.Options.{Options}
 use Rattle.bz_streams.specs.Exits.{first_cut}
-use Rattle.bz_streams.specs.declared.exit.Cut.{Cut}
-use Rattle.bz_streams.specs.declared.exit.Cut.TheVariants as c
 use Rattle.bz_buildozer.specs.Ending.{Ended, Left, Performs, TriesFile, TriesFiles, ended_whole, opened_out, is_input, status_of, texts_out}
 use Rattle.bz_buildozer.specs.Exact.{OutputCutsNothingElse}
-use Rattle.bz_buildozer.specs.Outcome.{AreOfInput, GivenOutcome, IsOfInput, LineOutcome, NamesNoFile, WordsOutcome}
-use Rattle.bz_buildozer.specs.Found.{Opened, Used, file_at, package_number}
-use Rattle.bz_buildozer.specs.Run.{Answers, Progress, RunsSteps, Uses, World, nothing_done}
-use Rattle.bz_buildozer.specs.Steps.{RunStep, all_steps, input_package, shows_input}
 use Rattle.bz_buildozer.proofs.CutSteps.{both_whole}
-use Rattle.bz_buildozer.proofs.InputSteps.{AreStepsOfInput, on_lines}
-use Rattle.bz_buildozer.proofs.FailSteps.{stay_used}
-use Rattle.bz_buildozer.proofs.OpenSteps.{last_is_used, unused_before}
+use Rattle.bz_buildozer.proofs.PlaceSteps.{last_is_used, unused_before}
+
+-- ---- steps on rules of standard input use no other package, and so write no file
+
+-- each of these packages is that of standard input
+abbrev pub AreInput : List Used → Type 0
+AreInput [] = Unit {0}
+AreInput (used ∷ more) = (used.«package» ≡ input_package) × AreInput more
+
+-- each of these steps is on rules of standard input
+abbrev pub AreStepsOfInput : List RunStep → Type 0
+AreStepsOfInput [] = Unit {0}
+AreStepsOfInput (step ∷ steps) = (step.target.«package» ≡ input_package) × AreStepsOfInput steps
+
+-- ---- what steps use
+
+one_more : (used : List Used) (last : Used) → last.«package» ≡ input_package → AreInput used → AreInput (used ++ last ∷ [])
+one_more [] last is are = (is, tt)
+one_more (used ∷ more) last is are = (are.0, one_more more last is are.1)
+
+kept : (place : ℕ) (file : Option Opened) (used : List Used) → AreInput used → AreInput (with_opened place file used)
+kept place file [] are = tt
+kept zero file (used ∷ more) are = are
+kept (suc place) file (used ∷ more) are = (are.0, kept place file more are.1)
+
+used_on : (why : Cut) (world : World) (current : Bytes) (before : List Used) (number : Option ℕ) (lines : List Bytes) (after : List Used) → current ≡ input_package
+    → Uses why false world current before number lines after → AreInput before → AreInput after
+used_on c.Whole world current before number lines after is (place, inl again, at) are = subst AreInput (sym again.2) are
+used_on c.Whole world current before number lines after is (place, inr (absent, last, (found, file, finds, opens, new)), at) are =
+    subst AreInput (sym new) (one_more before _ is are)
+used_on c.Memory world current before number lines after is (at, told, inl same) are = subst AreInput (sym same) are
+used_on c.Memory world current before number lines after is (at, told, inr new) are = subst AreInput (sym new) (one_more before _ is are)
+used_on c.Read world current before number lines after is (plain, of_input, none, at, told, new) are = subst AreInput (sym new) (one_more before _ is are)
+used_on c.Write world current before number lines after is uses are = absurd uses
+used_on c.Files world current before number lines after is (none, (file, opens, new, at)) are = subst AreInput (sym new) (one_more before _ is are)
+
+answers_on : (why : Cut) (step : RunStep) (number : Option ℕ) (folder : Folder) (state : Progress) (lines : List Bytes) (folder' : Folder) (after : Progress)
+    → Answers why false step number folder state lines folder' after → AreInput state.used → AreInput after.used
+answers_on why step number folder state lines folder' after answers are = elim (answers_stay why false step number folder folder' state after lines answers) [
+  | inl same ↦ subst AreInput (sym same) are
+  | inr (place, file, is) ↦ subst AreInput (sym is) (kept place file state.used are)
+]
+
+does_on : (why : Cut) (world : World) (step : RunStep) (before : Progress) (lines : List Bytes) (folder : Folder) (after : Progress) → step.target.«package» ≡ input_package
+    → Does why false world step before lines folder after → AreInput before.used → AreInput after.used
+does_on why world step before lines folder after is does are =
+    answers_on does.acted step does.number world.folder (record before { used = does.used }) does.answer folder after does.answers
+    (used_on does.opened world step.target.«package» before.used does.number does.opening does.used is does.uses are)
+
+runs_on : (why : Cut) (world : World) (keep_going : Bool) (steps : List RunStep) (before : Progress) (lines : List Bytes) (folder : Folder) (after : Progress)
+    → AreStepsOfInput steps → RunsSteps why false world keep_going steps before lines folder after → AreInput before.used → AreInput after.used
+runs_on why world keep_going [] before lines folder after of_input runs are = subst (λ (now : Progress). AreInput now.used) (sym runs.3) are
+runs_on why world keep_going (step ∷ steps) before lines folder after of_input (inl ended) are = subst (λ (now : Progress). AreInput now.used) (sym ended.4) are
+runs_on why world keep_going (step ∷ steps) before lines folder after of_input (inr (goes, (one, later, between, mid, first, rest, does, runs, reported, cut))) are =
+    runs_on later (record world { folder = between }) keep_going steps mid rest folder after of_input.1 runs (does_on one world step before first between mid of_input.0 does are)
+
+-- ---- the steps of lines
+
+appended : (first more : List RunStep) → AreStepsOfInput first → AreStepsOfInput more → AreStepsOfInput (first ++ more)
+appended [] more are others = others
+appended (step ∷ first) more are others = (are.0, appended first more are.1 others)
+
+on_target : (target : Target) (commands : List Request) → target.«package» ≡ input_package → AreStepsOfInput (map (step_of target) commands)
+on_target target [] is = tt
+on_target target (request ∷ commands) is = (is, on_target target commands is)
+
+on_targets : (commands : List Request) (targets : List Target) → All (λ target. target.«package» ≡ input_package) targets
+    → AreStepsOfInput (flat_map (λ target. map (step_of target) commands) targets)
+on_targets commands [] all = tt
+on_targets commands (target ∷ targets) all =
+    appended (map (step_of target) commands) _ (on_target target commands (All-head (λ (other : Target). other.«package» ≡ input_package) target targets all))
+    (on_targets commands targets (All-tail (λ (other : Target). other.«package» ≡ input_package) target targets all))
+
+pub on_lines : (lines : List Requested) → AreOfInput lines → AreStepsOfInput (all_steps lines)
+on_lines [] all = tt
+on_lines (line ∷ lines) all =
+    appended (steps_requested line) (all_steps lines) (on_targets line.commands line.targets (All-head (λ (requested : Requested). All (λ target. target.«package» ≡ input_package) requested.targets) line lines all))
+    (on_lines lines (All-tail (λ (requested : Requested). All (λ target. target.«package» ≡ input_package) requested.targets) line lines all))
+
+-- Lines on rules of standard input alone use no other package.
+pub nothing_else_used : (why : Cut) (world : World) (keep_going : Bool) (lines : List Requested) (reported : List Bytes) (folder : Folder) (state : Progress)
+    → AreOfInput lines → RunsSteps why false world keep_going (all_steps lines) nothing_done reported folder state
+    → All (λ (used : Used). used.«package» ≡ input_package) state.used
+nothing_else_used why world keep_going lines reported folder state are runs =
+    each state.used (runs_on why world keep_going (all_steps lines) nothing_done reported folder state (on_lines lines are) runs tt)
+  where
+    each : (used : List Used) → AreInput used → All (λ (one : Used). one.«package» ≡ input_package) used
+    each [] are k d within = absurd (omega arith)
+    each (used ∷ more) are zero d within = are.0
+    each (used ∷ more) are (suc k) d within = each more are.1 k d (omega arith)
 
 -- What holds of both parts holds of the two.
 by_first : (P : Cut → Type 0) (one later why : Cut) → why ≡ first_cut one later → P one → P later → P why
 by_first P c.Whole later why is first more = subst P (sym is) more
-by_first P c.Memory later why is first more = subst P (sym is) first
-by_first P c.Read later why is first more = subst P (sym is) first
-by_first P c.Write later why is first more = subst P (sym is) first
-by_first P c.Files later why is first more = subst P (sym is) first
+by_first P _ later why is first more = subst P (sym is) first
 
 -- ---- what standard output doesn't cut
 
@@ -99,10 +187,8 @@ module _ (world : World) (ended : Ended) (other : ended.cut ≢ c.Whole) where
 
 first_write : (one later : Cut) → c.Write ≡ first_cut one later → one ≢ c.Write → (one ≡ c.Whole) × (c.Write ≡ later)
 first_write c.Whole later is other = (refl, is)
-first_write c.Memory later is other = absurd (cc is)
-first_write c.Read later is other = absurd (cc is)
 first_write c.Write later is other = absurd (other refl)
-first_write c.Files later is other = absurd (cc is)
+first_write _ later is other = absurd (cc is)
 
 pub output_alone : OutputCutsNothingElse
 output_alone words world ended (inl memory) write = absurd (let e = sym write ∙ ap (λ (e : Ended). e.cut) memory in cc)
@@ -164,10 +250,7 @@ closed_after journals step why number folder state lines folder' after none answ
   where
     go : (cut : Cut) → Answers cut journals step None folder state lines folder' after → IsEmpty after
     go c.Whole (told, still, is) = subst IsEmpty (sym is) empty
-    go c.Memory never = absurd never
-    go c.Read never = absurd never
-    go c.Write never = absurd never
-    go c.Files never = absurd never
+    go _ never = absurd never
 
 module _ (journals : Bool) (world : World) (number : Option ℕ) (lines : List Bytes) (after : List Used) where
   -- standard input was used before
@@ -231,10 +314,8 @@ runs_again why journals world keep_going (step ∷ steps) before lines folder af
 
 first_read : (one later : Cut) → c.Read ≡ first_cut one later → (one ≢ c.Memory) × ((one ≡ c.Read) ⊎ ((one ≡ c.Whole) × (c.Read ≡ later)))
 first_read c.Whole later is = ((λ same. absurd (cc same)), inr (refl, is))
-first_read c.Memory later is = absurd (cc is)
 first_read c.Read later is = ((λ same. absurd (cc same)), inl refl)
-first_read c.Write later is = absurd (cc is)
-first_read c.Files later is = absurd (cc is)
+first_read _ later is = absurd (cc is)
 
 reads_nothing : (journals : Bool) (world : World) (keep_going : Bool) (steps : List RunStep) (lines : List Bytes) (folder : Folder) (after : Progress)
     → AreStepsOfInput steps → RunsSteps c.Read journals world keep_going steps nothing_done lines folder after → IsEmpty after

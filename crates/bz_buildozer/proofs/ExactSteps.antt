@@ -1,16 +1,22 @@
 -- Whole runs of steps do one thing, without journals and with them, and print the same lines but for what is left open.
-use Rattle.std.proofs.Common.{◌≡◌, ◌≢◌, ◌⊎◌, inl, inr, ◌∙◌, ◌++◌, ℕ, zero, suc, List, [], ◌∷◌, Option, Some, None, Bool, true, false, true≢false, Ok, Err, refl, sym, ap, subst, bytes_eq, codes}
+use Rattle.std.proofs.Common.{◌≡◌, inl, List, [], ◌∷◌, ◌++◌, refl, sym, subst, inr, Option, Some, None, Result, Ok, Err, ap, ◌∙◌, arith, ◌≢◌, ◌⊎◌, ℕ, zero, suc, Bool, true, false, true≢false, bytes_eq, codes}
+use Rattle.bz_items.specs.Characters.{Bytes}
+use Rattle.bz_buildozer.specs.Exact.{SameLines}
+use Rattle.bz_buildozer.specs.Run.{World, LeadsBy, Answers, AnswersIn, AreHints, Does, Finds, Progress, RunsSteps, Uses, UsesWhole, reported_of, state_after}
+use Rattle.bz_grammar.specs.Laws.{OneReading}
+use Rattle.bz_value.specs.declared.value.Item.{Item}
+use Rattle.bz_value.specs.declared.refusal.Refusal.{Refusal}
+use Rattle.bz_buildozer.specs.Sessions.{Action, Do, Format, Undo, Redo, Meaning, EffectMeans, Formats, History, Answer, Makes, Leads, after_meaning, present}
 use Rattle.std.specs.Prelude.{◌||◌, IfSome, if◌then◌else◌, unwrap_or}
 use Rattle.std.specs.Option.{option_map, option_map_or}
 use Rattle.std.specs.FinMap.{get}
 use Rattle.std.specs.List.{list_any}
+use Rattle.std.proofs.lemmas.Bool.{or_parts}
 use Rattle.std.proofs.lemmas.Slice.Eq.{bytes_eq-Decides}
-use Rattle.bz_grammar.specs.Laws.{OneReading}
 use Rattle.bz_grammar.specs.Statements.{lines_of}
 use Rattle.bz_grammar.specs.declared.tree.Node.{Node}
 use Rattle.bz_hosts.specs.View.{view_of}
 use Rattle.bz_hint.specs.Hints.{refusal_hint}
-use Rattle.bz_items.specs.Characters.{Bytes}
 use Rattle.bz_files.specs.Folder.{Folder, IsAside}
 use Rattle.bz_resume.specs.Pair.{journal_name}
 use Rattle.bz_resume.specs.Resuming.{Holds, OthersStay}
@@ -20,27 +26,89 @@ use Rattle.bz_streams.specs.Ports.{IsInput}
 use Rattle.bz_streams.specs.Reported.{stdin, fault_line, named_line}
 use Rattle.bz_streams.specs.declared.exit.Cut.{Cut}
 use Rattle.bz_streams.specs.declared.exit.Cut.TheVariants as c
-use Rattle.bz_buildozer.specs.Exact.{SameLines}
 use Rattle.bz_buildozer.specs.Found.{PackagesFound, IsNameOf, first_name, found_in, root_above, second_name, Opened, Used, file_at, package_number, with_opened}
 use Rattle.bz_buildozer.specs.Journals.{OpensBeside, TakesBeside, file_of_journal, journal_beside, lines_of_journal}
 use Rattle.bz_buildozer.specs.Keeps.{FolderAfter, file_after, left_out}
 use Rattle.bz_buildozer.specs.Moments.{AllAre}
 use Rattle.bz_buildozer.specs.Opens.{Takes}
 use Rattle.bz_buildozer.specs.Reported.{absent_hint}
-use Rattle.bz_buildozer.specs.Run.{Answers, AnswersIn, AreHints, Does, Finds, LeadsBy, Progress, RunsSteps, Uses, UsesWhole, World, reported_of, state_after}
-use Rattle.bz_buildozer.specs.Sessions.{Action, Answer, Do, Format, History, Redo, Undo, present}
 use Rattle.bz_buildozer.specs.Steps.{RunStep, action_of, input_package, is_of_input}
 use Rattle.bz_buildozer.proofs.CutSteps.{both_whole}
-use Rattle.bz_buildozer.proofs.ExactActions.{one_answer}
-use Rattle.bz_buildozer.proofs.ExactLines.{same_as, same_lines, same_parts}
-use Rattle.bz_buildozer.proofs.JournalSteps.{one_given}
-use Rattle.bz_buildozer.proofs.LeaveSteps.{Leaves, acts_leaves}
-use Rattle.bz_buildozer.proofs.RootSteps.{root_stays}
-use Rattle.bz_buildozer.proofs.StandSteps.{IsHeld, IsUnlike, OthersAre, all_after, all_last, apart_from, as_begun, file_in_front, found_by, found_holds, holds_still, names_stay, not_input, takes_stand, unlike_put}
+use Rattle.bz_buildozer.proofs.ReadSteps.{one_given}
+use Rattle.bz_buildozer.proofs.ActSteps.{Leaves, acts_leaves}
+use Rattle.bz_buildozer.proofs.StandSteps.{root_stays, IsHeld, IsUnlike, OthersAre, all_after, all_last, apart_from, as_begun, file_in_front, found_by, found_holds, holds_still, names_stay, not_input, takes_stand, unlike_put}
 
-pub either_not : (a b : Bool) → a || b ≡ false → (a ≡ false) × (b ≡ false)
-either_not true b is = absurd (cc is)
-either_not false b is = (refl, is)
+-- ---- lists of lines that are the same but for what is left open
+
+same_self : (words : List Bytes) (world : World) (lines : List Bytes) → SameLines words world lines lines
+same_self words world [] = tt
+same_self words world (line ∷ lines) = (inl refl, same_self words world lines)
+
+pub same_lines : (words : List Bytes) (world : World) (lines others : List Bytes) → lines ≡ others → SameLines words world lines others
+same_lines words world lines others same = subst (λ (ls : List Bytes). SameLines words world lines ls) same (same_self words world lines)
+
+-- Lines of these texts are the same where the texts are.
+pub same_as : (words : List Bytes) (world : World) (lines others these those : List Bytes) → lines ≡ these → others ≡ those
+    → SameLines words world these those → SameLines words world lines others
+same_as words world lines others these those is other_is same =
+    subst (λ (ls : List Bytes). SameLines words world ls others) (sym is) (subst (λ (ls : List Bytes). SameLines words world these ls) (sym other_is) same)
+
+same_append : (words : List Bytes) (world : World) (first others rest more : List Bytes) → SameLines words world first others
+    → SameLines words world rest more → SameLines words world (first ++ rest) (others ++ more)
+same_append words world [] [] rest more same following = following
+same_append words world [] (other ∷ others) rest more same following = absurd same
+same_append words world (line ∷ first) [] rest more same following = absurd same
+same_append words world (line ∷ first) (other ∷ others) rest more same following =
+    (same.0, same_append words world first others rest more same.1 following)
+
+-- The same lines, above others that are the same.
+pub same_parts : (words : List Bytes) (world : World) (lines others first first' rest rest' : List Bytes) → lines ≡ first ++ rest → others ≡ first' ++ rest'
+    → SameLines words world first first' → SameLines words world rest rest' → SameLines words world lines others
+same_parts words world lines others first first' rest rest' is other_is same following =
+    same_as words world lines others (first ++ rest) (first' ++ rest') is other_is (same_append words world first first' rest rest' same following)
+
+-- ---- an action leads to one answer and one history
+
+one_effect : (effect : Result (List Item) Refusal) (answer : Option Bytes) (items : List Item) (text : Bytes) (m n : Meaning)
+    → EffectMeans effect answer items text m → EffectMeans effect answer items text n → m ≡ n
+one_effect (Err refusal) answer items text m n is other_is = is ∙ sym other_is
+one_effect (Ok new) answer items text m n (inl same) (inl same') = same.1 ∙ sym same'.1
+one_effect (Ok new) answer items text m n (inl same) (inr differs) = absurd (differs.0 same.0)
+one_effect (Ok new) answer items text m n (inr differs) (inl same) = absurd (differs.0 same.0)
+one_effect (Ok new) answer items text m n (inr differs) (inr differs') = differs.1 ∙ sym differs'.1
+
+-- A text reads as one tree, so what is formatted of it is one.
+one_format : OneReading → (text : Bytes) (m n : Meaning) → Formats text m → Formats text n → m ≡ n
+one_format one text m n (tree, reads, is) (tree', reads', is') =
+    let same : tree' ≡ tree = one text tree' tree reads' reads in
+    let here = rw same at is' in
+    is ∙ sym here
+
+one_made : OneReading → (action : Action) (note : Bytes) (h : History) (answer answer' : Answer) (after after' : History) → Makes action note h answer after
+    → Makes action note h answer' after' → ◌≡◌ {A = Answer × History} (answer, after) (answer', after')
+one_made one (Do command target) note h answer answer' after after' (m, (tree, reads, means), is) (n, (tree', reads', means'), is') =
+    let same : tree' ≡ tree = one (present h) tree' tree reads' reads in
+    let here = rw same at means' in
+    is ∙ ap (after_meaning note h) (one_effect _ _ _ _ m n means here) ∙ sym is'
+one_made one Format note h answer answer' after after' (m, formats, is) (n, formats', is') =
+    is ∙ ap (after_meaning note h) (one_format one (present h) m n formats formats') ∙ sym is'
+one_made one (Undo count) note h answer answer' after after' is is' = is ∙ sym is'
+one_made one (Redo count) note h answer answer' after after' is is' = is ∙ sym is'
+
+one_end : OneReading → (action : Action) (note : Bytes) (h : History) (answer answer' : Answer) (after after' : History) → Leads action note h answer after
+    → Leads action note h answer' after' → ◌≡◌ {A = Answer × History} (answer, after) (answer', after')
+one_end one action note h answer answer' after after' (inl (long, is)) (inl (long', is')) = is ∙ sym is'
+one_end one action note h answer answer' after after' (inl (long, is)) (inr (short, makes)) = absurd (omega arith)
+one_end one action note h answer answer' after after' (inr (short, makes)) (inl (long, is)) = absurd (omega arith)
+one_end one action note h answer answer' after after' (inr (short, makes)) (inr (short', makes')) =
+    one_made one action note h answer answer' after after' makes makes'
+
+pub one_answer : OneReading → (action : Option Action) (note : Bytes) (h : History) (answer answer' : Answer) (after after' : History)
+    → LeadsBy action note h answer after → LeadsBy action note h answer' after' → (answer ≡ answer') × (after ≡ after')
+one_answer one None note h answer answer' after after' is is' = (is.0 ∙ sym is'.0, is.1 ∙ sym is'.1)
+one_answer one (Some action) note h answer answer' after after' leads leads' =
+    let same = one_end one action note h answer answer' after after' leads leads' in
+    (ap (λ (z : Answer × History). z.0) same, ap (λ (z : Answer × History). z.1) same)
 
 -- ---- whole steps
 
@@ -303,21 +371,18 @@ first_seen : (world : World) (step : RunStep) (steps : List RunStep) (known : Op
     → Seen world known step.target.«package» × AreSeen world steps known
 first_seen world step steps known (inl same) = (inl same, inl same)
 first_seen world step steps known (inr none) =
-    let parts = either_not (reads_input step) (list_any reads_input steps) none in (inr (not_input step.target.«package» parts.0), inr parts.1)
+    let parts = or_parts (reads_input step) (list_any reads_input steps) none in (inr (not_input step.target.«package» parts.0), inr parts.1)
 
 -- One thing helps below a refusal.
 one_hint : OneReading → (answer : Answer) (action : Option Action) (name : Bytes) (h : History) (hint other : List Bytes) → AreHints answer action name h hint
     → AreHints answer action name h other → hint ≡ other
 one_hint one (Ok reply) action name h hint other is is' = is ∙ sym is'
-one_hint one (Err refusal) None name h hint other is is' = is ∙ sym is'
-one_hint one (Err refusal) (Some Format) name h hint other is is' = is ∙ sym is'
-one_hint one (Err refusal) (Some (Undo n)) name h hint other is is' = is ∙ sym is'
-one_hint one (Err refusal) (Some (Redo n)) name h hint other is is' = is ∙ sym is'
 one_hint one (Err refusal) (Some (Do operation target)) name h hint other (inl long) (inl long') = long.1 ∙ sym long'.1
 one_hint one (Err refusal) (Some (Do operation target)) name h hint other (inl long) (inr (short, helps)) = absurd (short long.0)
 one_hint one (Err refusal) (Some (Do operation target)) name h hint other (inr (short, helps)) (inl long) = absurd (short long.0)
 one_hint one (Err refusal) (Some (Do operation target)) name h hint other (inr (short, (n, reads, is))) (inr (short', (n', reads', is'))) =
     is ∙ ap (λ (m : Node). refusal_hint name refusal operation target.which target.«package» (lines_of m) (view_of m)) (one (present h) n n' reads reads') ∙ sym is'
+one_hint one (Err refusal) _ name h hint other is is' = is ∙ sym is'
 
 module _ (one : OneReading) (words : List Bytes) (world : World) (bytes : Bytes) (known : world.known ≡ Some bytes) (journals : Bool) where
   same_used : (here there : World) (current : Bytes) (before : List Used) (place place' : ℕ) (lines lines' : List Bytes) (after after' : List Used)
@@ -398,9 +463,9 @@ not_named : (name : Bytes) (used : List Used) → list_any (is_named name) used 
 not_named name [] none place file at = absurd (let e = at in cc)
 not_named name (used ∷ more) none zero file at = λ same.
     let is = ap (λ (found : Option Opened). option_map_or (λ (it : Opened). bytes_eq name it.name) found false) at ∙ (bytes_eq-Decides name file.name).1 same in
-    true≢false (sym is ∙ (either_not (is_named name used) (list_any (is_named name) more) none).0)
+    true≢false (sym is ∙ (or_parts (is_named name used) (list_any (is_named name) more) none).0)
 not_named name (used ∷ more) none (suc place) file at =
-    not_named name more (either_not (is_named name used) (list_any (is_named name) more) none).1 place file at
+    not_named name more (or_parts (is_named name used) (list_any (is_named name) more) none).1 place file at
 
 module _ (folder folder' : Folder) (name : Bytes) where
   -- an open file of this name is held in both

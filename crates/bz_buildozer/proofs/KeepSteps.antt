@@ -1,19 +1,17 @@
 -- What keeping a file and its journal leaves, and what it does to the count of faults.
-use Rattle.std.proofs.Common.{◌≡◌, ◌≢◌, ◌⊎◌, ◌∙◌, ◌++◌, ◌∷◌, ◌≤◌, inl, inr, ℕ, List, [], true, false, Option, Some, Result, Ok, Err, refl, sym, ap, subst}
+use Rattle.std.proofs.Common.{◌≡◌, ◌≢◌, ◌⊎◌, ◌&&◌, Bool, ◌∙◌, ◌++◌, ◌∷◌, ◌≤◌, inl, inr, ℕ, List, [], true, false, Option, Some, Result, Ok, Err, refl, sym, ap, subst}
 use Rattle.std.specs.Option.{option_map_or}
 use Rattle.std.specs.Prelude.{IsSome}
 use Rattle.std.proofs.lemmas.Bool.Decides.{eqb_tells}
 use Rattle.bz_items.specs.Characters.{Bytes}
 use Rattle.bz_label.specs.declared.target.Target.{Target}
 use Rattle.bz_command_line.specs.declared.verb.Verb.{Verb}
-use Rattle.bz_journal.specs.declared.keeping.KeepFault.{KeepFault}
-use Rattle.bz_journal.specs.declared.keeping.KeepFault.TheVariants.{Pair, Refused}
+use Rattle.bz_buildozer.specs.Sessions.{KeepFault, Pair, Refused, KeepsFile, Action, Reply, History, Leads, present}
 use Rattle.bz_value.specs.declared.refusal.Refusal.{Refusal}
 use Rattle.bz_value.specs.declared.refusal.Refusal.TheVariants.{Memory}
 use Rattle.bz_resume.specs.Resuming.{Holds}
-use Rattle.bz_buildozer.specs.Keeps.{KeepsAt, KeepsFile, after_keeping, FolderAfter, is_left_at}
+use Rattle.bz_buildozer.specs.Keeps.{KeepsAt, after_keeping, file_left, FolderAfter, is_left_at}
 use Rattle.bz_buildozer.specs.Found.{Opened, Used, file_at}
-use Rattle.bz_buildozer.specs.Sessions.{Action, Reply, History, Leads, present}
 use Rattle.bz_resume.specs.declared.pair_fault.PairFault.{PairFault}
 use Rattle.bz_resume.specs.declared.pair_fault.PairFault.TheVariants as f
 use Rattle.bz_streams.specs.declared.exit.Cut.{Cut}
@@ -24,13 +22,11 @@ use Rattle.bz_streams.proofs.Outputs.{counts_more}
 use Rattle.bz_buildozer.specs.Calls.{WorksOn}
 use Rattle.bz_buildozer.specs.Moments.{AllAreSafe}
 use Rattle.bz_buildozer.specs.Reported.{unkept_line}
-use Rattle.bz_buildozer.specs.Run.{Answers, AreHints, Progress, reply_notes, printed_in, reported_of}
+use Rattle.bz_buildozer.specs.Run.{Answers, AreHints, IsKeptAt, Progress, reply_notes, printed_in, reported_of}
 use Rattle.bz_buildozer.specs.Steps.{action_of}
-use Rattle.bz_buildozer.proofs.ActSteps.{file_put, led_on, led_to, still_open}
+use Rattle.bz_buildozer.proofs.ActSteps.{file_put, led_on, led_to, still_open, fails_at, free_file, hints_by, leads_by, memory_answers, refused, replied, step_at, still_same}
 use Rattle.bz_buildozer.proofs.CutSteps.{files_cut}
-use Rattle.bz_buildozer.proofs.DoSteps.{fails_at, free_file, hints_by, leads_by, memory_answers, refused, replied, step_at}
 use Rattle.bz_buildozer.proofs.SafeSteps.{goes_on_there, safe_at, survived}
-use Rattle.bz_buildozer.proofs.LeaveSteps.{still_same}
 
 -- it could not be written or read
 abbrev pub IsWritten : PairFault → Type 0
@@ -74,17 +70,20 @@ works_more files cut later old mid new first then = record {
 }
 
 -- what is printed after it changes no package
-pub kept_by : {F : Type 0} (files : FilesOf F) (place : ℕ) (action : Action) (note : Bytes) (before : List Used) (answer : Result Reply KeepFault) (mid after : List Used)
-    (old new : F) → after ≡ mid → KeepsAt files place action note before answer mid old new → KeepsAt files place action note before answer after old new
-kept_by files place action note before answer mid after old new same = subst (λ (used : List Used). KeepsAt files place action note before answer used old new) (sym same)
+pub kept_by : {F : Type 0} (journals : Bool) (files : FilesOf F) (place : ℕ) (action : Action) (note : Bytes) (before : List Used) (answer : Result Reply KeepFault)
+    (mid after : List Used) (old new : F) → journals ≡ true → after ≡ mid → KeepsAt journals files place action note before answer mid old new
+    → KeepsAt true files place action note before answer after old new
+kept_by journals files place action note before answer mid after old new kept same done =
+    subst (λ (used : List Used). KeepsAt true files place action note before answer used old new) (sym same)
+    (subst (λ (b : Bool). KeepsAt b files place action note before answer mid old new) kept done)
 
 -- a file that was kept, or not, is open still
-pub kept_open : {F : Type 0} (files : FilesOf F) (place : ℕ) (action : Action) (note : Bytes) (before : List Used) (answer : Result Reply KeepFault) (after : List Used)
-    (old new : F) → KeepsAt files place action note before answer after old new → IsSome (file_at place after)
-kept_open files place action note before answer after old new done =
-    still_open place before after done.file (after_keeping answer done.history done.file) done.there done.kept
+pub kept_open : {F : Type 0} (journals : Bool) (files : FilesOf F) (place : ℕ) (action : Action) (note : Bytes) (before : List Used) (answer : Result Reply KeepFault)
+    (after : List Used) (old new : F) → KeepsAt journals files place action note before answer after old new → IsSome (file_at place after)
+kept_open journals files place action note before answer after old new done =
+    still_open place before after done.file (file_left journals answer done.history done.file) done.there done.kept
 
--- ---- what a step does where journals are kept
+-- ---- what a step does, without journals and with them
 
 pair_is : (one other : PairFault) → ◌≡◌ {A = KeepFault} (Pair one) (Pair other) → one ≡ other
 pair_is one other same = cc
@@ -93,63 +92,87 @@ pub wants_memory : (cut : Cut) → (cut ≡ c.Whole) ⊎ (cut ≡ c.Memory) → 
 wants_memory cut (inl whole) other = absurd (other whole)
 wants_memory cut (inr memory) other = memory
 
-module _ {F : Type 0} (files : FilesOf F) (counts : (held : F) (t : ℕ) → t ≤ files.moment held → files.since held t (files.folder held)) (target : Target) (verb : Verb)
-    (note : Bytes) (place : ℕ) (action : Action) (before after : Progress) (used : List Used) (old new : F) (requested : action_of target verb ≡ Some action)
-    (honest : files.honest old ≡ true) (all : AllAreSafe (files.folder old) before.used) (free : is_left_at place before.used ≡ false) where
-  -- the action is kept, with this answer, or not
+module _ {F : Type 0} (files : FilesOf F) (counts : (held : F) (t : ℕ) → t ≤ files.moment held → files.since held t (files.folder held)) (journals : Bool) (target : Target)
+    (verb : Verb) (note : Bytes) (place : ℕ) (action : Action) (before after : Progress) (used : List Used) (old new : F) (requested : action_of target verb ≡ Some action)
+    (honest : journals ≡ true → files.honest old ≡ true) (all : journals ≡ true → AllAreSafe (files.folder old) before.used)
+    (free : journals && is_left_at place before.used ≡ false) where
+  -- the action is done, with this answer
   abbrev pub Kept : Result Reply KeepFault → Type 0
-  Kept answer = KeepsAt files place action note before.used answer used old new
+  Kept answer = KeepsAt journals files place action note before.used answer used old new
 
   -- what the step did
   abbrev pub Did : Cut → List Bytes → Type 0
-  Did why lines = Answers why true (step_at target verb note) (Some place) (files.folder old) before lines (files.folder new) after
+  Did why lines = Answers why journals (step_at target verb note) (Some place) (files.folder old) before lines (files.folder new) after
 
-  free_at : (file : Opened) → file_at place before.used ≡ Some file → file.left ≡ false
-  free_at file there = sym (ap (λ (found : Option Opened). option_map_or (λ (it : Opened). it.left) found false) there) ∙ free
+  free_at : journals ≡ true → (file : Opened) → file_at place before.used ≡ Some file → file.left ≡ false
+  free_at kept file there = sym (ap (λ (found : Option Opened). option_map_or (λ (it : Opened). it.left) found false) there)
+      ∙ sym (ap (λ (b : Bool). b && is_left_at place before.used) kept) ∙ free
 
-  holds_at : (file : Opened) → file_at place before.used ≡ Some file
+  holds_at : journals ≡ true → (file : Opened) → file_at place before.used ≡ Some file
       → Holds (files.folder old) file.name file.history.«package» (present file.history) file.history.texts
-  holds_at file there = goes_on_there (files.folder old) file (free_at file there) (safe_at (files.folder old) place before.used file there all).1.1
+  holds_at kept file there = goes_on_there (files.folder old) file (free_at kept file there) (safe_at (files.folder old) place before.used file there (all kept)).1.1
 
-  leads_on : (reply : Reply) (done : Kept (Ok reply)) → Leads action note done.file.history (Ok reply) done.history
-  leads_on reply done = led_on done.file.history done.history action note reply done.keeps
+  kept_folder : (reply : Reply) (done : Kept (Ok reply)) → journals ≡ true → FolderAfter true (Ok reply) done.file done.history (files.folder old) (files.folder new)
+  kept_folder reply done kept = kept_after files done.file done.history reply old new (honest kept) (holds_at kept done.file done.there)
+      (still_same action note done.file.history done.history (Ok reply) done.keeps).0 (done.pair kept)
 
-  following_of : (reply : Reply) (done : Kept (Ok reply)) → FolderAfter true (Ok reply) done.file done.history (files.folder old) (files.folder new)
-  following_of reply done = kept_after files done.file done.history reply old new honest (holds_at done.file done.there)
-      (still_same action note done.file.history done.history (Ok reply) done.keeps).0 done.pair
+  following_of : (reply : Reply) (done : Kept (Ok reply)) → FolderAfter journals (Ok reply) done.file done.history (files.folder old) (files.folder new)
+  following_of reply done = go journals refl
+    where
+      go : (b : Bool) → journals ≡ b → FolderAfter b (Ok reply) done.file done.history (files.folder old) (files.folder new)
+      go true kept = kept_folder reply done kept
+      go false plain = ap files.folder (done.plain plain).0
 
   pub kept_answers : (reply : Reply) (done : Kept (Ok reply)) (printed : Bytes) → after ≡ record before { used = used; printed = printed }
       → printed ≡ before.printed ++ printed_in reply → Did c.Whole (reply_notes (Some action) reply done.file.name)
   kept_answers reply done printed is said =
-      replied true (step_at target verb note) place done.file done.history (files.folder old) (files.folder new) before after used
-      (free_file true place before.used done.file done.there free) reply printed (reply_notes (Some action) reply done.file.name)
+      replied journals (step_at target verb note) place done.file done.history (files.folder old) (files.folder new) before after used
+      (free_file journals place before.used done.file done.there free) reply printed (reply_notes (Some action) reply done.file.name)
       (hints_by target verb action done.file.name done.history (Ok reply) (reply_notes (Some action) reply done.file.name) requested refl)
-      (leads_by target verb note action done.file.history done.history (Ok reply) requested (leads_on reply done)) (following_of reply done) done.kept said is
+      (leads_by target verb note action done.file.history done.history (Ok reply) requested (led_on done.file.history done.history action note reply done.keeps))
+      (following_of reply done) done.kept said is
 
-  -- it was kept, and what it prints is not
+  -- it was done, and what it prints is not kept
   pub unprinted_answers : (result : Cut) (reply : Reply) (done : Kept (Ok reply)) (line printed : Bytes) → result ≡ c.Memory → printed ≡ before.printed
       → after ≡ record { used = used; printed = printed; failed = true } → Did result (line ∷ [])
   unprinted_answers result reply done line printed memory same is =
-      let next = after_keeping (Ok reply) done.history done.file in
-      memory_answers result true (step_at target verb note) place (files.folder old) (files.folder new) before after (line ∷ []) memory
-      (fails_at place next before after used printed line done.kept same is)
-      (elim (following_of reply done) [
+      memory_answers result journals (step_at target verb note) place (files.folder old) (files.folder new) before after (line ∷ []) memory
+      (fails_at place next before after used printed line done.kept same is) (go journals refl)
+    where
+      next : Opened
+      next = file_left journals (Ok reply) done.history done.file
+
+      go : (b : Bool) → journals ≡ b → (files.folder new ≡ files.folder old) ⊎ ((journals ≡ true) × IsKeptAt place after.used (files.folder old) (files.folder new))
+      go false plain = inl (ap files.folder (done.plain plain).0)
+      go true kept = elim (kept_folder reply done kept) [
         | inl stays ↦ inl stays.1
         | inr pair ↦ inr (
-          refl,
-          (next, ap (λ (state : Progress). file_at place state.used) is ∙ file_put place before.used used done.file next done.there done.kept, pair.1),
+          kept,
+          (
+            file_left true (Ok reply) done.history done.file,
+            ap (λ (state : Progress). file_at place state.used) is ∙ file_put place before.used used done.file next done.there done.kept
+                ∙ ap (λ (b : Bool). Some (file_left b (Ok reply) done.history done.file)) kept,
+            pair.1,
+          ),
         )
-      ])
+      ]
+
+  refused_folder : (refusal : Refusal) → Kept (Err (Refused refusal)) → files.folder new ≡ files.folder old
+  refused_folder refusal done = go journals refl
+    where
+      go : (b : Bool) → journals ≡ b → files.folder new ≡ files.folder old
+      go true kept = ap files.folder ((done.pair kept).refused tt)
+      go false plain = ap files.folder (done.plain plain).0
 
   pub refused_answers : (result : Cut) (refusal : Refusal) (done : Kept (Err (Refused refusal))) (hint : List Bytes) → (result ≡ c.Whole) ⊎ (result ≡ c.Memory)
       → (result ≡ c.Whole → refusal ≢ Memory) → (result ≡ c.Whole → AreHints (Err refusal) (Some action) done.file.name done.history hint) → (result ≡ c.Memory → hint ≡ [])
-      → after ≡ record before { used = used; failed = true } → Did result (reported_of true done.file.name note (Err refusal) hint)
+      → after ≡ record before { used = used; failed = true } → Did result (reported_of journals done.file.name note (Err refusal) hint)
   refused_answers result refusal done hint kinds other hints none is =
-      refused true (step_at target verb note) place done.file done.history (files.folder old) (files.folder new) before after used
-      (free_file true place before.used done.file done.there free) result refusal hint kinds
+      refused journals (step_at target verb note) place done.file done.history (files.folder old) (files.folder new) before after used
+      (free_file journals place before.used done.file done.there free) result refusal hint kinds
       (λ whole. leads_by target verb note action done.file.history done.history (Err refusal) requested
       (led_to done.file.history done.history action note refusal done.keeps (other whole)))
-      (λ whole. hints_by target verb action done.file.name done.history (Err refusal) hint requested (hints whole)) none (ap files.folder (done.pair.refused tt)) done.kept is
+      (λ whole. hints_by target verb action done.file.name done.history (Err refusal) hint requested (hints whole)) none (refused_folder refusal done) done.kept is
 
   -- the last moment of a pair that was not written
   pub unkept_answers : (result : Cut) (fault : PairFault) (done : Kept (Err (Pair fault)))
@@ -160,40 +183,50 @@ module _ {F : Type 0} (files : FilesOf F) (counts : (held : F) (t : ℕ) → t �
       file : Opened
       file = done.file
 
+      tells : (b : Bool) → journals ≡ b → journals ≡ true
+      tells true is_kept = is_kept
+      tells false plain = absurd (done.plain plain).1
+
+      kept : journals ≡ true
+      kept = tells journals refl
+
+      pair : KeepsFile files file.name file.history done.history (Err (Pair fault)) old new
+      pair = done.pair kept
+
       time : ℕ
       time = files.moment old
 
       holds : Holds (files.folder old) file.name file.history.«package» (present file.history) file.history.texts
-      holds = holds_at file done.there
+      holds = holds_at kept file done.there
 
       last : files.since new time (files.folder new)
-      last = counts new time (done.pair.time honest (present file.history, holds)).later
+      last = counts new time (pair.time (honest kept) (present file.history, holds)).later
 
       untouched : fault ≢ f.Write → files.folder new ≡ files.folder old
-      untouched other = done.pair.untouched honest (λ same. other (pair_is fault f.Write same)) (files.folder new) last
+      untouched other = pair.untouched (honest kept) (λ same. other (pair_is fault f.Write same)) (files.folder new) last
 
       go : ((result ≡ c.Whole) × (fault ≡ f.Changed)) ⊎ ((result ≡ c.Memory) × (fault ≡ f.Memory)) ⊎ ((result ≡ c.Files) × IsWritten fault)
-          → Did result (unkept_line file.name fault ∷ [])
-      go (inl changed) = absurd (not_changed files file done.history fault old new honest holds done.pair changed.1)
+          → Did result (unkept_line done.file.name fault ∷ [])
+      go (inl changed) = absurd (not_changed files file done.history fault old new (honest kept) holds pair changed.1)
       go (inr (inl memory)) =
-          memory_answers result true (step_at target verb note) place (files.folder old) (files.folder new) before after (unkept_line file.name fault ∷ []) memory.0
+          memory_answers result journals (step_at target verb note) place (files.folder old) (files.folder new) before after (unkept_line file.name fault ∷ []) memory.0
           (fails_at place (after_keeping (Err (Pair fault)) done.history file) before after used before.printed (unkept_line file.name fault) done.kept refl is)
           (inl (untouched (λ write. let e = sym memory.1 ∙ write in cc)))
       go (inr (inr written)) =
           subst (λ (it : Cut). Did it (unkept_line file.name fault ∷ [])) (sym written.0) (
-            refl,
+            kept,
             record {
               file = file;
               action = action;
               history = done.history;
               fault = fault;
               there = done.there;
-              stays = free_at file done.there;
+              stays = free_at kept file done.there;
               requested = requested;
               keeps = done.keeps;
               failed = written.1;
               reported = refl;
-              survives = survived files file old new done.history (files.folder new) holds (done.pair.each honest (present file.history, holds) (files.folder new) last);
+              survives = survived files file old new done.history (files.folder new) holds (pair.each (honest kept) (present file.history, holds) (files.folder new) last);
               untouched = untouched;
               state_is = is ∙ ap (λ (u : List Used). record before { used = u; failed = true }) done.kept;
             },

@@ -1,44 +1,206 @@
 -- What words and lines come to, by what was read of them.
-use Rattle.std.proofs.Common.{◌≡◌, ◌≢◌, ◌⊎◌, ◌&&◌, ◌||◌, inl, inr, ℕ, List, [], ◌∷◌, Option, Some, None, IfSome, IsSome, Result, Ok, Err, IfOk, Bool, true, false, true≢false, refl, sym, ap, subst, ◌∙◌, bytes_eq}
-use Rattle.std.specs.Prelude.{OnErr, OnOk}
-use Rattle.std.specs.Cmp.Lexicographic.{slice_cmp}
-use Rattle.std.specs.FinMap.{empty, get-empty}
-use Rattle.std.specs.List.{All, list_any}
-use Rattle.std.specs.Ordering.{nat_cmp}
-use Rattle.std.proofs.lemmas.List.Elements.{All-head}
-use Rattle.std.proofs.lemmas.Slice.Eq.{bytes_eq-Decides}
+use Rattle.std.proofs.Common.{◌≡◌, ◌≢◌, inl, ℕ, List, Ok, IfOk, Result, arith, sym, subst, inr, [], ◌∷◌, Option, Some, Err, true, refl, append_assoc, ◌⊎◌, ◌&&◌, ◌++◌, Bool, false, ◌∙◌, ◌||◌, None, IfSome, IsSome, true≢false, ap, bytes_eq}
 use Rattle.bz_items.specs.Characters.{Bytes}
-use Rattle.bz_files.specs.Folder.{Folder, with_file}
-use Rattle.bz_files.proofs.Folders.{reads_back}
+use Rattle.bz_files.specs.Folder.{Folder, Elapses, with_file}
+use Rattle.bz_command_line.specs.Line.{script, CommandLine, LineUsage, command_line_of, Given, operands}
+use Rattle.bz_buildozer.specs.Outcome.{OfScript, IsScript, IsText, AreOfInput, LinesEnd, unused, IsUnused, IsScriptFront, out_of_memory, OrOutOfMemory, AreOfInputAndSome, IsOfInput, NamesNoFile, KeepsJournals, reported_name, OperandsOutcome, LinesOutcome, TextOutcome, ScriptOutcome, GivenOutcome, LineOutcome, WordsOutcome}
+use Rattle.bz_buildozer.specs.Steps.{input_package, all_steps, names_input, shows_input, is_of_input}
 use Rattle.bz_files.specs.declared.files.Files.{Ghosts as FilesOf}
-use Rattle.bz_label.specs.declared.target.Target.{Target}
-use Rattle.bz_command_line.specs.Requested.{Requested, Request, Refused, Usage, accepted, requested_of, complete, operand_group}
-use Rattle.bz_command_line.specs.Line.{Given, script, CommandLine, LineUsage, command_line_of}
-use Rattle.bz_command_line.specs.Refused.{IsScriptFault}
+use Rattle.bz_files.proofs.Elapsing.{each_since, elapsed_on, stays, weakened}
+use Rattle.bz_command_line.specs.Requested.{Requested, operand_group, Request, Refused, Usage, accepted, requested_of, complete}
 use Rattle.bz_command_line.specs.Script.{script_of}
+use Rattle.bz_buildozer.specs.Keeps.{KeepsFolder}
+use Rattle.bz_buildozer.specs.Calls.{PassesBy, EndsIn, MayRun, PrintsUntil, ReportsLines, PrintsAll, ReportsLine}
+use Rattle.bz_buildozer.specs.Moments.{IsMeanwhile, IsMomentOfRun, IsMomentOfSteps, AllAreSafe}
+use Rattle.bz_buildozer.specs.Run.{World, Progress, RunsSteps, nothing_done}
+use Rattle.bz_buildozer.proofs.ReadSteps.{IsReadOf, whole_requests, script_read, whole_outcome}
+use Rattle.std.specs.List.{All, list_any}
 use Rattle.bz_command_line.specs.declared.line.Options.{Options}
-use Rattle.bz_streams.specs.Faults.{AppendsUnlessFailed}
-use Rattle.bz_streams.specs.Outputs.{Reports}
-use Rattle.bz_streams.proofs.Outputs.{appends_nothing}
+use Rattle.bz_streams.specs.Exits.{first_cut}
 use Rattle.bz_streams.specs.declared.exit.Cut.{Cut}
 use Rattle.bz_streams.specs.declared.exit.Cut.TheVariants as c
 use Rattle.bz_streams.specs.declared.exit.Exit.{Exit}
 use Rattle.bz_streams.specs.declared.sink.Sink.{Ghosts as SinkOf}
-use Rattle.bz_buildozer.specs.Calls.{EndsIn, PrintsAll, PrintsUntil, ReportsLine, ReportsLines}
-use Rattle.bz_buildozer.specs.Ending.{Ended}
-use Rattle.bz_buildozer.specs.Outcome.{unused, IsUnused, IsScriptFront, out_of_memory, OrOutOfMemory, LinesEnd, AreOfInput, AreOfInputAndSome, IsOfInput, NamesNoFile, KeepsJournals, IsScript, IsText, reported_name, OperandsOutcome, LinesOutcome, TextOutcome, ScriptOutcome, GivenOutcome, LineOutcome, WordsOutcome}
-use Rattle.bz_buildozer.specs.Run.{World}
-use Rattle.bz_buildozer.specs.Steps.{is_of_input, names_input, input_package}
-use Rattle.bz_buildozer.specs.Reported.{memory_line, no_journal_line, unread_line, unread_status, usage_line, IsLineUsageLine}
+use Rattle.bz_buildozer.specs.Ending.{Ended, TriesFiles, status_of, texts_out}
+use Rattle.bz_buildozer.specs.Found.{Used}
+use Rattle.bz_buildozer.specs.Reported.{output_lines, memory_line, no_journal_line, unread_line, unread_status, usage_line, IsLineUsageLine}
+use Rattle.bz_buildozer.proofs.FailSteps.{more_lines, one_line}
+use Rattle.bz_buildozer.proofs.ExactReads.{nothing_else_used, output_empty_where_input_fails}
+use Rattle.std.specs.Prelude.{OnErr, OnOk}
+use Rattle.std.specs.Cmp.Lexicographic.{slice_cmp}
+use Rattle.std.specs.FinMap.{empty, get-empty}
+use Rattle.std.specs.Ordering.{nat_cmp}
+use Rattle.std.proofs.lemmas.List.Elements.{All-head}
+use Rattle.std.proofs.lemmas.Slice.Eq.{bytes_eq-Decides}
+use Rattle.bz_files.proofs.Folders.{reads_back}
+use Rattle.bz_label.specs.declared.target.Target.{Target}
+use Rattle.bz_command_line.specs.Refused.{IsScriptFault}
+use Rattle.bz_streams.proofs.Outputs.{appends_nothing}
 use Rattle.bz_buildozer.proofs.EndingSteps.{prints_none}
-use Rattle.bz_buildozer.proofs.ExactReads.{output_empty_where_input_fails}
 use Rattle.bz_buildozer.proofs.StandSteps.{not_input}
-use Rattle.bz_buildozer.proofs.TextSteps.{IsReadOf, script_read, whole_outcome}
 
--- ---- lines on standard error
+-- ---- what a run of status 1 leaves as it was
 
-pub reported_once : (f g : ℕ) (old new : Option Bytes) (line : Bytes) → AppendsUnlessFailed f g old new line → Reports f g old new (line ∷ [])
-reported_once f g old new line reported = (g, new, reported, (refl, refl))
+pub no_time : {A : Type 0} (moment : A → ℕ) (since : A → ℕ → Folder → Type 0) (before after : A) (P : Folder → Type 0) → after ≡ before
+    → Elapses (moment before) (moment after) (since before) (since after) P
+no_time moment since before after P same =
+    subst (λ files. Elapses (moment before) (moment files) (since before) (since files) P) (sym same) (stays (moment before) (since before) P)
+
+pub no_more_time : {A : Type 0} (moment : A → ℕ) (since : A → ℕ → Folder → Type 0) (before mid after : A) (P : Folder → Type 0) → after ≡ mid
+    → Elapses (moment before) (moment mid) (since before) (since mid) P → Elapses (moment before) (moment after) (since before) (since after) P
+no_more_time moment since before mid after P same time =
+    subst (λ files. Elapses (moment before) (moment files) (since before) (since files) P) (sym same) time
+
+-- ---- lines that are in a file, or in standard input
+
+pub of_script : (Is : Bytes → Type 0) (words : List Bytes) (line : CommandLine) (name : Bytes) → command_line_of words ≡ Ok line → line.given ≡ script name
+    → IfOk (command_line_of words) (λ line. OfScript Is line.given) → Is name
+of_script Is words line name is same takes =
+    subst (OfScript Is) same (subst (λ (it : Result CommandLine LineUsage). IfOk it (λ line. OfScript Is line.given)) is takes)
+
+-- ---- the moments of a whole run, by what its words request
+
+-- where no package was used, each name is as it is
+pub unused_yet : (folder : Folder) → IsMeanwhile folder [] [] folder
+unused_yet folder = record { files = λ place file then here there. absurd (let e = here in cc); others = λ name unlike aside. refl }
+
+-- a folder at a moment of what a text of lines requests, in a run that began with one
+abbrev pub IsMomentOfText : Folder → Bytes → Folder → Type 0
+IsMomentOfText folder text now = (lines : List Requested) × IsText text × (script_of text ≡ Ok lines) × IsMomentOfSteps folder (all_steps lines) [] now
+
+module _ {F : Type 0} (files : FilesOf F) (old new : F) where
+  pub by_operands : (known : Option Bytes) (texts : List Bytes) (requested : Requested) (lines : List Requested) → operand_group texts ≡ Ok requested → lines ≡ requested ∷ []
+      → PassesBy files (IsMomentOfSteps (files.folder old) (all_steps lines) []) old new
+      → PassesBy files (IsMomentOfRun (record { folder = files.folder old; known = known }) (operands texts)) old new
+  by_operands known texts requested lines is same =
+      weakened (files.moment old) (files.moment new) (files.since old) (files.since new) (IsMomentOfSteps (files.folder old) (all_steps lines) [])
+      (IsMomentOfRun (record { folder = files.folder old; known = known }) (operands texts)) (λ now moment. inr (
+        requested ∷ [],
+        (requested, is, refl),
+        subst (λ (these : List Requested). IsMomentOfSteps (files.folder old) (all_steps these) [] now) same moment,
+      ))
+
+  pub by_text : (text text' : Bytes) (lines lines' : List Requested) → text' ≡ text → IsText text → script_of text' ≡ Ok lines → lines' ≡ lines
+      → PassesBy files (IsMomentOfSteps (files.folder old) (all_steps lines') []) old new → PassesBy files (IsMomentOfText (files.folder old) text) old new
+  by_text text text' lines lines' same valid is these =
+      weakened (files.moment old) (files.moment new) (files.since old) (files.since new) (IsMomentOfSteps (files.folder old) (all_steps lines') [])
+      (IsMomentOfText (files.folder old) text) (λ now moment. (
+        lines,
+        valid,
+        subst (λ (it : Bytes). script_of it ≡ Ok lines) same is,
+        subst (λ (it : List Requested). IsMomentOfSteps (files.folder old) (all_steps it) [] now) these moment,
+      ))
+
+  -- a file of lines that was not read
+  pub by_no_script : (known : Option Bytes) (name : Bytes) → KeepsFolder files old new
+      → PassesBy files (IsMomentOfRun (record { folder = files.folder old; known = known }) (script name)) old new
+  by_no_script known name =
+      weakened (files.moment old) (files.moment new) (files.since old) (files.since new) (λ (now : Folder). now ≡ files.folder old)
+      (IsMomentOfRun (record { folder = files.folder old; known = known }) (script name)) (λ now is. inl is)
+
+  pub by_script : (known : Option Bytes) (name whole text text' : Bytes) (mid : F) → files.folder mid ≡ files.folder old → text' ≡ text
+      → IsScript (record { folder = files.folder old; known = known }) name (Some whole) → IsReadOf whole text → KeepsFolder files old mid
+      → PassesBy files (IsMomentOfText (files.folder mid) text') mid new
+      → PassesBy files (IsMomentOfRun (record { folder = files.folder old; known = known }) (script name)) old new
+  by_script known name whole text text' mid still same is read first second =
+      let world : World = record { folder = files.folder old; known = known } in
+      elapsed_on (files.moment old) (files.moment mid) (files.moment new) (files.since old) (files.since mid) (files.since new) (IsMomentOfRun world (script name))
+      (IsMomentOfText (files.folder mid) text') (λ now moment.
+      let requests = whole_requests whole text text' moment.0 same read moment.1 moment.2 in
+      inr (
+        moment.0,
+        (whole, is, requests.0, requests.1),
+        subst (λ (f : Folder). IsMomentOfSteps f (all_steps moment.0) [] now) still moment.3,
+      )) (weakened (files.moment old) (files.moment mid) (files.since old) (files.since mid) (λ (now : Folder). now ≡ files.folder old)
+      (IsMomentOfRun world (script name)) (λ now was. inl was) first) second
+
+  -- each folder since the beginning is one of a moment of the run
+  abbrev pub Each : World → Given → Type 0
+  Each world given = (now : Folder) → files.since new (files.moment old) now → IsMomentOfRun world given now
+
+  pub each_of : (known : Option Bytes) (given : Given) → ((now : Folder) → files.since old (files.moment old) now → now ≡ files.folder old)
+      → PassesBy files (IsMomentOfRun (record { folder = files.folder old; known = known }) given) old new
+      → Each (record { folder = files.folder old; known = known }) given
+  each_of known given only time =
+      each_since (files.moment old) (files.moment new) (files.since old) (files.since new) (IsMomentOfRun (record { folder = files.folder old; known = known }) given)
+      time (λ now stood. inl (only now stood))
+
+  -- words that are no line
+  pub no_words : (found : Result CommandLine LineUsage) (known : Option Bytes) → new ≡ old
+      → ((now : Folder) → files.since old (files.moment old) now → now ≡ files.folder old)
+      → IfOk found (λ line. line.options.journal ≡ true → Each (record { folder = files.folder old; known = known }) line.given)
+  no_words (Ok line) known same only = λ kept now stood. inl (only now (subst (λ (held : F). files.since held (files.moment old) now) same stood))
+  no_words (Err usage) known same only = tt
+
+  pub by_words : (words : List Bytes) (line : CommandLine) (given : Given) (world : World) → command_line_of words ≡ Ok line → line.given ≡ given
+      → (line.options.journal ≡ true → Each world given) → IfOk (command_line_of words) (λ line. line.options.journal ≡ true → Each world line.given)
+  by_words words line given world is same each =
+      subst (λ (found : Result CommandLine LineUsage). IfOk found (λ line. line.options.journal ≡ true → Each world line.given)) (sym is)
+      (λ kept. subst (Each world) (sym same) (each kept))
+
+-- ---- what a run leaves where its steps and their ending are put together
+
+-- Where files are not honest no other package than standard input was used.
+pub honest_still : (honest honest' journals : Bool) (why : Cut) (world : World) (keep_going : Bool) (lines : List Requested) (start : Progress) (reported : List Bytes)
+    (folder : Folder) (state : Progress) → honest' ≡ honest → start ≡ nothing_done → RunsSteps why journals world keep_going (all_steps lines) start reported folder state
+    → MayRun journals honest (AreOfInput lines) → (honest' ≡ true) ⊎ All (λ (used : Used). used.«package» ≡ input_package) state.used
+honest_still honest honest' journals why world keep_going lines start reported folder state same begins runs (inl is) = inl (same ∙ is)
+honest_still honest honest' journals why world keep_going lines start reported folder state same begins runs (inr (not_kept, are)) =
+    inr (nothing_else_used why world keep_going lines reported folder state are
+    (subst (λ (b : Bool). RunsSteps why b world keep_going (all_steps lines) nothing_done reported folder state) not_kept
+    (subst (λ (from : Progress). RunsSteps why journals world keep_going (all_steps lines) from reported folder state) begins runs)))
+
+status_is : (why : Cut) (status : ℕ) (state : Progress) → (why ≢ c.Whole → status ≡ 2) → (why ≡ c.Whole → status ≡ status_of c.Whole state) → status ≡ status_of why state
+status_is c.Whole status state other whole = whole refl
+status_is _ status state other whole = other (λ is. cc is)
+
+-- The writers and the folder hold what lines come to that are run.
+pub lines_end : {W E F : Type 0} (sink : SinkOf W) (errors : SinkOf E) (files : FilesOf F) (options : Options) (lines : List Requested) (world : World) (start state : Progress)
+    (before : Folder) (reported told : List Bytes) (exit : Exit) (stopped written later : Cut) (shown : Bool) (out out' : W) (err mid err' : E) (held' : F)
+    → options.journal && names_input lines ≡ false → start ≡ nothing_done
+    → RunsSteps stopped options.journal world options.keep_going (all_steps lines) start reported before state
+    → TriesFiles written options state.used before told (files.folder held') → exit.cut ≡ first_cut stopped (first_cut written later)
+    → (exit.cut ≢ c.Whole → exit.status ≡ 2) → (exit.cut ≡ c.Whole → exit.status ≡ status_of c.Whole state) → shown ≡ shows_input (all_steps lines)
+    → PrintsUntil sink later out out' (state.printed ++ texts_out shown options.to_stdout state.used) → ReportsLines errors err mid reported
+    → ReportsLines errors mid err' (output_lines later ++ told) → EndsIn sink errors files (LinesEnd options lines world) exit out out' err err' held'
+lines_end sink errors files options lines world start state before reported told exit stopped written later shown out out' err mid err' held' neither begins runs tries cut failed whole
+    shows prints first last =
+    let output = state.printed ++ texts_out (shows_input (all_steps lines)) options.to_stdout state.used in
+    let ended : Ended = record {
+      left = record { output = output; lines = reported ++ output_lines later ++ told; status = exit.status; folder = files.folder held' };
+      cut = exit.cut;
+      printed = later;
+    } in (
+      ended,
+      inr (
+        neither,
+        record {
+          stopped = stopped;
+          written = written;
+          reported = reported;
+          told = told;
+          folder = before;
+          state = state;
+          runs = subst (λ (from : Progress). RunsSteps stopped options.journal world options.keep_going (all_steps lines) from reported before state) begins runs;
+          output = refl;
+          tries = tries;
+          lines = refl;
+          cut = cut;
+          status = status_is exit.cut exit.status state failed whole;
+        },
+      ),
+      record {
+        exit_is = refl;
+        folder = refl;
+        output = subst (λ (show : Bool). PrintsUntil sink later out out' (state.printed ++ texts_out show options.to_stdout state.used)) shows prints;
+        lines = subst (ReportsLines errors err err') (sym (append_assoc reported (output_lines later) told))
+            (more_lines errors err mid err' reported (output_lines later ++ told) first last);
+      },
+    )
+
+-- A run begins with no open file.
+pub begins_safely : (folder : Folder) (start : Progress) → start ≡ nothing_done → AllAreSafe folder start.used
+begins_safely folder start is = subst (λ (from : Progress). AllAreSafe folder from.used) (sym is) tt
 
 pub at_some : {A : Type 0} (P : A → Type 0) (found : Option A) (x : A) → found ≡ Some x → IfSome found P → P x
 at_some P found x is holds = subst (λ it. IfSome it P) is holds
@@ -89,7 +251,7 @@ module _ {W E F : Type 0} (sink : SinkOf W) (errors : SinkOf E) (files : FilesOf
         exit_is = refused.0;
         folder = same;
         output = appends_nothing (sink.contents out);
-        lines = reported_once (errors.faults err) (errors.faults err') (errors.contents err) (errors.contents err') memory_line
+        lines = one_line errors err err' memory_line
             (subst (λ (from : E). ReportsLine errors from err' memory_line) still refused.1);
       },
     )
@@ -151,10 +313,6 @@ names_given texts requested lines is same (other, found, named) =
 not_both : (a b : Bool) → a && b ≡ false → b ≡ true → a ≡ false
 not_both false b neither is = refl
 not_both true b neither is = absurd (true≢false (sym is ∙ neither))
-
-pub both_true : (a b : Bool) → a && b ≡ true → (a ≡ true) × (b ≡ true)
-both_true true b both = (refl, both)
-both_true false b both = absurd (true≢false (sym both))
 
 pub lines_premise : (honest journals : Bool) (lines : List Requested) → journals && names_input lines ≡ false → (honest ≡ true) ⊎ AreOfInputAndSome lines
     → (honest ≡ true) ⊎ ((journals ≡ false) × AreOfInput lines)
@@ -261,14 +419,11 @@ pub words_done : (words : List Bytes) (line : CommandLine) (given : Given) (worl
 words_done words line given world ended is same (inl memory) = inl memory
 words_done words line given world ended is same (inr outcome) = inr (words_given words line given world ended is same outcome)
 
-pub words_of_input : (words : List Bytes) (line : CommandLine) (given : Given) → command_line_of words ≡ Ok line → line.given ≡ given → NamesNoFile words → IsOfInput given
-words_of_input words line given is same none =
-    subst IsOfInput same (subst (λ (it : Result CommandLine LineUsage). IfOk it (λ line. IsOfInput line.given)) is none)
-
 pub words_premise : (honest : Bool) (words : List Bytes) (line : CommandLine) (given : Given) → command_line_of words ≡ Ok line → line.given ≡ given
     → (honest ≡ true) ⊎ NamesNoFile words → (honest ≡ true) ⊎ IsOfInput given
 words_premise honest words line given is same (inl is_honest) = inl is_honest
-words_premise honest words line given is same (inr none) = inr (words_of_input words line given is same none)
+words_premise honest words line given is same (inr none) =
+    inr (subst IsOfInput same (subst (λ (it : Result CommandLine LineUsage). IfOk it (λ line. IsOfInput line.given)) is none))
 
 pub words_kept : (words : List Bytes) (line : CommandLine) → command_line_of words ≡ Ok line → KeepsJournals words → line.options.journal ≡ true
 words_kept words line is kept = subst (λ (it : Result CommandLine LineUsage). IfOk it (λ line. line.options.journal ≡ true)) is kept

@@ -1,16 +1,29 @@
--- The number of a package, by its key.
-use Rattle.std.proofs.Common.{◌≡◌, ◌+◌, ℕ, Bool, true, false, ◌||◌, List, [], ◌∷◌, ◌++◌, Option, Some, None, refl, sym, ap, ◌∙◌, true≢false, arith, cond}
-use Rattle.std.specs.Prelude.{Vec, bytes_eq, if◌then◌else◌}
+-- The packages of a run by their numbers, their files, and how a package is used.
+use Rattle.std.proofs.Common.{◌≡◌, ◌+◌, ℕ, Bool, true, false, ◌||◌, List, [], ◌∷◌, ◌++◌, Option, Some, None, refl, sym, ap, ◌∙◌, true≢false, arith, cond, ◌<◌, zero, suc, length, map, get_or, Result, Ok, subst, ◌⊎◌, inl, inr, take}
+use Rattle.std.specs.Prelude.{Vec, bytes_eq, if◌then◌else◌, slice_get, slice_set, is_ok, is_some, IsSome, IfSome}
 use Rattle.std.specs.List.{list_any, position, position_from}
 use Rattle.std.specs.Option.{option_map}
 use Rattle.std.specs.declared.alloc.Global.{Global}
+use Rattle.std.proofs.lemmas.Bool.{or_from}
 use Rattle.std.proofs.lemmas.Slice.Eq.{bytes_eq-Decides}
 use Rattle.std.proofs.lemmas.Iterator.Adapters.{position_from-zero}
-use Rattle.std.proofs.lemmas.List.{map-append}
+use Rattle.std.proofs.lemmas.List.{map-append, length-map}
 use Rattle.indexmap.specs.IndexSet.{insert_key}
 use Rattle.bz_items.specs.Characters.{Bytes}
-use Rattle.bz_buildozer.specs.Found.{Used, package_number}
-use Rattle.bz_buildozer.specs.private.ShownFiles.{texts_of_keys, packages_of}
+use Rattle.bz_buildozer.specs.Found.{Used, package_number, Opened, file_at, with_opened}
+use Rattle.bz_buildozer.specs.private.ShownFiles.{texts_of_keys, packages_of, opened_in, used_in}
+use Rattle.bz_buildozer.specs.declared.used.Opened as o
+use Rattle.bz_buildozer.specs.declared.used.Used as d
+use Rattle.bz_grammar.specs.Spell.{limit}
+use Rattle.bz_buildozer.specs.Opens.{Takes}
+use Rattle.bz_buildozer.specs.declared.reading.Opening.{Opening}
+use Rattle.bz_buildozer.proofs.ReadSteps.{front_takes}
+use Rattle.bz_streams.specs.declared.exit.Cut.{Cut}
+use Rattle.bz_buildozer.specs.Calls.{IsLeft}
+use Rattle.bz_streams.specs.Ports.{IsInput}
+use Rattle.bz_buildozer.specs.Steps.{input_package}
+
+-- ---- the number of a package, by its key
 
 abbrev Key : Type 0
 Key = Vec ℕ Global
@@ -59,26 +72,27 @@ place_found keys name used same =
     position_from-zero (λ (key : Key). bytes_eq name key.items) keys
     ∙ (by_keys name 0 keys ∙ (ap (position_from (bytes_eq name) 0) same ∙ (by_packages name 0 used ∙ from_none (package_number name used))))
 
+-- A package that has no number is none of these.
+pub none_here : (current : Bytes) (one : Used) (more : List Used) → package_number current (one ∷ more) ≡ None
+    → (bytes_eq one.package current ≡ false) × (package_number current more ≡ None)
+none_here current one more none = go (bytes_eq one.package current) (package_number current more) none
+  where
+    go : (b : Bool) (found : Option ℕ) → (if b then Some 0 else option_map (λ place. place + 1) found) ≡ None → (b ≡ false) × (found ≡ None)
+    go true found is = absurd (cc)
+    go false None is = (refl, refl)
+    go false (Some place) is = absurd (cc)
+
 -- ---- a key more
 
 any_keys : (name : Bytes) (keys : List Key) → list_any (λ (key : Key). bytes_eq name key.items) keys ≡ list_any (bytes_eq name) (texts_of_keys keys)
 any_keys name [] = refl
 any_keys name (key ∷ keys) = ap (λ b. bytes_eq name key.items || b) (any_keys name keys)
 
-none_after : (found : Option ℕ) → option_map (λ place. place + 1) found ≡ None → found ≡ None
-none_after None h = refl
-none_after (Some place) h = absurd (cc)
-
-none_step : (b rest : Bool) (found : Option ℕ) → (found ≡ None → rest ≡ false)
-    → (if b then Some 0 else option_map (λ place. place + 1) found) ≡ None → (b || rest) ≡ false
-none_step true rest found following h = absurd (cc)
-none_step false rest found following h = following (none_after found h)
-
 absent : (name : Bytes) (used : List Used) → package_number name used ≡ None → list_any (bytes_eq name) (packages_of used) ≡ false
 absent name [] h = refl
 absent name (one ∷ more) h =
-    ap (λ b. b || list_any (bytes_eq name) (packages_of more)) (eq_turn name one.package)
-    ∙ none_step (bytes_eq one.package name) (list_any (bytes_eq name) (packages_of more)) (package_number name more) (absent name more) h
+    let both = none_here name one more h in
+    or_from (bytes_eq name one.package) (list_any (bytes_eq name) (packages_of more)) (eq_turn name one.package ∙ both.0) (absent name more both.1)
 
 inserted : (b : Bool) (keys : List Key) (key : Key) → b ≡ false → texts_of_keys (if b then keys else keys ++ key ∷ []) ≡ texts_of_keys keys ++ key.items ∷ []
 inserted true keys key h = absurd (true≢false h)
@@ -91,3 +105,213 @@ key_added keys new key name used named same none is =
     any_keys key.items keys ∙ (ap (λ (text : Bytes). list_any (bytes_eq text) (texts_of_keys keys)) named
     ∙ (ap (list_any (bytes_eq name)) same ∙ absent name used none)) in
     ap texts_of_keys is ∙ (inserted (list_any (key_eq key) keys) keys key lacks ∙ ap (λ (text : Bytes). texts_of_keys keys ++ text ∷ []) named)
+
+-- ---- the files of packages, by their numbers
+
+pub put_in : (items : List d.Used) (place : ℕ) (there default new : d.Used) (file : Option Opened) → there ≡ get_or items place default
+    → used_in new ≡ record (used_in there) { file = file } → map used_in (slice_set items place new) ≡ with_opened place file (map used_in items)
+put_in [] place there default new file is put = refl
+put_in (one ∷ more) zero there default new file is put =
+    ap (λ (x : Used). x ∷ map used_in more) (put ∙ ap (λ (x : d.Used). record (used_in x) { file = file }) is)
+put_in (one ∷ more) (suc place) there default new file is put = ap (λ (rest : List Used). used_in one ∷ rest) (put_in more place there default new file is put)
+
+pub put : (items : List d.Used) (place : ℕ) (there default : d.Used) (file : Option o.Opened) → there ≡ get_or items place default
+    → map used_in (slice_set items place (record there { file = file })) ≡ with_opened place (option_map opened_in file) (map used_in items)
+put items place there default file is = put_in items place there default (record there { file = file }) (option_map opened_in file) is refl
+
+-- the file of a package that is open
+some_in : (file : Option o.Opened) → IsSome (option_map opened_in file) → IsSome file
+some_in None is = is
+some_in (Some file) is = refl
+
+pub is_open : (items : List d.Used) (place : ℕ) (there default : d.Used) → there ≡ get_or items place default → IsSome (file_at place (map used_in items))
+    → IsSome there.file
+is_open [] place there default same is = absurd (true≢false (sym is))
+is_open (one ∷ more) zero there default same is = ap (λ (x : d.Used). is_some x.file) same ∙ some_in one.file is
+is_open (one ∷ more) (suc place) there default same is = is_open more place there default same is
+
+pub file_in : (items : List d.Used) (place : ℕ) (there default : d.Used) → there ≡ get_or items place default → IsSome (file_at place (map used_in items))
+    → file_at place (map used_in items) ≡ option_map opened_in there.file
+file_in [] place there default same is = absurd (true≢false (sym is))
+file_in (one ∷ more) zero there default same is = ap (λ (x : d.Used). option_map opened_in x.file) (sym same)
+file_in (one ∷ more) (suc place) there default same is = file_in more place there default same is
+
+-- the file of a package, by what is in the list
+abbrev pub file_of : Option d.Used → Option Opened
+file_of None = None
+file_of (Some one) = option_map opened_in one.file
+
+file_shown : (items : List d.Used) (place : ℕ) → file_at place (map used_in items) ≡ file_of (slice_get items place)
+file_shown [] zero = refl
+file_shown [] (suc place) = refl
+file_shown (one ∷ more) zero = refl
+file_shown (one ∷ more) (suc place) = file_shown more place
+
+open_place : (place : ℕ) (file : Option o.Opened) (there : Bool) → there ≡ is_some file
+    → cond there (Some place) None ≡ option_map (λ (_ : Opened). place) (option_map opened_in file)
+open_place place None there is = ap (λ (b : Bool). cond b (Some place) None) is
+open_place place (Some file) there is = ap (λ (b : Bool). cond b (Some place) None) is
+
+pub looked_up : (slice items : List d.Used) (used : List Used) (place : ℕ) (found : Option d.Used) → slice ≡ items → map used_in items ≡ used
+    → found ≡ slice_get slice place → file_of found ≡ file_at place used
+looked_up slice items used place found same shown is =
+    ap file_of (is ∙ ap (λ (xs : List d.Used). slice_get xs place) same) ∙ (sym (file_shown items place) ∙ ap (file_at place) shown)
+
+pub found_open : (slice items : List d.Used) (used : List Used) (place : ℕ) (one : d.Used) (there : Bool) → slice ≡ items → map used_in items ≡ used
+    → Some one ≡ slice_get slice place → there ≡ is_some one.file → cond there (Some place) None ≡ option_map (λ (_ : Opened). place) (file_at place used)
+found_open slice items used place one there same shown is some =
+    open_place place one.file there some ∙ ap (option_map (λ (_ : Opened). place)) (looked_up slice items used place (Some one) same shown is)
+
+pub none_found : (slice items : List d.Used) (used : List Used) (place : ℕ) → slice ≡ items → map used_in items ≡ used → None ≡ slice_get slice place
+    → None ≡ option_map (λ (_ : Opened). place) (file_at place used)
+none_found slice items used place same shown is = ap (option_map (λ (_ : Opened). place)) (looked_up slice items used place None same shown is)
+
+-- a file changes no package
+packages_stay : (place : ℕ) (file : Option Opened) (used : List Used) → packages_of (with_opened place file used) ≡ packages_of used
+packages_stay place file [] = refl
+packages_stay zero file (one ∷ more) = refl
+packages_stay (suc place) file (one ∷ more) = ap (λ rest. one.package ∷ rest) (packages_stay place file more)
+
+pub kept_by : (keys : List Bytes) (place : ℕ) (file : Option Opened) (used new : List Used) → keys ≡ packages_of used
+    → new ≡ with_opened place file used → keys ≡ packages_of new
+kept_by keys place file used new kept is = kept ∙ sym (ap packages_of is ∙ packages_stay place file used)
+
+-- a package with its key, after the others with theirs
+packages_last : (items : List d.Used) (one : d.Used) → packages_of (map used_in (items ++ one ∷ [])) ≡ packages_of (map used_in items) ++ one.«package» ∷ []
+packages_last [] one = refl
+packages_last (first ∷ more) one = ap (λ (rest : List Bytes). first.«package» ∷ rest) (packages_last more one)
+
+pub kept_pushed : {E : Type 0} (result : Result (Unit {0}) E) (done : Unit {0}) (keys new : List Bytes) (items mid all : List d.Used) (one : d.Used)
+    → keys ≡ packages_of (map used_in items) → new ≡ keys ++ one.«package» ∷ [] → mid ≡ items → all ≡ (if is_ok result then mid ++ one ∷ [] else mid)
+    → result ≡ Ok done → new ≡ packages_of (map used_in all)
+kept_pushed {E} result done keys new items mid all one kept added still pushed is =
+    let whole : all ≡ items ++ one ∷ [] = pushed ∙ ap (λ (r : Result (Unit {0}) E). if is_ok r then mid ++ one ∷ [] else mid) is
+    ∙ ap (λ (xs : List d.Used). xs ++ one ∷ []) still in
+    added ∙ ap (λ (ks : List Bytes). ks ++ one.«package» ∷ []) kept ∙ sym (ap (λ (xs : List d.Used). packages_of (map used_in xs)) whole ∙ packages_last items one)
+
+-- the file that a package was given
+file_there : (place : ℕ) (file : Option Opened) (used : List Used) → place < length used → file_at place (with_opened place file used) ≡ file
+file_there place file [] within = absurd (omega arith)
+file_there zero file (one ∷ more) within = refl
+file_there (suc place) file (one ∷ more) within = file_there place file more (omega arith)
+
+pub opened_there : (place : ℕ) (file : Opened) (used whole new : List Used) → used ≡ whole → place < length whole → new ≡ with_opened place (Some file) used
+    → IsSome (file_at place new)
+opened_there place file used whole new same within is =
+    ap (λ (now : List Used). is_some (file_at place now)) (is ∙ ap (with_opened place (Some file)) same)
+    ∙ ap is_some (file_there place (Some file) whole within)
+
+-- a package with no file is as it was without one
+pub none_stays : (place : ℕ) (used : List Used) → file_at place used ≡ None → with_opened place None used ≡ used
+none_stays place [] none = refl
+none_stays zero (one ∷ more) none = ap (λ (file : Option Opened). record one { file = file } ∷ more) (sym none)
+none_stays (suc place) (one ∷ more) none = ap (λ (rest : List Used). one ∷ rest) (none_stays place more none)
+
+-- a file that is there is one of a package
+within_used : (place : ℕ) (used : List Used) → IsSome (file_at place used) → place < length used
+within_used place [] is = absurd (true≢false (sym is))
+within_used zero (one ∷ more) is = omega arith
+within_used (suc place) (one ∷ more) is = let within = within_used place more is in omega arith
+
+pub within_items : (place : ℕ) (items : List d.Used) (used : List Used) → map used_in items ≡ used → IsSome (file_at place used) → place < length items
+within_items place items used same is =
+    subst (λ (n : ℕ). place < n) (ap length (sym same) ∙ length-map items used_in) (within_used place used is)
+
+-- the last package
+pub last_none : (used : List Used) (one : Used) → file_at (length used) (used ++ one ∷ []) ≡ one.file
+last_none [] one = refl
+last_none (first ∷ more) one = last_none more one
+
+pub last_put : (used : List Used) (one : Used) (file : Option Opened)
+    → with_opened (length used) file (used ++ one ∷ []) ≡ used ++ record one { file = file } ∷ []
+last_put [] one file = refl
+last_put (first ∷ more) one file = ap (λ (rest : List Used). first ∷ rest) (last_put more one file)
+
+pub closed_last : (place : ℕ) (used new : List Used) (one : Used) → place ≡ length used → new ≡ used ++ one ∷ [] → one.file ≡ None → file_at place new ≡ None
+closed_last place used new one at is none =
+    ap (λ (n : ℕ). file_at n new) at ∙ (ap (file_at (length used)) is ∙ (last_none used one ∙ none))
+
+pub put_last : (place : ℕ) (used mid new : List Used) (one : Used) (file : Option Opened) → place ≡ length used → mid ≡ used ++ one ∷ []
+    → new ≡ with_opened place file mid → new ≡ used ++ record one { file = file } ∷ []
+put_last place used mid new one file at is put =
+    put ∙ (ap (λ (n : ℕ). with_opened n file mid) at ∙ (ap (with_opened (length used) file) is ∙ last_put used one file))
+
+-- ---- the first bytes of standard input, one more than a text may have, decide what becomes of it
+
+pub input_takes : (known : Option Bytes) (current name front : Bytes) (file : Option Opened) (lines : List Bytes)
+    → IfSome known (λ all. front ≡ take (limit + 1) all) → Takes current name front file lines
+    → (text : Bytes) × IsInput known text × Takes current name text file lines
+input_takes None current name front file lines read takes = (front, tt, takes)
+input_takes (Some all) current name front file lines read takes =
+    (all, refl, front_takes current name front all file lines read takes)
+
+-- ---- the package that was used last
+
+pub opened_last : (place : ℕ) (used mid new : List Used) (text current : Bytes) (file : Option Opened) → place ≡ length used → text ≡ current
+    → mid ≡ used ++ record { «package» = text; file = None } ∷ [] → new ≡ with_opened place file mid
+    → new ≡ used ++ record { «package» = current; file = file } ∷ []
+opened_last place used mid new text current file at same is put =
+    put
+    ∙ (ap (λ (n : ℕ). with_opened n file mid) at
+    ∙ (ap (with_opened (length used) file) is
+    ∙ (last_put used (record { «package» = text; file = None }) file
+    ∙ ap (λ (name : Bytes). used ++ record { «package» = name; file = file } ∷ []) same)))
+
+pub place_last : (place : ℕ) (used : List Used) (file : Option Opened) (found : Option ℕ) → place ≡ length used → found ≡ option_map (λ _. place) file
+    → found ≡ option_map (λ _. length used) file
+place_last place used file found at is = is ∙ ap (λ (n : ℕ). option_map (λ (_ : Opened). n) file) at
+
+pub last_file : (used new : List Used) (one : Used) → new ≡ used ++ one ∷ [] → file_at (length used) new ≡ one.file
+last_file used new one is = ap (file_at (length used)) is ∙ last_none used one
+
+-- ---- a package that is used stays so
+
+pub unused_before : (current : Bytes) (used : List Used) (one : Used) → package_number current (used ++ one ∷ []) ≡ None → package_number current used ≡ None
+unused_before current [] one none = refl
+unused_before current (first ∷ more) one none =
+    let both = none_here current first (more ++ one ∷ []) none in
+    ap (λ (b : Bool). if b then Some 0 else option_map (λ place. place + 1) (package_number current more)) both.0
+    ∙ ap (option_map (λ (place : ℕ). place + 1)) (unused_before current more one both.1)
+
+pub last_is_used : (current : Bytes) (used : List Used) (one : Used) → one.package ≡ current → package_number current (used ++ one ∷ []) ≡ None → ⊥
+last_is_used current [] one is none = true≢false (sym ((bytes_eq-Decides one.package current).1 is) ∙ (none_here current one [] none).0)
+last_is_used current (first ∷ more) one is none = last_is_used current more one is (none_here current first (more ++ one ∷ []) none).1
+
+-- ---- what is left of standard input
+
+pub left_after_input : (known remaining : Option Bytes) (used new : List Used) (one : Used) → one.package ≡ input_package → new ≡ used ++ one ∷ []
+    → IsLeft known new remaining
+left_after_input known remaining used new one is added = λ none.
+    absurd (last_is_used input_package used one is (subst (λ (all : List Used). package_number input_package all ≡ None) added none))
+
+pub left_after_use : (known remaining : Option Bytes) (used new : List Used) (one : Used) → new ≡ used ++ one ∷ [] → IsLeft known used remaining
+    → IsLeft known new remaining
+left_after_use known remaining used new one added left = λ none.
+    left (unused_before input_package used one (subst (λ (all : List Used). package_number input_package all ≡ None) added none))
+
+-- an action changes no package
+pub place_stays : (current : Bytes) (place : ℕ) (file : Option Opened) (used : List Used) → package_number current (with_opened place file used) ≡ package_number current used
+place_stays current place file [] = refl
+place_stays current zero file (one ∷ more) = refl
+place_stays current (suc place) file (one ∷ more) =
+    ap (λ (found : Option ℕ). if bytes_eq one.package current then Some 0 else option_map (λ place. place + 1) found) (place_stays current place file more)
+
+-- ---- how a package is used
+
+pub is_found : (found : Option ℕ) → (found ≡ None) ⊎ ((place : ℕ) × (found ≡ Some place))
+is_found None = inl refl
+is_found (Some place) = inr (place, refl)
+
+-- the file of a package that was used before
+pub place_again : (place : ℕ) (used new : List Used) (opening : Opening) (cut : Cut)
+    → opening ≡ record { place = option_map (λ _. place) (file_at place used); cut = cut } → new ≡ used
+    → opening.place ≡ option_map (λ _. place) (file_at place new)
+place_again place used new opening cut is same =
+    ap (λ (it : Opening). it.place) is ∙ ap (λ (all : List Used). option_map (λ (_ : Opened). place) (file_at place all)) (sym same)
+
+-- the file of a package that was used last
+pub last_place : (used new : List Used) (current : Bytes) (file : Option Opened) (found : Option ℕ)
+    → new ≡ used ++ record { «package» = current; file = file } ∷ [] → found ≡ option_map (λ _. length used) file
+    → found ≡ option_map (λ _. length used) (file_at (length used) new)
+last_place used new current file found added is =
+    is ∙ ap (option_map (λ (_ : Opened). length used)) (sym (last_file used new (record { «package» = current; file = file }) added))

@@ -8,22 +8,19 @@ use Rattle.std.proofs.lemmas.Slice.Eq.{bytes_eq-Decides}
 use Rattle.bz_items.specs.Characters.{Bytes}
 use Rattle.bz_files.specs.Folder.{Elapses, Folder, IsAside}
 use Rattle.bz_files.specs.declared.files.Files.{Ghosts as FilesOf}
-use Rattle.bz_files.proofs.Elapsing.{elapsed_on, weakened}
-use Rattle.bz_journal.specs.declared.keeping.KeepFault.{KeepFault}
-use Rattle.bz_journal.specs.declared.keeping.KeepFault.TheVariants.{Refused, Pair}
-use Rattle.bz_journal.specs.Keeping.{Keeps}
+use Rattle.bz_files.proofs.Elapsing.{elapsed_on, stays, weakened}
+use Rattle.bz_buildozer.specs.Sessions.{KeepFault, Refused, Pair, Keeps, KeepsFile, Action, History, Reply, present}
 use Rattle.bz_resume.specs.Pair.{journal_name}
 use Rattle.bz_resume.specs.Resuming.{Holds, OthersStay, Resumes, Survives}
 use Rattle.bz_buildozer.specs.Found.{IsNameOf, Opened, Used, file_at, package_number, with_opened}
 use Rattle.bz_buildozer.specs.Journals.{IsOpenedIn, TakesBeside}
-use Rattle.bz_buildozer.specs.Keeps.{KeepsAt, KeepsFile, KeepsFolder, after_keeping}
-use Rattle.bz_buildozer.specs.Sessions.{Action, History, Reply, present}
-use Rattle.bz_buildozer.proofs.LeaveSteps.{acts_leaves}
+use Rattle.bz_buildozer.specs.Keeps.{KeepsAt, KeepsFolder, after_keeping, file_left}
+use Rattle.bz_buildozer.proofs.ActSteps.{acts_leaves, file_put}
 use Rattle.bz_buildozer.specs.Calls.{KeepsStep, UsesSome}
 use Rattle.bz_buildozer.specs.Moments.{AllAreSafe, IsApart, IsBetween, IsMeanwhile, IsMomentOfSteps, IsSafe, Joins, MayAct}
 use Rattle.bz_buildozer.specs.Steps.{RunStep}
-use Rattle.bz_buildozer.proofs.ActSteps.{file_put}
-use Rattle.bz_buildozer.proofs.StandSteps.{IsUnlike, OthersAre, all_after, all_at, all_last, apart_from, as_begun, file_in_front, holds_still, names_stay, not_after, not_here, one_file, other_at, takes_stand, two_apart, unlike_put}
+use Rattle.bz_buildozer.proofs.PlaceSteps.{none_here}
+use Rattle.bz_buildozer.proofs.StandSteps.{IsUnlike, OthersAre, all_after, all_at, all_last, apart_from, as_begun, file_in_front, holds_still, names_stay, one_file, other_at, takes_stand, two_apart, unlike_put}
 
 -- ---- a file in another folder
 
@@ -118,19 +115,13 @@ number_last : (current : Bytes) (file : Option Opened) (used : List Used) → pa
     → package_number current (used ++ record { «package» = current; file = file } ∷ []) ≡ Some (length used)
 number_last current file [] none =
     ap (λ (b : Bool). if b then Some 0 else option_map (λ (place : ℕ). place + 1) (package_number current [])) ((bytes_eq-Decides current current).1 refl)
-number_last current file (used ∷ more) none = go (bytes_eq used.«package» current) refl (number_last current file more)
+number_last current file (used ∷ more) none =
+    let both = none_here current used more none in
+    ap (λ (b : Bool). if b then Some 0 else option_map (λ (place : ℕ). place + 1) (package_number current (more ++ record { «package» = current; file = file } ∷ []))) both.0
+    ∙ ap (option_map (λ (place : ℕ). place + 1)) (number_last current file more both.1) ∙ ap Some (plus_one (length more))
   where
     plus_one : (n : ℕ) → n + 1 ≡ suc n
     plus_one n = omega arith
-
-    go : (b : Bool) → bytes_eq used.«package» current ≡ b
-        → (package_number current more ≡ None → package_number current (more ++ record { «package» = current; file = file } ∷ []) ≡ Some (length more))
-        → package_number current ((used ∷ more) ++ record { «package» = current; file = file } ∷ []) ≡ Some (length (used ∷ more))
-    go true is rest = absurd (not_here (bytes_eq used.«package» current) (package_number current more) none is)
-    go false is rest =
-        ap (λ (b : Bool). if b then Some 0 else option_map (λ (place : ℕ). place + 1) (package_number current (more ++ record { «package» = current; file = file } ∷ []))) is
-        ∙ ap (option_map (λ (place : ℕ). place + 1)) (rest (not_after (bytes_eq used.«package» current) (package_number current more) none))
-        ∙ ap Some (plus_one (length more))
 
 placed : (place at : ℕ) (file : Option Opened) → option_map (λ (_ : Opened). place) file ≡ Some at → place ≡ at
 placed place at None is = absurd (let e = is in cc)
@@ -179,10 +170,11 @@ module _ (began folder : Folder) (place : ℕ) (before after : List Used) (file 
     }
 
 -- the name and the history after what was kept
-name_kept : (answer : Result Reply KeepFault) (history : History) (file : Opened) → (after_keeping answer history file).name ≡ file.name
-name_kept (Ok reply) history file = refl
-name_kept (Err (Refused refusal)) history file = refl
-name_kept (Err (Pair fault)) history file = refl
+pub name_left : (journals : Bool) (answer : Result Reply KeepFault) (history : History) (file : Opened) → (file_left journals answer history file).name ≡ file.name
+name_left true (Ok reply) history file = refl
+name_left false (Ok reply) history file = refl
+name_left journals (Err (Refused refusal)) history file = refl
+name_left journals (Err (Pair fault)) history file = refl
 
 history_kept : (answer : Result Reply KeepFault) (history : History) (file : Opened) → (after_keeping answer history file).history ≡ history
 history_kept (Ok reply) history file = refl
@@ -237,24 +229,25 @@ goes_on_there folder file stays (inr left) = absurd (true≢false (sym left.0 �
 
 module _ {F : Type 0} (files : FilesOf F) (counts : (held : F) (t : ℕ) → t ≤ files.moment held → files.since held t (files.folder held)) (began : Folder) where
   acted : (place : ℕ) (action : Action) (note : Bytes) (before after : List Used) (answer : Result Reply KeepFault) (old new : F)
-      → (done : KeepsAt files place action note before answer after old new) → done.file.left ≡ false → files.honest old ≡ true
+      → (done : KeepsAt true files place action note before answer after old new) → done.file.left ≡ false → files.honest old ≡ true
       → AllAreSafe (files.folder old) before → IsMeanwhile began before before (files.folder old)
       → AllAreSafe (files.folder new) after × IsMeanwhile began after after (files.folder new)
       × Elapses (files.moment old) (files.moment new) (files.since old) (files.since new) (IsMeanwhile began before after)
   acted place action note before after answer old new done stays honest all mean =
       let file = done.file in
+      let pair = done.pair refl in
       let history = done.history in
       let next = after_keeping answer history file in
       let folder = files.folder old in
-      let named = name_kept answer history file in
+      let named = name_left true answer history file in
       let holds = goes_on_there folder file stays (safe_at folder place before file done.there all).1.1 in
       let resumes : Resumes folder file.name file.history.«package» file.history.texts = (present file.history, holds) in
-      let time = done.pair.time honest resumes in
+      let time = pair.time honest resumes in
       let last = at_moment files file old new history (files.folder new) holds
-      (done.pair.each honest resumes (files.folder new) (counts new (files.moment old) time.later)) in
+      (pair.each honest resumes (files.folder new) (counts new (files.moment old) time.later)) in
       let safe = subst (AllAreSafe (files.folder new)) (sym done.kept)
       (all_safe_after place before file next folder (files.folder new) done.there named
-      (safe_after files file old new action note answer history honest stays holds done.keeps done.pair last.0) last.1 all) in
+      (safe_after files file old new action note answer history honest stays holds done.keeps pair last.0) last.1 all) in
       let is_between = λ (now : Folder). λ (is : IsBetween now file.name file.history history).
       subst (IsBetween now file.name file.history) (sym (history_kept answer history file)) is in (
         safe,
@@ -269,20 +262,20 @@ module _ {F : Type 0} (files : FilesOf F) (counts : (held : F) (t : ℕ) → t �
   -- ---- one step
 
   -- after a step each open file is safe again, and at each of its moments
-  abbrev pub Steps : RunStep → List Used → List Used → F → F → Type 0
-  Steps step before after old new = AllAreSafe (files.folder old) before → IsMeanwhile began before before (files.folder old)
-      → AllAreSafe (files.folder new) after × IsMeanwhile began after after (files.folder new)
+  abbrev pub Passed : RunStep → List Used → List Used → F → F → Type 0
+  Passed step before after old new = AllAreSafe (files.folder new) after × IsMeanwhile began after after (files.folder new)
       × Elapses (files.moment old) (files.moment new) (files.since old) (files.since new) (IsMomentOfSteps began (step ∷ []) before)
       × ((rest : List RunStep) (now : Folder) → IsMomentOfSteps began rest after now → IsMomentOfSteps began (step ∷ rest) before now)
+
+  abbrev pub Steps : RunStep → List Used → List Used → F → F → Type 0
+  Steps step before after old new =
+      AllAreSafe (files.folder old) before → IsMeanwhile began before before (files.folder old) → Passed step before after old new
 
   module _ (step : RunStep) (before mid after : List Used) (old between new : F) (joins : Joins began step.target.«package» before mid) (moves : MayAct step mid after)
       (safe : AllAreSafe (files.folder between) mid) (mean : IsMeanwhile began mid mid (files.folder between)) (same : files.folder between ≡ files.folder old)
       (first : KeepsFolder files old between) where
     stepped : AllAreSafe (files.folder new) after → IsMeanwhile began after after (files.folder new)
-        → Elapses (files.moment between) (files.moment new) (files.since between) (files.since new) (IsMeanwhile began mid after)
-        → AllAreSafe (files.folder new) after × IsMeanwhile began after after (files.folder new)
-        × Elapses (files.moment old) (files.moment new) (files.since old) (files.since new) (IsMomentOfSteps began (step ∷ []) before)
-        × ((rest : List RunStep) (now : Folder) → IsMomentOfSteps began rest after now → IsMomentOfSteps began (step ∷ rest) before now)
+        → Elapses (files.moment between) (files.moment new) (files.since between) (files.since new) (IsMeanwhile began mid after) → Passed step before after old new
     stepped all next time = (
       all,
       next,
@@ -294,7 +287,7 @@ module _ {F : Type 0} (files : FilesOf F) (counts : (held : F) (t : ℕ) → t �
       (λ rest now is. (mid, after, joins, moves, inr is)),
     )
 
-  pub step_still : (step : RunStep) (before mid after : List Used) (found : Option ℕ) (old new : F) → UsesSome (files.folder old) step.target.«package» found before mid
+  step_still : (step : RunStep) (before mid after : List Used) (found : Option ℕ) (old new : F) → UsesSome (files.folder old) step.target.«package» found before mid
       → files.folder new ≡ files.folder old → KeepsFolder files old new → after ≡ mid → Steps step before after old new
   step_still step before mid after found old new uses same first is all mean =
       let opened = joined began (files.folder old) step.target.«package» before mid found uses all mean in
@@ -302,17 +295,15 @@ module _ {F : Type 0} (files : FilesOf F) (counts : (held : F) (t : ℕ) → t �
       let still = subst (IsMeanwhile began mid mid) (sym same) opened.2 in
       stepped step before mid after old new new opened.0 (inl is) safe still same first (subst (AllAreSafe (files.folder new)) (sym is) safe)
       (subst (λ (used : List Used). IsMeanwhile began used used (files.folder new)) (sym is) still)
-      (record { later = omega arith; nothing_else = λ t now le stood. inl stood; keeps = λ t now le stood. stood })
+      (stays (files.moment new) (files.since new) (IsMeanwhile began mid after))
 
-  pub step_acted : (step : RunStep) (at : ℕ) (before mid after : List Used) (found : Option ℕ) (old between new : F)
-      → UsesSome (files.folder old) step.target.«package» found before mid → found ≡ Some at → files.folder between ≡ files.folder old → KeepsFolder files old between
-      → files.honest between ≡ true → KeepsStep files step at mid after between new → Steps step before after old new
-  step_acted step at before mid after found old between new uses there same first honest (inl (is, still)) all mean =
-      subst (λ (held : F). AllAreSafe (files.folder held) after × IsMeanwhile began after after (files.folder held)
-      × Elapses (files.moment old) (files.moment held) (files.since old) (files.since held) (IsMomentOfSteps began (step ∷ []) before)
-      × ((rest : List RunStep) (now : Folder) → IsMomentOfSteps began rest after now → IsMomentOfSteps began (step ∷ rest) before now)) (sym still)
+  pub step_acted : (step : RunStep) (before mid after : List Used) (found : Option ℕ) (old between new : F)
+      → UsesSome (files.folder old) step.target.«package» found before mid → files.folder between ≡ files.folder old → KeepsFolder files old between
+      → files.honest between ≡ true → KeepsStep files step found mid after between new → Steps step before after old new
+  step_acted step before mid after found old between new uses same first honest (inl (is, still)) all mean =
+      subst (Passed step before after old) (sym still)
       (step_still step before mid after found old between uses same first is all mean)
-  step_acted step at before mid after found old between new uses there same first honest (inr (stays, (action, requested, (answer, done)))) all mean =
+  step_acted step before mid after found old between new uses same first honest (inr (at, there, stays, (action, requested, (answer, done)))) all mean =
       let opened = joined began (files.folder old) step.target.«package» before mid found uses all mean in
       let safe = subst (λ (f : Folder). AllAreSafe f mid) (sym same) opened.1 in
       let still = subst (IsMeanwhile began mid mid) (sym same) opened.2 in

@@ -1,23 +1,171 @@
--- The packages of a run differ, and a file that is opened holds its present text and goes on.
-use Rattle.std.proofs.Common.{◌≡◌, ◌≢◌, inl, inr, ◌∙◌, ◌++◌, ◌∷◌, ◌+◌, ℕ, zero, suc, List, [], Option, Some, None, Bool, true, false, true≢false, Result, Ok, Err, refl, sym, ap, subst, bytes_eq}
+-- The names of the files of different packages, what is held under them, and what stays as it was when the run began.
+use Rattle.std.proofs.Common.{arith, ◌≡◌, ◌≢◌, ◌⊎◌, inl, inr, ◌∙◌, ◌+◌, ◌++◌, ◌∷◌, ℕ, [], codes, refl, sym, ap, subst, append_assoc, zero, suc, List, Option, Some, None, Bool, true, false, true≢false, Result, Ok, Err, bytes_eq, ◌||◌, is_some}
+use Rattle.std.proofs.lemmas.List.{append_cancel_right}
+use Rattle.bz_items.specs.Characters.{Bytes}
+use Rattle.bz_files.specs.Folder.{new_name, Folder, IsAside}
+use Rattle.bz_resume.specs.Pair.{journal_name}
+use Rattle.bz_buildozer.specs.Found.{in_package, first_name, second_name, IsNameOf, PackagesAreApart, PackagesFound, IsApartFrom, found_at, found_in, found_second, Opened, Used, file_at, package_number, with_opened, is_root, root_above, root_from}
 use Rattle.std.specs.Prelude.{IfSome, if◌then◌else◌, unwrap_or}
 use Rattle.std.specs.FinMap.{get}
 use Rattle.std.specs.Option.{option_map}
 use Rattle.std.proofs.lemmas.Bool.Decides.{eqb_tells}
 use Rattle.std.proofs.lemmas.Slice.Eq.{bytes_eq-Decides}
-use Rattle.bz_items.specs.Characters.{Bytes}
-use Rattle.bz_files.specs.Folder.{Folder, IsAside}
-use Rattle.bz_resume.specs.Pair.{journal_name}
 use Rattle.bz_resume.specs.Resuming.{Holds, IsRecordedBy, OthersStay}
 use Rattle.bz_resume.specs.Journals.{stands, text_at}
-use Rattle.bz_buildozer.specs.Found.{PackagesFound, IsApartFrom, IsNameOf, first_name, found_at, found_in, second_name, Opened, Used, file_at, package_number, with_opened}
 use Rattle.bz_buildozer.specs.Journals.{JournalFault, JournalGives, TakesBeside, file_of_journal}
 use Rattle.bz_buildozer.specs.Moments.{AllAre, IsApart}
 use Rattle.bz_buildozer.specs.Sessions.{History, present}
 use Rattle.bz_buildozer.specs.Steps.{input_package}
 use Rattle.bz_buildozer.proofs.ActSteps.{file_put}
-use Rattle.bz_buildozer.proofs.HeldSteps.{stands_text}
-use Rattle.bz_buildozer.proofs.NameSteps.{apart as packages_apart, journal_not_new, not_new}
+use Rattle.bz_buildozer.proofs.ReadSteps.{stands_text}
+use Rattle.bz_buildozer.proofs.PlaceSteps.{none_here}
+
+-- ---- the names of files of different packages
+
+-- what is before the name in the folder of a package
+abbrev front : Bytes → Bytes
+front [] = []
+front (first ∷ rest) = (first ∷ rest) ++ codes "/"
+
+in_front : (current name : Bytes) → in_package current name ≡ front current ++ name
+in_front [] name = refl
+in_front (first ∷ rest) name = refl
+
+one_front : (p q : Bytes) → front p ≡ front q → p ≡ q
+one_front [] [] is = refl
+one_front [] (y ∷ q) is = absurd (cc is)
+one_front (x ∷ p) [] is = absurd (cc is)
+one_front (x ∷ p) (y ∷ q) is = append_cancel_right (x ∷ p) (y ∷ q) (codes "/") is
+
+same_name : (p q name : Bytes) → in_package p name ≡ in_package q name → p ≡ q
+same_name p q name is = one_front p q (append_cancel_right (front p) (front q) name (sym (in_front p name) ∙ is ∙ in_front q name))
+
+-- ---- the last two letters, which the four kinds of names differ in: they sum up to other numbers
+
+abbrev sum_after : ℕ → ℕ → Bytes → ℕ
+sum_after a b [] = a + b
+sum_after a b (c ∷ rest) = sum_after b c rest
+
+sum_over : (a b c d : ℕ) (text rest : Bytes) → sum_after a b (text ++ c ∷ d ∷ rest) ≡ sum_after c d rest
+sum_over a b c d [] rest = refl
+sum_over a b c d (e ∷ text) rest = sum_over b e c d text rest
+
+abbrev last_sum : Bytes → ℕ
+last_sum = sum_after 0 0
+
+sum_of_first : (current : Bytes) → last_sum (first_name current) ≡ 209
+sum_of_first current = ap last_sum (in_front current (codes "BUILD.bazel")) ∙ sum_over 0 0 66 85 (front current) (codes "ILD.bazel")
+
+sum_of_second : (current : Bytes) → last_sum (second_name current) ≡ 144
+sum_of_second current = ap last_sum (in_front current (codes "BUILD")) ∙ sum_over 0 0 66 85 (front current) (codes "ILD")
+
+sum_of_journal : (file : Bytes) → last_sum (journal_name file) ≡ 205
+sum_of_journal file = sum_over 0 0 46 106 file (codes "ournal")
+
+sum_of_new : (file : Bytes) → last_sum (new_name file) ≡ 220
+sum_of_new file = sum_over 0 0 46 98 file (codes "znew")
+
+unlike : (one other : Bytes) (m n : ℕ) → last_sum one ≡ m → last_sum other ≡ n → m ≢ n → one ≢ other
+unlike one other m n is was apart same = apart (sym is ∙ ap last_sum same ∙ was)
+
+-- a name of a file is one of these two
+sum_of_name : (current name : Bytes) → IsNameOf current name → (last_sum name ≡ 209) ⊎ (last_sum name ≡ 144)
+sum_of_name current name (inl is) = inl (ap last_sum is ∙ sum_of_first current)
+sum_of_name current name (inr is) = inr (ap last_sum is ∙ sum_of_second current)
+
+pub not_journal : (current name file : Bytes) → IsNameOf current name → name ≢ journal_name file
+not_journal current name file named same = elim (sum_of_name current name named) [
+  | inl is ↦ unlike name (journal_name file) 209 205 is (sum_of_journal file) (λ e. omega (arith, e)) same
+  | inr is ↦ unlike name (journal_name file) 144 205 is (sum_of_journal file) (λ e. omega (arith, e)) same
+]
+
+pub not_new : (current name file : Bytes) → IsNameOf current name → name ≢ new_name file
+not_new current name file named same = elim (sum_of_name current name named) [
+  | inl is ↦ unlike name (new_name file) 209 220 is (sum_of_new file) (λ e. omega (arith, e)) same
+  | inr is ↦ unlike name (new_name file) 144 220 is (sum_of_new file) (λ e. omega (arith, e)) same
+]
+
+pub journal_not_new : (name file : Bytes) → journal_name name ≢ new_name file
+journal_not_new name file = unlike (journal_name name) (new_name file) 205 220 (sum_of_journal name) (sum_of_new file) (λ e. omega (arith, e))
+
+-- ---- two packages
+
+pub one_package : (p q name : Bytes) → IsNameOf p name → IsNameOf q name → p ≡ q
+one_package p q name (inl this) (inl that) = same_name p q (codes "BUILD.bazel") (sym this ∙ that)
+one_package p q name (inl this) (inr that) =
+    absurd (unlike name name 209 144 (ap last_sum this ∙ sum_of_first p) (ap last_sum that ∙ sum_of_second q) (λ e. omega (arith, e)) refl)
+one_package p q name (inr this) (inl that) =
+    absurd (unlike name name 144 209 (ap last_sum this ∙ sum_of_second p) (ap last_sum that ∙ sum_of_first q) (λ e. omega (arith, e)) refl)
+one_package p q name (inr this) (inr that) = same_name p q (codes "BUILD") (sym this ∙ that)
+
+pub packages_apart : PackagesAreApart
+packages_apart one other name file differ named is_file =
+    let unlike_file : name ≢ file = λ same. differ (one_package one other file (subst (IsNameOf one) same named) is_file) in (
+      record {
+        file_is = unlike_file;
+        journal = not_journal one name file named;
+        new = not_new one name file named;
+        new_journal = not_new one name (journal_name file) named;
+      },
+      record {
+        file_is = λ same. not_journal other file name is_file (sym same);
+        journal = λ same. unlike_file (append_cancel_right name file (codes ".journal") same);
+        new = journal_not_new name file;
+        new_journal = journal_not_new name (journal_name file);
+      },
+    )
+
+-- ---- the files by which a folder is a root
+
+-- a name that no file of a package has, no journal and no new file
+abbrev pub IsOther : Bytes → Type 0
+IsOther name =
+    ((current file : Bytes) → IsNameOf current file → name ≢ file) × ((file : Bytes) → name ≢ journal_name file) × ((file : Bytes) → name ≢ new_name file)
+
+module _ (path : Bytes) where
+  -- one that ends in `.bazel`, by what is before that
+  ends_in_bazel : (a b : ℕ) (rest : Bytes) → sum_after a b rest ≢ 144 → IsOther (path ++ a ∷ b ∷ (rest ++ codes ".bazel"))
+  ends_in_bazel a b rest differs = (
+    (λ current file named same. elim named [
+      | inl is ↦ differs (sym (sum_over 0 0 a b path rest) ∙ ap last_sum (append_cancel_right (path ++ a ∷ b ∷ rest) (front current ++ codes "BUILD") (codes ".bazel")
+          (append_assoc path (a ∷ b ∷ rest) (codes ".bazel") ∙ same ∙ is ∙ in_front current (codes "BUILD.bazel") ∙ sym (append_assoc (front current) (codes "BUILD") (codes ".bazel"))))
+          ∙ sum_over 0 0 66 85 (front current) (codes "ILD"))
+      | inr is ↦ unlike name (second_name current) 209 144 sum (sum_of_second current) (λ e. omega (arith, e)) (same ∙ is)
+    ]),
+    (λ file. unlike name (journal_name file) 209 205 sum (sum_of_journal file) (λ e. omega (arith, e))),
+    (λ file. unlike name (new_name file) 209 220 sum (sum_of_new file) (λ e. omega (arith, e))),
+  )
+    where
+      name : Bytes
+      name = path ++ a ∷ b ∷ (rest ++ codes ".bazel")
+
+      sum : last_sum name ≡ 209
+      sum = sum_over 0 0 a b path (rest ++ codes ".bazel") ∙ sum_over a b 46 98 rest (codes "azel")
+
+  pub module_other : IsOther (path ++ codes "MODULE.bazel")
+  module_other = ends_in_bazel 77 79 (codes "DULE") (λ e. omega (arith, e))
+
+  pub repo_other : IsOther (path ++ codes "REPO.bazel")
+  repo_other = ends_in_bazel 82 69 (codes "PO") (λ e. omega (arith, e))
+
+  pub workspace_bazel_other : IsOther (path ++ codes "WORKSPACE.bazel")
+  workspace_bazel_other = ends_in_bazel 87 79 (codes "RKSPACE") (λ e. omega (arith, e))
+
+  pub workspace_other : IsOther (path ++ codes "WORKSPACE")
+  workspace_other = (
+    (λ current file named same. elim named [
+      | inl is ↦ unlike name (first_name current) 136 209 sum (sum_of_first current) (λ e. omega (arith, e)) (same ∙ is)
+      | inr is ↦ unlike name (second_name current) 136 144 sum (sum_of_second current) (λ e. omega (arith, e)) (same ∙ is)
+    ]),
+    (λ file. unlike name (journal_name file) 136 205 sum (sum_of_journal file) (λ e. omega (arith, e))),
+    (λ file. unlike name (new_name file) 136 220 sum (sum_of_new file) (λ e. omega (arith, e))),
+  )
+    where
+      name : Bytes
+      name = path ++ codes "WORKSPACE"
+
+      sum : last_sum name ≡ 136
+      sum = sum_over 0 0 87 79 path (codes "RKSPACE")
 
 -- ---- packages
 
@@ -31,38 +179,32 @@ found_by folder current one two first second =
     ap (λ (bytes : Option Bytes). found_at (first_name current) bytes (found_at (second_name current) (get folder (second_name current)) None)) first
     ∙ ap (λ (bytes : Option Bytes). found_at (first_name current) one (found_at (second_name current) bytes None)) second
 
+pub second_holds : (folder : Folder) (current name text : Bytes) → found_second folder current ≡ Some (name, text) → IsNameOf current name × (get folder name ≡ Some text)
+second_holds folder current name text is = go (get folder (second_name current)) refl is
+  where
+    go : (held : Option Bytes) → get folder (second_name current) ≡ held → found_at (second_name current) held None ≡ Some (name, text)
+        → IsNameOf current name × (get folder name ≡ Some text)
+    go (Some bytes) there is =
+        let named : second_name current ≡ name = ap (λ (found : Option PackagesFound). (unwrap_or found ([], [])).0) is in
+        (inr (sym named), ap (get folder) (sym named) ∙ there ∙ ap (λ (found : Option PackagesFound). Some (unwrap_or found ([], [])).1) is)
+    go None there is = absurd (cc is)
+
 pub found_holds : (folder : Folder) (current name text : Bytes) → found_in folder current ≡ Some (name, text)
     → IsNameOf current name × (get folder name ≡ Some text)
-found_holds folder current name text is = go (get folder (first_name current)) (get folder (second_name current)) refl refl is
+found_holds folder current name text is = go (get folder (first_name current)) refl is
   where
-    go : (one two : Option Bytes) → get folder (first_name current) ≡ one → get folder (second_name current) ≡ two
-        → found_at (first_name current) one (found_at (second_name current) two None) ≡ Some (name, text)
+    go : (held : Option Bytes) → get folder (first_name current) ≡ held → found_at (first_name current) held (found_second folder current) ≡ Some (name, text)
         → IsNameOf current name × (get folder name ≡ Some text)
-    go (Some bytes) two first second is =
+    go (Some bytes) there is =
         let named : first_name current ≡ name = ap (λ (found : Option PackagesFound). (unwrap_or found ([], [])).0) is in
-        let holds : bytes ≡ text = ap (λ (found : Option PackagesFound). (unwrap_or found ([], [])).1) is in
-        (inl (sym named), ap (get folder) (sym named) ∙ first ∙ ap Some holds)
-    go None (Some bytes) first second is =
-        let named : second_name current ≡ name = ap (λ (found : Option PackagesFound). (unwrap_or found ([], [])).0) is in
-        let holds : bytes ≡ text = ap (λ (found : Option PackagesFound). (unwrap_or found ([], [])).1) is in
-        (inr (sym named), ap (get folder) (sym named) ∙ second ∙ ap Some holds)
-    go None None first second is = absurd (cc is)
-
-pub not_here : (b : Bool) (found : Option ℕ) → (if b then Some 0 else option_map (λ place. place + 1) found) ≡ None → b ≡ true → ⊥
-not_here true found none is = let e = none in absurd (cc e)
-not_here false found none is = true≢false (sym is)
-
-pub not_after : (b : Bool) (found : Option ℕ) → (if b then Some 0 else option_map (λ place. place + 1) found) ≡ None → found ≡ None
-not_after true found none = let e = none in absurd (cc e)
-not_after false None none = refl
-not_after false (Some place) none = let e = none in absurd (cc e)
+        (inl (sym named), ap (get folder) (sym named) ∙ there ∙ ap (λ (found : Option PackagesFound). Some (unwrap_or found ([], [])).1) is)
+    go None there is = second_holds folder current name text is
 
 pub apart_from : (current : Bytes) (used : List Used) → package_number current used ≡ None → IsApart current used
 apart_from current [] none = tt
-apart_from current (used ∷ more) none = (
-  (λ is. not_here (bytes_eq used.«package» current) (package_number current more) none ((bytes_eq-Decides used.«package» current).1 is)),
-  apart_from current more (not_after (bytes_eq used.«package» current) (package_number current more) none),
-)
+apart_from current (used ∷ more) none =
+    let both = none_here current used more none in
+    ((λ is. true≢false (sym ((bytes_eq-Decides used.«package» current).1 is) ∙ both.0)), apart_from current more both.1)
 
 pub apart_last : (current : Bytes) (used : List Used) (one : Used) → IsApart current used → one.«package» ≢ current → IsApart current (used ++ one ∷ [])
 apart_last current [] one apart other = (other, tt)
@@ -242,3 +384,40 @@ takes_stand folder current name text None file lines named there beside (inr (fa
     subst (λ (it : Option Opened). IfSome it (IsHeld folder current)) (sym is) tt
 takes_stand folder current name text (Some bytes) file lines named there beside (given, comes, is, reported) =
     subst (λ (it : Option Opened). IfSome it (IsHeld folder current)) (sym is) (given_stands folder current name text bytes given named there beside comes)
+
+-- ---- the root that is found during a run is that of its beginning
+
+-- whether a folder is one, by what its four files hold
+abbrev has_one : Option Bytes → Option Bytes → Option Bytes → Option Bytes → Bool
+has_one a b c d = (is_some a || is_some b) || (is_some c || is_some d)
+
+module _ (P : Bytes → Opened → Type 0) (is_named : (current : Bytes) (file : Opened) → P current file → IsNameOf current file.name) (began folder : Folder) (used : List Used)
+    (all : AllAre P used) (others : OthersAre began used folder) where
+  other_stays : (name : Bytes) → IsOther name → get folder name ≡ get began name
+  other_stays name other = others name
+      (λ place file at. let found = all_at P place used file at all in (other.0 found.0 file.name (is_named found.0 file found.1), other.1 file.name))
+      (λ aside. other.2 aside.0 aside.1)
+
+  same_root : (path : Bytes) → is_root folder path ≡ is_root began path
+  same_root path =
+      let at : Folder → Bytes → Option Bytes = λ f mark. get f (path ++ mark) in
+      ap (λ (it : Option Bytes). has_one it (at folder (codes "REPO.bazel")) (at folder (codes "WORKSPACE.bazel")) (at folder (codes "WORKSPACE")))
+      (other_stays (path ++ codes "MODULE.bazel") (module_other path))
+      ∙ ap (λ (it : Option Bytes). has_one (at began (codes "MODULE.bazel")) it (at folder (codes "WORKSPACE.bazel")) (at folder (codes "WORKSPACE")))
+      (other_stays (path ++ codes "REPO.bazel") (repo_other path))
+      ∙ ap (λ (it : Option Bytes). has_one (at began (codes "MODULE.bazel")) (at began (codes "REPO.bazel")) it (at folder (codes "WORKSPACE")))
+      (other_stays (path ++ codes "WORKSPACE.bazel") (workspace_bazel_other path))
+      ∙ ap (λ (it : Option Bytes). has_one (at began (codes "MODULE.bazel")) (at began (codes "REPO.bazel")) (at began (codes "WORKSPACE.bazel")) it)
+      (other_stays (path ++ codes "WORKSPACE") (workspace_other path))
+
+  same_from : (count : ℕ) (path : Bytes) → root_from count folder path ≡ root_from count began path
+  unfolding root_from
+  same_from zero path = refl
+  same_from (suc count) path =
+      ap (λ (b : Bool). if b then Some path else root_from count folder (path ++ codes "../")) (same_root path)
+      ∙ ap (λ (root : Option Bytes). if is_root began path then Some path else root) (same_from count (path ++ codes "../"))
+
+  pub root_stays : root_above folder ≡ root_above began
+  root_stays =
+      ap (λ (b : Bool). if b then None else root_from 16 folder (codes "../")) (same_root [])
+      ∙ ap (λ (root : Option Bytes). if is_root began [] then None else root) (same_from 16 (codes "../"))

@@ -6,7 +6,6 @@ use Rattle.std.specs.Io.KnownBytes.{Appends}
 use Rattle.bz_items.specs.Characters.{Bytes}
 use Rattle.bz_files.specs.Folder.{Folder, Elapses}
 use Rattle.bz_files.specs.declared.files.Files.{Ghosts as FilesOf}
-pub use Rattle.bz_command_line.specs.Reported.{ReportsLine}
 use Rattle.bz_streams.specs.Faults.{AppendsSome, Rises}
 use Rattle.bz_streams.specs.Outputs.{Reports, Counts}
 use Rattle.bz_streams.specs.declared.exit.Cut.{Cut}
@@ -14,17 +13,17 @@ use Rattle.bz_streams.specs.declared.exit.Cut.TheVariants as c
 use Rattle.bz_streams.specs.declared.exit.Exit.{Exit}
 use Rattle.bz_streams.specs.declared.sink.Sink.{Ghosts as SinkOf}
 use Rattle.bz_streams.specs.declared.source.Source.{Ghosts as SourceOf}
-use Rattle.bz_journal.specs.declared.keeping.KeepFault.{KeepFault}
+use Rattle.bz_buildozer.specs.Sessions.{KeepFault, Action, Reply}
 use Rattle.bz_buildozer.specs.Journals.{Adds, IsOpenedIn}
 use Rattle.bz_buildozer.specs.Keeps.{KeepsAt, is_left_at}
 use Rattle.bz_buildozer.specs.Found.{Used, file_at, package_number}
-use Rattle.bz_buildozer.specs.Sessions.{Action, Reply}
 use Rattle.bz_buildozer.specs.Ending.{Ended}
 use Rattle.bz_buildozer.specs.Moments.{AllAreSafe, IsMeanwhile, IsMomentOfSteps}
 use Rattle.bz_buildozer.specs.Run.{World, Progress}
 use Rattle.bz_buildozer.specs.private.Shown.{progress_in}
 use Rattle.bz_buildozer.specs.Steps.{RunStep, action_of, input_package}
 use Rattle.bz_buildozer.specs.declared.run.Run.{Run}
+pub use Rattle.bz_command_line.specs.Reported.{ReportsLine}
 
 -- ---- why the steps of a run are cut, and what is left of standard input
 
@@ -125,13 +124,13 @@ UsesSome folder current number before after =
 
 -- An action with a note is done in the open file of the package with this number, and kept there or not.
 abbrev pub KeepsSome : {F : Type 0} → FilesOf F → ℕ → Action → Bytes → List Used → List Used → F → F → Type 0
-KeepsSome files place action note before after old new = (answer : Result Reply KeepFault) × KeepsAt files place action note before answer after old new
+KeepsSome files place action note before after old new = (answer : Result Reply KeepFault) × KeepsAt true files place action note before answer after old new
 
--- What a step does in an open file, whatever comes: nothing; or its action is done there, and kept or not.
-abbrev pub KeepsStep : {F : Type 0} → FilesOf F → RunStep → ℕ → List Used → List Used → F → F → Type 0
-KeepsStep files step place before after old new = ((after ≡ before) × (new ≡ old))
-    ⊎ ((is_left_at place before ≡ false) × ((action : Action) × (action_of step.target step.request.verb ≡ Some action)
-    × KeepsSome files place action step.request.text before after old new))
+-- What a step does in the open file of this number, if there is one, whatever comes: nothing; or its action is done there, and kept or not.
+abbrev pub KeepsStep : {F : Type 0} → FilesOf F → RunStep → Option ℕ → List Used → List Used → F → F → Type 0
+KeepsStep files step number before after old new = ((after ≡ before) × (new ≡ old))
+    ⊎ ((place : ℕ) × (number ≡ Some place) × (is_left_at place before ≡ false) × ((action : Action)
+    × (action_of step.target step.request.verb ≡ Some action) × KeepsSome files place action step.request.text before after old new))
 
 -- Where a run is: how far it has come, what is left of standard input, the files, and standard error. (Of each, the count of faults.)
 pub record RunSpot : Type 1 where

@@ -1,16 +1,11 @@
 -- What keeping an action does to the packages of a run and to the files.
-use Rattle.std.specs.Prelude.{◌≡◌, ◌⊎◌, ◌==◌, ◌||◌, not, ℕ, true, List, Some, Result, Ok, Err, ◌≢◌, ◌&&◌, Bool, false, if◌then◌else◌, Option, None}
+use Rattle.std.specs.Prelude.{◌≡◌, ◌⊎◌, ◌==◌, ◌||◌, not, ℕ, true, List, Some, Result, Ok, Err, ◌≢◌, ◌&&◌, Bool, false, if◌then◌else◌, Option, None, IfErr}
 use Rattle.bz_files.specs.declared.files.Files.{Ghosts as FilesOf}
 use Rattle.bz_files.specs.Faults.{Rises}
 use Rattle.bz_files.specs.Folder.{Elapses, Folder}
 use Rattle.bz_items.specs.Characters.{Bytes}
-use Rattle.bz_journal.specs.Actions.{Action}
-use Rattle.bz_journal.specs.declared.action.Reply.{Reply}
-use Rattle.bz_journal.specs.declared.keeping.KeepFault.{KeepFault}
-use Rattle.bz_journal.specs.declared.keeping.KeepFault.TheVariants.{Refused, Pair}
-use Rattle.bz_journal.specs.History.{Acts, Answer, History}
-use Rattle.bz_journal.specs.Keeping.{Keeps}
-pub use Rattle.bz_journal.specs.Keeping.{KeepsFile}
+use Rattle.bz_buildozer.specs.Sessions.{Action, Reply, Acts, Answer, History, present, KeepFault, Refused, Pair, Keeps, KeepsFile}
+use Rattle.bz_journal.specs.Keeping.{IsRefused}
 use Rattle.bz_streams.specs.Outputs.{Counts}
 use Rattle.bz_streams.specs.declared.exit.Cut.{Cut}
 use Rattle.bz_streams.specs.declared.exit.Cut.TheVariants as c
@@ -21,7 +16,6 @@ use Rattle.bz_edit.specs.declared.edit.Edit.{Edit}
 use Rattle.bz_resume.specs.Journals.{journal_text}
 use Rattle.bz_resume.specs.Pair.{journal_name}
 use Rattle.bz_resume.specs.Resuming.{Holds, OthersStay}
-use Rattle.bz_buildozer.specs.Sessions.{History, Answer, present}
 
 -- A folder of honest files was the same at each moment of the call.
 abbrev pub KeepsFolder : {F : Type 0} → FilesOf F → F → F → Type 0
@@ -36,22 +30,27 @@ pub record ReadsFiles {F : Type 0} (files : FilesOf F) (why : Cut) (old new : F)
   pub counts : Counts (files.faults old) (files.faults new)
   pub honest : files.honest new ≡ files.honest old
 
--- the file after an answer that left it this history: its pair was written where the present text is another one, and it is left
--- alone from then on where the pair could not be written
-abbrev pub after_keeping : Result Reply KeepFault → History → Opened → Opened
-after_keeping (Ok reply) after file = record file { history = after; written = file.written || not (after.cursor == file.history.cursor) }
-after_keeping (Err (Refused refusal)) after file = record file { history = after }
-after_keeping (Err (Pair fault)) after file = record file { history = after; left = true }
+-- the file after an answer that left it this history. Where journals are kept (the flag) its pair was written where the present text is
+-- another one, and it is left alone from then on where the pair could not be written.
+abbrev pub file_left : Bool → Result Reply KeepFault → History → Opened → Opened
+file_left journals (Err (Refused refusal)) after file = record file { history = after }
+file_left journals (Err (Pair fault)) after file = record file { history = after; left = true }
+file_left true (Ok reply) after file = record file { history = after; written = file.written || not (after.cursor == file.history.cursor) }
+file_left false (Ok reply) after file = record file { history = after }
 
--- An action with a note is done in the open file of the package with this number, and its journal and it are kept, or not.
-pub record KeepsAt {F : Type 0} (files : FilesOf F) (place : ℕ) (action : Action) (note : Bytes) (before : List Used) (answer : Result Reply KeepFault) (after : List Used)
-    (old new : F) : Type 0 where
+abbrev pub after_keeping : Result Reply KeepFault → History → Opened → Opened
+after_keeping = file_left true
+
+-- An action with a note is done in the open file of the package with this number; where journals are kept, its journal and it are, or not.
+pub record KeepsAt {F : Type 0} (journals : Bool) (files : FilesOf F) (place : ℕ) (action : Action) (note : Bytes) (before : List Used) (answer : Result Reply KeepFault)
+    (after : List Used) (old new : F) : Type 0 where
   pub file : Opened
   pub history : History
   pub there : file_at place before ≡ Some file
   pub keeps : Keeps action note file.history answer history
-  pub kept : after ≡ with_opened place (Some (after_keeping answer history file)) before
-  pub pair : KeepsFile files file.name file.history history answer old new
+  pub kept : after ≡ with_opened place (Some (file_left journals answer history file)) before
+  pub pair : journals ≡ true → KeepsFile files file.name file.history history answer old new
+  pub plain : journals ≡ false → (new ≡ old) × IfErr answer IsRefused
 
 -- ---- laws
 
@@ -65,8 +64,7 @@ StillIsSame = (action : Action) (note : Bytes) (h after : History) (answer : Ans
 -- the file after an answer that left it this history, where journals are kept (the flag) or are not
 abbrev pub file_after : Bool → Answer → History → Opened → Opened
 file_after journals (Err refusal) history file = record file { history = history }
-file_after true (Ok reply) history file = after_keeping (Ok reply) history file
-file_after false (Ok reply) history file = record file { history = history }
+file_after journals (Ok reply) history file = file_left journals (Ok reply) history file
 
 -- A history is kept beside the file of this name: FILE.journal is what is saved of it, FILE holds the present text and goes on with all of
 -- its texts, and each other name stays, but the two under which these are written first.

@@ -3,9 +3,7 @@ use Rattle.std.specs.Prelude.{◌≡◌, ◌≢◌, ◌⊎◌, true, false, ℕ,
 use Rattle.std.specs.FinMap.{get}
 use Rattle.bz_items.specs.Characters.{Bytes}
 use Rattle.bz_files.specs.Folder.{Folder, IsAside}
-use Rattle.bz_journal.specs.declared.keeping.KeepFault.{KeepFault}
-use Rattle.bz_journal.specs.declared.keeping.KeepFault.TheVariants.{Pair}
-use Rattle.bz_journal.specs.Keeping.{Keeps}
+use Rattle.bz_buildozer.specs.Sessions.{KeepFault, Pair, Keeps, Action, History, Reply, present}
 use Rattle.bz_resume.specs.declared.pair_fault.PairFault.{PairFault}
 use Rattle.bz_resume.specs.Pair.{journal_name}
 use Rattle.bz_resume.specs.Resuming.{Holds}
@@ -15,7 +13,6 @@ use Rattle.bz_command_line.specs.Script.{script_of}
 use Rattle.bz_buildozer.specs.Found.{IsNameOf, Opened, Used, package_number, file_at, with_opened}
 use Rattle.bz_buildozer.specs.Journals.{IsOpenedIn}
 use Rattle.bz_buildozer.specs.Keeps.{after_keeping}
-use Rattle.bz_buildozer.specs.Sessions.{Action, History, Reply, present}
 use Rattle.bz_buildozer.specs.Outcome.{IsScript, IsText}
 use Rattle.bz_buildozer.specs.Run.{World}
 use Rattle.bz_buildozer.specs.Steps.{RunStep, action_of, all_steps}

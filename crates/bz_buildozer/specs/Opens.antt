@@ -8,9 +8,8 @@ use Rattle.bz_grammar.specs.Legal.{Accepted}
 use Rattle.bz_grammar.specs.Spell.{limit}
 use Rattle.bz_files.specs.Folder.{Folder}
 use Rattle.bz_items.specs.Characters.{Bytes}
-use Rattle.bz_journal.specs.Actions.{Action}
+use Rattle.bz_buildozer.specs.Sessions.{opened}
 use Rattle.bz_grammar.specs.Faults.{IsFaultOf}
-use Rattle.bz_journal.specs.History.{History, Answer, opened, Acts}
 use Rattle.bz_streams.specs.Excerpts.{fault_excerpt}
 use Rattle.bz_streams.specs.Outputs.{Reports}
 use Rattle.bz_streams.specs.Reported.{named_line, fault_line}
@@ -61,11 +60,3 @@ abbrev pub Extends : {E : Type 0} → SinkOf E → (Option Opened → List Bytes
 Extends sink Is current number before after old new = (file : Option Opened) × (lines : List Bytes) × Is file lines
     × (after ≡ before ++ record { «package» = current; file = file } ∷ []) × (number ≡ option_map (λ _. length before) file)
     × Reports (sink.faults old) (sink.faults new) (sink.contents old) (sink.contents new) lines
-
--- An action with a note is done in the open file of the package with this number.
-pub record ActsAt (place : ℕ) (action : Action) (note : Bytes) (before : List Used) (answer : Answer) (after : List Used) : Type 0 where
-  pub file : Opened
-  pub history : History
-  pub there : file_at place before ≡ Some file
-  pub acts : Acts action note file.history answer history
-  pub kept : after ≡ with_opened place (Some (record file { history = history })) before

@@ -151,21 +151,18 @@ GivesNothing options (operands texts) = IsErr (operand_group texts)
     ⊎ ((options.journal ≡ true) × ((requested : Requested) × (operand_group texts ≡ Ok requested) × (names_input (requested ∷ []) ≡ true)))
 GivesNothing options (script name) = ⊥
 
--- The lines, if any, aren't in standard input.
-abbrev pub StandApart : Given → Type 0
-StandApart (operands texts) = Unit {0}
-StandApart (script name) = name ≢ input_package
+-- This is so of the name of the file of lines, if there is one.
+abbrev pub OfScript : (Bytes → Type 0) → Given → Type 0
+OfScript Is (operands texts) = Unit {0}
+OfScript Is (script name) = Is name
 
+-- The lines, if any, aren't in standard input.
 abbrev pub TakesNoInput : List Bytes → Type 0
-TakesNoInput words = IfOk (command_line_of words) (λ line. StandApart line.given)
+TakesNoInput words = IfOk (command_line_of words) (λ line. OfScript (λ name. name ≢ input_package) line.given)
 
 -- The lines, if any, aren't in a file.
-abbrev pub StandInNoFile : Given → Type 0
-StandInNoFile (operands texts) = Unit {0}
-StandInNoFile (script name) = name ≡ input_package
-
 abbrev pub TakesNoFile : List Bytes → Type 0
-TakesNoFile words = IfOk (command_line_of words) (λ line. StandInNoFile line.given)
+TakesNoFile words = IfOk (command_line_of words) (λ line. OfScript (λ name. name ≡ input_package) line.given)
 
 -- words that are no line, or whose operands request nothing
 abbrev pub LineGivesNothing : Result CommandLine LineUsage → Type 0

@@ -10,8 +10,7 @@ use Rattle.bz_hint.specs.Hints.{change_notes, refusal_hint}
 use Rattle.bz_value.specs.declared.refusal.Refusal.TheVariants.{NoteTooLong}
 use Rattle.bz_items.specs.Characters.{Bytes}
 use Rattle.bz_files.specs.Folder.{Folder}
-use Rattle.bz_journal.specs.declared.keeping.KeepFault.TheVariants.{Pair}
-use Rattle.bz_journal.specs.Keeping.{Keeps}
+use Rattle.bz_buildozer.specs.Sessions.{Pair, Keeps, Action, Do, present, Reply, Changed, Same, Printed, Moved, History, Answer, Leads, listing}
 use Rattle.bz_resume.specs.Pair.{journal_name}
 use Rattle.bz_resume.specs.Resuming.{Survives}
 use Rattle.bz_resume.specs.declared.pair_fault.PairFault.{PairFault}
@@ -25,7 +24,6 @@ use Rattle.bz_buildozer.specs.Found.{PackagesFound, first_name, found_in, found_
 use Rattle.bz_buildozer.specs.Journals.{OpensBeside, TakesBeside, journal_beside}
 use Rattle.bz_buildozer.specs.Keeps.{FolderAfter, KeepsHistory, file_after, left_out, after_keeping}
 use Rattle.bz_buildozer.specs.Reported.{refusal_line, unkept_line}
-use Rattle.bz_buildozer.specs.Sessions.{Action, Do, present, Reply, Changed, Same, Printed, Moved, History, Answer, Leads, listing}
 use Rattle.bz_buildozer.specs.Steps.{RunStep, action_of, input_package}
 
 -- what can be read: the files of a folder, and the bytes of standard input where they are known

@@ -5,3 +5,6 @@ pub use Rattle.bz_journal.specs.declared.action.Reply.TheVariants.{Changed, Same
 pub use Rattle.bz_journal.specs.History.{History, Answer, Acts, Makes, Leads, present, opened, changed, undone, redone, after_meaning, note_limit}
 pub use Rattle.bz_journal.specs.Listing.{listing}
 pub use Rattle.bz_journal.specs.Meaning.{Meaning, gives, Means, EffectMeans, Formats}
+pub use Rattle.bz_journal.specs.Keeping.{Keeps, KeepsFile}
+pub use Rattle.bz_journal.specs.declared.keeping.KeepFault.{KeepFault}
+pub use Rattle.bz_journal.specs.declared.keeping.KeepFault.TheVariants.{Refused, Pair}

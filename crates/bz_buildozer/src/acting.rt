@@ -1,11 +1,8 @@
 //! One step.
-ghost use Rattle.std.specs.Prelude.{◌≡◌, ◌≢◌, ◌⊎◌, ◌&&◌, ◌++◌, [], ◌∷◌, ℕ, List, Bool, Some, None, Err, true, false, IsSome, OnOk, OnErr};
+ghost use Rattle.std.specs.Prelude.{◌≡◌, ◌≢◌, ◌⊎◌, ◌&&◌, ◌++◌, [], ◌∷◌, ℕ, List, Bool, Some, None, Err, true, false, IsSome, IfSome, OnOk, OnErr};
 ghost use Rattle.bz_files.specs.Folder.{Folder};
 ghost use Rattle.bz_grammar.specs.Legal.{Reads};
-ghost use Rattle.bz_grammar.specs.Statements.{lines_of};
 ghost use Rattle.bz_grammar.specs.declared.tree.Node.{Node};
-ghost use Rattle.bz_hosts.specs.View.{view_of};
-ghost use Rattle.bz_hint.specs.Hints.{refusal_hint};
 ghost use Rattle.bz_buildozer.specs.Sessions.{Do, History, Leads, action_in, present};
 ghost use Rattle.bz_label.specs.declared.target.Target as t;
 ghost use Rattle.bz_command_line.specs.Paths.{HasPath};
@@ -74,30 +71,6 @@ fn put_printed(reply: &Reply, printed: &mut Vec<u8>) -> Result<(), AllocError>
     Ok(())
 }
 
-// What helps where a command is refused in the open file of the package with this number. The error: memory was refused, and nothing is
-// reported.
-fn hint_below<E: Sink>(
-    run: &Run,
-    place: usize,
-    command: &Command,
-    target: &Target,
-    refusal: Refusal,
-    err: &mut E,
-) -> Result<(), AllocError>
-    requires { IsSome (file_at place run.now.workspace) }
-    ensures ok { (file : p.Opened) → file_at place run.now.workspace ≡ Some file → (n : Node) → Reads (present file.history) n
-        → OnOk result (ReportsLines E.Sink err.old err.new
-        (refusal_hint file.name refusal command.now target.now.which target.now.«package» (lines_of n) (view_of n))) }
-    ensures err { OnErr result (err.new ≡ err.old) }
-{
-    let file = open_file(&run.workspace, place);
-    let alloc = *run.printed.allocator();
-    let mut text = Vec::new(alloc);
-    file.past.text_into(&mut text)?;
-    let (name, package) = (file.name.as_str(), target.package.as_slice());
-    report_hint(alloc, err, name, &text, command, target, package, refusal)
-}
-
 // A command is refused, which is reported by its file, where journals are kept or not.
 fn refuse<E: Sink>(
     journals: bool,
@@ -146,7 +119,14 @@ fn help<E: Sink>(
         Refusal::NoteTooLong => return Cut::Whole,
         _ => {}
     }
-    match hint_below(run, place, command, target, refusal, err) {
+    let file = open_file(&run.workspace, place);
+    let alloc = *run.printed.allocator();
+    let mut text = Vec::new(alloc);
+    let Ok(()) = file.past.text_into(&mut text) else {
+        return Cut::Memory;
+    };
+    let (name, package) = (file.name.as_str(), target.package.as_slice());
+    match report_hint(alloc, err, name, &text, command, target, package, refusal) {
         Ok(()) => Cut::Whole,
         Err(_) => Cut::Memory,
     }
@@ -194,29 +174,6 @@ fn note<E: Sink>(run: &Run, place: usize, action: &Action<'_>, reply: &Reply, er
     Cut::Whole
 }
 
-// Does an action in the open file of the package with this number: what it prints is kept, what is to be noted is reported, and so is a refusal.
-fn act_at<E: Sink>(
-    run: &mut Run,
-    place: usize,
-    action: &Action<'_>,
-    command: &str,
-    err: &mut E,
-) -> Cut
-    requires { IsSome (file_at place run.old.workspace) }
-    ensures kinds { (result ≡ Cut.Whole) ⊎ (result ≡ Cut.Memory) }
-    ensures answers { (folder : Folder) (target : t.Target) (verb : v.Verb) → s.action_of target verb ≡ Some (action_in action.now) → (lines : List (List ℕ))
-        × Answers result false (step_of target (record { verb = verb; text = command.now })) (Some place) folder (progress_in run.old) lines folder
-        (progress_in run.new) × ReportsLines E.Sink err.old err.new lines }
-{
-    match run.workspace.act(place, action, command, run.once) {
-        Ok(reply) => match put_printed(&reply, &mut run.printed) {
-            Ok(()) => note(run, place, action, &reply, err),
-            Err(_) => refuse(false, run, place, command, Refusal::Memory, err),
-        },
-        Err(refusal) => refuse_action(false, run, place, action, command, refusal, err),
-    }
-}
-
 // Lists the texts of the open file of the package with this number.
 fn list_at<E: Sink>(alloc: Global, run: &mut Run, place: usize, command: &str, err: &mut E) -> Cut
     requires { IsSome (file_at place run.old.workspace) }
@@ -262,8 +219,10 @@ fn leave<E: Sink>(run: &mut Run, place: usize, fault: PairFault, err: &mut E) ->
     }
 }
 
-// Does an action in the open file of the package with this number, as `act_at` does, and keeps its journal and it.
-fn keep_at<F: Files, E: Sink>(
+// Does an action in the open file of the package with this number, and keeps its journal and it where journals are kept: what it prints
+// is kept too, what is to be noted is reported, and so is a refusal.
+fn act_at<F: Files, E: Sink>(
+    journals: bool,
     run: &mut Run,
     place: usize,
     action: &Action<'_>,
@@ -272,52 +231,58 @@ fn keep_at<F: Files, E: Sink>(
     err: &mut E,
 ) -> Cut
     requires { IsSome (file_at place run.old.workspace) }
-    ensures answers { F.honest files.old ≡ true → AllAreSafe (F.folder files.old) run.old.workspace → is_left_at place run.old.workspace ≡ false
-        → (target : t.Target) (verb : v.Verb) → s.action_of target verb ≡ Some (action_in action.now) → (lines : List (List ℕ))
-        × Answers result true (step_of target (record { verb = verb; text = command.now })) (Some place) (F.folder files.old) (progress_in run.old) lines
-        (F.folder files.new) (progress_in run.new) × ReportsLines E.Sink err.old err.new lines }
-    ensures keeps { KeepsSome F.Files place (action_in action.now) command.now run.old.workspace run.new.workspace files.old files.new }
+    ensures answers { (journals ≡ true → F.honest files.old ≡ true) → (journals ≡ true → AllAreSafe (F.folder files.old) run.old.workspace)
+        → (journals && is_left_at place run.old.workspace) ≡ false → (target : t.Target) (verb : v.Verb) → s.action_of target verb ≡ Some (action_in action.now)
+        → (lines : List (List ℕ)) × Answers result journals (step_of target (record { verb = verb; text = command.now })) (Some place) (F.folder files.old)
+        (progress_in run.old) lines (F.folder files.new) (progress_in run.new) × ReportsLines E.Sink err.old err.new lines }
+    ensures keeps { journals ≡ true → KeepsSome F.Files place (action_in action.now) command.now run.old.workspace run.new.workspace files.old files.new }
     ensures works { WorksOn F.Files result files.old files.new }
 {
-    match run.workspace.keep(place, action, command, files) {
+    match run
+        .workspace
+        .act(journals, place, action, command, run.once, files)
+    {
         Ok(reply) => match put_printed(&reply, &mut run.printed) {
             Ok(()) => note(run, place, action, &reply, err),
-            Err(_) => refuse(true, run, place, command, Refusal::Memory, err),
+            Err(_) => refuse(journals, run, place, command, Refusal::Memory, err),
         },
         Err(KeepFault::Refused(refusal)) => {
-            refuse_action(true, run, place, action, command, refusal, err)
+            refuse_action(journals, run, place, action, command, refusal, err)
         }
         Err(KeepFault::Pair(fault)) => leave(run, place, fault, err),
     }
 }
 
-// Does a command on a target in the open file of the package with this number, unless that is left alone; where journals are kept, its
-// journal and it are kept after an action.
+// Does a command on a target in the open file of the package with this number, unless there is none or it is left alone; where journals
+// are kept, its journal and it are kept after an action.
 fn act_on<F: Files, E: Sink>(
     alloc: Global,
     journals: bool,
     run: &mut Run,
-    place: usize,
+    place: Option<usize>,
     target: &Target,
     request: &Request<'_>,
     files: &mut F,
     err: &mut E,
 ) -> Cut
-    requires { IsSome (file_at place run.old.workspace) }
+    requires { IfSome place (λ at. IsSome (file_at at run.old.workspace)) }
     ensures answers { (journals ≡ true → F.honest files.old ≡ true) → (journals ≡ true → AllAreSafe (F.folder files.old) run.old.workspace) → (lines : List (List ℕ))
-        × Answers result journals (step_of target.now (request_in request.now)) (Some place) (F.folder files.old) (progress_in run.old) lines
+        × Answers result journals (step_of target.now (request_in request.now)) place (F.folder files.old) (progress_in run.old) lines
         (F.folder files.new) (progress_in run.new) × ReportsLines E.Sink err.old err.new lines }
     ensures keeps { journals ≡ true → KeepsStep F.Files (step_of target.now (request_in request.now)) place run.old.workspace run.new.workspace files.old files.new }
     ensures works { WorksOn F.Files result files.old files.new }
 {
+    let Some(place) = place else {
+        run.failed = true;
+        return Cut::Whole;
+    };
     if is_left_at(journals, &run.workspace, place) {
         run.failed = true;
         return Cut::Whole;
     }
     match action_of(&request.verb, target) {
         None => list_at(alloc, run, place, request.text, err),
-        Some(action) if journals => keep_at(run, place, &action, request.text, files, err),
-        Some(action) => act_at(run, place, &action, request.text, err),
+        Some(action) => act_at(journals, run, place, &action, request.text, files, err),
     }
 }
 
@@ -341,14 +306,7 @@ pub(crate) fn do_step<R: Source, F: Files, E: Sink>(
     let package = package_of(target);
     let workspace = &mut run.workspace;
     let opening = open_package(alloc, journals, workspace, package, input, files, err);
-    match opening.place {
-        Some(place) => first_cut(
-            opening.cut,
-            act_on(alloc, journals, run, place, target, request, files, err),
-        ),
-        None => {
-            run.failed = true;
-            opening.cut
-        }
-    }
+    let place = opening.place;
+    let acted = act_on(alloc, journals, run, place, target, request, files, err);
+    first_cut(opening.cut, acted)
 }

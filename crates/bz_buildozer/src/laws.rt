@@ -41,6 +41,7 @@ pub fn fronts_are_reported_alike()
 {}
 
 /// One thing comes of a journal at the text of a file: the history that goes on, or why none does.
+#[tactic(auto, using(crate::proofs::ReadSteps::one_given))]
 pub fn one_thing_comes_of_a_journal()
     ensures { JournalGivesOne }
 {}
@@ -52,6 +53,7 @@ pub fn packages_are_apart()
 {}
 
 /// An action leaves the package of a history, and where it leaves the number of the present text it leaves the history.
+#[tactic(auto, using(crate::proofs::ActSteps::still_same))]
 pub fn still_is_same()
     ensures { StillIsSame }
 {}

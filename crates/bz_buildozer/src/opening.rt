@@ -1,28 +1,18 @@
 //! The package of a step.
 ghost use Rattle.std.specs.Prelude.{◌≡◌, ◌≢◌, ◌≤◌, ℕ, List, Option, None, true, false, length, IfSome, IsSome};
 ghost use Rattle.bz_streams.specs.Outputs.{Counts};
-ghost use Rattle.bz_streams.specs.Reported.{stdin, named_line};
 ghost use Rattle.bz_buildozer.specs.Keeps.{KeepsFolder};
 ghost use Rattle.bz_buildozer.specs.Found.{package_number, file_at};
-ghost use Rattle.bz_buildozer.specs.Calls.{MayRun, ReportsLine, ReportsLines, ReadsNothing, UsesSome, world_with, AreCutOver, AreCutBy, IsLeft};
+ghost use Rattle.bz_buildozer.specs.Calls.{MayRun, ReportsLines, ReadsNothing, UsesSome, world_with, AreCutOver, AreCutBy, IsLeft};
 ghost use Rattle.bz_buildozer.specs.Run.{Uses, World};
 ghost use Rattle.bz_buildozer.specs.Steps.{input_package};
 
-use crate::reading::Opening;
+use crate::reading::{Opening, fail};
 use crate::script::INPUT;
 use crate::workspace::Workspace;
 use bz_files::Files;
-use bz_streams::{Cut, InputFault, MOST, STDIN, Sink, Source, read_most, report_named};
+use bz_streams::{Cut, InputFault, MOST, STDIN, Sink, Source, read_most};
 use std::alloc::Global;
-
-// Standard input was not read, which is reported.
-fn refused_opening<E: Sink>(err: &mut E, word: &str, cut: Cut) -> Opening
-    ensures opening { result ≡ record { place = None; cut = cut } }
-    ensures reported { ReportsLine E.Sink err.old err.new (named_line stdin word.now) }
-{
-    report_named(err, STDIN, word);
-    Opening { place: None, cut }
-}
 
 // Reads and opens standard input. It is kept as used first, so that it is not read a second time.
 fn open_input<R: Source, E: Sink>(
@@ -42,12 +32,12 @@ fn open_input<R: Source, E: Sink>(
     ensures read_faults { Counts (R.faults input.old) (R.faults input.new) }
 {
     let Ok(place) = workspace.add(INPUT.as_bytes()) else {
-        return refused_opening(err, "Memory", Cut::Memory);
+        return fail(err, STDIN, "Memory", Cut::Memory);
     };
     match read_most(alloc, input, MOST) {
         Ok(text) => workspace.open_text(place, INPUT, STDIN, text, err),
-        Err(InputFault::Read) => refused_opening(err, "cannot open", Cut::Read),
-        Err(InputFault::Memory) => refused_opening(err, "Memory", Cut::Memory),
+        Err(InputFault::Read) => fail(err, STDIN, "cannot open", Cut::Read),
+        Err(InputFault::Memory) => fail(err, STDIN, "Memory", Cut::Memory),
     }
 }
 

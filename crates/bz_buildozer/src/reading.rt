@@ -108,6 +108,9 @@ pub(crate) fn fail<E: Sink>(err: &mut E, name: &str, word: &str, cut: Cut) -> Op
     Opening::new(None, cut)
 }
 
+// What is before the path of the root of the workspace.
+const ROOT_LEAD: &str = "buildozer: the root of the workspace is ";
+
 // Whether a package is written as all those below another one.
 fn ends_in_dots(package: &str) -> bool
     ensures { result ≡ ends_with eqb «package».now (codes "/...") }
@@ -126,34 +129,18 @@ fn package_hint(package: &str) -> &'static str
     }
 }
 
-// Reports a word on a file, and this text below the line.
-fn report_above<'a, E: Sink>(err: &mut E, name: &'a str, word: &'a str, below: &'a str)
-    ensures { AppendsUnlessFailed (E.faults err.old) (E.faults err.new) (E.contents err.old) (E.contents err.new)
-        (named_line name.entry.now word.entry.now ++ below.entry.now) }
-{
-    report_pieces(
-        err,
-        &[
-            LinePiece::Outside(name),
-            LinePiece::Own(": "),
-            LinePiece::Own(word),
-            LinePiece::Own("\n"),
-            LinePiece::Own(below),
-        ],
-    );
-}
-
-// The same, and below that the root of the workspace.
-fn report_above_root<'a, E: Sink>(
+// Reports a word on a file, and below the line a hint, and the root of the workspace after its lead, or nothing.
+fn report_above<'a, E: Sink>(
     err: &mut E,
     name: &'a str,
     word: &'a str,
-    below: &'a str,
+    hint: &'a str,
+    lead: &'a str,
     root: &'a str,
+    end: &'a str,
 )
     ensures { AppendsUnlessFailed (E.faults err.old) (E.faults err.new) (E.contents err.old) (E.contents err.new)
-        (named_line name.entry.now word.entry.now
-        ++ (below.entry.now ++ (codes "buildozer: the root of the workspace is " ++ (root.entry.now ++ codes "\n")))) }
+        (named_line name.entry.now word.entry.now ++ (hint.entry.now ++ (lead.entry.now ++ (root.entry.now ++ end.entry.now)))) }
 {
     report_pieces(
         err,
@@ -162,10 +149,10 @@ fn report_above_root<'a, E: Sink>(
             LinePiece::Own(": "),
             LinePiece::Own(word),
             LinePiece::Own("\n"),
-            LinePiece::Own(below),
-            LinePiece::Own("buildozer: the root of the workspace is "),
+            LinePiece::Own(hint),
+            LinePiece::Own(lead),
             LinePiece::Own(root),
-            LinePiece::Own("\n"),
+            LinePiece::Own(end),
         ],
     );
 }
@@ -184,8 +171,8 @@ pub(crate) fn fail_absent<E: Sink>(
 {
     let hint = package_hint(package);
     match root {
-        Some(root) => report_above_root(err, name, "cannot open", hint, root),
-        None => report_above(err, name, "cannot open", hint),
+        Some(root) => report_above(err, name, "cannot open", hint, ROOT_LEAD, root, "\n"),
+        None => report_above(err, name, "cannot open", hint, "", "", ""),
     }
     Opening::new(None, Cut::Whole)
 }

@@ -1,11 +1,11 @@
 //! The packages that a run has used, and their files.
-ghost use Rattle.std.specs.Prelude.{◌≡◌, ◌<◌, map, length, string_bytes};
+ghost use Rattle.std.specs.Prelude.{◌≡◌, ◌≤◌, ◌<◌, map, length, string_bytes, true, false, IfErr};
 ghost use Rattle.std.specs.Option.{option_map};
-ghost use Rattle.bz_journal.specs.Actions.{action_in};
-ghost use Rattle.bz_journal.specs.History.{History};
-ghost use Rattle.bz_journal.specs.Keeping.{Keeps};
 ghost use Rattle.bz_journal.specs.Forms.{past_history};
-ghost use Rattle.bz_buildozer.specs.Keeps.{KeepsFile, after_keeping};
+ghost use Rattle.bz_files.specs.Faults.{Rises};
+ghost use Rattle.bz_journal.specs.Keeping.{IsRefused, IsWriteOrOpen};
+ghost use Rattle.bz_buildozer.specs.Keeps.{after_keeping, file_left};
+ghost use Rattle.bz_buildozer.specs.Sessions.{History, Keeps, KeepsFile, action_in};
 ghost use Rattle.bz_buildozer.specs.Found.{opened_with, with_opened};
 ghost use Rattle.bz_buildozer.specs.private.ShownFiles.{opened_in, used_in};
 
@@ -69,8 +69,8 @@ impl Opened {
             .keep_noted(action, note, self.name.as_str(), files)
     }
 
-    /// The same, and what became of the two is marked.
-    pub(crate) fn keep<F: Files>(
+    // The same, and what became of the two is marked.
+    fn keep<F: Files>(
         &mut self,
         action: &Action<'_>,
         note: &str,
@@ -91,6 +91,34 @@ impl Opened {
                 self.left = true;
                 Err(KeepFault::Pair(fault))
             }
+        }
+    }
+
+    /// Does an action with a note, which is said to be the last one there or not: that changes what it takes, and not what it does. Where
+    /// journals are kept, the journal and the file are, and what became of the two is marked.
+    pub(crate) fn act<F: Files>(
+        &mut self,
+        journals: bool,
+        action: &Action<'_>,
+        note: &str,
+        is_last: bool,
+        files: &mut F,
+    ) -> Result<Reply, KeepFault>
+        ensures acts { (history : History) × Keeps (action_in action.now) note.now (opened_in self.old).history result history
+            × (opened_in self.new ≡ file_left journals result history (opened_in self.old))
+            × (journals ≡ true → KeepsFile F.Files (opened_in self.old).name (opened_in self.old).history history result files.old files.new)
+            × (journals ≡ false → (files.new ≡ files.old) × IfErr result IsRefused) }
+        ensures cause { IsWriteOrOpen result → Rises (F.faults files.old) (F.faults files.new) }
+        ensures rest { (IsWriteOrOpen result → ⊥) → F.faults files.new ≡ F.faults files.old }
+        ensures count { F.faults files.old ≤ F.faults files.new }
+        ensures honest { F.honest files.new ≡ F.honest files.old }
+    {
+        if journals {
+            return self.keep(action, note, files);
+        }
+        match self.past.act_noted(action, note, is_last) {
+            Ok(reply) => Ok(reply),
+            Err(refusal) => Err(KeepFault::Refused(refusal)),
         }
     }
 }

@@ -12,7 +12,7 @@ ghost use Rattle.bz_journal.specs.Actions.{action_in};
 ghost use Rattle.bz_journal.specs.Keeping.{IsWriteOrOpen};
 ghost use Rattle.bz_buildozer.specs.Journals.{TakesBeside};
 ghost use Rattle.bz_buildozer.specs.Keeps.{KeepsAt, ReadsFiles};
-ghost use Rattle.bz_buildozer.specs.Opens.{ActsAt, Extends, Fills, IsUnopened, Takes};
+ghost use Rattle.bz_buildozer.specs.Opens.{Extends, Fills, IsUnopened, Takes};
 ghost use Rattle.bz_buildozer.specs.Found as p;
 ghost use Rattle.bz_buildozer.specs.Found.{file_at, package_number, with_opened};
 
@@ -27,7 +27,6 @@ use bz_journal::{Action, KeepFault, Past, Reply, Session};
 use bz_lex::ReadFault;
 use bz_resume::journal_name;
 use bz_streams::{Cut, MOST, Sink, report_fault_in, report_named};
-use bz_value::Refusal;
 use indexmap::IndexSet;
 use std::alloc::Global;
 use std::marker::Model;
@@ -325,42 +324,26 @@ impl Workspace {
     }
 
     /// Does an action with a note in the open file of the package with this number, which is said to be the last one there or not: that
-    /// changes what it takes, and not what it does. Errors: those of `Session::act_noted`; the file is then as before.
-    pub(crate) fn act(
+    /// changes what it takes, and not what it does. Where journals are kept and the text is another one then, the file's journal and it are
+    /// replaced. Errors: those of `Session::act_noted`, and of `Session::keep_noted` where journals are kept.
+    pub(crate) fn act<F: Files>(
         &mut self,
+        journals: bool,
         place: usize,
         action: &Action<'_>,
         note: &str,
         is_last: bool,
-    ) -> Result<Reply, Refusal>
-        requires { IsSome (file_at place self.old) }
-        ensures { ActsAt place (action_in action.now) note.now self.old result self.new }
-    {
-        let used = &mut self.used[place];
-        match &mut used.file {
-            Some(opened) => opened.past.act_noted(action, note, is_last),
-            None => unreachable!(),
-        }
-    }
-
-    /// The same, and where the text is another one then, the file's journal and it are replaced. Errors: those of
-    /// `Session::keep_noted`.
-    pub(crate) fn keep<F: Files>(
-        &mut self,
-        place: usize,
-        action: &Action<'_>,
-        note: &str,
         files: &mut F,
     ) -> Result<Reply, KeepFault>
         requires { IsSome (file_at place self.old) }
-        ensures keeps { KeepsAt F.Files place (action_in action.now) note.now self.old result self.new files.old files.new }
+        ensures acts { KeepsAt journals F.Files place (action_in action.now) note.now self.old result self.new files.old files.new }
         ensures cause { IsWriteOrOpen result → Rises (F.faults files.old) (F.faults files.new) }
         ensures rest { (IsWriteOrOpen result → ⊥) → F.faults files.new ≡ F.faults files.old }
         ensures count { F.faults files.old ≤ F.faults files.new }
         ensures honest { F.honest files.new ≡ F.honest files.old }
     {
         match &mut self.used[place].file {
-            Some(opened) => opened.keep(action, note, files),
+            Some(opened) => opened.act(journals, action, note, is_last, files),
             None => unreachable!(),
         }
     }

@@ -1,85 +1,127 @@
-use Rattle.std.proofs.Common.{Ok, Err, Some, [], false, refl, subst, sym, inl}
+use Rattle.std.proofs.Common.{◌∷◌, Ok, Err, Some, true, ap, refl, subst, sym, []}
 use Rattle.bz_streams.specs.declared.exit.Cut.{Cut}
+use Rattle.bz_buildozer.specs.Sessions.{KeepFault, Refused, Pair, action_in}
 use Rattle.bz_value.specs.declared.refusal.Refusal.TheVariants.{Memory}
-use Rattle.bz_buildozer.specs.Sessions.{action_in}
-use Rattle.bz_buildozer.specs.Opens.{ActsAt}
+use Rattle.bz_items.specs.Characters.{Bytes}
+use Rattle.bz_buildozer.specs.Calls.{ReportsLines}
+use Rattle.bz_buildozer.specs.Keeps.{KeepsAt, file_left}
 use Rattle.bz_buildozer.specs.Found.{Opened}
-use Rattle.bz_buildozer.specs.Reported.{refusal_line}
-use Rattle.bz_buildozer.specs.Run.{Answers, reply_notes, reported_of}
+use Rattle.bz_buildozer.specs.Reported.{refusal_line, unkept_line}
+use Rattle.bz_buildozer.specs.Run.{Answers, Progress, reply_notes, reported_of}
 use Rattle.bz_buildozer.specs.private.Shown.{progress_in}
-use Rattle.bz_buildozer.proofs.ActSteps.{file_put, led_on, led_to, still_open}
-use Rattle.bz_buildozer.proofs.DoSteps.{fails_at, free_file, hints_by, leads_by, memory_answers, refused, replied, step_at}
-use Rattle.bz_buildozer.proofs.KeepSteps.{wants_memory}
+use Rattle.bz_buildozer.proofs.ActSteps.{file_put, led_to, step_at}
+use Rattle.bz_buildozer.proofs.FailSteps.{one_line}
+use Rattle.bz_buildozer.proofs.KeepSteps.{kept_answers, kept_by, kept_open, refused_answers, unkept_answers, unprinted_answers, wants_memory}
+use Rattle.bz_buildozer.proofs.SafeSteps.{name_left}
 use Rattle.bz_buildozer.proofs.acting.act_at.Goals as goal
 
 pub returns-in-Ok-put_printed-clause-answers : goal.returns-in-Ok-put_printed-clause-answers
-returns-in-Ok-put_printed-clause-answers g c = λ folder target verb requested.
-    let command = c.args.command.now in
-    let place = c.args.place in
+returns-in-Ok-put_printed-clause-answers g c = λ honest safe free target verb requested.
     let before = progress_in c.args.run.now in
-    let reply = c.in-Ok.reply in
     let action = action_in c.args.action.now in
-    let done : ActsAt place action command before.used (Ok reply) c.act.new.self = c.in-Ok.ensures in
-    let new : Opened = record done.file { history = done.history } in
-    let notes = reply_notes (Some action) reply done.file.name in (
+    let done : KeepsAt c.args.journals g.F.Files c.args.place action c.args.command.now before.used (Ok c.in-Ok.reply) c.act.new.self c.args.files.now c.act.new.files = c.in-Ok.ensures.acts in
+    let new : Opened = file_left c.args.journals (Ok c.in-Ok.reply) done.history done.file in
+    let notes = reply_notes (Some action) c.in-Ok.reply done.file.name in (
       notes,
-      subst (λ (why : Cut). Answers why false (step_at target verb command) (Some place) folder before notes folder
-          (record before { used = c.act.new.self; printed = c.put_printed.new.printed.items })) (sym c.note.ensures.cut)
-          (replied false (step_at target verb command) place done.file done.history folder folder before _ c.act.new.self
-          (free_file false place before.used done.file done.there refl) reply _ notes
-          (hints_by target verb action done.file.name done.history (Ok reply) notes requested refl)
-          (leads_by target verb command action done.file.history done.history (Ok reply) requested (led_on done.file.history done.history action command reply done.acts)) refl
-          done.kept c.in-Ok-put_printed.ensures.ok refl),
-      c.note.ensures.notes new (file_put place before.used c.act.new.self done.file new done.there done.kept),
+      subst (λ (why : Cut). Answers why c.args.journals (step_at target verb c.args.command.now) (Some c.args.place) (g.F.Files.folder c.args.files.now) before notes
+          (g.F.Files.folder c.act.new.files) (record before { used = c.act.new.self; printed = c.put_printed.new.printed.items })) (sym c.note.ensures.cut)
+          (kept_answers g.F.Files g.met.F.Files.counts_now c.args.journals target verb c.args.command.now c.args.place action before _ c.act.new.self
+          c.args.files.now c.act.new.files requested honest safe free c.in-Ok.reply done _ refl c.in-Ok-put_printed.ensures.ok),
+      subst (λ (name : Bytes). ReportsLines g.E.Sink c.args.err.now c.note.new.err (reply_notes (Some action) c.in-Ok.reply name))
+          (name_left c.args.journals (Ok c.in-Ok.reply) done.history done.file)
+          (c.note.ensures.notes new (file_put c.args.place before.used c.act.new.self done.file new done.there done.kept)),
     )
 
 pub returns-in-Ok-clause-answers : goal.returns-in-Ok-clause-answers
-returns-in-Ok-clause-answers g c = λ folder target verb requested.
-    let note = c.args.command.now in
-    let place = c.args.place in
+returns-in-Ok-clause-answers g c = λ honest safe free target verb requested.
     let before = progress_in c.args.run.now in
-    let done : ActsAt place (action_in c.args.action.now) note before.used (Ok c.in-Ok.reply) c.act.new.self = c.in-Ok.ensures in
-    let new : Opened = record done.file { history = done.history } in (
-      reported_of false done.file.name note (Err Memory) [],
-      memory_answers c.refuse.result false (step_at target verb note) place folder folder before (progress_in c.refuse.new.run)
-          (reported_of false done.file.name note (Err Memory) []) (wants_memory c.refuse.result c.refuse.ensures.kinds (λ whole. c.refuse.ensures.whole whole refl))
-          (fails_at place new before (progress_in c.refuse.new.run) c.act.new.self c.put_printed.new.printed.items (refusal_line false done.file.name note Memory) done.kept
-          c.in-Err-put_printed.ensures.err c.refuse.ensures.state) (inl refl),
-      c.refuse.ensures.reported new (file_put place before.used c.act.new.self done.file new done.there done.kept),
+    let done : KeepsAt c.args.journals g.F.Files c.args.place (action_in c.args.action.now) c.args.command.now before.used (Ok c.in-Ok.reply) c.act.new.self c.args.files.now
+    c.act.new.files = c.in-Ok.ensures.acts in
+    let new : Opened = file_left c.args.journals (Ok c.in-Ok.reply) done.history done.file in (
+      reported_of c.args.journals done.file.name c.args.command.now (Err Memory) [],
+      unprinted_answers g.F.Files g.met.F.Files.counts_now c.args.journals target verb c.args.command.now c.args.place (action_in c.args.action.now) before (progress_in c.refuse.new.run)
+          c.act.new.self c.args.files.now c.act.new.files requested honest safe free c.refuse.result c.in-Ok.reply done
+          (refusal_line c.args.journals done.file.name c.args.command.now Memory) c.put_printed.new.printed.items
+          (wants_memory c.refuse.result c.refuse.ensures.kinds (λ whole. c.refuse.ensures.whole whole refl)) c.in-Err.ensures.err c.refuse.ensures.state,
+      subst (λ (name : Bytes). ReportsLines g.E.Sink c.args.err.now c.refuse.new.err (reported_of c.args.journals name c.args.command.now (Err Memory) []))
+          (name_left c.args.journals (Ok c.in-Ok.reply) done.history done.file)
+          (c.refuse.ensures.reported new (file_put c.args.place before.used c.act.new.self done.file new done.there done.kept)),
     )
 
-pub returns-clause-answers : goal.returns-clause-answers
-returns-clause-answers g c = λ folder target verb requested.
-    let note = c.args.command.now in
-    let place = c.args.place in
+pub returns-in-Err-Refused-clause-answers : goal.returns-in-Err-Refused-clause-answers
+returns-in-Err-Refused-clause-answers g c = λ honest safe free target verb requested.
+    let refusal = c.in-Err-Refused.refusal in
     let before = progress_in c.args.run.now in
-    let refusal = c.in-Err.refusal in
     let refuse = c.refuse_action in
-    let done : ActsAt place (action_in c.args.action.now) note before.used (Err refusal) c.act.new.self = c.in-Err.ensures in
+    let done : KeepsAt c.args.journals g.F.Files c.args.place (action_in c.args.action.now) c.args.command.now before.used (Err (Refused refusal)) c.act.new.self c.args.files.now
+    c.act.new.files =
+    subst (λ (fault : KeepFault). KeepsAt c.args.journals g.F.Files c.args.place (action_in c.args.action.now) c.args.command.now before.used (Err fault) c.act.new.self c.args.files.now
+    c.act.new.files) c.in-Err-Refused.field-0-is c.in-Err-Refused.ensures.acts in
     let new : Opened = record done.file { history = done.history } in
-    let told = refuse.ensures.reported new (file_put place before.used c.act.new.self done.file new done.there done.kept)
-    (λ other. (done.file.history, led_to done.file.history done.history (action_in c.args.action.now) note refusal done.acts other)) in (
-      reported_of false done.file.name note (Err refusal) told.0,
-      refused false (step_at target verb note) place done.file done.history folder folder before (progress_in refuse.new.run) c.act.new.self
-          (free_file false place before.used done.file done.there refl) refuse.result refusal told.0 refuse.ensures.kinds
-          (λ whole. leads_by target verb note (action_in c.args.action.now) done.file.history done.history (Err refusal) requested
-          (led_to done.file.history done.history (action_in c.args.action.now) note refusal done.acts (refuse.ensures.whole whole)))
-          (λ whole. hints_by target verb (action_in c.args.action.now) done.file.name done.history (Err refusal) told.0 requested (told.3 whole)) told.2 refl done.kept
-          refuse.ensures.state,
+    let told = refuse.ensures.reported new (file_put c.args.place before.used c.act.new.self done.file new done.there done.kept)
+    (λ other. (done.file.history, led_to done.file.history done.history (action_in c.args.action.now) c.args.command.now refusal done.keeps other)) in (
+      reported_of c.args.journals done.file.name c.args.command.now (Err refusal) told.0,
+      refused_answers g.F.Files g.met.F.Files.counts_now c.args.journals target verb c.args.command.now c.args.place (action_in c.args.action.now) before (progress_in refuse.new.run)
+          c.act.new.self c.args.files.now c.act.new.files requested honest safe free refuse.result refusal done told.0 refuse.ensures.kinds refuse.ensures.whole told.3
+          told.2 refuse.ensures.state,
       told.1,
     )
 
+pub returns-clause-answers : goal.returns-clause-answers
+returns-clause-answers g c = λ honest safe free target verb requested.
+    let fault = c.in-Err-Pair.fault in
+    let before = progress_in c.args.run.now in
+    let done : KeepsAt c.args.journals g.F.Files c.args.place (action_in c.args.action.now) c.args.command.now before.used (Err (Pair fault)) c.act.new.self c.args.files.now c.act.new.files =
+    subst (λ (it : KeepFault). KeepsAt c.args.journals g.F.Files c.args.place (action_in c.args.action.now) c.args.command.now before.used (Err it) c.act.new.self c.args.files.now
+    c.act.new.files) c.in-Err-Pair.field-0-is c.in-Err-Pair.ensures.acts in
+    let new : Opened = file_left c.args.journals (Err (Pair fault)) done.history done.file in (
+      unkept_line done.file.name fault ∷ [],
+      unkept_answers g.F.Files g.met.F.Files.counts_now c.args.journals target verb c.args.command.now c.args.place (action_in c.args.action.now) before (progress_in c.leave.new.run)
+          c.act.new.self c.args.files.now c.act.new.files requested honest safe free c.leave.result fault done c.leave.ensures.cut c.leave.ensures.state,
+      one_line g.E.Sink c.args.err.now c.leave.new.err (unkept_line done.file.name fault)
+          (c.leave.ensures.reported new (file_put c.args.place before.used c.act.new.self done.file new done.there done.kept)),
+    )
+
+pub returns-in-Ok-put_printed-clause-keeps : goal.returns-in-Ok-put_printed-clause-keeps
+returns-in-Ok-put_printed-clause-keeps g c = λ kept. (
+  _,
+  kept_by c.args.journals g.F.Files c.args.place (action_in c.args.action.now) c.args.command.now c.args.run.now.workspace _ c.act.new.self c.act.new.self
+      c.args.files.now c.act.new.files kept refl c.in-Ok.ensures.acts,
+)
+
+pub returns-in-Ok-clause-keeps : goal.returns-in-Ok-clause-keeps
+returns-in-Ok-clause-keeps g c = λ kept. (
+  _,
+  kept_by c.args.journals g.F.Files c.args.place (action_in c.args.action.now) c.args.command.now c.args.run.now.workspace _ c.act.new.self c.refuse.new.run.workspace
+      c.args.files.now c.act.new.files kept (ap (λ (p : Progress). p.used) c.refuse.ensures.state) c.in-Ok.ensures.acts,
+)
+
+pub returns-in-Err-Refused-clause-keeps : goal.returns-in-Err-Refused-clause-keeps
+returns-in-Err-Refused-clause-keeps g c = λ kept. (
+  _,
+  kept_by c.args.journals g.F.Files c.args.place (action_in c.args.action.now) c.args.command.now c.args.run.now.workspace _ c.act.new.self
+      c.refuse_action.new.run.workspace c.args.files.now c.act.new.files kept (ap (λ (p : Progress). p.used) c.refuse_action.ensures.state) c.in-Err-Refused.ensures.acts,
+)
+
+pub returns-clause-keeps : goal.returns-clause-keeps
+returns-clause-keeps g c = λ kept. (
+  _,
+  kept_by c.args.journals g.F.Files c.args.place (action_in c.args.action.now) c.args.command.now c.args.run.now.workspace _ c.act.new.self c.leave.new.run.workspace
+      c.args.files.now c.act.new.files kept (ap (λ (p : Progress). p.used) c.leave.ensures.state) c.in-Err-Pair.ensures.acts,
+)
+
 pub refuse-requires : goal.refuse-requires
-refuse-requires g c =
-    let done : ActsAt c.args.place (action_in c.args.action.now) c.args.command.now c.args.run.now.workspace (Ok c.in-Ok.reply) c.act.new.self = c.in-Ok.ensures in
-    still_open c.args.place c.args.run.now.workspace c.act.new.self done.file (record done.file { history = done.history }) done.there done.kept
+refuse-requires g c = kept_open c.args.journals g.F.Files c.args.place (action_in c.args.action.now) c.args.command.now c.args.run.now.workspace _ c.act.new.self c.args.files.now
+    c.act.new.files c.in-Ok.ensures.acts
 
 pub refuse_action-requires : goal.refuse_action-requires
-refuse_action-requires g c =
-    let done : ActsAt c.args.place (action_in c.args.action.now) c.args.command.now c.args.run.now.workspace (Err c.in-Err.refusal) c.act.new.self = c.in-Err.ensures in
-    still_open c.args.place c.args.run.now.workspace c.act.new.self done.file (record done.file { history = done.history }) done.there done.kept
+refuse_action-requires g c = kept_open c.args.journals g.F.Files c.args.place (action_in c.args.action.now) c.args.command.now c.args.run.now.workspace _ c.act.new.self c.args.files.now
+    c.act.new.files c.in-Err-Refused.ensures.acts
+
+pub leave-requires : goal.leave-requires
+leave-requires g c = kept_open c.args.journals g.F.Files c.args.place (action_in c.args.action.now) c.args.command.now c.args.run.now.workspace _ c.act.new.self c.args.files.now
+    c.act.new.files c.in-Err-Pair.ensures.acts
 
 pub note-requires : goal.note-requires
-note-requires g c =
-    let done : ActsAt c.args.place (action_in c.args.action.now) c.args.command.now c.args.run.now.workspace (Ok c.in-Ok.reply) c.act.new.self = c.in-Ok.ensures in
-    still_open c.args.place c.args.run.now.workspace c.act.new.self done.file (record done.file { history = done.history }) done.there done.kept
+note-requires g c = kept_open c.args.journals g.F.Files c.args.place (action_in c.args.action.now) c.args.command.now c.args.run.now.workspace _ c.act.new.self c.args.files.now
+    c.act.new.files c.in-Ok.ensures.acts

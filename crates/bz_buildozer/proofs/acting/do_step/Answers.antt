@@ -1,21 +1,19 @@
-use Rattle.std.proofs.Common.{◌≡◌, ◌∙◌, ◌++◌, inl, true, refl, sym, subst, List, [], Some, None}
-use Rattle.std.proofs.lemmas.List.{append-nil}
+use Rattle.std.proofs.Common.{◌≡◌, ◌∙◌, ◌++◌, inl, true, sym, subst}
 use Rattle.bz_command_line.specs.Shown.{request_in}
-use Rattle.bz_streams.proofs.Outputs.{counts_more, reports_more}
+use Rattle.bz_streams.proofs.Outputs.{counts_more}
 use Rattle.bz_items.specs.Characters.{Bytes}
-use Rattle.bz_streams.specs.declared.exit.Cut.TheVariants as cut
 use Rattle.bz_buildozer.specs.Calls.{UsesSome}
-use Rattle.bz_buildozer.specs.Run.{Does, World}
+use Rattle.bz_buildozer.specs.Run.{World}
 use Rattle.bz_buildozer.specs.private.Shown.{progress_in}
 use Rattle.bz_buildozer.specs.Steps.{input_package, step_of}
 use Rattle.bz_buildozer.proofs.CutSteps.{by_name, cut_after, neither_read, works_unread}
-use Rattle.bz_buildozer.proofs.FailSteps.{cut_alone, does_so, left_after}
+use Rattle.bz_buildozer.proofs.FailSteps.{does_so, left_after, more_lines}
 use Rattle.bz_buildozer.proofs.RunSteps.{honest_kept}
-use Rattle.bz_buildozer.proofs.SafeSteps.{opened_safely, step_acted, step_still}
+use Rattle.bz_buildozer.proofs.SafeSteps.{opened_safely, step_acted}
 use Rattle.bz_buildozer.proofs.acting.do_step.Goals as goal
 
-pub returns-in-Some : goal.returns-in-Some
-returns-in-Some g c =
+pub returns : goal.returns
+returns g c =
     let opening = c.open_package-opening in
     let name = c.package_of-package.result.now in
     let named = c.package_of-package.ensures in
@@ -23,11 +21,11 @@ returns-in-Some g c =
     let is_honest = g.F.Files.honest c.args.files.now ≡ true in
     let step = step_of c.args.target.now (request_in c.args.request.now) in
     let before = progress_in c.args.run.now in
-    let after = progress_in c.act_on.new.run in
+    let acted = c.act_on-acted in
+    let after = progress_in acted.new.run in
     let used = opening.new.workspace in
-    let at = c.in-Some.place in
-    let works = c.act_on.ensures.works in
-    let unread = works_unread c.act_on.result (g.F.Files.faults opening.new.files) (g.F.Files.faults c.act_on.new.files) works.cut in
+    let works = acted.ensures.works in
+    let unread = works_unread acted.result (g.F.Files.faults opening.new.files) (g.F.Files.faults acted.new.files) works.cut in
     record {
       does = λ can safe known left.
           let world : World = record { folder = folder c.args.files.now; known = known } in
@@ -35,71 +33,32 @@ returns-in-Some g c =
           let opened = opening.ensures.uses here known left in
           let same = opening.ensures.folder here in
           let kept = λ (is : c.args.journals ≡ true). honest_kept c.args.journals (g.F.Files.honest c.args.files.now) (c.args.target.now.«package» ≡ input_package) can is in
-          let done = c.act_on.ensures.answers (λ is. opening.ensures.honest ∙ kept is) (λ is.
+          let done = acted.ensures.answers (λ is. opening.ensures.honest ∙ kept is) (λ is.
           opened_safely (folder c.args.files.now) (folder opening.new.files) name opening.result.place before.used used same (opening.ensures.some is (kept is)) (safe is)) in (
             opened.0 ++ done.0,
-            does_so c.args.journals world step before after used opening.result.cut c.act_on.result c.first_cut.result opening.result.place (Some at) name opened.0 done.0
-                (folder opening.new.files) (folder c.act_on.new.files) named opened.1 c.in-Some.is same done.1 c.first_cut.ensures,
-            left_after c.act_on.result c.args.journals known (g.R.Source.remaining opening.new.input) step (Some at) (folder opening.new.files) (folder c.act_on.new.files)
+            does_so c.args.journals world step before after used opening.result.cut acted.result c.first_cut.result opening.result.place name opened.0 done.0
+                (folder opening.new.files) (folder acted.new.files) named opened.1 same done.1 c.first_cut.ensures,
+            left_after acted.result c.args.journals known (g.R.Source.remaining opening.new.input) step opening.result.place (folder opening.new.files) (folder acted.new.files)
                 (record before { used = used }) after done.0 done.1 opened.2,
-            reports_more (g.E.Sink.faults c.args.err.now) (g.E.Sink.faults opening.new.err) (g.E.Sink.faults c.act_on.new.err)
-                (g.E.Sink.contents c.args.err.now) (g.E.Sink.contents opening.new.err) (g.E.Sink.contents c.act_on.new.err) opened.0 done.0 opened.3 done.2,
+            more_lines g.E.Sink c.args.err.now opening.new.err acted.new.err opened.0 done.0 opened.3 done.2,
           );
       safely = λ kept honest began.
-          step_acted g.F.Files g.met.F.Files.counts_now began step at before.used used after.used opening.result.place c.args.files.now opening.new.files
-          c.act_on.new.files (subst (λ (n : Bytes). UsesSome (folder c.args.files.now) n opening.result.place before.used used) named (opening.ensures.some kept honest))
-          c.in-Some.is (opening.ensures.folder (inl honest)) (opening.ensures.time kept honest) (opening.ensures.honest ∙ honest) (c.act_on.ensures.keeps kept);
+          step_acted g.F.Files g.met.F.Files.counts_now began step before.used used after.used opening.result.place c.args.files.now opening.new.files
+          acted.new.files (subst (λ (n : Bytes). UsesSome (folder c.args.files.now) n opening.result.place before.used used) named (opening.ensures.some kept honest))
+          (opening.ensures.folder (inl honest)) (opening.ensures.time kept honest) (opening.ensures.honest ∙ honest) (acted.ensures.keeps kept);
       unread = λ kept.
           let same = opening.ensures.unread kept in (
             same.0,
             same.1,
-            (λ is. neither_read opening.result.cut c.act_on.result same.2 unread (sym c.first_cut.ensures ∙ is)),
+            (λ is. neither_read opening.result.cut acted.result same.2 unread (sym c.first_cut.ensures ∙ is)),
           );
-      works = λ sound is. neither_read opening.result.cut c.act_on.result (opening.ensures.works sound) unread (sym c.first_cut.ensures ∙ is);
+      works = λ sound is. neither_read opening.result.cut acted.result (opening.ensures.works sound) unread (sym c.first_cut.ensures ∙ is);
       sound = opening.ensures.sound;
-      cut = cut_after opening.result.cut c.act_on.result c.first_cut.result (g.R.Source.faults c.args.input.now) (g.R.Source.faults opening.new.input)
-          (g.F.Files.faults c.args.files.now) (g.F.Files.faults opening.new.files) (g.F.Files.faults c.act_on.new.files) c.first_cut.ensures works.cut
+      cut = cut_after opening.result.cut acted.result c.first_cut.result (g.R.Source.faults c.args.input.now) (g.R.Source.faults opening.new.input)
+          (g.F.Files.faults c.args.files.now) (g.F.Files.faults opening.new.files) (g.F.Files.faults acted.new.files) c.first_cut.ensures works.cut
           opening.ensures.cut opening.ensures.read_faults opening.ensures.counts works.counts;
       read_faults = opening.ensures.read_faults;
-      counts = counts_more (g.F.Files.faults c.args.files.now) (g.F.Files.faults opening.new.files) (g.F.Files.faults c.act_on.new.files)
+      counts = counts_more (g.F.Files.faults c.args.files.now) (g.F.Files.faults opening.new.files) (g.F.Files.faults acted.new.files)
           opening.ensures.counts works.counts;
       honest = works.honest ∙ opening.ensures.honest;
-    }
-
-pub returns-in-None : goal.returns-in-None
-returns-in-None g c =
-    let opening = c.open_package-opening in
-    let name = c.package_of-package.result.now in
-    let named = c.package_of-package.ensures in
-    let folder = g.F.Files.folder in
-    let is_honest = g.F.Files.honest c.args.files.now ≡ true in
-    let before = progress_in c.args.run.now in
-    let used = opening.new.workspace in
-    record {
-      does = λ can safe known left.
-          let here = by_name is_honest c.args.journals name c.args.target.now.«package» input_package named can in
-          let opened = opening.ensures.uses here known left in
-          let step = step_of c.args.target.now (request_in c.args.request.now) in
-          let world : World = record { folder = folder c.args.files.now; known = known } in (
-            opened.0,
-            subst (λ (lines : List Bytes). Does opening.result.cut c.args.journals world step before lines (folder opening.new.files)
-                (record before { used = used; failed = true })) (append-nil opened.0)
-                (does_so c.args.journals world step before (record before { used = used; failed = true }) used
-                opening.result.cut cut.Whole opening.result.cut opening.result.place None name opened.0 [] (folder opening.new.files) (folder opening.new.files) named opened.1
-                c.in-None.is (opening.ensures.folder here) (refl, refl, refl) (sym (cut_alone opening.result.cut))),
-            opened.2,
-            opened.3,
-          );
-      safely = λ kept honest began.
-          step_still g.F.Files g.met.F.Files.counts_now began (step_of c.args.target.now (request_in c.args.request.now)) before.used used used opening.result.place
-          c.args.files.now opening.new.files
-          (subst (λ (n : Bytes). UsesSome (folder c.args.files.now) n opening.result.place before.used used) named (opening.ensures.some kept honest))
-          (opening.ensures.folder (inl honest)) (opening.ensures.time kept honest) refl;
-      unread = opening.ensures.unread;
-      works = opening.ensures.works;
-      sound = opening.ensures.sound;
-      cut = opening.ensures.cut;
-      read_faults = opening.ensures.read_faults;
-      counts = opening.ensures.counts;
-      honest = opening.ensures.honest;
     }

@@ -1,17 +1,30 @@
-use Rattle.std.proofs.Common.{refl, inl, inr}
+use Rattle.std.proofs.Common.{◌≡◌, ◌∙◌, ◌++◌, List, ℕ, Some, refl, inl, inr, sym, ap, subst}
+use Rattle.bz_grammar.specs.Legal.{Reads}
 use Rattle.bz_grammar.specs.Statements.{lines_of}
 use Rattle.bz_hosts.specs.View.{view_of}
 use Rattle.bz_hint.specs.Hints.{refusal_hint}
+use Rattle.bz_buildozer.specs.Calls.{ReportsLines}
+use Rattle.bz_buildozer.specs.Found.{Opened}
+use Rattle.bz_buildozer.specs.Sessions.{present}
+use Rattle.bz_buildozer.specs.private.ShownFiles.{opened_in}
 use Rattle.bz_buildozer.proofs.acting.help.Goals as goal
 
-pub returns-in-Ok : goal.returns-in-Ok
-returns-in-Ok g c = record {
+pub returns-in-Ok-report_hint : goal.returns-in-Ok-report_hint
+returns-in-Ok-report_hint g c = record {
   kinds = inl refl;
   whole = λ _. c.in_default.not-Memory;
   hints = λ file there tree.
-      let found = tree c.in_default.not-Memory c.in_default.not-NoteTooLong in (
-        refusal_hint file.name c.args.refusal c.args.command.now c.args.target.now.which c.args.target.now.«package» (lines_of found.0) (view_of found.0),
-        c.in-Ok.ensures.ok file there found.0 found.1,
+      let found = tree c.in_default.not-Memory c.in_default.not-NoteTooLong in
+      let own : Opened = opened_in c.open_file-file.result.now in
+      let both : Some own ≡ Some file = sym c.open_file-file.ensures ∙ there in
+      let same : own ≡ file = cc in
+      let text : c.deref.result.now ≡ present own.history =
+      c.deref.ensures.value ∙ (c.in-Ok.ensures.ok ∙ ap (λ (front : List ℕ). front ++ present own.history) c.new-text.ensures.items) in
+      let helped : Opened → List (List ℕ) = λ (f : Opened). refusal_hint f.name c.args.refusal c.args.command.now c.args.target.now.which c.args.target.now.«package» (lines_of found.0) (view_of found.0) in
+      let hints = c.in-Ok-report_hint.ensures.ok found.0 (subst (λ (t : List ℕ). Reads t found.0) (sym (text ∙ ap (λ (f : Opened). present f.history) same)) found.1) in (
+        helped file,
+        subst (λ (f : Opened). ReportsLines g.E.Sink c.args.err.now c.report_hint.new.err (helped f)) same
+            (rw (sym c.as_str-name.ensures.value, sym c.as_slice-package.ensures) hints),
         (λ memory. absurd (let e = memory in cc)),
         (λ _. inr (c.in_default.not-NoteTooLong, (found.0, found.1, refl))),
       );

@@ -4,8 +4,7 @@ use Rattle.bz_buildozer.specs.Reported.{refusal_line}
 use Rattle.bz_buildozer.specs.Run.{reported_of}
 use Rattle.bz_buildozer.specs.private.ShownFiles.{opened_in}
 use Rattle.bz_buildozer.specs.private.Shown.{progress_in}
-use Rattle.bz_buildozer.proofs.ActSteps.{put_again}
-use Rattle.bz_buildozer.proofs.DoSteps.{fails_at, listed, memory_answers}
+use Rattle.bz_buildozer.proofs.ActSteps.{put_again, fails_at, listed, memory_answers}
 use Rattle.bz_buildozer.proofs.KeepSteps.{wants_memory}
 use Rattle.bz_buildozer.proofs.acting.list_at.Goals as goal
 

@@ -1,21 +1,14 @@
-use Rattle.std.proofs.Common.{◌∙◌, sym}
-use Rattle.bz_buildozer.specs.Found.{file_at}
-use Rattle.bz_buildozer.specs.private.ShownFiles.{used_in}
-use Rattle.bz_buildozer.proofs.ActSteps.{some_of, shown_at, none_at, is_there}
+use Rattle.std.proofs.Common.{◌∙◌, None, Some, refl, subst, sym, true≢false}
+use Rattle.std.specs.Prelude.{IsSome}
+use Rattle.bz_buildozer.proofs.PlaceSteps.{looked_up}
 use Rattle.bz_buildozer.proofs.acting.open_file.Goals as goal
 
 pub file_of-requires : goal.file_of-requires
-file_of-requires c =
-    let file = some_of (file_at c.args.place c.args.workspace.now) c.requires in
-    is_there (used_in c.in-Some.used.now).file file.0
-    (shown_at c.used.result.now c.args.workspace.now c.args.place c.in-Some.used.now file.0 c.used.ensures c.in-Some.ensures file.1)
+file_of-requires c = subst IsSome (sym (looked_up c.used.result.now c.used.result.now c.args.workspace.now c.args.place (Some c.in-Some.used.now) refl c.used.ensures c.in-Some.ensures)) c.requires
 
 pub unreachable-requires : goal.unreachable-requires
 unreachable-requires c =
-    let file = some_of (file_at c.args.place c.args.workspace.now) c.requires in
-    none_at c.used.result.now c.args.workspace.now c.args.place file.0 c.used.ensures c.in-None.ensures file.1
+    true≢false (sym (subst IsSome (sym (looked_up c.used.result.now c.used.result.now c.args.workspace.now c.args.place None refl c.used.ensures c.in-None.ensures)) c.requires))
 
 pub returns : goal.returns
-returns c =
-    let file = some_of (file_at c.args.place c.args.workspace.now) c.requires in
-    file.1 ∙ sym (shown_at c.used.result.now c.args.workspace.now c.args.place c.in-Some.used.now file.0 c.used.ensures c.in-Some.ensures file.1) ∙ c.file_of.ensures
+returns c = sym (looked_up c.used.result.now c.used.result.now c.args.workspace.now c.args.place (Some c.in-Some.used.now) refl c.used.ensures c.in-Some.ensures) ∙ c.file_of.ensures

@@ -1,15 +1,14 @@
-use Rattle.std.proofs.Common.{◌≡◌, ◌⊎◌, ◌∙◌, ◌++◌, List, true, ap, subst, sym}
+use Rattle.std.proofs.Common.{◌≡◌, ◌⊎◌, ◌∙◌, ◌++◌, List, [], true, ap, subst, sym}
 use Rattle.std.specs.List.{All}
 use Rattle.bz_streams.specs.Exits.{first_cut}
 use Rattle.bz_streams.specs.declared.exit.Cut.TheVariants as cut
-use Rattle.bz_streams.proofs.Outputs.{reports_more}
 use Rattle.bz_buildozer.specs.Calls.{PrintsUntil}
 use Rattle.bz_buildozer.specs.Ending.{TriesFiles, texts_out}
 use Rattle.bz_buildozer.specs.Found.{Used}
 use Rattle.bz_buildozer.specs.Steps.{input_package}
 use Rattle.bz_buildozer.specs.Reported.{output_lines}
-use Rattle.bz_buildozer.proofs.FailSteps.{cut_alone}
-use Rattle.bz_buildozer.proofs.EndingSteps.{not_whole, prints_err, reports_from}
+use Rattle.bz_buildozer.proofs.FailSteps.{cut_alone, more_lines}
+use Rattle.bz_buildozer.proofs.EndingSteps.{not_whole, prints_err}
 use Rattle.bz_buildozer.proofs.CutSteps.{whole_after}
 use Rattle.bz_buildozer.proofs.ending.finish.Goals as goal
 
@@ -34,9 +33,7 @@ returns-in-Ok-clause-ends g c = λ premise.
           (g.F.Files.folder c.write_files-written.new.files)) same tried.1,
       subst (λ (used : List Used). PrintsUntil g.W.Sink cut.Whole c.args.out.now c.print_all-output.new.out
           (printed ++ texts_out c.args.shown options.to_stdout used)) same done.1,
-      reports_from (g.E.Sink.faults c.args.err.now) (g.E.Sink.faults c.print_all-output.new.err) (g.E.Sink.faults c.write_files-written.new.err)
-          (g.E.Sink.contents c.args.err.now) (g.E.Sink.contents c.print_all-output.new.err) (g.E.Sink.contents c.write_files-written.new.err) tried.0
-          (ap g.E.Sink.faults done.3) (ap g.E.Sink.contents done.3) tried.2,
+      more_lines g.E.Sink c.args.err.now c.print_all-output.new.err c.write_files-written.new.err [] tried.0 (ap g.E.Sink.faults done.3, ap g.E.Sink.contents done.3) tried.2,
       c.ended.ensures.cut ∙ c.first_cut.ensures ∙ ap (first_cut c.args.cut) (sym (cut_alone c.write_files-written.result)),
     )
 
@@ -55,8 +52,6 @@ returns-clause-ends g c = λ premise.
       subst (λ (used : List Used). PrintsUntil g.W.Sink c.in-Err.later c.args.out.now c.print_all-output.new.out
           (printed ++ texts_out c.args.shown options.to_stdout used)) same
           (prints_err g.W.Sink c.in-Err.later c.args.out.now c.print_all-output.new.out _ c.in-Err.ensures.err),
-      reports_more (g.E.Sink.faults c.args.err.now) (g.E.Sink.faults c.print_all-output.new.err) (g.E.Sink.faults c.write_files-written.new.err)
-          (g.E.Sink.contents c.args.err.now) (g.E.Sink.contents c.print_all-output.new.err) (g.E.Sink.contents c.write_files-written.new.err)
-          (output_lines c.in-Err.later) tried.0 c.in-Err.ensures.told tried.2,
+      more_lines g.E.Sink c.args.err.now c.print_all-output.new.err c.write_files-written.new.err (output_lines c.in-Err.later) tried.0 c.in-Err.ensures.told tried.2,
       c.ended-in-Err.ensures.cut ∙ c.first_cut-in-Err-2.ensures ∙ ap (first_cut c.args.cut) c.first_cut-in-Err.ensures,
     )

@@ -1,6 +1,5 @@
 use Rattle.std.proofs.Common.{◌≡◌, ◌⊎◌, List, inl, inr, ◌∙◌, ◌++◌, ◌∷◌, [], true, map, take, ap, subst, sym}
 use Rattle.std.proofs.lemmas.List.{map_more}
-use Rattle.bz_streams.proofs.Outputs.{reports_more}
 use Rattle.bz_buildozer.specs.private.ShownFiles.{used_in}
 use Rattle.bz_buildozer.specs.Ending.{TriesFiles}
 use Rattle.bz_buildozer.specs.Found as p
@@ -8,6 +7,7 @@ use Rattle.bz_buildozer.specs.Steps.{input_package}
 use Rattle.bz_buildozer.specs.declared.used.Used.{Used}
 use Rattle.bz_streams.specs.Exits.{first_cut}
 use Rattle.bz_buildozer.proofs.EndingSteps.{of_input_at, tries_file, tries_more}
+use Rattle.bz_buildozer.proofs.FailSteps.{more_lines}
 use Rattle.bz_buildozer.proofs.KeepSteps.{works_more}
 use Rattle.bz_buildozer.proofs.ending.write_files.Goals as goal
 
@@ -35,8 +35,7 @@ loop-used-preserved g c =
                 (sym (map_more used_in packages at item c.loop-used-test.true ∙ ap (λ (used : Used). so_far ++ used_in used ∷ []) (sym c.used-item.is)))
                 (tries_more l.cut later.result c.args.options so_far (used_in item) (F.folder c.args.files.now) (F.folder l.files) (F.folder later.new.files) before.0 tried.0
                 before.1 tried.1),
-            reports_more (E.faults c.args.err.now) (E.faults l.err) (E.faults later.new.err) (E.contents c.args.err.now) (E.contents l.err)
-                (E.contents later.new.err) before.0 tried.0 before.2 tried.2,
+            more_lines E c.args.err.now l.err later.new.err before.0 tried.0 before.2 tried.2,
           );
       kept = λ kept. later.ensures.kept kept ∙ l.invariant.kept kept;
       works = works_more F l.cut later.result c.args.files.now l.files later.new.files l.invariant.works later.ensures.works;

@@ -1,4 +1,4 @@
-use Rattle.std.proofs.Common.{◌≡◌, List, ℕ, map, refl, ap, sym, subst, ◌∙◌, Bor, Ok, inr}
+use Rattle.std.proofs.Common.{◌≡◌, ◌≢◌, List, ℕ, map, refl, ap, sym, subst, ◌∙◌, Bor, Ok, inr}
 use Rattle.bz_files.specs.Folder.{Folder}
 use Rattle.bz_command_line.specs.Line.{LineUsage, operands, script, command_line_of}
 use Rattle.bz_command_line.specs.Shown.{given_in, line_in, line_usage_in}
@@ -6,9 +6,9 @@ use Rattle.bz_buildozer.specs.Calls.{ReportsLine}
 use Rattle.bz_buildozer.specs.Outcome.{unused, GivesNothing, LineGivesNothing, LineOutcome}
 use Rattle.bz_buildozer.specs.Reported.{IsLineUsageLine}
 use Rattle.bz_buildozer.specs.Run.{World}
-use Rattle.bz_buildozer.proofs.MomentSteps.{by_words, each_of, no_words}
-use Rattle.bz_buildozer.proofs.Outcomes.{ends_more, ends_told, read_nothing, reported_once, told_found, words_done, words_given, words_kept, words_premise, words_unused, script_premise}
-use Rattle.bz_buildozer.proofs.UnusedSteps.{no_time, lines_apart, lines_of_input}
+use Rattle.bz_buildozer.specs.Steps.{input_package}
+use Rattle.bz_buildozer.proofs.FailSteps.{one_line}
+use Rattle.bz_buildozer.proofs.Outcomes.{by_words, each_of, no_words, ends_more, ends_told, read_nothing, told_found, words_done, words_given, words_kept, words_premise, words_unused, script_premise, no_time, of_script}
 use Rattle.bz_buildozer.proofs.engine.buildozer.Goals as goal
 
 pub returns-in-Err-clause-ends : goal.returns-in-Err-clause-ends
@@ -25,7 +25,7 @@ returns-in-Err-clause-ends g c premise =
     e.ensures.some e.ensures.reported end.ensures.ok end.ensures.err in (
       it.2.0,
       words_unused words world it.2.0 found it.0 c.in-Err.ensures.err it.1 it.2.1,
-      reported_once (g.E.Sink.faults c.args.err.now) (g.E.Sink.faults end.new.err) (g.E.Sink.contents c.args.err.now) (g.E.Sink.contents end.new.err) it.2.0 it.2.2,
+      one_line g.E.Sink c.args.err.now end.new.err it.2.0 it.2.2,
     )) e.ensures.refused end.ensures.ok end.ensures.err
 
 pub returns-in-Operands-clause-ends : goal.returns-in-Operands-clause-ends
@@ -96,7 +96,7 @@ returns-in-Err-clause-usage g c is is_whole =
     e.ensures.some e.ensures.reported end.ensures.ok end.ensures.err in (
       it.2.0,
       (world, (λ _. refl), words_unused words world it.2.0 found it.0 c.in-Err.ensures.err it.1 it.2.1),
-      reported_once (g.E.Sink.faults c.args.err.now) (g.E.Sink.faults end.new.err) (g.E.Sink.contents c.args.err.now) (g.E.Sink.contents end.new.err) it.2.0 it.2.2,
+      one_line g.E.Sink c.args.err.now end.new.err it.2.0 it.2.2,
     )
 
 pub returns-in-Operands-clause-usage : goal.returns-in-Operands-clause-usage
@@ -135,13 +135,13 @@ pub returns-clause-unused_input : goal.returns-clause-unused_input
 returns-clause-unused_input g c is takes =
     let line = line_in c.in-Ok.line in
     c.run_script.ensures.unused_input is
-    (lines_apart (map g.S.AsStr.text c.args.words.now) line c.in-Script.name.now c.in-Ok.ensures.ok (ap given_in c.in-Script.is) takes)
+    (of_script (λ (name : List ℕ). name ≢ input_package) (map g.S.AsStr.text c.args.words.now) line c.in-Script.name.now c.in-Ok.ensures.ok (ap given_in c.in-Script.is) takes)
 
 pub returns-clause-unused_files : goal.returns-clause-unused_files
 returns-clause-unused_files g c is takes =
     let line = line_in c.in-Ok.line in
     c.run_script.ensures.unused_files is
-    (lines_of_input (map g.S.AsStr.text c.args.words.now) line c.in-Script.name.now c.in-Ok.ensures.ok (ap given_in c.in-Script.is) takes)
+    (of_script (λ (name : List ℕ). name ≡ input_package) (map g.S.AsStr.text c.args.words.now) line c.in-Script.name.now c.in-Ok.ensures.ok (ap given_in c.in-Script.is) takes)
 
 pub returns-in-Operands-clause-unread_kept : goal.returns-in-Operands-clause-unread_kept
 returns-in-Operands-clause-unread_kept g c kept takes =
@@ -151,7 +151,7 @@ pub returns-clause-unread_kept : goal.returns-clause-unread_kept
 returns-clause-unread_kept g c kept takes =
     let line = line_in c.in-Ok.line in
     c.run_script.ensures.unread_kept (words_kept (map g.S.AsStr.text c.args.words.now) line c.in-Ok.ensures.ok kept)
-    (lines_apart (map g.S.AsStr.text c.args.words.now) line c.in-Script.name.now c.in-Ok.ensures.ok (ap given_in c.in-Script.is) takes)
+    (of_script (λ (name : List ℕ). name ≢ input_package) (map g.S.AsStr.text c.args.words.now) line c.in-Script.name.now c.in-Ok.ensures.ok (ap given_in c.in-Script.is) takes)
 
 pub returns-in-Err-clause-moments : goal.returns-in-Err-clause-moments
 returns-in-Err-clause-moments g c honest = no_words g.F.Files c.args.files.now c.args.files.now (command_line_of (map g.S.AsStr.text c.args.words.now))

@@ -1,4 +1,5 @@
 use Rattle.std.proofs.Common.{[], ◌∙◌, true≢false, inl, refl, map, subst, sym}
+use Rattle.std.proofs.lemmas.Bool.{and_parts}
 use Rattle.bz_command_line.specs.Shown.{requested_in}
 use Rattle.bz_buildozer.specs.Calls.{PassesBy}
 use Rattle.bz_buildozer.specs.Moments.{IsMeanwhile, IsMomentOfSteps}
@@ -9,11 +10,9 @@ use Rattle.bz_buildozer.specs.private.Shown.{progress_in}
 use Rattle.bz_buildozer.specs.Steps.{all_steps, names_input}
 use Rattle.bz_buildozer.specs.Reported.{no_journal_line}
 use Rattle.bz_buildozer.proofs.CutSteps.{read_before}
-use Rattle.bz_buildozer.proofs.MomentSteps.{unused_yet}
-use Rattle.bz_buildozer.proofs.Outcomes.{both_true, ends_unused, lines_premise, reported_once}
-use Rattle.bz_buildozer.proofs.Performing.{begins_safely, honest_still, lines_end}
+use Rattle.bz_buildozer.proofs.FailSteps.{one_line}
+use Rattle.bz_buildozer.proofs.Outcomes.{unused_yet, ends_unused, lines_premise, begins_safely, honest_still, lines_end, no_more_time, no_time}
 use Rattle.bz_buildozer.proofs.StepLists.{shown_by_lines}
-use Rattle.bz_buildozer.proofs.UnusedSteps.{no_more_time, no_time}
 use Rattle.bz_buildozer.proofs.engine.perform.Goals as goal
 
 pub returns-then-lacks_journal-clause-ends : goal.returns-then-lacks_journal-clause-ends
@@ -21,16 +20,14 @@ returns-then-lacks_journal-clause-ends g c premise =
     let world : World = record { folder = g.F.Files.folder c.args.files.now; known = g.R.Source.remaining c.args.input.now } in
     ends_unused g.W.Sink g.E.Sink g.F.Files (record { status = 1; cut = cut.Whole }) world c.args.out.now c.args.err.now c.report_pieces.new.err c.args.files.now refl
     (LinesEnd c.args.options (map requested_in c.args.lines.now) world) no_journal_line (inl (sym c.lacks_journal.ensures ∙ c.if-lacks_journal.true, refl)) refl
-    (reported_once (g.E.Sink.faults c.args.err.now) (g.E.Sink.faults c.report_pieces.new.err) (g.E.Sink.contents c.args.err.now) (g.E.Sink.contents c.report_pieces.new.err) no_journal_line
-    c.report_pieces.ensures)
+    (one_line g.E.Sink c.args.err.now c.report_pieces.new.err no_journal_line c.report_pieces.ensures)
 
 pub returns-then-lacks_journal-clause-usage : goal.returns-then-lacks_journal-clause-usage
 returns-then-lacks_journal-clause-usage g c is =
-    let both = both_true c.args.options.journal (names_input (map requested_in c.args.lines.now)) (sym c.lacks_journal.ensures ∙ c.if-lacks_journal.true) in (
+    let both = and_parts c.args.options.journal (names_input (map requested_in c.args.lines.now)) (sym c.lacks_journal.ensures ∙ c.if-lacks_journal.true) in (
       both.0,
       both.1,
-      reported_once (g.E.Sink.faults c.args.err.now) (g.E.Sink.faults c.report_pieces.new.err) (g.E.Sink.contents c.args.err.now)
-          (g.E.Sink.contents c.report_pieces.new.err) no_journal_line c.report_pieces.ensures,
+      one_line g.E.Sink c.args.err.now c.report_pieces.new.err no_journal_line c.report_pieces.ensures,
     )
 
 pub returns-then-lacks_journal-clause-moments : goal.returns-then-lacks_journal-clause-moments

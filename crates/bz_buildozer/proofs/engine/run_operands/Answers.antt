@@ -14,9 +14,8 @@ use Rattle.bz_buildozer.specs.Outcome.{OperandsOutcome}
 use Rattle.bz_buildozer.specs.Reported.{no_journal_line, usage_line}
 use Rattle.bz_buildozer.specs.Steps.{names_input}
 use Rattle.bz_buildozer.specs.Run.{World}
-use Rattle.bz_buildozer.proofs.MomentSteps.{by_operands}
-use Rattle.bz_buildozer.proofs.Outcomes.{at_some, ends_more, ends_told, names_given, no_journal, operands_done, operands_premise, reported_once, told_found}
-use Rattle.bz_buildozer.proofs.UnusedSteps.{no_time}
+use Rattle.bz_buildozer.proofs.FailSteps.{one_line}
+use Rattle.bz_buildozer.proofs.Outcomes.{by_operands, at_some, ends_more, ends_told, names_given, no_journal, operands_done, operands_premise, told_found, no_time}
 use Rattle.bz_buildozer.proofs.engine.run_operands.Goals as goal
 
 pub returns-in-Err-clause-usage : goal.returns-in-Err-clause-usage
@@ -28,7 +27,7 @@ returns-in-Err-clause-usage g c is =
     (λ (usage : Usage). λ now. ReportsLine g.E.Sink c.args.err.now now (usage_line [] usage)) _ is e.ensures.some e.ensures.reported end.ensures.ok end.ensures.err in (
       usage_line [] it.0,
       (λ world. inl (it.0, at_some (IsGroupFault texts) (usage_in c.in-Err.fault) it.0 it.1 c.in-Err.ensures.err, refl)),
-      reported_once (g.E.Sink.faults c.args.err.now) (g.E.Sink.faults end.new.err) (g.E.Sink.contents c.args.err.now) (g.E.Sink.contents end.new.err) (usage_line [] it.0) it.2,
+      one_line g.E.Sink c.args.err.now end.new.err (usage_line [] it.0) it.2,
     )
 
 pub perform-requires : goal.perform-requires

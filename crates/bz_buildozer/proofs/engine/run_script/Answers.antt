@@ -7,11 +7,9 @@ use Rattle.bz_buildozer.specs.Calls.{ReportsLine}
 use Rattle.bz_buildozer.specs.Outcome.{reported_name, unread}
 use Rattle.bz_buildozer.specs.Reported.{unread_line}
 use Rattle.bz_buildozer.specs.Run.{World}
-use Rattle.bz_buildozer.proofs.FailSteps.{unread_either}
-use Rattle.bz_buildozer.proofs.MomentSteps.{by_no_script, by_script}
-use Rattle.bz_buildozer.proofs.Outcomes.{ends_more, exit_of, reported_once, script_done, script_missing, script_unused}
-use Rattle.bz_buildozer.proofs.TextSteps.{script_read}
-use Rattle.bz_buildozer.proofs.UnusedSteps.{no_more_time}
+use Rattle.bz_buildozer.proofs.FailSteps.{one_line, unread_either}
+use Rattle.bz_buildozer.proofs.Outcomes.{by_no_script, by_script, ends_more, exit_of, script_done, script_missing, script_unused, no_more_time}
+use Rattle.bz_buildozer.proofs.ReadSteps.{script_read}
 use Rattle.bz_buildozer.proofs.engine.run_script.Goals as goal
 
 pub returns-in-Err-clause-ends : goal.returns-in-Err-clause-ends
@@ -22,7 +20,7 @@ returns-in-Err-clause-ends g c honest = (
     exit_is = exit_of c.report_unread.result c.in-Err.cut c.report_unread.ensures.status c.report_unread.ensures.cut;
     folder = c.read_bytes.ensures.folder honest;
     output = appends_nothing (g.W.Sink.contents c.args.out.now);
-    lines = reported_once (g.E.Sink.faults c.args.err.now) (g.E.Sink.faults c.report_unread.new.err) (g.E.Sink.contents c.args.err.now) (g.E.Sink.contents c.report_unread.new.err) _
+    lines = one_line g.E.Sink c.args.err.now c.report_unread.new.err _
         (subst (λ (name : List ℕ). ReportsLine g.E.Sink c.args.err.now c.report_unread.new.err (unread_line name c.in-Err.cut)) c.reported_name.ensures
         c.report_unread.ensures.reported);
   },
@@ -45,7 +43,7 @@ returns-in-Err-clause-usage g c is is_whole =
       unread_line (reported_name name) cut.Whole,
       script_missing (g.F.Files.honest c.args.files.now) (record { folder = g.F.Files.folder c.args.files.now; known = g.R.Source.remaining c.args.input.now }) c.args.options name
           (c.in-Err.ensures.err.0 whole) (c.in-Err.ensures.absent whole),
-      reported_once (g.E.Sink.faults c.args.err.now) (g.E.Sink.faults c.report_unread.new.err) (g.E.Sink.contents c.args.err.now) (g.E.Sink.contents c.report_unread.new.err) _
+      one_line g.E.Sink c.args.err.now c.report_unread.new.err _
           (subst (λ (called : List ℕ). ReportsLine g.E.Sink c.args.err.now c.report_unread.new.err (unread_line called cut.Whole)) c.reported_name.ensures
           (subst (λ (it : Cut). ReportsLine g.E.Sink c.args.err.now c.report_unread.new.err (unread_line c.reported_name.result.now it)) whole c.report_unread.ensures.reported)),
     )

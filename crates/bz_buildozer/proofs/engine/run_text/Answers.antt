@@ -10,18 +10,16 @@ use Rattle.bz_buildozer.specs.Calls.{ReportsLine}
 use Rattle.bz_buildozer.specs.Outcome.{OrOutOfMemory, TextOutcome, unused}
 use Rattle.bz_buildozer.specs.Reported.{input_line, no_journal_line, usage_line}
 use Rattle.bz_buildozer.specs.Run.{World}
-use Rattle.bz_buildozer.proofs.MomentSteps.{IsMomentOfText, by_text}
-use Rattle.bz_buildozer.proofs.Outcomes.{ends_more, ends_told, ends_unused, no_journal, reported_once, text_lines, text_unused, told_found}
+use Rattle.bz_buildozer.proofs.FailSteps.{one_line}
+use Rattle.bz_buildozer.proofs.Outcomes.{IsMomentOfText, by_text, ends_more, ends_told, ends_unused, no_journal, text_lines, text_unused, told_found, no_time}
 use Rattle.bz_buildozer.proofs.StandSteps.{not_input}
-use Rattle.bz_buildozer.proofs.UnusedSteps.{no_time}
 use Rattle.bz_buildozer.proofs.engine.run_text.Goals as goal
 
 pub returns-in-Err-clause-usage : goal.returns-in-Err-clause-usage
 returns-in-Err-clause-usage g c is = (
   fault_line c.reported_name.result.now c.in-Err.fault,
   (λ world. inl (c.in-Err.fault, c.in-Err.ensures.err, ap (λ (name : List ℕ). unused world.folder (fault_line name c.in-Err.fault)) c.reported_name.ensures)),
-  reported_once (g.E.Sink.faults c.args.err.now) (g.E.Sink.faults c.report_fault.new.err) (g.E.Sink.contents c.args.err.now) (g.E.Sink.contents c.report_fault.new.err)
-      (fault_line c.reported_name.result.now c.in-Err.fault) c.report_fault.ensures,
+  one_line g.E.Sink c.args.err.now c.report_fault.new.err (fault_line c.reported_name.result.now c.in-Err.fault) c.report_fault.ensures,
 )
 
 pub returns-then-edits_input-clause-usage : goal.returns-then-edits_input-clause-usage
@@ -30,7 +28,7 @@ returns-then-edits_input-clause-usage g c is = (
   (λ world. text_lines c.args.options c.args.name.now c.args.bytes.now c.in-Ok.text.now world (map requested_in c.in-Ok-read_script.lines.items)
       (map requested_in c.as_slice-lines.result.now) (unused world.folder input_line) c.in-Ok.ensures.ok.0 c.in-Ok.ensures.ok.1 c.in-Ok-read_script.ensures.ok
       (ap (map requested_in) c.as_slice-lines.ensures.value) (inl (sym c.edits_input.ensures ∙ c.if-edits_input.true, refl))),
-  reported_once (g.E.Sink.faults c.args.err.now) (g.E.Sink.faults c.report_pieces.new.err) (g.E.Sink.contents c.args.err.now) (g.E.Sink.contents c.report_pieces.new.err) input_line
+  one_line g.E.Sink c.args.err.now c.report_pieces.new.err input_line
       c.report_pieces.ensures,
 )
 
@@ -45,7 +43,7 @@ returns-in-Err-read_script-clause-usage g c is =
       usage_line file it.0,
       (λ world. text_unused c.args.options c.args.name.now c.args.bytes.now c.in-Ok.text.now file (usage_line file it.0) world found it.0 c.in-Ok.ensures.ok.0 c.in-Ok.ensures.ok.1
           c.in-Err-read_script.ensures.err it.1 c.reported_name-in-Err-read_script.ensures refl),
-      reported_once (g.E.Sink.faults c.args.err.now) (g.E.Sink.faults end.new.err) (g.E.Sink.contents c.args.err.now) (g.E.Sink.contents end.new.err) (usage_line file it.0) it.2,
+      one_line g.E.Sink c.args.err.now end.new.err (usage_line file it.0) it.2,
     )
 
 pub returns-in-Err-clause-ends : goal.returns-in-Err-clause-ends

@@ -1,5 +1,5 @@
-use Rattle.bz_buildozer.proofs.NameSteps.{apart}
+use Rattle.bz_buildozer.proofs.StandSteps.{packages_apart}
 use Rattle.bz_buildozer.proofs.laws.packages_are_apart.Goals as goal
 
 pub returns : goal.returns
-returns c = apart
+returns c = packages_apart

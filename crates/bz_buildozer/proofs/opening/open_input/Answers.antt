@@ -4,7 +4,7 @@ use Rattle.bz_streams.specs.Reported.{stdin}
 use Rattle.bz_streams.specs.declared.exit.Cut.TheVariants as cut
 use Rattle.bz_buildozer.proofs.FailSteps.{input_failed, input_opened, memory_uses}
 use Rattle.bz_buildozer.specs.Steps.{input_package}
-use Rattle.bz_buildozer.proofs.OpenSteps.{input_takes, opened_last, place_last}
+use Rattle.bz_buildozer.proofs.PlaceSteps.{input_takes, opened_last, place_last}
 use Rattle.bz_buildozer.proofs.opening.open_input.Goals as goal
 
 pub returns-in-Ok-read_most-clause-uses : goal.returns-in-Ok-read_most-clause-uses
@@ -34,19 +34,19 @@ pub returns-in-Err-Read-clause-uses : goal.returns-in-Err-Read-clause-uses
 returns-in-Err-Read-clause-uses g c = λ world left.
     let old = c.args.workspace.now in
     let added = c.in-Ok.ensures.ok ∙ ap (λ (text : Bytes). old ++ record { «package» = text; file = None } ∷ []) c.as_bytes.ensures.value in
-    input_failed g.E.Sink world c.refused_opening-in-Err-Read.result cut.Read (g.R.Source.remaining c.read_most.new.source) old c.add.new.self (codes "cannot open")
-    c.args.err.now c.refused_opening-in-Err-Read.new.err c.refused_opening-in-Err-Read.ensures.opening (refl, refl, c.requires, refl, refl, added) added
-    c.refused_opening-in-Err-Read.ensures.reported
+    input_failed g.E.Sink world c.fail-in-Err-Read.result cut.Read (g.R.Source.remaining c.read_most.new.source) old c.add.new.self (codes "cannot open")
+    c.args.err.now c.fail-in-Err-Read.new.err c.fail-in-Err-Read.ensures.opening (refl, refl, c.requires, refl, refl, added) added
+    c.fail-in-Err-Read.ensures.reported
 
 pub returns-in-Err-Memory-clause-uses : goal.returns-in-Err-Memory-clause-uses
 returns-in-Err-Memory-clause-uses g c = λ world left.
     let old = c.args.workspace.now in
     let added = c.in-Ok.ensures.ok ∙ ap (λ (text : Bytes). old ++ record { «package» = text; file = None } ∷ []) c.as_bytes.ensures.value in
-    input_failed g.E.Sink world c.refused_opening-in-Err-Memory.result cut.Memory (g.R.Source.remaining c.read_most.new.source) old c.add.new.self (codes "Memory")
-    c.args.err.now c.refused_opening-in-Err-Memory.new.err c.refused_opening-in-Err-Memory.ensures.opening (refl, (_, refl), inr added) added
-    c.refused_opening-in-Err-Memory.ensures.reported
+    input_failed g.E.Sink world c.fail-in-Err-Memory.result cut.Memory (g.R.Source.remaining c.read_most.new.source) old c.add.new.self (codes "Memory")
+    c.args.err.now c.fail-in-Err-Memory.new.err c.fail-in-Err-Memory.ensures.opening (refl, (_, refl), inr added) added
+    c.fail-in-Err-Memory.ensures.reported
 
 pub returns-in_default-clause-uses : goal.returns-in_default-clause-uses
 returns-in_default-clause-uses g c = λ world left.
-    memory_uses g.E.Sink world false input_package (g.R.Source.remaining c.args.input.now) c.args.workspace.now c.add.new.self c.refused_opening.result c.args.err.now
-    c.refused_opening.new.err (c.refused_opening.ensures.opening, c.in_default.ensures.err, (_, c.refused_opening.ensures.reported)) left
+    memory_uses g.E.Sink world false input_package (g.R.Source.remaining c.args.input.now) c.args.workspace.now c.add.new.self c.fail.result c.args.err.now
+    c.fail.new.err (c.fail.ensures.opening, c.in_default.ensures.err, (_, c.fail.ensures.reported)) left

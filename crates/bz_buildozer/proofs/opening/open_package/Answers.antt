@@ -8,7 +8,7 @@ use Rattle.bz_buildozer.specs.Steps.{input_package}
 use Rattle.bz_buildozer.specs.Run.{Uses, World}
 use Rattle.bz_streams.specs.declared.exit.Cut.{Cut}
 use Rattle.bz_buildozer.proofs.FailSteps.{adds_opened, uses_opened}
-use Rattle.bz_buildozer.proofs.OpenSteps.{is_found, place_again}
+use Rattle.bz_buildozer.proofs.PlaceSteps.{is_found, place_again}
 use Rattle.bz_buildozer.proofs.opening.open_package.Goals as goal
 
 pub returns-then-wants_input-clause-uses : goal.returns-then-wants_input-clause-uses

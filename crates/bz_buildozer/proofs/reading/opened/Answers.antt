@@ -1,4 +1,4 @@
-use Rattle.bz_buildozer.proofs.FaultSteps.{refused}
+use Rattle.bz_buildozer.proofs.ReadSteps.{refused}
 use Rattle.bz_buildozer.proofs.reading.opened.Goals as goal
 
 pub returns-in-Err-clause-err : goal.returns-in-Err-clause-err

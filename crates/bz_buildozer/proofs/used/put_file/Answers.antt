@@ -1,4 +1,4 @@
-use Rattle.bz_buildozer.proofs.FileSteps.{put}
+use Rattle.bz_buildozer.proofs.PlaceSteps.{put}
 use Rattle.bz_buildozer.proofs.used.put_file.Goals as goal
 
 pub returns : goal.returns

@@ -1,11 +1,8 @@
 use Rattle.std.proofs.Common.{Err, refl, subst}
-use Rattle.bz_journal.specs.declared.keeping.KeepFault.{KeepFault}
+use Rattle.bz_buildozer.specs.Sessions.{KeepFault, Keeps, KeepsFile, action_in}
 use Rattle.bz_journal.specs.Forms.{past_history}
-use Rattle.bz_journal.specs.Keeping.{Keeps}
-use Rattle.bz_buildozer.specs.Keeps.{KeepsFile}
-use Rattle.bz_buildozer.specs.Sessions.{action_in}
 use Rattle.bz_buildozer.specs.private.ShownFiles.{opened_in}
-use Rattle.bz_buildozer.proofs.MarkSteps.{marked_left, marked_written}
+use Rattle.bz_buildozer.proofs.ActSteps.{marked_left, marked_written}
 use Rattle.bz_buildozer.proofs.used.Opened.keep.Goals as goal
 
 pub returns-in-Ok : goal.returns-in-Ok

@@ -1,7 +1,7 @@
 use Rattle.std.proofs.Common.{subst}
 use Rattle.bz_items.specs.Characters.{Bytes}
 use Rattle.bz_journal.specs.Forms.{past_history}
-use Rattle.bz_buildozer.specs.Keeps.{KeepsFile}
+use Rattle.bz_buildozer.specs.Sessions.{KeepsFile}
 use Rattle.bz_buildozer.proofs.used.Opened.keep_pair.Goals as goal
 
 pub returns-clause-pair : goal.returns-clause-pair

@@ -2,8 +2,7 @@ use Rattle.std.proofs.Common.{◌++◌, ◌∷◌, [], ◌∙◌, None, ap, map,
 use Rattle.bz_items.specs.Characters.{Bytes}
 use Rattle.bz_buildozer.specs.private.ShownFiles.{texts_of_keys, used_in}
 use Rattle.bz_buildozer.specs.Found.{package_number}
-use Rattle.bz_buildozer.proofs.FileSteps.{kept_pushed}
-use Rattle.bz_buildozer.proofs.PlaceSteps.{key_added}
+use Rattle.bz_buildozer.proofs.PlaceSteps.{kept_pushed, key_added}
 use Rattle.bz_buildozer.proofs.workspace.Workspace.add.Goals as goal
 
 pub invariant_of-self-2 : goal.invariant_of-self-2

@@ -1,7 +1,7 @@
 use Rattle.std.proofs.Common.{inl, None, refl}
 use Rattle.bz_buildozer.specs.Found as p
-use Rattle.bz_buildozer.proofs.FileSteps.{closed_last}
-use Rattle.bz_buildozer.proofs.OpenedSteps.{fills_last, fills_there, last_within}
+use Rattle.bz_buildozer.proofs.PlaceSteps.{closed_last}
+use Rattle.bz_buildozer.proofs.FailSteps.{fills_last, fills_there, last_within}
 use Rattle.bz_buildozer.proofs.workspace.Workspace.open.Goals as goal
 
 pub open_first-requires : goal.open_first-requires

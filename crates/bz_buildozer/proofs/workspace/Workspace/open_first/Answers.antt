@@ -1,8 +1,7 @@
 use Rattle.std.proofs.Common.{◌≡◌, ◌∙◌, true, ap, refl, Err, sym}
 use Rattle.bz_streams.specs.declared.exit.Cut.TheVariants as cut
 use Rattle.bz_buildozer.specs.Run.{OpensUntil}
-use Rattle.bz_buildozer.proofs.FailSteps.{absent_until, fails_as, first_until, tried_on}
-use Rattle.bz_buildozer.proofs.OpenedSteps.{fills_more, reads_on}
+use Rattle.bz_buildozer.proofs.FailSteps.{absent_until, fails_as, first_until, tried_on, fills_more, reads_on}
 use Rattle.bz_buildozer.proofs.workspace.Workspace.open_first.Goals as goal
 
 pub returns-in-Ok-bytes_of-clause-first : goal.returns-in-Ok-bytes_of-clause-first

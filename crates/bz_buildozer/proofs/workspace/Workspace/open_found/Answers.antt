@@ -1,5 +1,5 @@
 use Rattle.std.proofs.Common.{◌≡◌, ◌∙◌, ap, refl, true, Err, codes}
-use Rattle.bz_buildozer.proofs.JournalSteps.{none_beside, plain_beside, read_beside}
+use Rattle.bz_buildozer.proofs.ReadSteps.{none_beside, plain_beside, read_beside}
 use Rattle.bz_streams.specs.Reported.{named_line}
 use Rattle.bz_streams.specs.declared.exit.Cut.TheVariants as cut
 use Rattle.bz_buildozer.specs.Run.{TakesUntil, unreadable}

@@ -8,8 +8,8 @@ use Rattle.bz_buildozer.specs.Journals.{JournalGives, of_package, of_resuming}
 use Rattle.bz_buildozer.specs.Found as p
 use Rattle.bz_buildozer.specs.Found.{opened_with, with_opened}
 use Rattle.bz_buildozer.specs.declared.reading.Opening.{Opening}
-use Rattle.bz_buildozer.proofs.JournalSteps.{fault_gives, other_gives, resumed_gives, same_opened}
-use Rattle.bz_buildozer.proofs.OpenedSteps.{refused_fills}
+use Rattle.bz_buildozer.proofs.ReadSteps.{fault_gives, other_gives, resumed_gives, same_opened}
+use Rattle.bz_buildozer.proofs.FailSteps.{refused_fills}
 use Rattle.bz_buildozer.proofs.workspace.Workspace.open_resumed.Goals as goal
 
 pub returns-in-Err-clause-whole : goal.returns-in-Err-clause-whole

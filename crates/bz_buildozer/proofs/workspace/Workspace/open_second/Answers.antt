@@ -2,9 +2,8 @@ use Rattle.std.proofs.Common.{◌≡◌, ◌∙◌, true, ap, refl, Err, inl, Bo
 use Rattle.bz_buildozer.specs.Found.{root_above}
 use Rattle.bz_streams.specs.declared.exit.Cut.TheVariants as cut
 use Rattle.bz_buildozer.specs.Run.{SecondUntil, unreadable}
-use Rattle.bz_buildozer.proofs.FailSteps.{fails_as, second_until}
-use Rattle.bz_buildozer.proofs.FoundSteps.{neither_opens}
-use Rattle.bz_buildozer.proofs.OpenedSteps.{fills_more, reads_on}
+use Rattle.bz_buildozer.proofs.FailSteps.{fails_as, second_until, fills_more, reads_on}
+use Rattle.bz_buildozer.proofs.ReadSteps.{neither_opens}
 use Rattle.bz_buildozer.proofs.workspace.Workspace.open_second.Goals as goal
 
 pub returns-in-Ok-bytes_of-clause-second : goal.returns-in-Ok-bytes_of-clause-second

@@ -4,8 +4,8 @@ use Rattle.bz_streams.specs.Reported.{fault_line}
 use Rattle.bz_buildozer.specs.private.ShownFiles.{texts_of_keys, used_in}
 use Rattle.bz_buildozer.specs.Found.{with_opened}
 use Rattle.bz_buildozer.specs.declared.reading.Opening.{Opening}
-use Rattle.bz_buildozer.proofs.FaultSteps.{refused_takes}
-use Rattle.bz_buildozer.proofs.FileSteps.{kept_by}
+use Rattle.bz_buildozer.proofs.ReadSteps.{refused_takes}
+use Rattle.bz_buildozer.proofs.PlaceSteps.{kept_by}
 use Rattle.bz_buildozer.proofs.workspace.Workspace.open_text.Goals as goal
 
 pub invariant_of-self : goal.invariant_of-self

@@ -1,5 +1,5 @@
 use Rattle.std.proofs.Common.{◌∙◌, true, false, sym}
-use Rattle.bz_buildozer.proofs.FileSteps.{found_open, none_found}
+use Rattle.bz_buildozer.proofs.PlaceSteps.{found_open, none_found}
 use Rattle.bz_buildozer.proofs.workspace.Workspace.opened_at.Goals as goal
 
 pub returns-in-Some : goal.returns-in-Some

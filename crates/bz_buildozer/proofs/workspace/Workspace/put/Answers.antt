@@ -1,7 +1,7 @@
 use Rattle.std.proofs.Common.{◌∙◌, ap, Some, map}
 use Rattle.bz_buildozer.specs.private.ShownFiles.{texts_of_keys, opened_in, used_in}
 use Rattle.bz_buildozer.specs.Found.{with_opened}
-use Rattle.bz_buildozer.proofs.FileSteps.{kept_by, opened_there}
+use Rattle.bz_buildozer.proofs.PlaceSteps.{kept_by, opened_there}
 use Rattle.bz_buildozer.proofs.workspace.Workspace.put.Goals as goal
 
 pub invariant_of-self : goal.invariant_of-self
