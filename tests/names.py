@@ -1,5 +1,6 @@
 #!/usr/bin/env python3
-"""One name, one meaning: which public names more than one crate defines; and the words that comments and pages no longer use.
+"""One name, one meaning: which public names more than one crate defines; the words that comments and pages no longer use; and whether
+each edit fits the sources.
 
     tests/names.py         compares them with tests/names.txt, which lists those that are accepted: no further name may get a second
                            home, and no name stays there that has one home again; and looks for words that the field has others for
@@ -14,6 +15,7 @@ import pathlib
 import re
 import sys
 
+import edits
 from lib.scenes import TOP, Scenes, named
 
 sys.path.append(str(TOP / "tools"))
@@ -81,7 +83,21 @@ def what_is_trusted_is_in_its_place(_programs):
     return trusted.misplaced() + [f"the surface reaches {lines:,} lines of definitions, {MOST_LINES:,} at most are wanted"] * (lines > MOST_LINES)
 
 
-SCENES = Scenes(__file__, named(each_public_name_has_one_home, words_are_those_of_the_field, what_is_trusted_is_in_its_place))
+def each_edit_applies(_programs):
+    """Each edit, those of the gate among them, fits the sources: who rewrites a function takes its wrong bodies along."""
+    faults = []
+    for edit in sorted([*TOP.glob("edits/*/*.edit"), *TOP.glob("crates/*/must-fail/*.edit")]):
+        crate = edit.relative_to(TOP).parts[1]
+        try:
+            edits.apply(edit, TOP / "crates" / crate)
+        except (edits.NotApplied, OSError) as fault:
+            faults.append(f"{edit.relative_to(TOP)}: {fault}")
+    return faults
+
+
+SCENES = Scenes(
+    __file__, named(each_public_name_has_one_home, words_are_those_of_the_field, what_is_trusted_is_in_its_place, each_edit_applies)
+)
 
 if __name__ == "__main__":
     if sys.argv[1:] == ["--write"]:
