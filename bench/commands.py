@@ -74,7 +74,7 @@ def by_line(command, count):
 
 # A row: what it does, how many rules there are, the lines, and the status.
 ROWS = [
-    *((f"{count} `add`, each to one rule", 10_000, spread(ADD, count, 10_000), CHANGED) for count in (1, 10)),
+    *((f"{count} `add`, each to another rule", 10_000, spread(ADD, count, 10_000), CHANGED) for count in (1, 10)),
     *((f"{count} `add`, each to all rules", 10_000, each(ADD, count), CHANGED) for count in (1, 10)),
     ("1 `new_load`", 10_000, of_file(LOAD, 1), CHANGED),
     *((f"1 `{command.split()[0]}`", 10_000, spread(command, 1, 10_000), CHANGED) for command in (DELETE, COMMENT, RENAME)),
@@ -87,11 +87,11 @@ ROWS = [
 ]
 
 LONG = [
-    ("100 `add`, each to one rule", 10_000, spread(ADD, 100, 10_000), CHANGED),
+    ("100 `add`, each to another rule", 10_000, spread(ADD, 100, 10_000), CHANGED),
     ("100 `new_load`", 10_000, of_file(LOAD, 100), CHANGED),
     *((f"100 `{command.split()[0]}`", 10_000, spread(command, 100, 10_000), CHANGED) for command in (DELETE, COMMENT, RENAME)),
     ("1,000 `print`", 10_000, spread(PRINT, 1000, 10_000), SAME),
-    ("1,000 `add`, each to one rule", 10_000, spread(ADD, 1000, 10_000), CHANGED),
+    ("1,000 `add`, each to another rule", 10_000, spread(ADD, 1000, 10_000), CHANGED),
     # twice the commands: what they cost beside the half
     *((f"{count:,} `add` to one list", 1, spread(ADD, count, 1), CHANGED) for count in (1000, 2000)),
     *((f"{count:,} `new_load` of other files", 1, of_file(LOAD, count), CHANGED) for count in (1000, 2000)),
