@@ -1,4 +1,3 @@
 -- What the contracts of private functions cite, and no contract of a public call reaches: nobody has to trust it.
 pub mod Plans
 pub mod Tests
-pub mod Listed
