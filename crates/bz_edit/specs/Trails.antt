@@ -1,5 +1,6 @@
 -- A trail: the tree of one text, and the steps that lead from it to the trees of the others.
-use Rattle.std.specs.Prelude.{ℕ, ◌≡◌, ◌≤◌, Bool, true, ◌&&◌, List, [], ◌∷◌, length, reverse, take, drop}
+use Rattle.std.specs.Prelude.{ℕ, ◌≡◌, ◌≤◌, Bool, true, List, [], ◌∷◌, length, reverse, take, drop}
+use Rattle.std.specs.List.{list_all}
 use Rattle.bz_grammar.specs.declared.tree.Node.{Node}
 use Rattle.bz_grammar.specs.Legal.{Legal}
 use Rattle.bz_grammar.specs.Spell.{spell_node, limit}
@@ -43,8 +44,7 @@ crossed n (e ∷ es) = turned_all n e ∷ crossed (swap_node e n) es
 
 -- whether each step is made of edits that hold as many parts as they cover
 abbrev pub are_even : List (List Edit) → Bool
-are_even [] = true
-are_even (e ∷ es) = all_even e && are_even es
+are_even = list_all all_even
 
 -- ---- which trails there are
 

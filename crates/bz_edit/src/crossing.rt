@@ -15,12 +15,7 @@ use std::alloc::{AllocError, Global};
 fn are_even(steps: &[Step]) -> bool
     ensures { result ≡ even_steps steps.now }
 {
-    for step in steps {
-        if !all_even(step.edits.as_slice()) {
-            return false;
-        }
-    }
-    true
+    steps.iter().all(|step| all_even(step.edits.as_slice()))
 }
 
 /// Equal steps. The error: a growth was refused.
@@ -32,21 +27,6 @@ pub fn copy_steps(alloc: Global, steps: &[Step]) -> Result<Items<Step>, Memory>
         copied.push(step.copy()?)?;
     }
     Ok(copied)
-}
-
-/// Over one step. An even one takes no memory. The error: a growth was refused; both are then as before.
-fn cross(tree: &mut Tree, step: &mut Step) -> Result<(), Memory>
-    requires { StepLeads step.old tree.old }
-    ensures tree { OnOk result (tree.new ≡ swap_node step.old tree.old) }
-    ensures step { OnOk result (step.new ≡ turned_all tree.old step.old) }
-    ensures err { OnErr result ((tree.new ≡ tree.old) × (step.new ≡ step.old)) }
-    ensures even { even_edits step.old ≡ true → IsOk result }
-{
-    match exchange(tree, step) {
-        Ok(()) => Ok(()),
-        Err(EditFault::Memory) => Err(AllocError),
-        Err(EditFault::BadPlace) => unreachable!(),
-    }
 }
 
 /// Over one step, whose edits may be uneven. Even ones take no memory. The error: a growth was refused; root and step are then
@@ -91,7 +71,11 @@ pub(crate) fn cross_all(tree: &mut Tree, steps: &mut [Step]) -> Result<(), Memor
     ensures even { even_steps steps.old ≡ true → IsOk result }
 {
     if let [step] = steps {
-        return cross(tree, step);
+        return match exchange(tree, step) {
+            Ok(()) => Ok(()),
+            Err(EditFault::Memory) => Err(AllocError),
+            Err(EditFault::BadPlace) => unreachable!(),
+        };
     }
     if are_even(steps) {
         let _ = cross_each(&mut tree.root, steps);

@@ -14,12 +14,9 @@ use bz_items::Items;
 pub fn all_even(edits: &[Edit]) -> bool
     ensures { result ≡ even_all edits.now }
 {
-    for edit in edits {
-        if edit.count as usize != edit.held.len() {
-            return false;
-        }
-    }
-    true
+    edits
+        .iter()
+        .all(|edit| edit.count as usize == edit.held.len())
 }
 
 /// Exchange by edits that are apart. Even ones, and one alone, are made in place, others on copies, which are then put in place.

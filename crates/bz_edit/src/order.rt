@@ -1,18 +1,21 @@
 //! Which edits may follow one another.
-ghost use Rattle.std.specs.Prelude.{◌≡◌, ◌+◌, ◌||◌, nat_lt, nat_le, slice_index_or};
-ghost use Rattle.bz_edit.specs.private.Tests.{is_before as comes_before, is_uncovered as uncovered, may_follow as follows, all_follow as follow_all, counts_fit as fit_counts};
+ghost use Rattle.std.specs.Prelude.{◌≡◌};
+ghost use Rattle.bz_edit.specs.private.Tests.{may_follow as follows, all_follow as follow_all, counts_fit as fit_counts};
 
 use crate::edit::Edit;
 
-/// Whether the first place, a path and a part, comes before the second.
-fn is_before(path: &[u32], at: u32, other: &[u32], other_at: u32) -> bool
-    ensures { result ≡ comes_before path.now at other.now other_at }
+/// Whether an edit may be before another in a step.
+fn may_follow(edit: &Edit, next: &Edit) -> bool
+    ensures { result ≡ follows edit.now next.now }
 {
-    let mut path = path;
-    let mut other = other;
+    let even = edit.count as usize == edit.held.len();
+    let next_even = next.count as usize == next.held.len();
+    let end = edit.at as u64 + edit.count as u64;
+    let mut path = edit.path.as_slice();
+    let mut other = next.path.as_slice();
     while let Some((&i, rest)) = path.split_first() {
         let Some((&j, others)) = other.split_first() else {
-            return i < other_at;
+            return next_even && i < next.at;
         };
         if i != j {
             return i < j;
@@ -21,59 +24,9 @@ fn is_before(path: &[u32], at: u32, other: &[u32], other_at: u32) -> bool
         other = others;
     }
     match other.first() {
-        Some(&j) => at <= j,
-        None => at < other_at,
+        Some(&j) => even && end <= j as u64,
+        None => even && next_even && (edit.at < next.at && end <= next.at as u64),
     }
-}
-
-/// Whether a number is none of `count` from `at` on.
-fn is_outside(number: u32, at: u32, count: u32) -> bool
-    ensures { result ≡ (nat_lt number at || nat_le (at + count) number) }
-{
-    number < at || at as u64 + count as u64 <= number as u64
-}
-
-/// The number at which a place is in a node: the first one of what is left of its path, or its own.
-fn number_in(path: &[u32], at: u32) -> u32
-    ensures { result ≡ slice_index_or path.now 0 at }
-{
-    match path.first() {
-        Some(&number) => number,
-        None => at,
-    }
-}
-
-/// Whether an edit leaves a place alone: `even` says whether it holds as many parts as it covers.
-#[tactic(auto, using(crate::proofs::Tests::uncovered_here))]
-fn is_uncovered(even: bool, path: &[u32], at: u32, count: u32, other: &[u32], other_at: u32) -> bool
-    ensures { result ≡ uncovered even path.now at count other.now other_at }
-{
-    let mut path = path;
-    let mut other = other;
-    while let Some((&i, rest)) = path.split_first() {
-        let Some((&j, others)) = other.split_first() else {
-            return true;
-        };
-        if i != j {
-            return true;
-        }
-        path = rest;
-        other = others;
-    }
-    even && is_outside(number_in(other, other_at), at, count)
-}
-
-/// Whether an edit may be before another in a step.
-fn may_follow(edit: &Edit, next: &Edit) -> bool
-    ensures { result ≡ follows edit.now next.now }
-{
-    let even = edit.count as usize == edit.held.len();
-    let next_even = next.count as usize == next.held.len();
-    let path = edit.path.as_slice();
-    let other = next.path.as_slice();
-    is_before(path, edit.at, other, next.at)
-        && (is_uncovered(even, path, edit.at, edit.count, other, next.at)
-            && is_uncovered(next_even, other, next.at, next.count, path, edit.at))
 }
 
 /// Whether each edit may be followed by the next one.
@@ -92,11 +45,5 @@ pub fn all_follow(edits: &[Edit]) -> bool
 pub fn counts_fit(edits: &[Edit]) -> bool
     ensures { result ≡ fit_counts edits.now }
 {
-    for edit in edits {
-        let _count = edit.count;
-        if edit.held.len() > u32::MAX as usize {
-            return false;
-        }
-    }
-    true
+    edits.iter().all(|edit| (edit.count as usize).max(edit.held.len()) <= u32::MAX as usize)
 }

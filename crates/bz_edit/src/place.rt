@@ -51,17 +51,14 @@ pub fn swap_at(
 pub fn all_places(node: &Node, edits: &[Edit]) -> bool
     ensures { result ≡ all_there edits.now node.now }
 {
-    for edit in edits {
-        if !has_place(
+    edits.iter().all(|edit| {
+        has_place(
             node,
             edit.path.as_slice(),
             edit.at as usize,
             edit.count as usize,
-        ) {
-            return false;
-        }
-    }
-    true
+        )
+    })
 }
 
 /// Makes one edit; one that holds as many parts as it covers takes no memory. The error: a growth was refused; node and edit
