@@ -49,25 +49,24 @@ pub record TakesUp (old : Trail) (next : Node) (new : Trail) : Type 0 where
 
 -- ---- the steps by their numbers
 
--- the step leads from the second tree to the first
+-- what holds of step i and the trees i and i + 1, of which it leads to the first before the cursor, and to the second from there on
+abbrev pub EachStep : (List Edit → Node → Node → Type 0) → Trail → Type 0
+EachStep Leads t = (i : ℕ) (d : Node) → i < length t.steps →
+    let e = slice_index_or t.steps i [] in
+    let x = slice_index_or (trees_of t) i d in
+    let y = slice_index_or (trees_of t) (i + 1) d in
+    (i < t.cursor → Leads e y x) × (t.cursor ≤ i → Leads e x y)
+
+-- the step leads from the first tree to the second
 abbrev pub LeadsTo : List Edit → Node → Node → Type 0
 LeadsTo e y x = StepLeads e y × (swap_node e y ≡ x)
 
--- Step i is between trees i and i + 1: before the cursor it leads back, and from there on forward.
 abbrev pub StepsLead : Trail → Type 0
-StepsLead t = (i : ℕ) (d : Node) → i < length t.steps →
-    let e = slice_index_or t.steps i [] in
-    let x = slice_index_or (trees_of t) i d in
-    let y = slice_index_or (trees_of t) (i + 1) d in
-    (i < t.cursor → LeadsTo e y x) × (t.cursor ≤ i → LeadsTo e x y)
+StepsLead = EachStep LeadsTo
 
--- Of trees x and y it is the step from x to y before the cursor, and from there on the step from y to x.
+-- it is the step from the tree that it leads to
 abbrev pub StepsAreBetween : Trail → Type 0
-StepsAreBetween t = (i : ℕ) (d : Node) → i < length t.steps →
-    let e = slice_index_or t.steps i [] in
-    let x = slice_index_or (trees_of t) i d in
-    let y = slice_index_or (trees_of t) (i + 1) d in
-    (i < t.cursor → e ≡ step x y) × (t.cursor ≤ i → e ≡ step y x)
+StepsAreBetween = EachStep (λ e y x. e ≡ step x y)
 
 -- ---- laws
 
