@@ -1,61 +1,101 @@
 -- An item of a sequence becomes a host.
-use Rattle.std.proofs.Common.{◌≡◌, ℕ, Bool, true, false, ◌&&◌, List, [], ◌∷◌, ◌++◌, ◌+◌, ◌<◌, Option, None, refl, sym, ap, ◌∙◌, map, drop, length, get_or, set, arith}
-use Rattle.std.proofs.lemmas.List.{drop-set-lt}
+use Rattle.std.proofs.Common.{◌≡◌, ℕ, zero, suc, Bool, true, false, ◌&&◌, List, [], ◌∷◌, ◌++◌, ◌+◌, ◌<◌, ◌≤◌, Option, None, refl, sym, ap, ◌∙◌, map, drop, length, get_or, append_assoc, append-nil, length-drop, arith}
+use Rattle.std.proofs.lemmas.List.{length-map}
 use Rattle.bz_grammar.specs.declared.tree.Part.{Part}
 use Rattle.bz_value.specs.declared.value.Expr.{Expr}
+use Rattle.bz_value.specs.declared.value.Seq.{Seq}
+use Rattle.bz_value.specs.declared.value.Item.{Item}
+use Rattle.bz_value.specs.declared.value.Item.TheVariants as i
 use Rattle.bz_value.specs.Commented.{with_comments}
 use Rattle.bz_value.specs.Comments.{HostComments, no_comments}
+use Rattle.bz_value.specs.Gaps.{suffix_in, all_in}
 use Rattle.bz_items.specs.Characters.{Bytes}
-use Rattle.bz_hosts.specs.View.{seen, first_seen_gap, items_in}
-use Rattle.bz_hosts.specs.Walks.{above_after, is_unsigned, suffix_after}
+use Rattle.bz_hosts.specs.View.{Seen, seen, plain, first_seen_gap, items_in, is_split}
+use Rattle.bz_hosts.specs.Walks.{above_after, item_gap, seq_in}
 use Rattle.bz_hosts.proofs.NodeViews.{seen_comments}
-use Rattle.bz_hosts.proofs.RowSteps.{item_more}
+use Rattle.bz_hosts.proofs.RowSteps.{part_here, two_further}
 use Rattle.bz_hosts.proofs.UnsignedGaps.{quiet_after, nothing_after}
 
-abbrev host_comments : List Bytes → Option Bytes → HostComments
+abbrev pub host_comments : List Bytes → Option Bytes → HostComments
 host_comments before suffix = record { before = before; suffix = suffix }
 
--- what is in the items after a host is what was in them before it
-abbrev Pushed : List Part → ℕ → List Bytes → List Bytes → List Expr → List Expr → Type 0
-Pushed ps at above next es new =
-    (new ++ (items_in next (map seen (drop (at + 2) ps))).0 ≡ es ++ (items_in above (map seen (drop at ps))).0)
-    × ((items_in next (map seen (drop (at + 2) ps))).1 ≡ (items_in above (map seen (drop at ps))).1)
+-- what the last expression becomes
+abbrev pub Hosted : List Expr → List Expr → HostComments → Type 0
+Hosted old new comments = (xs : List Expr) (x : Part) → old ≡ xs ++ plain (seen x) ∷ [] → new ≡ xs ++ (seen x).make comments false ∷ []
+
+last_same : {X : Type 0} (xs ys : List X) (x y : X) → xs ++ x ∷ [] ≡ ys ++ y ∷ [] → (xs ≡ ys) × (x ≡ y)
+last_same [] [] x y h = (refl, cc)
+last_same [] (b ∷ []) x y h = cc
+last_same [] (b ∷ c ∷ ys) x y h = cc
+last_same (a ∷ []) [] x y h = cc
+last_same (a ∷ c ∷ xs) [] x y h = cc
+last_same (a ∷ xs) (b ∷ ys) x y h = let first : a ≡ b = cc in let rest = last_same xs ys x y cc in (rw (first, rest.0) refl, rest.1)
 
 -- without comments
-pub host_quiet : (ps : List Part) (at : ℕ) (y : Part) (above now : List Bytes) (quiet : Bool) (es new : List Expr) → at + 1 < length ps → y ≡ get_or ps at y → now ≡ above ++ (seen y).loose → now ≡ [] →
-    quiet ≡ quiet_after ps (at + 1) → quiet ≡ true → new ≡ es ++ (seen y).make no_comments false ∷ [] → Pushed ps at above now es new
-host_quiet ps at y above now quiet es new l i b n q t k =
-    let none = nothing_after ps (at + 1) (sym q ∙ t) in
-    let held : no_comments ≡ host_comments now None = ap (λ texts. host_comments texts None) (sym n) in
-    item_more ps at y now above now None no_comments ((seen y).make no_comments false) ((seen y).make no_comments false) es new (es ++ (items_in above (map seen (drop at ps))).0) l i b (sym none.1) (n ∙ sym none.0) refl held
-    (sym (seen_comments y false no_comments)) refl k
+pub host_quiet : (ps : List Part) (at : ℕ) (above : List Bytes) (quiet : Bool) (es : List Expr) → above ≡ [] → quiet ≡ quiet_after ps at → quiet ≡ true →
+    (above ≡ above_after (map seen (drop at ps))) × Hosted es es (host_comments above (suffix_in (item_gap (map seen (drop at ps)))))
+host_quiet ps at above quiet es n q t =
+    let none = nothing_after ps at (sym q ∙ t) in (n ∙ sym none.0, λ xs x h. h ∙ ap (λ cs. xs ++ (seen x).make cs false ∷ []) (sym (ap (λ o. host_comments above o) none.1 ∙ ap (λ t. host_comments t None) n)))
 
 -- with comments
-pub host_commented : (ps : List Part) (at : ℕ) (y : Part) (above mid next : List Bytes) (es pushed new : List Expr) → at + 1 < length ps → y ≡ get_or ps at y → mid ≡ above ++ (seen y).loose →
-    pushed ≡ es ++ (seen y).make no_comments false ∷ [] → next ≡ above_after (map seen (drop (at + 1) ps)) →
-    ((xs : List Expr) (x : Expr) → pushed ≡ xs ++ x ∷ [] → new ≡ xs ++ with_comments x (host_comments mid (suffix_after (map seen (drop (at + 1) ps)))) ∷ []) → Pushed ps at above next es new
-host_commented ps at y above mid next es pushed new l i b p n decoded =
-    let x : Expr = (seen y).make no_comments false in
-    let suffix : Option Bytes = suffix_after (map seen (drop (at + 1) ps)) in
-    item_more ps at y mid above next suffix (host_comments mid suffix) x (with_comments x (host_comments mid suffix)) es new (es ++ (items_in above (map seen (drop at ps))).0) l i b refl n refl refl refl refl (decoded es x p)
+pub host_commented : (old left new : List Expr) (last host : Expr) (comments : HostComments) (above before : List Bytes) (suffix : Option Bytes) (gap g : Bytes) → old ≡ left ++ last ∷ [] → new ≡ left ++ host ∷ [] →
+    host ≡ with_comments last comments → comments ≡ host_comments before suffix → before ≡ above → suffix ≡ suffix_in gap → gap ≡ g → Hosted old new (host_comments above (suffix_in g))
+host_commented old left new last host comments above before suffix gap g o n w c b s e xs x h =
+    let same = last_same left xs last (plain (seen x)) (sym o ∙ h) in
+    n ∙ rw (w, same.0, same.1, c, b, s, e, seen_comments x false (host_comments above (suffix_in g))) refl
 
--- ---- the same of an item that is taken, of which another part is left in its place
+pub statement_hosted : (old left : List Expr) (last host : Expr) (comments : HostComments) (above before : List Bytes) (suffix : Option Bytes) (gap g : Bytes) (items new : List Item) → old ≡ left ++ last ∷ [] → new ≡ items ++ i.Stmt host ∷ [] →
+    host ≡ with_comments last comments → comments ≡ host_comments before suffix → before ≡ above → suffix ≡ suffix_in gap → gap ≡ g →
+    (x : Part) → old ≡ plain (seen x) ∷ [] → (left ≡ []) × (new ≡ items ++ i.Stmt ((seen x).make (host_comments above (suffix_in g)) false) ∷ [])
+statement_hosted old left last host comments above before suffix gap g items new o n w c b s e x h =
+    let same = last_same left [] last (plain (seen x)) (sym o ∙ h) in
+    (same.0, n ∙ rw (w, same.1, c, b, s, e, seen_comments x false (host_comments above (suffix_in g))) refl)
 
-quiet_kept : (ps : List Part) (at : ℕ) (z : Part) → quiet_after (set ps at z) (at + 1) ≡ quiet_after ps (at + 1)
-quiet_kept ps at z =
-    let quiet : List Part → Bool = λ qs. is_unsigned (first_seen_gap (map seen qs)) in
-    ap (λ qs. quiet qs && quiet (drop (at + 1 + 1) (set ps at z))) (drop-set-lt (at + 1) ps at z (omega arith)) ∙ ap (λ qs. quiet (drop (at + 1) ps) && quiet qs) (drop-set-lt (at + 1 + 1) ps at z (omega arith))
+-- ---- the items of a sequence
 
-pub taken_quiet : (ps : List Part) (at : ℕ) (z y : Part) (above now : List Bytes) (quiet : Bool) (es new : List Expr) → at + 1 < length ps → y ≡ get_or ps at y → now ≡ above ++ (seen (get_or ps at y)).loose → now ≡ [] →
-    quiet ≡ quiet_after (set ps at z) (at + 1) → quiet ≡ true → new ≡ es ++ (seen (get_or ps at y)).make no_comments false ∷ [] → Pushed ps at above now es new
-taken_quiet ps at z y above now quiet es new l i b n q t k =
-    host_quiet ps at y above now quiet es new l i (b ∙ ap (λ (x : Part). above ++ (seen x).loose) (sym i)) n (q ∙ quiet_kept ps at z) t (k ∙ ap (λ (x : Part). es ++ (seen x).make no_comments false ∷ []) (sym i))
+item_step : (above : List Bytes) (s : Seen) (ss : List Seen) → 0 < length ss →
+    items_in above (s ∷ ss)
+    ≡ (s.make (host_comments (above ++ s.loose) (suffix_in (item_gap ss))) false ∷ (items_in (above_after ss) (drop 1 ss)).0, (items_in (above_after ss) (drop 1 ss)).1)
+item_step above s [] l = absurd (omega arith)
+item_step above s (mark ∷ []) l = refl
+item_step above s (mark ∷ t ∷ ss) l = refl
 
-pub taken_commented : (ps : List Part) (at : ℕ) (z y : Part) (above mid next : List Bytes) (es pushed new : List Expr) → at + 1 < length ps → y ≡ get_or ps at y → mid ≡ above ++ (seen (get_or ps at y)).loose →
-    pushed ≡ es ++ (seen (get_or ps at y)).make no_comments false ∷ [] → next ≡ above_after (map seen (drop (at + 1) (set ps at z))) →
-    ((xs : List Expr) (x : Expr) → pushed ≡ xs ++ x ∷ [] → new ≡ xs ++ with_comments x (host_comments mid (suffix_after (map seen (drop (at + 1) (set ps at z))))) ∷ []) → Pushed ps at above next es new
-taken_commented ps at z y above mid next es pushed new l i b p n decoded =
-    let left : drop (at + 1) (set ps at z) ≡ drop (at + 1) ps = drop-set-lt (at + 1) ps at z (omega arith) in
-    host_commented ps at y above mid next es pushed new l i (b ∙ ap (λ (x : Part). above ++ (seen x).loose) (sym i)) (p ∙ ap (λ (x : Part). es ++ (seen x).make no_comments false ∷ []) (sym i))
-    (n ∙ ap (λ qs. above_after (map seen qs)) left)
-    (λ xs x h. decoded xs x h ∙ ap (λ qs. xs ++ with_comments x (host_comments mid (suffix_after (map seen qs))) ∷ []) left)
+no_item : (above : List Bytes) (ss : List Seen) → length ss ≤ 1 → items_in above ss ≡ ([], above)
+no_item above [] l = refl
+no_item above (s ∷ []) l = refl
+no_item above (s ∷ t ∷ ss) l = absurd (omega arith)
+
+-- an item and the mark after it, of parts of which those after the item are as they were
+pub item_more : (ps qs rest : List Part) (at : ℕ) (y : Part) (above mid next : List Bytes) (es pushed new : List Expr) → at + 1 < length ps → y ≡ get_or ps at y → drop (at + 1) qs ≡ drop (at + 1) ps → rest ≡ drop (at + 2) ps →
+    mid ≡ above ++ (seen y).loose → pushed ≡ es ++ plain (seen y) ∷ [] → next ≡ above_after (map seen (drop (at + 1) qs)) →
+    Hosted pushed new (host_comments mid (suffix_in (item_gap (map seen (drop (at + 1) qs))))) →
+    (new ++ (items_in next (map seen rest)).0 ≡ es ++ (items_in above (map seen (drop at ps))).0) × ((items_in next (map seen rest)).1 ≡ (items_in above (map seen (drop at ps))).1)
+item_more ps qs rest at y above mid next es pushed new l i same r b k n made =
+    let ss : List Seen = map seen (drop (at + 1) ps) in
+    let whole : map seen (drop at ps) ≡ seen y ∷ ss = part_here ps at y (omega arith) i in
+    let some : 0 < length ss = omega (arith, length-map (drop (at + 1) ps) seen, length-drop (at + 1) ps) in
+    let after : map seen rest ≡ drop 1 ss = two_further ps rest at r in
+    let more : List Expr × List Bytes = items_in (above_after ss) (drop 1 ss) in
+    let done : Expr = (seen y).make (host_comments (above ++ (seen y).loose) (suffix_in (item_gap ss))) false in
+    let held : new ≡ es ++ done ∷ [] =
+    made es y k ∙ (ap (λ t. es ++ (seen y).make (host_comments t (suffix_in (item_gap (map seen (drop (at + 1) qs))))) false ∷ []) b ∙
+    ap (λ rs. es ++ (seen y).make (host_comments (above ++ (seen y).loose) (suffix_in (item_gap (map seen rs)))) false ∷ []) same) in
+    let step : items_in above (map seen (drop at ps)) ≡ (done ∷ more.0, more.1) = ap (items_in above) whole ∙ item_step above (seen y) ss some in
+    let left : items_in next (map seen rest) ≡ more = ap (items_in next) after ∙ ap (λ t. items_in t (drop 1 ss)) (n ∙ ap (λ rs. above_after (map seen rs)) same) in (
+      ap (λ t. new ++ t.0) left ∙ (ap (λ t. t ++ more.0) held ∙ (append_assoc es (done ∷ []) more.0 ∙ ap (λ t. es ++ t.0) (sym step))),
+      ap (λ t. t.1) left ∙ sym (ap (λ t. t.1) step),
+    )
+
+abbrev seq_made : List Expr → List Bytes → Bool → Seq
+seq_made items end split = record { items = items; end = end; split = split }
+
+-- no item is left
+pub items_done : (ps qs : List Part) (at : ℕ) (above end : List Bytes) (es items : List Expr) (split : Bool) → length ps ≤ at + 1 → end ≡ above → items ≡ es →
+    es ++ (items_in above (map seen (drop at ps))).0 ≡ (items_in (all_in (first_seen_gap (map seen qs))) (map seen qs)).0 → (items_in above (map seen (drop at ps))).1 ≡ (items_in (all_in (first_seen_gap (map seen qs))) (map seen qs)).1 →
+    split ≡ is_split (map seen qs) → seq_made items end split ≡ seq_in (map seen qs)
+items_done ps qs at above end es items split l e i j k b =
+    let none : items_in above (map seen (drop at ps)) ≡ ([], above) = no_item above (map seen (drop at ps)) (omega (arith, length-map (drop at ps) seen, length-drop at ps)) in
+    let found : List Expr × List Bytes = items_in (all_in (first_seen_gap (map seen qs))) (map seen qs) in
+    let all : items ≡ found.0 = i ∙ (sym (append-nil es) ∙ (ap (λ t. es ++ t.0) (sym none) ∙ j)) in
+    let last : end ≡ found.1 = e ∙ (ap (λ t. t.1) (sym none) ∙ k) in
+    ap (λ t. seq_made t end split) all ∙ (ap (λ t. seq_made found.0 t split) last ∙ ap (λ t. seq_made found.0 found.1 t) b)

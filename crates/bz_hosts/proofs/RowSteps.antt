@@ -1,38 +1,15 @@
 -- Steps of the loops over the parts of a row.
-use Rattle.std.proofs.Common.{ℕ, zero, suc, Bool, true, false, not, ◌&&◌, ◌||◌, if◌then◌else◌, ◌≡◌, List, [], ◌∷◌, ◌++◌, ◌<◌, ◌≤◌, ◌+◌, Option, refl, sym, ap, ◌∙◌, subst, map, take, drop, length, get_or, append_assoc, append-nil, length-drop, add-one, arith}
-use Rattle.std.proofs.lemmas.List.{length-map, drop_more}
-use Rattle.std.proofs.Math.ListN.{get_or-map}
+use Rattle.std.proofs.Common.{ℕ, zero, suc, Bool, true, false, not, ◌&&◌, ◌||◌, if◌then◌else◌, ◌≡◌, List, [], ◌∷◌, ◌++◌, ◌<◌, ◌≤◌, ◌+◌, refl, sym, ap, ◌∙◌, map, take, drop, length, get_or, append_assoc, append-nil, add-one, arith}
+use denote.Param.Weighed.{most}
+use Rattle.std.proofs.lemmas.List.{drop_all, drop-drop, drop_more, drop-map, take_all, take-map}
 use Rattle.bz_grammar.specs.declared.tree.Part.{Part}
 use Rattle.bz_value.specs.declared.value.Expr.{Expr}
-use Rattle.bz_value.specs.declared.value.Seq.{Seq}
-use Rattle.bz_value.specs.Commented.{with_comments}
-use Rattle.bz_value.specs.Comments.{HostComments, no_comments}
+use Rattle.bz_value.specs.Comments.{no_comments}
 use Rattle.bz_items.specs.Characters.{Bytes}
-use Rattle.bz_value.specs.Gaps.{suffix_in, others_in, all_in, has_newline}
+use Rattle.bz_value.specs.Gaps.{others_in, all_in, has_newline}
 use Rattle.bz_value.specs.Proper.{is_operator}
-use Rattle.bz_hosts.specs.View.{Seen, seen, plain, begins_seen_operator, row_exprs, is_split, first_seen_gap, last_gap, items_in, loose_after}
-use Rattle.bz_hosts.specs.Walks.{seq_in, loose_from, suffix_after, above_after}
-use Rattle.bz_hosts.proofs.NodeViews.{seen_comments}
-
--- ---- what is left of the parts
-
-pub two_left : (ps : List Part) (at : ℕ) → suc at < length ps → (x : Part) × (y : Part) × (rest : List Part) × (drop at ps ≡ x ∷ y ∷ rest) × (drop (suc at) ps ≡ y ∷ rest) × (drop (suc (suc at)) ps ≡ rest)
-two_left [] at l = absurd (omega arith)
-two_left (x ∷ []) zero l = absurd (omega arith)
-two_left (x ∷ y ∷ rest) zero l = (x, y, rest, refl, refl, refl)
-two_left (x ∷ ps) (suc at) l = two_left ps at (omega arith)
-
-one_left : (ps : List Part) (at : ℕ) → at < length ps → length ps ≤ suc at → (x : Part) × (drop at ps ≡ x ∷ [])
-one_left [] at l k = absurd (omega arith)
-one_left (x ∷ []) zero l k = (x, refl)
-one_left (x ∷ y ∷ rest) zero l k = absurd (omega arith)
-one_left (x ∷ ps) (suc at) l k = one_left ps at (omega arith) (omega arith)
-
-pub first_is : (ps : List Part) (at : ℕ) (d x : Part) (rest : List Part) → drop at ps ≡ x ∷ rest → get_or ps at d ≡ x
-first_is [] zero d x rest e = cc
-first_is [] (suc at) d x rest e = cc
-first_is (y ∷ ps) zero d x rest e = cc
-first_is (y ∷ ps) (suc at) d x rest e = first_is ps at d x rest e
+use Rattle.bz_hosts.specs.View.{Seen, seen, plain, begins_seen_operator, row_exprs, first_seen_gap, last_gap, loose_in, loose_after}
+use Rattle.bz_hosts.specs.Walks.{above_after, gap_inside, item_gap}
 
 pub gap_of_last : (ps : List Part) (k : ℕ) (y : Part) → suc k ≡ length ps → y ≡ get_or ps k y → (seen y).gap ≡ last_gap (map seen ps)
 gap_of_last [] k y l i = absurd (omega arith)
@@ -43,48 +20,82 @@ gap_of_last (x ∷ z ∷ ps) (suc k) y l i = gap_of_last (z ∷ ps) k y (omega a
 
 -- ---- after an item
 
-pub suffix_later : (ps : List Part) (at : ℕ) (g : Bytes) → at + 1 < length ps → g ≡ first_seen_gap (map seen (drop (at + 1) ps)) → suffix_in g ≡ suffix_after (map seen (drop at ps))
-suffix_later ps at g l e =
-    let w = two_left ps at (omega arith) in
-    ap suffix_in (e ∙ (ap (λ k. first_seen_gap (map seen (drop k ps))) (add-one at) ∙ ap (λ qs. first_seen_gap (map seen qs)) w.4)) ∙ sym (ap (λ qs. suffix_after (map seen qs)) w.3)
+-- the gap that its suffix is in, and what is above the next item, where a part follows its mark
+abbrev Followed : List Part → ℕ → Type 0
+Followed ps at =
+    (item_gap (map seen (drop at ps)) ≡ first_seen_gap (map seen (drop (suc at) ps)))
+    × (above_after (map seen (drop at ps)) ≡ all_in (first_seen_gap (map seen (drop at ps))) ++ others_in (item_gap (map seen (drop at ps))))
 
-pub suffix_last : (ps : List Part) (at : ℕ) (g : Bytes) → at < length ps → length ps ≤ at + 1 → g ≡ first_seen_gap (map seen (drop at ps)) → suffix_in g ≡ suffix_after (map seen (drop at ps))
-suffix_last ps at g l k e = let w = one_left ps at l (omega arith) in ap suffix_in (e ∙ ap (λ qs. first_seen_gap (map seen qs)) w.1) ∙ sym (ap (λ qs. suffix_after (map seen qs)) w.1)
+followed : (ps : List Part) (at : ℕ) → suc at < length ps → Followed ps at
+followed [] at l = absurd (omega arith)
+followed (x ∷ []) zero l = absurd (omega arith)
+followed (x ∷ y ∷ ps) zero l = (refl, refl)
+followed (x ∷ ps) (suc at) l = followed ps at (omega arith)
 
-pub above_later : (ps : List Part) (at : ℕ) (g h : Bytes) (a b c : List Bytes) → at + 1 < length ps → g ≡ first_seen_gap (map seen (drop at ps)) → h ≡ first_seen_gap (map seen (drop (at + 1) ps)) →
-    a ≡ [] → b ≡ a ++ all_in g → c ≡ b ++ others_in h → c ≡ above_after (map seen (drop at ps))
-above_later ps at g h a b c l e f i j k =
-    let w = two_left ps at (omega arith) in
-    let all : b ≡ all_in (seen w.0).gap = j ∙ (ap (λ t. t ++ all_in g) i ∙ ap all_in (e ∙ ap (λ qs. first_seen_gap (map seen qs)) w.3)) in
-    let others : others_in h ≡ others_in (seen w.1).gap = ap others_in (f ∙ (ap (λ k. first_seen_gap (map seen (drop k ps))) (add-one at) ∙ ap (λ qs. first_seen_gap (map seen qs)) w.4)) in
-    k ∙ (ap (λ t. t ++ others_in h) all ∙ (ap (λ t. all_in (seen w.0).gap ++ t) others ∙ sym (ap (λ qs. above_after (map seen qs)) w.3)))
+-- and where none does
+abbrev Last : List Part → ℕ → Type 0
+Last ps at = (item_gap (map seen (drop at ps)) ≡ first_seen_gap (map seen (drop at ps))) × (above_after (map seen (drop at ps)) ≡ others_in (item_gap (map seen (drop at ps))))
 
-pub above_last : (ps : List Part) (at : ℕ) (g : Bytes) (a b : List Bytes) → at < length ps → length ps ≤ at + 1 → g ≡ first_seen_gap (map seen (drop at ps)) → a ≡ [] → b ≡ a ++ others_in g → b ≡ above_after (map seen (drop at ps))
-above_last ps at g a b l k e i j =
-    let w = one_left ps at l (omega arith) in j ∙ (ap (λ t. t ++ others_in g) i ∙ (ap others_in (e ∙ ap (λ qs. first_seen_gap (map seen qs)) w.1) ∙ sym (ap (λ qs. above_after (map seen qs)) w.1)))
+last : (ps : List Part) (at : ℕ) → length ps ≤ suc at → Last ps at
+last [] zero l = (refl, refl)
+last [] (suc at) l = (refl, refl)
+last (x ∷ []) zero l = (refl, refl)
+last (x ∷ y ∷ ps) zero l = absurd (omega arith)
+last (x ∷ ps) (suc at) l = last ps at (omega arith)
 
--- ---- rows
+pub gap_later : (ps : List Part) (at : ℕ) (g : Bytes) → at + 1 < length ps → g ≡ first_seen_gap (map seen (drop (at + 1) ps)) → g ≡ item_gap (map seen (drop at ps))
+gap_later ps at g l e = e ∙ (ap (λ k. first_seen_gap (map seen (drop k ps))) (add-one at) ∙ sym (followed ps at (omega arith)).0)
 
--- what is loose before a part and in it
-pub loose_more : (at : ℕ) (s : Seen) (ss here : List Seen) (old mid new all : List Bytes) → here ≡ s ∷ ss → ((rest : List Seen) → (mid ++ s.loose) ++ loose_after rest ≡ old ++ loose_from at (s ∷ rest)) →
-    new ≡ mid ++ s.loose → old ++ loose_from at here ≡ all → new ++ loose_from (at + 1) ss ≡ all
+pub gap_last : (ps : List Part) (at : ℕ) (g : Bytes) → length ps ≤ at + 1 → g ≡ first_seen_gap (map seen (drop at ps)) → g ≡ item_gap (map seen (drop at ps))
+gap_last ps at g l e = e ∙ sym (last ps at (omega arith)).0
+
+pub above_later : (ps : List Part) (at : ℕ) (g : Bytes) (a b : List Bytes) → at + 1 < length ps → g ≡ first_seen_gap (map seen (drop at ps)) → a ≡ [] → b ≡ a ++ all_in g → b ++ others_in (item_gap (map seen (drop at ps))) ≡ above_after (map seen (drop at ps))
+above_later ps at g a b l e i j = let more = (followed ps at (omega arith)).1 in rw (j, i, e) (sym more)
+
+pub above_last : (ps : List Part) (at : ℕ) (a : List Bytes) → length ps ≤ at + 1 → a ≡ [] → a ++ others_in (item_gap (map seen (drop at ps))) ≡ above_after (map seen (drop at ps))
+above_last ps at a l i = let none = (last ps at (omega arith)).1 in rw i (sym none)
+
+-- ---- what is loose before a part and in it
+
+abbrev pub loose_from : ℕ → List Seen → List Bytes
+loose_from zero ss = loose_in ss
+loose_from (suc at) ss = loose_after ss
+
+pub gap_outside : (at : ℕ) (g : Bytes) (old : List Bytes) → at ≡ zero → old ≡ old ++ gap_inside at g
+gap_outside zero g old n = sym (append-nil old)
+gap_outside (suc at) g old n = absurd (omega arith)
+
+pub gap_pushed : (at : ℕ) (gap g : Bytes) (old new : List Bytes) → (at ≡ zero → ⊥) → gap ≡ g → new ≡ old ++ all_in gap → new ≡ old ++ gap_inside at g
+gap_pushed zero gap g old new n i e = absurd (n refl)
+gap_pushed (suc at) gap g old new n i e = e ∙ ap (λ t. old ++ all_in t) i
+
+loose_apart : (at : ℕ) (s : Seen) (ss : List Seen) → loose_from at (s ∷ ss) ≡ (gap_inside at s.gap ++ s.loose) ++ loose_after ss
+loose_apart zero s ss = refl
+loose_apart (suc at) s ss = refl
+
+no_loose : (at : ℕ) → loose_from at [] ≡ []
+no_loose zero = refl
+no_loose (suc at) = refl
+
+pub loose_more : (at : ℕ) (s : Seen) (ss here : List Seen) (old mid new all : List Bytes) → here ≡ s ∷ ss → mid ≡ old ++ gap_inside at (first_seen_gap here) → new ≡ mid ++ s.loose → old ++ loose_from at here ≡ all → new ++ loose_from (at + 1) ss ≡ all
 loose_more at s ss here old mid new all h gap e j =
-    ap (λ k. new ++ loose_from k ss) (add-one at) ∙ (ap (λ t. t ++ loose_after ss) e ∙ (gap ss ∙ (ap (λ t. old ++ loose_from at t) (sym h) ∙ j)))
+    let own : List Bytes = gap_inside at s.gap in
+    ap (λ k. new ++ loose_from k ss) (add-one at)
+    ∙ (ap (λ t. t ++ loose_after ss) (e ∙ (ap (λ t. t ++ s.loose) (gap ∙ ap (λ t. old ++ gap_inside at (first_seen_gap t)) h) ∙ append_assoc old own s.loose))
+    ∙ (append_assoc old (own ++ s.loose) (loose_after ss) ∙ (ap (λ t. old ++ t) (sym (ap (loose_from at) h ∙ loose_apart at s ss)) ∙ j)))
 
--- the part after the gap
-pub gap_pushed : (at : ℕ) (s : Seen) (old new : List Bytes) (rest : List Seen) → (at ≡ zero → ⊥) → new ≡ old ++ all_in s.gap → (new ++ s.loose) ++ loose_after rest ≡ old ++ loose_from at (s ∷ rest)
-gap_pushed zero s old new rest n e = absurd (n refl)
-gap_pushed (suc at) s old new rest n e =
-    ap (λ t. (t ++ s.loose) ++ loose_after rest) e ∙ (ap (λ t. t ++ loose_after rest) (append_assoc old (all_in s.gap) s.loose) ∙ append_assoc old (all_in s.gap ++ s.loose) (loose_after rest))
-
-pub gap_outside : (at : ℕ) (s : Seen) (old : List Bytes) (rest : List Seen) → at ≡ zero → (old ++ s.loose) ++ loose_after rest ≡ old ++ loose_from at (s ∷ rest)
-gap_outside zero s old rest n = append_assoc old s.loose (loose_after rest)
-gap_outside (suc at) s old rest n = absurd (omega arith)
+pub loose_done : (ps : List Part) (at : ℕ) (old all : List Bytes) → length ps ≤ at → old ++ loose_from at (map seen (drop at ps)) ≡ all → old ≡ all
+loose_done ps at old all l j = sym (append-nil old) ∙ (ap (λ t. old ++ t) (sym (ap (λ qs. loose_from at (map seen qs)) (drop_all at ps l) ∙ no_loose at)) ∙ j)
 
 -- ---- the parts of a row
 
 pub part_here : (ps : List Part) (at : ℕ) (y : Part) → at < length ps → y ≡ get_or ps at y → map seen (drop at ps) ≡ seen y ∷ map seen (drop (at + 1) ps)
 part_here ps at y l i = ap (λ qs. map seen qs) (drop_more ps at y l ∙ ap (λ z. z ∷ drop (at + 1) ps) (sym i))
+
+pub two_further : (ps rest : List Part) (at : ℕ) → rest ≡ drop (at + 2) ps → map seen rest ≡ drop 1 (map seen (drop (at + 1) ps))
+two_further ps rest at r =
+    let two : at + 2 ≡ at + 1 + 1 = omega arith in
+    ap (map seen) (r ∙ (ap (λ m. drop m ps) two ∙ sym (drop-drop 1 (at + 1) ps))) ∙ sym (drop-map seen 1 (drop (at + 1) ps))
 
 -- the parts from an operator's token on, or from an operand on: `before`, whether a newline is before the operator, is not needed at an operand
 quiet_before : (binary operator before : Bool) (s : Seen) (ss : List Seen) →
@@ -117,127 +128,44 @@ row_more binary inside newline operator newline' break s ss here x es new all h 
     ∙ (ap (λ z. x ∷ row_exprs binary sign z ss) (sym newline_is) ∙ ap (λ z. x ∷ row_exprs binary z newline' ss) (sym o)))) in
     ap (λ t. t ++ row_exprs binary operator newline' ss) k ∙ (append_assoc es (x ∷ []) (row_exprs binary operator newline' ss) ∙ (ap (λ t. es ++ t) (sym step) ∙ j))
 
--- ---- the parts before a bracket
-
-head_at : (ss : List Seen) (at lead : ℕ) (d : Seen) → at < length ss → at < lead → drop at (take lead ss) ≡ get_or ss at d ∷ drop (suc at) (take lead ss)
-head_at [] at lead d l k = absurd (omega arith)
-head_at (s ∷ ss) at zero d l k = absurd (omega arith)
-head_at (s ∷ ss) zero (suc lead) d l k = refl
-head_at (s ∷ ss) (suc at) (suc lead) d l k = head_at ss at lead d (omega arith) (omega arith)
-
-pub head_here : (ps : List Part) (at lead : ℕ) (y : Part) → at < length ps → at < lead → y ≡ get_or ps at y → drop at (take lead (map seen ps)) ≡ seen y ∷ drop (at + 1) (take lead (map seen ps))
-head_here ps at lead y l k i =
-    head_at (map seen ps) at lead (seen y) (subst (λ n. at < n) (sym (length-map ps seen)) l) k
-    ∙ (ap (λ z. z ∷ drop (suc at) (take lead (map seen ps))) (get_or-map seen ps at y ∙ ap seen (sym i)) ∙ ap (λ n. seen y ∷ drop n (take lead (map seen ps))) (sym (add-one at)))
-
--- one more part before the bracket
-pub head_more : (s : Seen) (ss here : List Seen) (x : Expr) (es new all : List Expr) → here ≡ s ∷ ss → x ≡ plain s → es ++ map plain here ≡ all → new ≡ es ++ x ∷ [] → new ++ map plain ss ≡ all
-head_more s ss here x es new all h e j k =
-    ap (λ t. t ++ map plain ss) k ∙ (append_assoc es (x ∷ []) (map plain ss) ∙ (ap (λ z. es ++ z ∷ map plain ss) e ∙ (ap (λ t. es ++ map plain t) (sym h) ∙ j)))
-
--- none is left
-pub head_past : (ss : List Seen) (at lead : ℕ) → lead ≤ at → drop at (take lead ss) ≡ []
-head_past [] zero zero l = refl
-head_past [] zero (suc lead) l = refl
-head_past [] (suc at) zero l = refl
-head_past [] (suc at) (suc lead) l = refl
-head_past (s ∷ ss) zero zero l = refl
-head_past (s ∷ ss) (suc at) zero l = refl
-head_past (s ∷ ss) zero (suc lead) l = absurd (omega arith)
-head_past (s ∷ ss) (suc at) (suc lead) l = head_past ss at lead (omega arith)
-
-pub head_over : (ps : List Part) (at lead : ℕ) → length ps ≤ at → drop at (take lead (map seen ps)) ≡ []
-head_over [] zero zero l = refl
-head_over [] zero (suc lead) l = refl
-head_over [] (suc at) zero l = refl
-head_over [] (suc at) (suc lead) l = refl
-head_over (x ∷ ps) zero lead l = absurd (omega arith)
-head_over (x ∷ ps) (suc at) zero l = refl
-head_over (x ∷ ps) (suc at) (suc lead) l = head_over ps at lead (omega arith)
-
-no_loose : (at : ℕ) → loose_from at [] ≡ []
-no_loose zero = refl
-no_loose (suc at) = refl
-
-pub no_bracket : (ps : List Part) (at lead : ℕ) (old all : List Bytes) → length ps ≤ at → old ++ loose_from at (drop at (take (suc lead) (map seen ps))) ≡ all → old ≡ all
-no_bracket ps at lead old all l j = sym (append-nil old) ∙ (ap (λ t. old ++ t) (sym (ap (loose_from at) (head_over ps at (suc lead) l) ∙ no_loose at)) ∙ j)
-
--- the bracket after them
-pub bracket_more : (ps : List Part) (at lead : ℕ) (y : Part) (old mid new all : List Bytes) → at ≡ lead → lead < length ps → y ≡ get_or ps lead y → ((rest : List Seen) → (mid ++ (seen y).loose) ++ loose_after rest ≡ old ++ loose_from lead (seen y ∷ rest)) →
-    new ≡ mid ++ (seen y).loose → old ++ loose_from at (drop at (take (suc lead) (map seen ps))) ≡ all → new ≡ all
-bracket_more ps at lead y old mid new all a l i gap e j =
-    let past : List Seen = drop (lead + 1) (take (suc lead) (map seen ps)) in
-    let none : past ≡ [] = head_past (map seen ps) (lead + 1) (suc lead) (omega arith) in
-    let here : old ++ loose_from lead (drop lead (take (suc lead) (map seen ps))) ≡ all = ap (λ n. old ++ loose_from n (drop n (take (suc lead) (map seen ps)))) (sym a) ∙ j in
-    let more : new ++ loose_from (lead + 1) past ≡ all = loose_more lead (seen y) past _ old mid new all (head_here ps lead (suc lead) y l (omega arith) i) gap e here in
-    sym (append-nil new) ∙ (ap (λ t. new ++ t) (sym (ap (loose_from (lead + 1)) none ∙ no_loose (lead + 1))) ∙ more)
-
--- ---- after the last part of a row
-
-none_left : (ps : List Part) (at : ℕ) → length ps ≤ at → drop at ps ≡ []
-none_left [] zero l = refl
-none_left [] (suc at) l = refl
-none_left (x ∷ ps) zero l = absurd (omega arith)
-none_left (x ∷ ps) (suc at) l = none_left ps at (omega arith)
-
+-- after the last part of a row
 pub row_done : (ps : List Part) (at : ℕ) (binary inside newline : Bool) (es items all : List Expr) → length ps ≤ at → items ≡ es → es ++ row_exprs binary inside newline (map seen (drop at ps)) ≡ all → items ≡ all
 row_done ps at binary inside newline es items all l i j =
-    i ∙ (sym (append-nil es) ∙ (ap (λ qs. es ++ row_exprs binary inside newline (map seen qs)) (sym (none_left ps at l)) ∙ j))
+    i ∙ (sym (append-nil es) ∙ (ap (λ qs. es ++ row_exprs binary inside newline (map seen qs)) (sym (drop_all at ps l)) ∙ j))
 
-pub loose_done : (ps : List Part) (at : ℕ) (old all : List Bytes) → length ps ≤ at → old ++ loose_from at (map seen (drop at ps)) ≡ all → old ≡ all
-loose_done ps at old all l j = sym (append-nil old) ∙ (ap (λ t. old ++ t) (sym (ap (λ qs. loose_from at (map seen qs)) (none_left ps at l) ∙ no_loose at)) ∙ j)
+-- ---- the parts before a bracket, a row without operators, and the bracket
 
--- ---- the items of a sequence
+row_plain : (inside newline : Bool) (ss : List Seen) → row_exprs false inside newline ss ≡ map plain ss
+row_plain inside newline [] = refl
+row_plain inside newline (s ∷ ss) = ap (λ es. plain s ∷ es) (row_plain false (if inside then newline else has_newline s.gap) ss)
 
-abbrev seq_made : List Expr → List Bytes → Bool → Seq
-seq_made items end split = record { items = items; end = end; split = split }
+pub head_row : (ps qs : List Part) (lead : ℕ) (es : List Expr) → qs ≡ take lead ps → es ≡ row_exprs false false false (map seen qs) → es ≡ map plain (take lead (map seen ps))
+head_row ps qs lead es i e = e ∙ (row_plain false false (map seen qs) ∙ (ap (λ rs. map plain (map seen rs)) i ∙ ap (map plain) (sym (take-map seen lead ps))))
 
-item_step : (above : List Bytes) (s mark : Seen) (ss : List Seen) →
-    items_in above (s ∷ mark ∷ ss)
-    ≡ (s.make (record { before = above ++ s.loose; suffix = suffix_after (mark ∷ ss) }) false ∷ (items_in (above_after (mark ∷ ss)) ss).0, (items_in (above_after (mark ∷ ss)) ss).1)
-item_step above s mark [] = refl
-item_step above s mark (t ∷ ss) = refl
+-- the walk over the parts before the bracket goes no deeper
+pub most_taken : {X : Type 0} (size : X → ℕ) (n : ℕ) (xs : List X) → most size (take n xs) ≤ most size xs
+most_taken size zero xs = omega arith
+most_taken size (suc n) [] = omega arith
+most_taken size (suc n) (x ∷ xs) = let rest = most_taken size n xs in omega (arith, rest)
 
-no_item : (above : List Bytes) (ss : List Seen) → length ss ≤ 1 → items_in above ss ≡ ([], above)
-no_item above [] l = refl
-no_item above (s ∷ []) l = refl
-no_item above (s ∷ t ∷ ss) l = absurd (omega arith)
+after_cut : (n : ℕ) (ss : List Seen) (s : Seen) (rest : List Seen) → drop n ss ≡ s ∷ rest → loose_after (take (suc n) ss) ≡ loose_after (take n ss) ++ (all_in s.gap ++ s.loose)
+after_cut zero [] s rest h = cc
+after_cut (suc n) [] s rest h = cc
+after_cut zero (t ∷ ss) s rest h = let same : t ≡ s = cc in append-nil (all_in t.gap ++ t.loose) ∙ ap (λ u. all_in u.gap ++ u.loose) same
+after_cut (suc n) (t ∷ ss) s rest h = ap (λ ls. (all_in t.gap ++ t.loose) ++ ls) (after_cut n ss s rest h) ∙ sym (append_assoc (all_in t.gap ++ t.loose) (loose_after (take n ss)) (all_in s.gap ++ s.loose))
 
--- an item and the mark after it
-pub item_more : (ps : List Part) (at : ℕ) (y : Part) (before above next : List Bytes) (suffix : Option Bytes) (cs : HostComments) (x commented : Expr) (es new all : List Expr) → at + 1 < length ps → y ≡ get_or ps at y →
-    before ≡ above ++ (seen y).loose → suffix ≡ suffix_after (map seen (drop (at + 1) ps)) → next ≡ above_after (map seen (drop (at + 1) ps)) → x ≡ (seen y).make no_comments false →
-    cs ≡ record { before = before; suffix = suffix } → commented ≡ with_comments x cs → es ++ (items_in above (map seen (drop at ps))).0 ≡ all → new ≡ es ++ commented ∷ [] →
-    (new ++ (items_in next (map seen (drop (at + 2) ps))).0 ≡ all) × ((items_in next (map seen (drop (at + 2) ps))).1 ≡ (items_in above (map seen (drop at ps))).1)
-item_more ps at y before above next suffix cs x commented es new all l i b f n e c k j h =
-    let w = two_left ps at (omega arith) in
-    let later : drop (at + 1) ps ≡ w.1 ∷ w.2 = ap (λ m. drop m ps) (add-one at) ∙ w.4 in
-    let two : at + 2 ≡ suc (suc at) = omega arith in
-    let last : drop (at + 2) ps ≡ w.2 = ap (λ m. drop m ps) two ∙ w.5 in
-    let is : y ≡ w.0 = i ∙ first_is ps at y w.0 (w.1 ∷ w.2) w.3 in
-    let rest : List Seen = map seen w.2 in
-    let done : Expr = (seen w.0).make (record { before = above ++ (seen w.0).loose; suffix = suffix_after (map seen (w.1 ∷ w.2)) }) false in
-    let held : cs ≡ record { before = above ++ (seen w.0).loose; suffix = suffix_after (map seen (w.1 ∷ w.2)) } =
-    c ∙ (ap (λ t. record { before = t; suffix = suffix }) (b ∙ ap (λ z. above ++ (seen z).loose) is)
-    ∙ ap (λ t. record { before = above ++ (seen w.0).loose; suffix = t }) (f ∙ ap (λ qs. suffix_after (map seen qs)) later)) in
-    let made : commented ≡ done =
-    k ∙ (ap (λ t. with_comments t cs) e ∙ (seen_comments y false cs ∙ (ap (λ z. (seen z).make cs false) is ∙ ap (λ t. (seen w.0).make t false) held))) in
-    let step : items_in above (map seen (drop at ps)) ≡ (done ∷ (items_in (above_after (map seen (w.1 ∷ w.2))) rest).0, (items_in (above_after (map seen (w.1 ∷ w.2))) rest).1) =
-    ap (λ qs. items_in above (map seen qs)) w.3 ∙ item_step above (seen w.0) (seen w.1) rest in
-    let left : items_in next (map seen (drop (at + 2) ps)) ≡ items_in (above_after (map seen (w.1 ∷ w.2))) rest =
-    ap (λ qs. items_in next (map seen qs)) last ∙ ap (λ t. items_in t rest) (n ∙ ap (λ qs. above_after (map seen qs)) later) in
-    let more : List Expr = (items_in (above_after (map seen (w.1 ∷ w.2))) rest).0 in (
-      ap (λ t. new ++ t.0) left
-          ∙ (ap (λ t. t ++ more) h ∙ (append_assoc es (commented ∷ []) more ∙ (ap (λ z. es ++ z ∷ more) made ∙ (ap (λ t. es ++ t.0) (sym step) ∙ j)))),
-      ap (λ t. t.1) left ∙ sym (ap (λ t. t.1) step),
-    )
+head_cut : (lead : ℕ) (ss : List Seen) (s : Seen) (rest : List Seen) → drop lead ss ≡ s ∷ rest → loose_in (take (suc lead) ss) ≡ loose_in (take lead ss) ++ (gap_inside lead s.gap ++ s.loose)
+head_cut zero [] s rest h = cc
+head_cut (suc n) [] s rest h = cc
+head_cut zero (t ∷ ss) s rest h = let same : t ≡ s = cc in append-nil t.loose ∙ ap (λ u. u.loose) same
+head_cut (suc n) (t ∷ ss) s rest h = ap (λ ls. t.loose ++ ls) (after_cut n ss s rest h) ∙ sym (append_assoc t.loose (loose_after (take n ss)) (all_in s.gap ++ s.loose))
 
--- no item is left
-pub items_done : (ps qs : List Part) (at : ℕ) (above end : List Bytes) (es items : List Expr) (split : Bool) → length ps ≤ at + 1 → end ≡ above → items ≡ es →
-    es ++ (items_in above (map seen (drop at ps))).0 ≡ (items_in (all_in (first_seen_gap (map seen qs))) (map seen qs)).0 → (items_in above (map seen (drop at ps))).1 ≡ (items_in (all_in (first_seen_gap (map seen qs))) (map seen qs)).1 →
-    split ≡ is_split (map seen qs) → seq_made items end split ≡ seq_in (map seen qs)
-items_done ps qs at above end es items split l e i j k b =
-    let none : items_in above (map seen (drop at ps)) ≡ ([], above) = no_item above (map seen (drop at ps)) (omega (arith, length-map (drop at ps) seen, length-drop at ps)) in
-    let found : List Expr × List Bytes = items_in (all_in (first_seen_gap (map seen qs))) (map seen qs) in
-    let all : items ≡ found.0 = i ∙ (sym (append-nil es) ∙ (ap (λ t. es ++ t.0) (sym none) ∙ j)) in
-    let last : end ≡ found.1 = e ∙ (ap (λ t. t.1) (sym none) ∙ k) in
-    ap (λ t. seq_made t end split) all ∙ (ap (λ t. seq_made found.0 t split) last ∙ ap (λ t. seq_made found.0 found.1 t) b)
+pub bracket_loose : (ps qs : List Part) (lead : ℕ) (y : Part) (old row gap new : List Bytes) → lead < length ps → y ≡ get_or ps lead y → qs ≡ take lead ps → row ≡ old ++ loose_in (map seen qs) →
+    gap ≡ row ++ gap_inside lead (first_seen_gap (map seen (drop lead ps))) → new ≡ gap ++ (seen y).loose → new ≡ old ++ loose_in (take (suc lead) (map seen ps))
+bracket_loose ps qs lead y old row gap new l i q r g n =
+    let here : map seen (drop lead ps) ≡ seen y ∷ map seen (drop (lead + 1) ps) = part_here ps lead y l i in
+    let own : List Bytes = gap_inside lead (seen y).gap in
+    let front : List Bytes = loose_in (take lead (map seen ps)) in
+    let cut = head_cut lead (map seen ps) (seen y) (map seen (drop (lead + 1) ps)) (drop-map seen lead ps ∙ here) in
+    n ∙ (ap (λ t. t ++ (seen y).loose) (g ∙ (ap (λ ss. row ++ gap_inside lead (first_seen_gap ss)) here ∙ ap (λ t. t ++ own) (r ∙ (ap (λ rs. old ++ loose_in (map seen rs)) q ∙ ap (λ ss. old ++ loose_in ss) (sym (take-map seen lead ps))))))
+    ∙ (append_assoc (old ++ front) own (seen y).loose ∙ (append_assoc old front (own ++ (seen y).loose) ∙ ap (λ t. old ++ t) (sym cut))))

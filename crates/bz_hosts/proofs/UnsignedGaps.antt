@@ -6,9 +6,8 @@ use Rattle.bz_grammar.specs.declared.tree.Part.{Part}
 use Rattle.bz_lex.specs.Gaps.{is_indent}
 use Rattle.bz_items.specs.Characters.{Bytes, backslash, line_feed, number_sign, space}
 use Rattle.bz_value.specs.Gaps.{GapLine, lines_from, rest_of_line, lines_of, as_list, comments_in, first_comment, after_first_line, suffix_in, others_in, all_in, some_newline, has_newline}
-use Rattle.bz_hosts.specs.View.{Seen, seen, first_seen_gap, loose_after}
-use Rattle.bz_hosts.specs.Walks.{above_after, is_unsigned, loose_from, suffix_after}
-use Rattle.bz_hosts.proofs.RowSteps.{gap_pushed}
+use Rattle.bz_hosts.specs.View.{Seen, seen, first_seen_gap}
+use Rattle.bz_hosts.specs.Walks.{above_after, gap_inside, is_unsigned, item_gap}
 
 -- ---- what is known of a gap
 
@@ -90,7 +89,7 @@ above_at [] h k = refl
 above_at (mark ∷ []) h k = others_quiet mark.gap h
 above_at (mark ∷ t ∷ ss) h k = ap (λ texts. texts ++ others_in t.gap) (all_quiet mark.gap h) ∙ others_quiet t.gap k
 
-suffix_at : (ss : List Seen) → is_unsigned (first_seen_gap ss) ≡ true → is_unsigned (first_seen_gap (drop 1 ss)) ≡ true → suffix_after ss ≡ None
+suffix_at : (ss : List Seen) → is_unsigned (first_seen_gap ss) ≡ true → is_unsigned (first_seen_gap (drop 1 ss)) ≡ true → suffix_in (item_gap ss) ≡ None
 suffix_at [] h k = refl
 suffix_at (mark ∷ []) h k = suffix_quiet mark.gap h
 suffix_at (mark ∷ t ∷ ss) h k = suffix_quiet t.gap k
@@ -104,7 +103,7 @@ next_gap (x ∷ ps) (suc at) = next_gap ps at
 abbrev pub quiet_after : List Part → ℕ → Bool
 quiet_after ps at = is_unsigned (first_seen_gap (map seen (drop at ps))) && is_unsigned (first_seen_gap (map seen (drop (at + 1) ps)))
 
-pub nothing_after : (ps : List Part) (at : ℕ) → quiet_after ps at ≡ true → (above_after (map seen (drop at ps)) ≡ []) × (suffix_after (map seen (drop at ps)) ≡ None)
+pub nothing_after : (ps : List Part) (at : ℕ) → quiet_after ps at ≡ true → (above_after (map seen (drop at ps)) ≡ []) × (suffix_in (item_gap (map seen (drop at ps))) ≡ None)
 nothing_after ps at h =
     let w = both (is_unsigned (first_seen_gap (map seen (drop at ps)))) (is_unsigned (first_seen_gap (map seen (drop (at + 1) ps)))) h in
     let next : is_unsigned (first_seen_gap (drop 1 (map seen (drop at ps)))) ≡ true =
@@ -113,8 +112,6 @@ nothing_after ps at h =
 
 -- ---- before a part of a row
 
-pub gap_quiet : (at : ℕ) (s : Seen) (gap : Bytes) (quiet : Bool) (old : List Bytes) (rest : List Seen) → (at ≡ zero → ⊥) → gap ≡ s.gap → quiet ≡ is_unsigned gap → quiet ≡ true →
-    (old ++ s.loose) ++ loose_after rest ≡ old ++ loose_from at (s ∷ rest)
-gap_quiet at s gap quiet old rest n g q t =
-    let none : all_in s.gap ≡ [] = all_quiet s.gap (ap is_unsigned (sym g) ∙ (sym q ∙ t)) in
-    gap_pushed at s old old rest n (sym (ap (λ texts. old ++ texts) none ∙ append-nil old))
+pub gap_quiet : (at : ℕ) (gap : Bytes) (quiet : Bool) (old : List Bytes) → quiet ≡ is_unsigned gap → quiet ≡ true → old ≡ old ++ gap_inside at gap
+gap_quiet zero gap quiet old q t = sym (append-nil old)
+gap_quiet (suc at) gap quiet old q t = sym (ap (λ texts. old ++ texts) (all_quiet gap (sym q ∙ t)) ∙ append-nil old)

@@ -36,16 +36,16 @@ abbrev pub loose_of : Frame → Kind → List Seen → List Bytes
 loose_of row kind ss = loose_in ss
 loose_of (sequence opener closer) kind ss = loose_in (take (suc (lead kind)) ss)
 
--- the loose comments of the parts of a row from this index on
-abbrev pub loose_from : ℕ → List Seen → List Bytes
-loose_from zero ss = loose_in ss
-loose_from (suc at) ss = loose_after ss
+-- the comments of the gap before the part of a row with this index: what is before its first part is outside
+abbrev pub gap_inside : ℕ → Bytes → List Bytes
+gap_inside zero gap = []
+gap_inside (suc at) gap = all_in gap
 
--- After an item, from its mark on: its suffix, and what is above the next item.
-abbrev pub suffix_after : List Seen → Option Bytes
-suffix_after [] = None
-suffix_after (mark ∷ []) = suffix_in mark.gap
-suffix_after (mark ∷ t ∷ ss) = suffix_in t.gap
+-- After an item, from its mark on: the gap that its suffix is in, and what is above the next item.
+abbrev pub item_gap : List Seen → Bytes
+item_gap [] = []
+item_gap (mark ∷ []) = mark.gap
+item_gap (mark ∷ t ∷ ss) = t.gap
 
 abbrev pub above_after : List Seen → List Bytes
 above_after [] = []
@@ -56,12 +56,12 @@ above_after (mark ∷ t ∷ ss) = all_in mark.gap ++ others_in t.gap
 abbrev pub is_unsigned : Bytes → Bool
 is_unsigned gap = list_all (λ byte. not (nat_eq byte number_sign)) gap
 
--- After a statement of a line, from its mark on: its suffix.
-abbrev pub line_suffix : List Seen → Option Bytes
-line_suffix [] = None
-line_suffix (mark ∷ []) = suffix_in mark.gap
-line_suffix (mark ∷ t ∷ []) = suffix_in t.gap
-line_suffix (mark ∷ t ∷ u ∷ ss) = None
+-- After a statement of a line, from its mark on: the gap that its suffix is in; of another than the last none.
+abbrev pub line_gap : List Seen → Bytes
+line_gap [] = []
+line_gap (mark ∷ []) = mark.gap
+line_gap (mark ∷ t ∷ []) = t.gap
+line_gap (mark ∷ t ∷ u ∷ ss) = []
 
 -- comment lines in front of groups belong to the first of them
 abbrev pub prepend : List Bytes → List (List Bytes) → List (List Bytes)

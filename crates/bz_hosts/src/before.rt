@@ -1,5 +1,5 @@
 //! What is before a part of a tree.
-ghost use Rattle.std.specs.Prelude.{◌≡◌, ◌&&◌, [], map, drop, get_or, nat_eq, MatchOption};
+ghost use Rattle.std.specs.Prelude.{◌≡◌, ◌&&◌, ◌+◌, ◌<◌, ◌≤◌, [], map, drop, length, false, get_or, nat_eq, IsTrue, MatchOption};
 ghost use Rattle.bz_items.specs.Characters.{line_feed};
 ghost use Rattle.bz_value.specs.Gaps.{has_newline};
 ghost use Rattle.bz_value.specs.Proper.{is_operator};
@@ -54,23 +54,12 @@ fn first_gap(part: &Part) -> Option<&Gap>
 {
     match part {
         Part::Leaf(leaf) => Some(&leaf.gap),
-        Part::Node(node) => first_gap_in(node.parts.as_slice()),
-    }
-}
-
-/// The gap before the first token of these parts, if the first of them has one.
-#[cycle(first)]
-fn first_gap_in(parts: &[Part]) -> Option<&Gap>
-    ensures { MatchOption result ([] ≡ first_seen_gap (map seen parts.now)) (λ gap. gap.now ≡ first_seen_gap (map seen parts.now)) }
-{
-    match parts {
-        [] => None,
-        [first, ..] => first_gap(first),
+        Part::Node(node) => first_gap_at(node.parts.as_slice(), 0),
     }
 }
 
 /// The gap before the part with this index, if there is one.
-#[inline(always)]
+#[cycle(first)]
 fn first_gap_at(parts: &[Part], at: usize) -> Option<&Gap>
     ensures { MatchOption result ([] ≡ first_seen_gap (map seen (drop at parts.now))) (λ gap. gap.now ≡ first_seen_gap (map seen (drop at parts.now))) }
 {
@@ -100,18 +89,7 @@ pub fn gap_at(parts: &[Part], at: usize) -> &[u8]
     }
 }
 
-/// Whether it is seen at a glance that no comment is before the part.
-#[inline(always)]
-pub fn is_quiet_before(part: &Part) -> bool
-    ensures { result ≡ is_unsigned (seen part.now).gap }
-{
-    match first_gap(part) {
-        None => true,
-        Some(gap) => is_quiet(gap),
-    }
-}
-
-/// The same of the part with this index.
+/// Whether it is seen at a glance that no comment is before the part with this index.
 #[inline(always)]
 pub fn is_quiet_at(parts: &[Part], at: usize) -> bool
     ensures { result ≡ is_unsigned (first_seen_gap (map seen (drop at parts.now))) }
@@ -152,6 +130,14 @@ pub fn breaks_from(parts: &[Part], from: usize) -> bool
         }
     }
     false
+}
+
+/// Whether a part follows the one with this index.
+pub fn is_followed(parts: &[Part], at: usize) -> bool
+    ensures yes { IsTrue result → at + 1 < length parts.now }
+    ensures no { result ≡ false → length parts.now ≤ at + 1 }
+{
+    at < parts.len() && parts.len() - at > 1
 }
 
 /// Whether the part is a token of an operator, in a row of operands and operators.

@@ -1,43 +1,17 @@
 //! An expression that becomes a host.
-ghost use Rattle.std.specs.Prelude.{◌≡◌, [], ◌∷◌, ◌++◌, ◌<◌, List, length, map, drop, IfOk, OnOk};
+ghost use Rattle.std.specs.Prelude.{◌≡◌, [], ◌∷◌, ◌++◌, ◌<◌, false, List, length, map, drop, OnOk};
+ghost use Rattle.bz_grammar.specs.declared.tree.Part.{Part};
 ghost use Rattle.bz_value.specs.declared.value.Expr.{Expr};
-ghost use Rattle.bz_value.specs.Commented.{with_comments};
 ghost use Rattle.bz_value.specs.Gaps.{suffix_in as suffix_decoded};
-ghost use Rattle.bz_hosts.specs.View.{seen};
-ghost use Rattle.bz_hosts.specs.Walks.{above_after, suffix_after};
+ghost use Rattle.bz_hosts.specs.View.{plain, seen};
+ghost use Rattle.bz_hosts.specs.Walks.{above_after, item_gap, line_gap};
 
-use crate::marks::{above_next, gap_after_item};
+use crate::marks::{above_next, gap_after_item, gap_after_statement, is_quiet_after};
 use bz_grammar::Part;
 use bz_items::{Items, Memory, Text};
-use bz_value::{Comments, Expr, suffix_in};
+use bz_value::{Comments, Expr, Item, suffix_in};
 use std::alloc::{AllocError, Global};
 use std::mem;
-
-/// The expression with these comments above it, and the suffix that a gap after it gives. The error: memory was refused.
-pub(crate) fn commented(
-    alloc: Global,
-    expr: Expr,
-    above: Items<Text>,
-    gap: &[u8],
-) -> Result<Expr, Memory>
-    ensures { IfOk result (λ host. host ≡ with_comments expr (record { before = above; suffix = suffix_decoded gap.now })) }
-{
-    // The expression is dropped by calls: by the end of its scope, each form of it would be a path of this proof.
-    let suffix = match suffix_in(alloc, gap) {
-        Ok(suffix) => suffix,
-        Err(fault) => {
-            drop(expr);
-            return Err(fault);
-        }
-    };
-    match Comments::new(alloc, above, suffix) {
-        Ok(comments) => Ok(expr.with_comments(comments)),
-        Err(fault) => {
-            drop(expr);
-            Err(fault)
-        }
-    }
-}
 
 /// Makes the last item a host: with these comments above it, and the suffix after it, where this index is that of its comma or of
 /// the closing bracket. What is above the next item, or at the end, is left `above` then. The error: memory was refused.
@@ -50,16 +24,44 @@ pub(crate) fn comment_last(
 ) -> Result<(), Memory>
     requires { at < length parts.now }
     ensures above { OnOk result (above.new ≡ above_after (map seen (drop at parts.now))) }
-    ensures items { OnOk result ((xs : List Expr) (x : Expr) → items.old.items ≡ xs ++ x ∷ []
-        → items.new.items ≡ xs ++ with_comments x (record { before = above.old; suffix = suffix_after (map seen (drop at parts.now)) }) ∷ []) }
+    ensures items { OnOk result ((xs : List Expr) (x : Part) → items.old.items ≡ xs ++ plain (seen x) ∷ []
+        → items.new.items ≡ xs ++ (seen x).make (record { before = above.old; suffix = suffix_decoded (item_gap (map seen (drop at parts.now))) }) false ∷ []) }
 {
+    if above.is_empty() && is_quiet_after(parts, at) {
+        return Ok(());
+    }
     let next = above_next(alloc, parts, at)?;
-    let before = mem::replace(above, next);
+    let suffix = suffix_in(alloc, gap_after_item(parts, at))?;
+    let comments = Comments::new(alloc, mem::replace(above, next), suffix)?;
     items.reserve(1)?;
     let Some(expr) = items.pop() else {
         return Err(AllocError);
     };
-    let host = commented(alloc, expr, before, gap_after_item(parts, at))?;
-    items.push_reserved(host);
+    items.push_reserved(expr.with_comments(comments));
+    Ok(())
+}
+
+/// Appends the last expression as a statement: with these comments above it, of which none are left, and the suffix after it, where this index
+/// is that of its semicolon or of the Newline. The error: memory was refused.
+pub(crate) fn push_statement(
+    alloc: Global,
+    parts: &[Part],
+    at: usize,
+    above: &mut Items<Text>,
+    exprs: &mut Vec<Expr>,
+    items: &mut Items<Item>,
+) -> Result<(), Memory>
+    requires { at < length parts.now }
+    ensures above { OnOk result (above.new ≡ []) }
+    ensures exprs { OnOk result ((x : Part) → exprs.old.items ≡ plain (seen x) ∷ [] → exprs.new.items ≡ []) }
+    ensures items { OnOk result ((x : Part) → exprs.old.items ≡ plain (seen x) ∷ []
+        → items.new ≡ items.old ++ Item.Stmt ((seen x).make (record { before = above.old; suffix = suffix_decoded (line_gap (map seen (drop at parts.now))) }) false) ∷ []) }
+{
+    let suffix = suffix_in(alloc, gap_after_statement(parts, at))?;
+    let comments = Comments::new(alloc, mem::replace(above, Items::new(alloc)), suffix)?;
+    let Some(expr) = exprs.pop() else {
+        return Err(AllocError);
+    };
+    items.push(Item::Stmt(expr.with_comments(comments)))?;
     Ok(())
 }

@@ -1,13 +1,11 @@
 //! What the gaps between the parts of a row say.
-ghost use Rattle.std.specs.Prelude.{◌≡◌, ◌∷◌, ◌++◌, ◌+◌, ◌<◌, ◌&&◌, ◌||◌, not, map, drop, length, if◌then◌else◌, List, IfOk, OnOk};
+ghost use Rattle.std.specs.Prelude.{◌≡◌, ◌++◌, ◌+◌, ◌<◌, ◌&&◌, ◌||◌, not, map, drop, length, if◌then◌else◌, IfOk, OnOk};
 ghost use Rattle.bz_value.specs.Frames.{is_comprehension};
-ghost use Rattle.bz_value.specs.Gaps.{all_in, has_newline, suffix_in};
-ghost use Rattle.bz_hosts.specs.View.{Seen, begins_seen_operator, first_seen_gap, is_open, loose_after, seen};
-ghost use Rattle.bz_hosts.specs.Walks.{above_after, is_unsigned, loose_from, suffix_after};
+ghost use Rattle.bz_value.specs.Gaps.{all_in, has_newline};
+ghost use Rattle.bz_hosts.specs.View.{begins_seen_operator, first_seen_gap, is_open, seen};
+ghost use Rattle.bz_hosts.specs.Walks.{above_after, gap_inside, is_unsigned, item_gap, line_gap};
 
-use crate::before::{
-    breaks_before, gap_at, gap_before, is_operator_at, is_quiet_at, is_quiet_before,
-};
+use crate::before::{breaks_before, gap_at, gap_of_last, is_followed, is_operator_at, is_quiet_at};
 use bz_grammar::{Kind, Part};
 use bz_items::{Items, Memory, Text};
 use bz_value::{is_comprehension, push_all, push_others};
@@ -15,23 +13,23 @@ use std::alloc::Global;
 
 /// Appends the comments of the gap before the part of a row with this index. What is before its first part is
 /// outside.
-#[tactic(auto, using(crate::proofs::RowSteps::gap_pushed, crate::proofs::RowSteps::gap_outside, crate::proofs::UnsignedGaps::gap_quiet))]
+#[tactic(auto, using(crate::proofs::RowSteps::gap_outside, crate::proofs::UnsignedGaps::gap_quiet, crate::proofs::RowSteps::gap_pushed))]
 #[inline(always)]
 pub fn push_gap(
     alloc: Global,
-    part: &Part,
+    parts: &[Part],
     at: usize,
     loose: &mut Items<Text>,
 ) -> Result<(), Memory>
-    ensures { OnOk result ((rest : List Seen) → (loose.new ++ (seen part.now).loose) ++ loose_after rest ≡ loose.old ++ loose_from at (seen part.now ∷ rest)) }
+    ensures { OnOk result (loose.new ≡ loose.old ++ gap_inside at (first_seen_gap (map seen (drop at parts.now)))) }
 {
     if at == 0 {
         return Ok(());
     }
-    if is_quiet_before(part) {
+    if is_quiet_at(parts, at) {
         return Ok(());
     }
-    push_all(alloc, gap_before(part), loose)
+    push_all(alloc, gap_at(parts, at), loose)
 }
 
 /// Whether an unescaped newline is before the operator that the part with this index is: `newline`, where the part
@@ -63,15 +61,28 @@ pub fn opens(kind: Kind, parts: &[Part]) -> bool
 
 /// After an item of a sequence, where this index is that of its comma or of the closing bracket: the gap that its suffix
 /// is in, after its comma if it has one.
+#[tactic(auto, using(crate::proofs::RowSteps::gap_later, crate::proofs::RowSteps::gap_last))]
 pub fn gap_after_item(parts: &[Part], at: usize) -> &[u8]
     requires { at < length parts.now }
-    ensures { suffix_in result.now ≡ suffix_after (map seen (drop at parts.now)) }
+    ensures { result.now ≡ item_gap (map seen (drop at parts.now)) }
 {
-    let next = at + 1;
-    if next < parts.len() {
-        return gap_at(parts, next);
+    if is_followed(parts, at) {
+        return gap_at(parts, at + 1);
     }
     gap_at(parts, at)
+}
+
+/// After a statement, where this index is that of its semicolon or of the Newline: the gap that its suffix is in, which
+/// is that of the Newline. The suffix of another statement of the line is none, and so is what an empty gap says.
+#[tactic(auto, using(crate::proofs::LineSteps::suffix_none, crate::proofs::LineSteps::suffix_last))]
+pub fn gap_after_statement(parts: &[Part], at: usize) -> &[u8]
+    requires { at < length parts.now }
+    ensures { result.now ≡ line_gap (map seen (drop at parts.now)) }
+{
+    if parts.len() - at > 2 {
+        return &[];
+    }
+    gap_of_last(parts)
 }
 
 /// The comments above the first item of a sequence, where this index is that of the item or of the closing bracket. The error: memory was
@@ -95,13 +106,10 @@ pub fn above_next(alloc: Global, parts: &[Part], at: usize) -> Result<Items<Text
     ensures { IfOk result (λ above. above ≡ above_after (map seen (drop at parts.now))) }
 {
     let mut above = Items::new(alloc);
-    let next = at + 1;
-    if next < parts.len() {
+    if is_followed(parts, at) {
         push_all(alloc, gap_at(parts, at), &mut above)?;
-        push_others(alloc, gap_at(parts, next), &mut above)?;
-        return Ok(above);
     }
-    push_others(alloc, gap_at(parts, at), &mut above)?;
+    push_others(alloc, gap_after_item(parts, at), &mut above)?;
     Ok(above)
 }
 

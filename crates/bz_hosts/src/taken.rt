@@ -7,11 +7,11 @@ ghost use Rattle.bz_items.specs.Characters.{Bytes};
 ghost use Rattle.bz_hosts.specs.Kept.{occurrences};
 ghost use Rattle.bz_hosts.specs.View.{file_items, seen, statements_in, view_of};
 
-use crate::before::{gap_at, gap_of_last};
-use crate::commented::commented;
+use crate::before::{gap_at, gap_of_last, is_followed};
+use crate::commented::push_statement;
 use crate::groups::{push_all_groups, push_groups};
-use crate::moved::{drop_row, give_back, is_followed, statement_moved};
-use crate::viewing::{room_for, suffix_gap, without_room};
+use crate::moved::{DEPTH, drop_row, give_back, push_moved};
+use crate::viewing::{room_for, without_room};
 use bz_grammar::{Part, Tree};
 use bz_items::{Items, Memory, Text};
 use bz_value::{File, Item, past_first_line};
@@ -36,29 +36,14 @@ fn into_items(alloc: Global, lines: Items<Part>) -> Result<Items<Item>, Memory>
 {
     let mut items = room_for(alloc, lines.len())?;
     let mut left = Text::from_vec(Vec::new(alloc));
-    for line in lines.into_vec() {
-        left = push_last(alloc, left.as_slice(), line, &mut items)?;
+    for mut line in lines.into_vec() {
+        left = push_moved_line(alloc, left.as_slice(), &mut line, &mut items)?;
     }
     Ok(without_room(items))
 }
 
-/// Appends the items of a line, or of the end, which is dropped then, with the comment lines `left` before it. Returned: the gap
+/// Appends the items of a line, or of the end, whose statements are given up, with the comment lines `left` before it. Returned: the gap
 /// whose lines are before the next one. The error: memory was refused.
-fn push_last(
-    alloc: Global,
-    left: &[u8],
-    mut line: Part,
-    items: &mut Items<Item>,
-) -> Result<Text, Memory>
-    ensures { IfOk result (λ rest. (xs : List Part) → items.new ++ file_items (lines_of rest) xs ≡ items.old ++ file_items (lines_of left.now) (line ∷ xs)) }
-{
-    let rest = push_moved_line(alloc, left, &mut line, items);
-    // By a call: by the end of its scope, each form of the line would be a path of this proof.
-    drop(line);
-    rest
-}
-
-/// Appends the items of a line, or of the end, whose statements are given up.
 fn push_moved_line(
     alloc: Global,
     left: &[u8],
@@ -82,25 +67,6 @@ fn push_moved_line(
     }
 }
 
-/// Appends the statement with this index, which is given up, after which its semicolon or the Newline is, with these comments above it.
-fn push_moved_statement(
-    alloc: Global,
-    parts: &mut [Part],
-    at: usize,
-    above: Items<Text>,
-    items: &mut Items<Item>,
-) -> Result<(), Memory>
-    requires { at + 1 < length parts.old }
-    ensures rest { OnOk result (drop (at + 2) parts.new ≡ drop (at + 2) parts.old) }
-    ensures items { OnOk result (items.new ++ statements_in [] (map seen (drop (at + 2) parts.old)) ≡ items.old ++ statements_in above (map seen (drop at parts.old))) }
-{
-    let mut above = above;
-    let expr = statement_moved(alloc, &mut parts[at], &mut above)?;
-    let host = commented(alloc, expr, above, suffix_gap(parts, at + 1))?;
-    items.push(Item::Stmt(host))?;
-    Ok(())
-}
-
 /// Appends the statements of a line, which are given up, the first with these comments above it.
 fn push_moved_statements(
     alloc: Global,
@@ -112,10 +78,18 @@ fn push_moved_statements(
 {
     let mut left = parts.into_vec();
     let mut above = above;
+    let mut exprs = Vec::with_capacity(alloc, 1)?;
     let mut at = 0;
     while is_followed(left.as_slice(), at) {
-        push_moved_statement(alloc, left.as_mut_slice(), at, above, items)?;
-        above = Items::new(alloc);
+        push_moved(alloc, &mut left[at], DEPTH, false, &mut above, &mut exprs)?;
+        push_statement(
+            alloc,
+            left.as_slice(),
+            at + 1,
+            &mut above,
+            &mut exprs,
+            items,
+        )?;
         at = give_back(at + 2, &mut left);
     }
     drop_row(left);

@@ -3,14 +3,13 @@ ghost use Rattle.std.specs.Prelude.{◌≡◌, ◌<◌, [], ◌∷◌, ◌++◌,
 ghost use Rattle.bz_grammar.specs.declared.tree.Part.{Part};
 ghost use Rattle.bz_value.specs.Counted.{times};
 ghost use Rattle.bz_items.specs.Characters.{Bytes};
-ghost use Rattle.bz_value.specs.Gaps.{lines_of, suffix_in};
+ghost use Rattle.bz_value.specs.Gaps.{lines_of};
 ghost use Rattle.bz_hosts.specs.Kept.{occurrences};
 ghost use Rattle.bz_hosts.specs.View.{file_items, seen, statements_in, view_of};
-ghost use Rattle.bz_hosts.specs.Walks.{line_suffix};
 
-use crate::before::{gap_at, gap_of_last};
-use crate::commented::commented;
-use crate::expr::expr_of;
+use crate::before::{gap_at, gap_of_last, is_followed};
+use crate::commented::push_statement;
+use crate::expr::push_expr;
 use crate::groups::{push_all_groups, push_groups};
 use bz_grammar::{Part, Tree};
 use bz_items::{Items, Memory, Text};
@@ -94,27 +93,13 @@ pub fn push_statements(
 ) -> Result<(), Memory>
     ensures { OnOk result (items.new ≡ items.old ++ statements_in above (map seen parts.now)) }
 {
-    let count = parts.len();
     let mut before = above;
+    let mut exprs = Vec::with_capacity(alloc, 1)?;
     let mut at = 0;
-    while at + 1 < count {
-        let expr = expr_of(alloc, &parts[at], false, &mut before)?;
-        let host = commented(alloc, expr, before, suffix_gap(parts, at + 1))?;
-        items.push(Item::Stmt(host))?;
-        before = Items::new(alloc);
+    while is_followed(parts, at) {
+        push_expr(alloc, &parts[at], false, &mut before, &mut exprs)?;
+        push_statement(alloc, parts, at + 1, &mut before, &mut exprs, items)?;
         at += 2;
     }
     Ok(())
-}
-
-/// After a statement, where this index is that of its semicolon or of the Newline: the gap that its suffix is in, which
-/// is that of the Newline. The suffix of another statement of the line is none, and so is what an empty gap says.
-pub(crate) fn suffix_gap(parts: &[Part], at: usize) -> &[u8]
-    requires { at < length parts.now }
-    ensures { suffix_in result.now ≡ line_suffix (map seen (drop at parts.now)) }
-{
-    if parts.len() - at > 2 {
-        return &[];
-    }
-    gap_of_last(parts)
 }

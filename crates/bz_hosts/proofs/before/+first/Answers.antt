@@ -7,4 +7,4 @@ use Rattle.bz_hosts.proofs.before.+first.Goals as goal
 
 pub first_gap-returns-in-Node : goal.first_gap-returns-in-Node
 first_gap-returns-in-Node t c =
-    subst (λ (bytes : Bytes). MatchOption c.first_gap_in.result ([] ≡ bytes) (λ gap. gap.now ≡ bytes)) (ap (λ (ps : List Part). first_seen_gap (map seen ps)) c.as_slice.ensures ∙ gap_of_node c.args.part.now c.in-Node.node c.in-Node.is) c.first_gap_in.ensures
+    subst (λ (bytes : Bytes). MatchOption c.first_gap_at.result ([] ≡ bytes) (λ gap. gap.now ≡ bytes)) (ap (λ (ps : List Part). first_seen_gap (map seen ps)) c.as_slice.ensures ∙ gap_of_node c.args.part.now c.in-Node.node c.in-Node.is) c.first_gap_at.ensures

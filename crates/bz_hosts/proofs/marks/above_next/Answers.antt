@@ -1,9 +1,13 @@
+use Rattle.std.proofs.Common.{◌++◌, ap, ◌∙◌}
+use Rattle.bz_value.specs.Gaps.{others_in}
 use Rattle.bz_hosts.proofs.RowSteps.{above_later, above_last}
 use Rattle.bz_hosts.proofs.marks.above_next.Goals as goal
-
-pub returns-then-next-parts : goal.returns-then-next-parts
-returns-then-next-parts c =
-    above_later c.args.parts.now c.args.at _ _ _ _ _ c.if-next-parts.true c.gap_at.ensures c.gap_at-then-next-parts.ensures c.new-above.ensures c.in_ok-push_all.ensures c.in_ok-push_others.ensures
+use Rattle.bz_hosts.proofs.marks.above_next.Goals.{then-is_followed+in_ok-push_all, else-is_followed}
 
 pub returns : goal.returns
-returns c = above_last c.args.parts.now c.args.at _ _ _ c.requires c.if-next-parts.false c.gap_at-2.ensures c.new-above.ensures c.in_ok-push_others-2.ensures
+returns c =
+    c.in_ok-push_others.ensures ∙ (ap (λ gap. c.if-is_followed.above ++ others_in gap) c.gap_after_item.ensures ∙
+    elim c.if-is_followed.branch [
+      | then-is_followed+in_ok-push_all w ↦ above_later c.args.parts.now c.args.at _ c.new-above.result c.if-is_followed.above (c.is_followed.ensures.yes w.if-is_followed.true) w.gap_at.ensures c.new-above.ensures (w.above-is ∙ w.in_ok-push_all.ensures)
+      | else-is_followed w ↦ above_last c.args.parts.now c.args.at c.if-is_followed.above (c.is_followed.ensures.no w.if-is_followed.false) (w.above-is ∙ c.new-above.ensures)
+    ])

@@ -1,37 +1,13 @@
-use Rattle.std.proofs.Common.{◌≤◌, ◌+◌, List, [], ◌∷◌, ◌++◌, length, map, take, drop, sym, ap, ◌∙◌, subst}
+use Rattle.std.proofs.Common.{◌≡◌, ◌<◌, ◌≤◌, ◌+◌, List, [], ◌∷◌, ◌++◌, length, map, take, drop, set, refl, sym, ap, ◌∙◌, subst, arith}
+use Rattle.std.proofs.lemmas.List.{drop-set-lt}
 use Rattle.bz_grammar.specs.declared.tree.Part.{Part}
 use Rattle.bz_grammar.specs.declared.tree.Part.TheVariants as p
+use Rattle.bz_value.specs.declared.value.Expr.TheVariants as e
 use Rattle.bz_value.specs.Frames.{frame}
 use Rattle.bz_hosts.specs.View.{is_split, plain, seen}
-use Rattle.bz_hosts.proofs.HostSteps.{taken_quiet, taken_commented}
+use Rattle.bz_hosts.proofs.HostSteps.{item_more, items_done}
 use Rattle.bz_hosts.proofs.NodeViews.{made_of_node, loose_of_node, sequence_made}
-use Rattle.bz_hosts.proofs.RowSteps.{items_done}
 use Rattle.bz_hosts.proofs.moved.+moved.Goals as goal
-
-pub form_moved-returns-clause-form : goal.form_moved-returns-clause-form
-form_moved-returns-clause-form t c =
-    sequence_made (frame c.args.node.now.kind) c.args.node.now.kind c.args.node.now.parts c.replace-parts.result _ _ _ _ (sym c.is_sequence.ensures ∙ c.if-not-is_sequence.false) c.replace-parts.ensures.value c.lead_of-lead.ensures.value
-    (c.in_ok-head_of.ensures.exprs ∙ ap (λ (rs : List Part). map plain (take c.lead_of-lead.result (map seen rs))) c.as_slice-2.ensures) c.in_ok-seq_moved.ensures c.empty-2.ensures
-
-pub push_host_moved-returns-then-is_quiet_after-clause-items : goal.push_host_moved-returns-then-is_quiet_after-clause-items
-push_host_moved-returns-then-is_quiet_after-clause-items t c =
-    (taken_quiet c.args.parts.now c.args.at c.push_moved.new.part c.index-parts-at.result c.args.above.now c.push_moved.new.loose c.is_quiet_after.result c.args.items.now.items c.push_moved.new.exprs.items c.requires c.index-parts-at.is
-    c.in_ok-push_moved.ensures.loose (c.is_empty.ensures.0 c.if-is_empty.true) c.is_quiet_after.ensures c.if-is_quiet_after.true c.in_ok-push_moved.ensures.exprs).0
-
-pub push_host_moved-returns-then-is_quiet_after-clause-end : goal.push_host_moved-returns-then-is_quiet_after-clause-end
-push_host_moved-returns-then-is_quiet_after-clause-end t c =
-    (taken_quiet c.args.parts.now c.args.at c.push_moved.new.part c.index-parts-at.result c.args.above.now c.push_moved.new.loose c.is_quiet_after.result c.args.items.now.items c.push_moved.new.exprs.items c.requires c.index-parts-at.is
-    c.in_ok-push_moved.ensures.loose (c.is_empty.ensures.0 c.if-is_empty.true) c.is_quiet_after.ensures c.if-is_quiet_after.true c.in_ok-push_moved.ensures.exprs).1
-
-pub push_host_moved-returns-clause-items : goal.push_host_moved-returns-clause-items
-push_host_moved-returns-clause-items t c =
-    (taken_commented c.args.parts.now c.args.at c.push_moved.new.part c.index-parts-at.result c.args.above.now c.push_moved.new.loose c.comment_last.new.above c.args.items.now.items c.push_moved.new.exprs.items c.comment_last.new.items.items c.requires
-    c.index-parts-at.is c.in_ok-push_moved.ensures.loose c.in_ok-push_moved.ensures.exprs c.in_ok-comment_last.ensures.above c.in_ok-comment_last.ensures.items).0
-
-pub push_host_moved-returns-clause-end : goal.push_host_moved-returns-clause-end
-push_host_moved-returns-clause-end t c =
-    (taken_commented c.args.parts.now c.args.at c.push_moved.new.part c.index-parts-at.result c.args.above.now c.push_moved.new.loose c.comment_last.new.above c.args.items.now.items c.push_moved.new.exprs.items c.comment_last.new.items.items c.requires
-    c.index-parts-at.is c.in_ok-push_moved.ensures.loose c.in_ok-push_moved.ensures.exprs c.in_ok-comment_last.ensures.above c.in_ok-comment_last.ensures.items).1
 
 pub push_moved-returns-in_ok-push_form_moved-in-Node-clause-exprs : goal.push_moved-returns-in_ok-push_form_moved-in-Node-clause-exprs
 push_moved-returns-in_ok-push_form_moved-in-Node-clause-exprs t c =
@@ -39,6 +15,22 @@ push_moved-returns-in_ok-push_form_moved-in-Node-clause-exprs t c =
 
 pub push_moved-returns-in_ok-push_form_moved-in-Node-clause-loose : goal.push_moved-returns-in_ok-push_form_moved-in-Node-clause-loose
 push_moved-returns-in_ok-push_form_moved-in-Node-clause-loose t c = c.in_ok-push_form_moved-in-Node.ensures.loose ∙ ap (λ ls. c.args.loose.now ++ ls) (loose_of_node c.args.part.now _ (c.in-Node.is ∙ ap p.Node (sym c.in-Node.node-is)))
+
+pub seq_moved-loop-alloc-preserved : goal.seq_moved-loop-alloc-preserved
+seq_moved-loop-alloc-preserved t c =
+    let ps = c.loop-alloc.left.items in
+    let at = c.loop-alloc.at in
+    let more : at + 1 < length ps = subst (λ (rs : List Part). at + 1 < length rs) c.as_slice-in-loop-alloc.ensures.value (c.is_followed.ensures.yes c.loop-alloc-test.true) in
+    let turn = item_more ps c.as_slice-in-loop-alloc-2.result.now _ at c.index_mut.result.now c.loop-alloc.above c.push_moved.new.loose c.comment_last.new.above c.loop-alloc.items.items c.push_moved.new.exprs.items c.comment_last.new.items.items
+    more c.index_mut.ensures.value (ap (drop (at + 1)) c.as_slice-in-loop-alloc-2.ensures.value ∙ drop-set-lt (at + 1) ps at _ (omega arith)) (c.give_back-at.ensures.rest ∙ drop-set-lt (at + 2) ps at _ (omega arith)) c.in_ok-push_moved.ensures.loose c.in_ok-push_moved.ensures.exprs
+    c.in_ok-comment_last.ensures.above c.in_ok-comment_last.ensures.items in
+    record { items = turn.0 ∙ c.loop-alloc.invariant.items; end = turn.1 ∙ c.loop-alloc.invariant.end }
+
+pub push_form_moved-returns-then-is_sequence-clause-exprs : goal.push_form_moved-returns-then-is_sequence-clause-exprs
+push_form_moved-returns-then-is_sequence-clause-exprs t c =
+    c.push_reserved.ensures.items ∙ (ap (λ es. es ++ c.form_of.result ∷ []) c.in_ok-reserve.ensures.items ∙ ap (λ x. c.args.exprs.now.items ++ x ∷ []) (c.form_of.ensures ∙
+    ap e.Form (sequence_made (frame c.args.node.now.kind) c.args.node.now.kind c.args.node.now.parts c.replace-parts.result _ _ _ _ (sym c.is_sequence.ensures ∙ c.if-is_sequence.true) c.replace-parts.ensures.value c.lead_of-lead.ensures.value
+    (c.in_ok-head.ensures.exprs ∙ ap (λ (rs : List Part). map plain (take c.lead_of-lead.result (map seen rs))) c.as_slice.ensures) c.in_ok-seq.ensures refl)))
 
 pub seq_moved-returns : goal.seq_moved-returns
 seq_moved-returns t c =

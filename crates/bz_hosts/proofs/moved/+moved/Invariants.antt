@@ -1,26 +1,20 @@
 use Rattle.std.proofs.Common.{◌≡◌, ◌+◌, ◌-◌, ◌*◌, ◌++◌, false, length, map, drop}
 use Rattle.bz_value.specs.Gaps.{all_in}
 use Rattle.bz_hosts.specs.View.{first_seen_gap, items_in, loose_in, row_exprs, seen}
-use Rattle.bz_hosts.specs.Walks.{loose_from}
+use Rattle.bz_hosts.proofs.RowSteps.{loose_from}
 use Rattle.bz_hosts.proofs.moved.+moved.Given as goal
 
 abbrev pub decreases-push_form_moved : goal.decreases-push_form_moved
-decreases-push_form_moved l = 5 * l.depth
+decreases-push_form_moved l = 3 * l.depth
 
 abbrev pub decreases-push_moved : goal.decreases-push_moved
-decreases-push_moved l = 5 * l.depth + 1
-
-abbrev pub decreases-push_host_moved : goal.decreases-push_host_moved
-decreases-push_host_moved l = 5 * l.depth + 2
+decreases-push_moved l = 3 * l.depth + 1
 
 abbrev pub decreases-row_moved : goal.decreases-row_moved
-decreases-row_moved l = 5 * l.depth + 3
+decreases-row_moved l = 3 * l.depth + 2
 
 abbrev pub decreases-seq_moved : goal.decreases-seq_moved
-decreases-seq_moved l = 5 * l.depth + 3
-
-abbrev pub decreases-form_moved : goal.decreases-form_moved
-decreases-form_moved l = 5 * l.depth + 4
+decreases-seq_moved l = 3 * l.depth + 2
 
 abbrev pub invariant-row_moved-loop-at : goal.invariant-row_moved-loop-at
 invariant-row_moved-loop-at l = record {

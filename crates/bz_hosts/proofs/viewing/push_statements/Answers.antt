@@ -1,13 +1,18 @@
-use Rattle.std.proofs.Common.{refl, arith}
+use Rattle.std.proofs.Common.{[], ◌∷◌, ◌++◌, ◌+◌, List, drop, refl, ap, ◌∙◌}
+use Rattle.bz_value.specs.declared.value.Expr.{Expr}
+use Rattle.bz_hosts.specs.View.{plain, seen}
 use Rattle.bz_hosts.proofs.LineSteps.{statement_more, statements_done}
 use Rattle.bz_hosts.proofs.viewing.push_statements.Goals as goal
 
-pub loop-at-preserved : goal.loop-at-preserved
-loop-at-preserved c = record {
-  within = omega arith;
-  rest = statement_more c.args.parts.now c.loop-at.at c.index-parts-at.result _ c.loop-at.before _ _ _ _ _ _ _ _ c.loop-at-test.true c.index-parts-at.is c.in_ok-expr.ensures.loose c.suffix_gap.ensures c.new-before.ensures
-      c.in_ok-expr.ensures.expr refl c.in_ok-host.ensures c.loop-at.invariant.rest c.in_ok-push.ensures.ok;
-}
+pub loop-alloc-preserved : goal.loop-alloc-preserved
+loop-alloc-preserved c =
+    let ps = c.args.parts.now in
+    let one = c.in_ok-push_expr.ensures.exprs ∙ ap (λ (es : List Expr). es ++ plain (seen c.index-parts-at.result) ∷ []) c.loop-alloc.invariant.none in
+    record {
+      none = c.in_ok-push_statement.ensures.exprs c.index-parts-at.result one;
+      rest = statement_more ps ps (drop (c.loop-alloc.at + 2) ps) c.loop-alloc.at c.index-parts-at.result c.loop-alloc.before c.push_expr.new.loose c.push_statement.new.above c.push_expr.new.exprs.items c.loop-alloc.items c.push_statement.new.items
+          (c.is_followed.ensures.yes c.loop-alloc-test.true) c.index-parts-at.is refl refl c.in_ok-push_expr.ensures.loose one c.in_ok-push_statement.ensures.above c.in_ok-push_statement.ensures.items ∙ c.loop-alloc.invariant.rest;
+    }
 
 pub returns : goal.returns
-returns c = statements_done c.args.parts.now c.loop-at.at c.loop-at.before c.loop-at.items _ c.loop-at-test.false c.loop-at.invariant.rest
+returns c = statements_done c.args.parts.now c.loop-alloc.at c.loop-alloc.before c.loop-alloc.items _ (c.is_followed.ensures.no c.loop-alloc-test.false) c.loop-alloc.invariant.rest
