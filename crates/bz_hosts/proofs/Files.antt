@@ -25,7 +25,7 @@ use Rattle.bz_hosts.specs.View.{Seen, seen, seen_row, first_seen_gap, blocks, st
 use Rattle.bz_hosts.proofs.SeenParts.{seen_rows, node_gap, comments_made}
 use Rattle.bz_hosts.proofs.QuietGaps.{Quiet, Statements, parts_silent, statements_quiet, line_alternating}
 use Rattle.bz_hosts.specs.Hosts.{Region, Comment, comments_at, comments_from, Measured, sizes, measured, measured_row, hosts_from, in_line, regions_from, CommentPlace, outside, texts_at, Hosted, block, hosted_at, hosted_by, hosts_alone, with_group, hosted_in, inside_expr, inside_item}
-use Rattle.bz_hosts.specs.HostLaws.{HostsByPlace}
+use Rattle.bz_hosts.specs.Laws.{HostsByPlace}
 use Rattle.bz_hosts.proofs.Around.{AllInside, all_wider, Sees, SeesAt, sees_after, sees_before}
 use Rattle.bz_hosts.proofs.Gathered.{key, pick_other, GapPlaces, texts_joined, gap_all}
 use Rattle.bz_hosts.proofs.Parts.{size, measured_rows, leaves_rows, size_leaves, Solid, some_leaf, part_solid, comments_after, inner, in_parts, after_parts, parts_from, parts_after}

@@ -119,6 +119,5 @@ ends_so n line front e is none (before, newline, at, token, left) =
       left = left_after_line [] front line ∙ (ap (λ ps. after_first_line (lines_of (last_gap (map seen ps)))) at ∙ (ap (λ g. after_first_line (lines_of g)) (last_seen before (p.Leaf newline)) ∙ left));
     }
 
-pub line_last : (n : Node) (front rest : List Part) (x y : Part) → n.parts ≡ rest ++ y ∷ [] → rest ≡ front ++ x ∷ [] → ((e : Leaf) × (y ≡ p.Leaf e) × (e.gap ≡ [])) → ((line : Node) × (x ≡ p.Node line) × EndInNewline line.parts) → EndsWithLine n
-line_last n front rest x y is re (e, ye, none) (line, xe, h) =
-    ends_so n line front e (is ∙ (ap (λ z. rest ++ z ∷ []) ye ∙ ap (λ z. z ++ p.Leaf e ∷ []) (re ∙ ap (λ z. front ++ z ∷ []) xe))) none h
+pub line_last : (n : Node) (front rest : List Part) (x y : Part) (line : Node) (e : Leaf) → n.parts ≡ rest ++ y ∷ [] → rest ≡ front ++ x ∷ [] → y ≡ p.Leaf e → x ≡ p.Node line → e.gap ≡ [] → EndInNewline line.parts → EndsWithLine n
+line_last n front rest x y line e is re ye xe none h = ends_so n line front e (is ∙ (ap (λ z. rest ++ z ∷ []) ye ∙ ap (λ z. z ++ p.Leaf e ∷ []) (re ∙ ap (λ z. front ++ z ∷ []) xe))) none h

@@ -1,5 +1,3 @@
-pub mod HostLaws
-pub mod HostRows
 pub mod Hosts
 pub mod Joined
 pub mod Kept

@@ -1,4 +1,5 @@
--- Worked rows of the view: a text, its tree, and the file value that it says.
+-- Worked rows: a text, its tree, and the file value that it says, or its comments with their hosts.
+use Prim.Native.String.{String}
 use Rattle.std.specs.Prelude.{◌≡◌, Bool, true, false, List, [], ◌∷◌, ◌++◌, Option, Some, None, codes}
 use Rattle.bz_token.specs.declared.class.Class.{Class}
 use Rattle.bz_token.specs.declared.class.Class.TheVariants as c
@@ -15,6 +16,7 @@ use Rattle.bz_value.specs.declared.value.Item.TheVariants as i
 use Rattle.bz_value.specs.Comments.{HostComments, no_comments}
 use Rattle.bz_value.specs.Counted.{times}
 use Rattle.bz_items.specs.Characters.{Bytes}
+use Rattle.bz_hosts.specs.Hosts.{Hosted, block, hosted, ended, hosted_in}
 use Rattle.bz_hosts.specs.Kept.{comments_of_tree, occurrences}
 use Rattle.bz_hosts.specs.View.{view_of}
 
@@ -45,6 +47,37 @@ worked_bare part = worked_line (worked_node k.Bare (part ∷ []) ∷ []) []
 abbrev pub worked_file : List Part → Bytes → Node
 worked_file lines gap = record { kind = k.File; parts = lines ++ worked_leaf c.End gap [] ∷ [] }
 
+-- the same, of texts: a gap, and a token or what begins with it
+abbrev leaf : Class → String → String → Part
+leaf class gap token = worked_leaf class (codes gap) (codes token)
+
+abbrev a_name : String → String → Part
+a_name gap token = leaf c.Name gap token
+
+abbrev a_mark : String → String → Part
+a_mark gap token = leaf c.Mark gap token
+
+-- a name, an equals sign with the gap before it, and a value
+abbrev a_pair : Kind → String → String → String → Part → Part
+a_pair kind gap named before value = worked_node kind (a_name gap named ∷ a_mark before "=" ∷ value ∷ [])
+
+-- what is between two marks, of which each has the gap before it
+abbrev between : Kind → List Part → String → String → List Part → String → String → Part
+between kind front gap opener parts before closer = worked_node kind (front ++ a_mark gap opener ∷ (parts ++ a_mark before closer ∷ []))
+
+abbrev a_call : String → String → List Part → String → Part
+a_call gap named arguments before = between k.Call (a_name gap named ∷ []) "" "(" arguments before ")"
+
+abbrev a_list : String → List Part → String → Part
+a_list gap items before = between k.List [] gap "[" items before "]"
+
+abbrev in_paren : String → Part → String → Part
+in_paren gap part before = between k.Paren [] gap "(" (part ∷ []) before ")"
+
+-- a line of one bare expression, and the gap of its Newline
+abbrev bare : Part → String → Part
+bare part gap = worked_line (worked_node k.Bare (part ∷ []) ∷ []) (codes gap)
+
 -- ---- values
 
 abbrev pub with : List Bytes → Option Bytes → HostComments
@@ -56,9 +89,12 @@ token comments class text = e.Token (record { class = class; text = text; line_b
 abbrev pub plain : Class → Bytes → Expr
 plain class text = token no_comments class text
 
+abbrev spelled : Class → String → Expr
+spelled class text = plain class (codes text)
+
 -- the last token of an operator after which a new line begins
-abbrev breaking : Class → Bytes → Expr
-breaking class text = e.Token (record { class = class; text = text; line_break = true; comments = no_comments })
+abbrev breaking : Class → String → Expr
+breaking class text = e.Token (record { class = class; text = codes text; line_break = true; comments = no_comments })
 
 abbrev pub worked_row : HostComments → Kind → Bool → List Expr → Expr
 worked_row comments kind open_break parts = e.Form (record { kind = kind; parts = parts; seq = record { items = []; end = []; split = false }; open_break = open_break; comments = comments })
@@ -66,172 +102,99 @@ worked_row comments kind open_break parts = e.Form (record { kind = kind; parts 
 abbrev pub worked_sequence : Kind → List Expr → Bool → List Expr → List Bytes → Expr
 worked_sequence kind parts split items end = e.Form (record { kind = kind; parts = parts; seq = record { items = items; end = end; split = split }; open_break = false; comments = no_comments })
 
-abbrev argument : HostComments → Bytes → Expr → Expr
-argument comments named value = worked_row comments k.Named false (plain c.Name named ∷ plain c.Mark (codes "=") ∷ value ∷ [])
+abbrev row : Kind → Bool → List Expr → Expr
+row kind open_break parts = worked_row no_comments kind open_break parts
+
+abbrev pair : HostComments → Kind → String → Expr → Expr
+pair comments kind named value = worked_row comments kind false (spelled c.Name named ∷ spelled c.Mark "=" ∷ value ∷ [])
 
 abbrev statement : List Bytes → Option Bytes → Expr → Item
 statement before suffix x = i.Stmt (worked_row (with before suffix) k.Bare false (x ∷ []))
 
 -- a statement that calls this name
-abbrev calling : List Bytes → Bytes → Bool → List Expr → Item
-calling before named split arguments = statement before None (worked_sequence k.Call (plain c.Name named ∷ []) split arguments [])
+abbrev calling : List Bytes → String → Bool → List Expr → Item
+calling before named split arguments = statement before None (worked_sequence k.Call (spelled c.Name named ∷ []) split arguments [])
 
-abbrev assigning : List Bytes → Option Bytes → Bytes → Expr → Item
-assigning before suffix named value = i.Stmt (worked_row (with before suffix) k.Assign false (plain c.Name named ∷ plain c.Mark (codes "=") ∷ value ∷ []))
+-- ---- rows: a text, the lines of its tree, and the gap of its end
 
-abbrev Row : Bytes → Node → List Item → Type 0
-Row text tree items = (spell_node tree ≡ text) × (view_of tree ≡ items)
+abbrev Row : String → List Part → String → List Item → Type 0
+Row text lines end items = (spell_node (worked_file lines (codes end)) ≡ codes text) × (view_of (worked_file lines (codes end)) ≡ items)
 
--- ---- comments and groups of lines at file level
+-- the comments are in the order in which their hosts begin
+abbrev HostRow : String → List Part → String → List Hosted → Type 0
+HostRow text lines end hosts = (spell_node (worked_file lines (codes end)) ≡ codes text) × (hosted_in (worked_file lines (codes end)) ≡ hosts)
 
--- a comment right above a statement is the statement's
-abbrev pub Above : Type 0
-Above =
-    Row
-    (codes "a( b=\"x\" )\n# keep\nc( d=\"y\" )\n")
-    (worked_file (
-    worked_bare (worked_node k.Call (name [] (codes "a") ∷ worked_mark [] (codes "(") ∷ worked_node k.Named (name (codes " ") (codes "b") ∷ worked_mark [] (codes "=") ∷ worked_leaf c.String [] (codes "\"x\"") ∷ []) ∷ worked_mark (codes " ") (codes ")") ∷ []))
-    ∷ worked_bare (worked_node k.Call (name (codes "# keep\n") (codes "c") ∷ worked_mark [] (codes "(") ∷ worked_node k.Named (name (codes " ") (codes "d") ∷ worked_mark [] (codes "=") ∷ worked_leaf c.String [] (codes "\"y\"") ∷ []) ∷ worked_mark (codes " ") (codes ")") ∷ []))
-    ∷ []) [])
-    (calling [] (codes "a") false (argument no_comments (codes "b") (plain c.String (codes "\"x\"")) ∷ [])
-    ∷ calling (codes "# keep" ∷ []) (codes "c") false (argument no_comments (codes "d") (plain c.String (codes "\"y\"")) ∷ []) ∷ [])
+-- comments and groups of lines at file level
+abbrev FileRows : Type 0
+FileRows =
+    -- a comment right above a statement is the statement's
+    Row "a( b=\"x\" )\n# keep\nc( d=\"y\" )\n"
+    (bare (a_call "" "a" (a_pair k.Named " " "b" "" (leaf c.String "" "\"x\"") ∷ []) " ") "" ∷ bare (a_call "# keep\n" "c" (a_pair k.Named " " "d" "" (leaf c.String "" "\"y\"") ∷ []) " ") "" ∷ []) ""
+    (calling [] "a" false (pair no_comments k.Named "b" (spelled c.String "\"x\"") ∷ []) ∷ calling (codes "# keep" ∷ []) "c" false (pair no_comments k.Named "d" (spelled c.String "\"y\"") ∷ []) ∷ [])
+    -- A group of comment lines that an empty line follows is on its own; so is one above an escaped newline; texts end before their blanks.
+    × Row "# a \t\r\n# b\n\n# c\\\nf()\n# d\n\\\ng()\n"
+    (bare (a_call "# a \t\r\n# b\n\n# c\\\n" "f" [] "") "" ∷ bare (a_call "# d\n\\\n" "g" [] "") "" ∷ []) ""
+    (i.Block (codes "# a" ∷ codes "# b" ∷ []) ∷ calling (codes "# c\\" ∷ []) "f" false [] ∷ i.Block (codes "# d" ∷ []) ∷ calling [] "g" false [] ∷ [])
+    -- comments at the end of the file are on their own, the last one also without newline
+    × Row "f\n# a\n\n\n# b\n# c " (bare (a_name "" "f") "" ∷ []) "# a\n\n\n# b\n# c "
+    (statement [] None (spelled c.Name "f") ∷ i.Block (codes "# a" ∷ []) ∷ i.Block (codes "# b" ∷ codes "# c" ∷ []) ∷ [])
+    -- the comment after the last statement of a line, or after its semicolon, is that statement's suffix
+    × Row "a = 1; b = 2; # c\n"
+    (worked_line (a_pair k.Assign "" "a" " " (leaf c.Number " " "1") ∷ a_mark "" ";" ∷ a_pair k.Assign " " "b" " " (leaf c.Number " " "2") ∷ a_mark "" ";" ∷ []) (codes " # c") ∷ []) ""
+    (i.Stmt (pair no_comments k.Assign "a" (spelled c.Number "1")) ∷ i.Stmt (pair (with [] (Some (codes "# c"))) k.Assign "b" (spelled c.Number "2")) ∷ [])
+    -- a comment after an escaped newline at the end of a line is a comment line
+    × Row "x # a\ny \\\n# b\nz\n" (bare (a_name "" "x") " # a" ∷ bare (a_name "" "y") " \\\n# b" ∷ bare (a_name "" "z") "" ∷ []) ""
+    (statement [] (Some (codes "# a")) (spelled c.Name "x") ∷ statement [] None (spelled c.Name "y") ∷ statement (codes "# b" ∷ []) None (spelled c.Name "z") ∷ [])
 
--- A group of comment lines that an empty line follows is on its own; so is one above an escaped newline; texts end before their blanks.
-abbrev pub CommentGroups : Type 0
-CommentGroups =
-    Row
-    (codes "# a \t\r\n# b\n\n# c\\\nf()\n# d\n\\\ng()\n")
-    (worked_file (
-    worked_bare (worked_node k.Call (name (codes "# a \t\r\n# b\n\n# c\\\n") (codes "f") ∷ worked_mark [] (codes "(") ∷ worked_mark [] (codes ")") ∷ []))
-    ∷ worked_bare (worked_node k.Call (name (codes "# d\n\\\n") (codes "g") ∷ worked_mark [] (codes "(") ∷ worked_mark [] (codes ")") ∷ []))
-    ∷ []) [])
-    (i.Block (codes "# a" ∷ codes "# b" ∷ []) ∷ calling (codes "# c\\" ∷ []) (codes "f") false [] ∷ i.Block (codes "# d" ∷ []) ∷ calling [] (codes "g") false [] ∷ [])
+abbrev BracketRows : Type 0
+BracketRows =
+    -- a newline before an item, before a comma or before the closing bracket splits a sequence; a comma after the last item is gone
+    Row "f(a=[\n1,2,])\n"
+    (bare (a_call "" "f" (a_pair k.Named "" "a" "" (a_list "" (leaf c.Number "\n" "1" ∷ a_mark "" "," ∷ leaf c.Number "" "2" ∷ a_mark "" "," ∷ []) "") ∷ []) "") "" ∷ []) ""
+    (calling [] "f" false (pair no_comments k.Named "a" (worked_sequence k.List [] true (spelled c.Number "1" ∷ spelled c.Number "2" ∷ []) []) ∷ []) ∷ [])
+    -- an escaped newline splits nothing
+    × Row "f(\\\na \n)\ng(\\\n)\n" (bare (a_call "" "f" (a_name "\\\n" "a" ∷ []) " \n") "" ∷ bare (a_call "" "g" [] "\\\n") "" ∷ []) ""
+    (calling [] "f" true (spelled c.Name "a" ∷ []) ∷ calling [] "g" false [] ∷ [])
+    -- Inside an item a comment goes above it; after an opening bracket it goes above the item that begins next; after the
+    -- last item it is at the end.
+    × Row "f(\n    name # n\n      = \"a\",\n    deps = [ # why\n        \":b\",\n        # end\n    ],\n)\n"
+    (bare (a_call "" "f" (
+    a_pair k.Named "\n    " "name" " # n\n      " (leaf c.String " " "\"a\"") ∷ a_mark "" ","
+    ∷ a_pair k.Named "\n    " "deps" " " (a_list " " (leaf c.String " # why\n        " "\":b\"" ∷ a_mark "" "," ∷ []) "\n        # end\n    ") ∷ a_mark "" "," ∷ []
+    ) "\n") "" ∷ []) ""
+    (calling [] "f" true (
+    pair (with (codes "# n" ∷ []) None) k.Named "name" (spelled c.String "\"a\"")
+    ∷ pair no_comments k.Named "deps" (worked_sequence k.List [] true (token (with (codes "# why" ∷ []) None) c.String (codes "\":b\"") ∷ []) (codes "# end" ∷ [])) ∷ []) ∷ [])
+    -- a comment after an item's comma is its suffix; before the comma it belongs to what follows
+    × Row "f(a # b\n, c, # d\n)\n" (bare (a_call "" "f" (a_name "" "a" ∷ a_mark " # b\n" "," ∷ a_name " " "c" ∷ a_mark "" "," ∷ []) " # d\n") "" ∷ []) ""
+    (calling [] "f" true (spelled c.Name "a" ∷ token (with (codes "# b" ∷ []) (Some (codes "# d"))) c.Name (codes "c") ∷ []) ∷ [])
 
--- comments at the end of the file are on their own, the last one also without newline
-abbrev pub AtEnd : Type 0
-AtEnd =
-    Row
-    (codes "f\n# a\n\n\n# b\n# c ")
-    (worked_file (worked_bare (name [] (codes "f")) ∷ []) (codes "# a\n\n\n# b\n# c "))
-    (statement [] None (plain c.Name (codes "f")) ∷ i.Block (codes "# a" ∷ []) ∷ i.Block (codes "# b" ∷ codes "# c" ∷ []) ∷ [])
-
--- the comment after the last statement of a line, or after its semicolon, is that statement's suffix
-abbrev pub Semicolons : Type 0
-Semicolons =
-    Row
-    (codes "a = 1; b = 2; # c\n")
-    (worked_file (worked_line (
-    worked_node k.Assign (name [] (codes "a") ∷ worked_mark (codes " ") (codes "=") ∷ worked_leaf c.Number (codes " ") (codes "1") ∷ [])
-    ∷ worked_mark [] (codes ";") ∷ worked_node k.Assign (name (codes " ") (codes "b") ∷ worked_mark (codes " ") (codes "=") ∷ worked_leaf c.Number (codes " ") (codes "2") ∷ [])
-    ∷ worked_mark [] (codes ";") ∷ []) (codes " # c") ∷ []) [])
-    (assigning [] None (codes "a") (plain c.Number (codes "1")) ∷ assigning [] (Some (codes "# c")) (codes "b") (plain c.Number (codes "2")) ∷ [])
-
--- a comment after an escaped newline at the end of a line is a comment line
-abbrev pub AfterEscape : Type 0
-AfterEscape =
-    Row
-    (codes "x # a\ny \\\n# b\nz\n")
-    (worked_file (
-    worked_line (worked_node k.Bare (name [] (codes "x") ∷ []) ∷ []) (codes " # a")
-    ∷ worked_line (worked_node k.Bare (name [] (codes "y") ∷ []) ∷ []) (codes " \\\n# b")
-    ∷ worked_bare (name [] (codes "z")) ∷ []) [])
-    (statement [] (Some (codes "# a")) (plain c.Name (codes "x")) ∷ statement [] None (plain c.Name (codes "y")) ∷ statement (codes "# b" ∷ []) None (plain c.Name (codes "z")) ∷ [])
-
--- ---- brackets
-
--- a newline before an item, before a comma or before the closing bracket splits a sequence; a comma after the last item is gone
-abbrev pub Split : Type 0
-Split =
-    Row
-    (codes "f(a=[\n1,2,])\n")
-    (worked_file (worked_bare (worked_node k.Call (
-    name [] (codes "f") ∷ worked_mark [] (codes "(")
-    ∷ worked_node k.Named (name [] (codes "a") ∷ worked_mark [] (codes "=")
-    ∷ worked_node k.List (worked_mark [] (codes "[") ∷ worked_leaf c.Number (codes "\n") (codes "1") ∷ worked_mark [] (codes ",") ∷ worked_leaf c.Number [] (codes "2") ∷ worked_mark [] (codes ",") ∷ worked_mark [] (codes "]") ∷ []) ∷ [])
-    ∷ worked_mark [] (codes ")") ∷ [])) ∷ []) [])
-    (calling [] (codes "f") false (argument no_comments (codes "a") (worked_sequence k.List [] true (plain c.Number (codes "1") ∷ plain c.Number (codes "2") ∷ []) []) ∷ []) ∷ [])
-
--- an escaped newline splits nothing
-abbrev pub EscapedNewlines : Type 0
-EscapedNewlines =
-    Row
-    (codes "f(\\\na \n)\ng(\\\n)\n")
-    (worked_file (
-    worked_bare (worked_node k.Call (name [] (codes "f") ∷ worked_mark [] (codes "(") ∷ name (codes "\\\n") (codes "a") ∷ worked_mark (codes " \n") (codes ")") ∷ []))
-    ∷ worked_bare (worked_node k.Call (name [] (codes "g") ∷ worked_mark [] (codes "(") ∷ worked_mark (codes "\\\n") (codes ")") ∷ []))
-    ∷ []) [])
-    (calling [] (codes "f") true (plain c.Name (codes "a") ∷ []) ∷ calling [] (codes "g") false [] ∷ [])
-
--- Inside an item a comment goes above it; after an opening bracket it goes above the item that begins next; after the
--- last item it is at the end.
-abbrev pub Inside : Type 0
-Inside =
-    Row
-    (codes "f(\n    name # n\n      = \"a\",\n    deps = [ # why\n        \":b\",\n        # end\n    ],\n)\n")
-    (worked_file (worked_bare (worked_node k.Call (
-    name [] (codes "f") ∷ worked_mark [] (codes "(")
-    ∷ worked_node k.Named (name (codes "\n    ") (codes "name") ∷ worked_mark (codes " # n\n      ") (codes "=") ∷ worked_leaf c.String (codes " ") (codes "\"a\"") ∷ []) ∷ worked_mark [] (codes ",")
-    ∷ worked_node k.Named (name (codes "\n    ") (codes "deps") ∷ worked_mark (codes " ") (codes "=")
-    ∷ worked_node k.List (worked_mark (codes " ") (codes "[") ∷ worked_leaf c.String (codes " # why\n        ") (codes "\":b\"") ∷ worked_mark [] (codes ",") ∷ worked_mark (codes "\n        # end\n    ") (codes "]") ∷ []) ∷ []) ∷ worked_mark [] (codes ",")
-    ∷ worked_mark (codes "\n") (codes ")") ∷ [])) ∷ []) [])
-    (calling [] (codes "f") true (
-    argument (with (codes "# n" ∷ []) None) (codes "name") (plain c.String (codes "\"a\""))
-    ∷ argument no_comments (codes "deps") (worked_sequence k.List [] true (token (with (codes "# why" ∷ []) None) c.String (codes "\":b\"") ∷ []) (codes "# end" ∷ [])) ∷ []) ∷ [])
-
--- a comment after an item's comma is its suffix; before the comma it belongs to what follows
-abbrev pub Commas : Type 0
-Commas =
-    Row
-    (codes "f(a # b\n, c, # d\n)\n")
-    (worked_file (worked_bare (worked_node k.Call (name [] (codes "f") ∷ worked_mark [] (codes "(") ∷ name [] (codes "a") ∷ worked_mark (codes " # b\n") (codes ",") ∷ name (codes " ") (codes "c") ∷ worked_mark [] (codes ",") ∷ worked_mark (codes " # d\n") (codes ")") ∷ [])) ∷ []) [])
-    (calling [] (codes "f") true (plain c.Name (codes "a") ∷ token (with (codes "# b" ∷ []) (Some (codes "# d"))) c.Name (codes "c") ∷ []) ∷ [])
-
--- ---- operators and comprehensions
-
--- an operator breaks where a newline is before the operand after it; the comment there goes above the statement
-abbrev pub Operand : Type 0
-Operand =
-    Row
-    (codes "x = (a + # why\nb)\n")
-    (worked_file (worked_line (
-    worked_node k.Assign (name [] (codes "x") ∷ worked_mark (codes " ") (codes "=")
-    ∷ worked_node k.Paren (worked_mark (codes " ") (codes "(") ∷ worked_node k.Sum (name [] (codes "a") ∷ worked_mark (codes " ") (codes "+") ∷ name (codes " # why\n") (codes "b") ∷ []) ∷ worked_mark [] (codes ")") ∷ []) ∷ []) ∷ []) [] ∷ []) [])
-    (assigning (codes "# why" ∷ []) None (codes "x")
-    (worked_row no_comments k.Paren false (plain c.Mark (codes "(") ∷ worked_row no_comments k.Sum false (plain c.Name (codes "a") ∷ breaking c.Mark (codes "+") ∷ plain c.Name (codes "b") ∷ []) ∷ plain c.Mark (codes ")") ∷ [])) ∷ [])
-
--- or before the operator; the flag is at its last token
-abbrev pub Words : Type 0
-Words =
-    Row
-    (codes "(a\n  not in b)\n")
-    (worked_file (worked_bare (worked_node k.Paren (worked_mark [] (codes "(") ∷ worked_node k.Compare (name [] (codes "a") ∷ word (codes "\n  ") (codes "not") ∷ word (codes " ") (codes "in") ∷ name (codes " ") (codes "b") ∷ []) ∷ worked_mark [] (codes ")") ∷ [])) ∷ []) [])
-    (statement [] None (worked_row no_comments k.Paren false (
-    plain c.Mark (codes "(") ∷ worked_row no_comments k.Compare false (plain c.Name (codes "a") ∷ plain c.Keyword (codes "not") ∷ breaking c.Keyword (codes "in") ∷ plain c.Name (codes "b") ∷ []) ∷ plain c.Mark (codes ")") ∷ [])) ∷ [])
-
--- a comprehension is open where a newline is right after its bracket
-abbrev pub OpenedForms : Type 0
-OpenedForms =
-    Row
-    (codes "[\n  a for a in b]\n")
-    (worked_file (worked_bare (worked_node k.ListComp (
-    worked_mark [] (codes "[") ∷ name (codes "\n  ") (codes "a")
-    ∷ worked_node k.For (word (codes " ") (codes "for") ∷ name (codes " ") (codes "a") ∷ word (codes " ") (codes "in") ∷ name (codes " ") (codes "b") ∷ []) ∷ worked_mark [] (codes "]") ∷ [])) ∷ []) [])
-    (statement [] None (worked_row no_comments k.ListComp true (
-    plain c.Mark (codes "[") ∷ plain c.Name (codes "a")
-    ∷ worked_row no_comments k.For false (plain c.Keyword (codes "for") ∷ plain c.Name (codes "a") ∷ plain c.Keyword (codes "in") ∷ plain c.Name (codes "b") ∷ []) ∷ plain c.Mark (codes "]") ∷ [])) ∷ [])
-
--- ---- counts
+abbrev OperatorRows : Type 0
+OperatorRows =
+    -- an operator breaks where a newline is before the operand after it; the comment there goes above the statement
+    Row "x = (a + # why\nb)\n"
+    (worked_line (a_pair k.Assign "" "x" " " (in_paren " " (worked_node k.Sum (a_name "" "a" ∷ a_mark " " "+" ∷ a_name " # why\n" "b" ∷ [])) "") ∷ []) [] ∷ []) ""
+    (i.Stmt (pair (with (codes "# why" ∷ []) None) k.Assign "x" (
+    row k.Paren false (spelled c.Mark "(" ∷ row k.Sum false (spelled c.Name "a" ∷ breaking c.Mark "+" ∷ spelled c.Name "b" ∷ []) ∷ spelled c.Mark ")" ∷ []))) ∷ [])
+    -- or before the operator; the flag is at its last token
+    × Row "(a\n  not in b)\n"
+    (bare (in_paren "" (worked_node k.Compare (a_name "" "a" ∷ leaf c.Keyword "\n  " "not" ∷ leaf c.Keyword " " "in" ∷ a_name " " "b" ∷ [])) "") "" ∷ []) ""
+    (statement [] None (row k.Paren false (
+    spelled c.Mark "(" ∷ row k.Compare false (spelled c.Name "a" ∷ spelled c.Keyword "not" ∷ breaking c.Keyword "in" ∷ spelled c.Name "b" ∷ []) ∷ spelled c.Mark ")" ∷ [])) ∷ [])
+    -- a comprehension is open where a newline is right after its bracket
+    × Row "[\n  a for a in b]\n"
+    (bare (between k.ListComp [] "" "[" (a_name "\n  " "a" ∷ worked_node k.For (leaf c.Keyword " " "for" ∷ a_name " " "a" ∷ leaf c.Keyword " " "in" ∷ a_name " " "b" ∷ []) ∷ []) "" "]") "" ∷ []) ""
+    (statement [] None (row k.ListComp true (
+    spelled c.Mark "[" ∷ spelled c.Name "a"
+    ∷ row k.For false (spelled c.Keyword "for" ∷ spelled c.Name "a" ∷ spelled c.Keyword "in" ∷ spelled c.Name "b" ∷ []) ∷ spelled c.Mark "]" ∷ [])) ∷ [])
 
 -- a comment in a group by itself, above a statement, before a comma, after it, at the end of a sequence, after the statement
 -- and at the end of the file
 abbrev everywhere : Node
-everywhere =
-    worked_file (worked_line (
-    worked_node k.Bare (worked_node k.Call (name (codes "# a\n\n# a\n") (codes "f") ∷ worked_mark [] (codes "(") ∷ name [] (codes "x") ∷ worked_mark (codes " # b\n") (codes ",") ∷ worked_mark (codes " # a\n# a\n") (codes ")") ∷ []) ∷ [])
-    ∷ []) (codes " # a") ∷ []) (codes "# a\n")
+everywhere = worked_file (bare (a_call "# a\n\n# a\n" "f" (a_name "" "x" ∷ a_mark " # b\n" "," ∷ []) " # a\n# a\n") " # a" ∷ []) (codes "# a\n")
 
 -- each is in the file value as often as in the text
-abbrev pub CommentCounts : Type 0
+abbrev CommentCounts : Type 0
 CommentCounts =
     (spell_node everywhere ≡ codes "# a\n\n# a\nf(x # b\n, # a\n# a\n) # a\n# a\n")
     × (comments_of_tree everywhere ≡ codes "# a" ∷ codes "# a" ∷ codes "# b" ∷ codes "# a" ∷ codes "# a" ∷ codes "# a" ∷ codes "# a" ∷ [])
@@ -240,4 +203,30 @@ CommentCounts =
     × (occurrences (codes "#") everywhere ≡ 0) × (times (codes "#") (view_of everywhere) ≡ 0)
 
 abbrev pub WorkedViews : Type 0
-WorkedViews = Above × CommentGroups × AtEnd × Semicolons × AfterEscape × Split × EscapedNewlines × Inside × Commas × Operand × Words × OpenedForms × CommentCounts
+WorkedViews = FileRows × BracketRows × OperatorRows × CommentCounts
+
+-- ---- rows of hosts
+
+abbrev two_statements : String → List Part
+two_statements gap = worked_line (worked_node k.Bare (a_name "" "x" ∷ []) ∷ a_mark "" ";" ∷ worked_node k.Bare (a_name "" "y" ∷ []) ∷ []) (codes gap) ∷ []
+
+abbrev pub WorkedHosts : Type 0
+WorkedHosts =
+    -- A Block, and what is above a statement; above an item, its suffix after its comma; the ends of two sequences; the
+    -- suffix of the statement; and a Block at the end.
+    HostRow "# a\n\n# b\nf( # c\n# d\nx, # e\n[ # g\n]\n# h\n) # i\n# j\n"
+    (bare (a_call "# a\n\n# b\n" "f" (a_name " # c\n# d\n" "x" ∷ a_mark "" "," ∷ a_list " # e\n" [] " # g\n" ∷ []) "\n# h\n") " # i" ∷ []) "# j\n"
+    (block (codes "# a" ∷ []) ∷ hosted (codes "# b" ∷ []) (codes "# i" ∷ []) ∷ ended (codes "# h" ∷ [])
+    ∷ hosted (codes "# c" ∷ codes "# d" ∷ []) (codes "# e" ∷ []) ∷ hosted [] [] ∷ ended (codes "# g" ∷ []) ∷ block (codes "# j" ∷ []) ∷ [])
+    -- A comment between an item and its comma belongs to what follows, here the end.
+    × HostRow "[a # o\n,]\n" (bare (a_list "" (a_name "" "a" ∷ a_mark " # o\n" "," ∷ []) "") "" ∷ []) "" (hosted [] [] ∷ ended (codes "# o" ∷ []) ∷ hosted [] [] ∷ [])
+    -- Inside brackets that hold no sequence a comment goes to the statement, above it.
+    × HostRow "a=( # m\nb # n\n)\n" (worked_line (a_pair k.Assign "" "a" "" (in_paren "" (a_name " # m\n" "b") " # n\n") ∷ []) [] ∷ []) "" (hosted (codes "# m" ∷ codes "# n" ∷ []) [] ∷ [])
+    -- Of two statements on a line the last has the suffix; after an escaped newline a comment is none, but a line of the file.
+    × HostRow "x;y # k\n" (two_statements " # k") "" (hosted [] [] ∷ hosted [] (codes "# k" ∷ []) ∷ [])
+    × HostRow "x;y \\\n# k\n" (two_statements " \\\n# k") "" (hosted [] [] ∷ hosted [] [] ∷ block (codes "# k" ∷ []) ∷ [])
+    -- Comment lines that follow each other form a group, wherever the newline that ends the line before them is: right above
+    -- a statement they are above it, and above a line without comment they are a Block.
+    × HostRow "x \\\n# k\n# l\ny\n" (bare (a_name "" "x") " \\\n# k" ∷ bare (a_name "# l\n" "y") "" ∷ []) "" (hosted [] [] ∷ hosted (codes "# k" ∷ codes "# l" ∷ []) [] ∷ [])
+    × HostRow "x \\\n# k\n# l\n\n# m\n\\\ny\n" (bare (a_name "" "x") " \\\n# k" ∷ bare (a_name "# l\n\n# m\n\\\n" "y") "" ∷ []) ""
+    (hosted [] [] ∷ block (codes "# k" ∷ codes "# l" ∷ []) ∷ block (codes "# m" ∷ []) ∷ hosted [] [] ∷ [])

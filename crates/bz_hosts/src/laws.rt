@@ -2,8 +2,8 @@
 
 ghost use Rattle.bz_hosts.specs.Joined.{EmptyReads, ViewsJoin};
 ghost use Rattle.bz_hosts.specs.Kept.{CommentsKept};
-ghost use Rattle.bz_hosts.specs.Laws.{ViewsAreProper};
-ghost use Rattle.bz_hosts.specs.Worked.{WorkedViews};
+ghost use Rattle.bz_hosts.specs.Laws.{HostsByPlace, ViewsAreProper};
+ghost use Rattle.bz_hosts.specs.Worked.{WorkedHosts, WorkedViews};
 
 use bz_grammar::laws::lines_join;
 
@@ -28,4 +28,14 @@ pub fn views_join()
 /// Worked rows of the view: for each a text, its tree, and the file value, or how often its comments occur in it.
 pub fn worked_views()
     ensures { WorkedViews }
+{}
+
+/// The view of a legal tree has each comment at the host that its place in the text gives it.
+pub fn hosts_by_place()
+    ensures { HostsByPlace }
+{}
+
+/// Worked rows: for each a text, its tree, and its comments with their hosts.
+pub fn worked_hosts()
+    ensures { WorkedHosts }
 {}

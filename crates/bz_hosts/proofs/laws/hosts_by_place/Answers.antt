@@ -1,5 +1,5 @@
 use Rattle.bz_hosts.proofs.Files.{hosts_by_place}
-use Rattle.bz_hosts.proofs.host_laws.hosts_by_place.Goals as goal
+use Rattle.bz_hosts.proofs.laws.hosts_by_place.Goals as goal
 
 pub returns : goal.returns
 returns c = hosts_by_place

@@ -1,6 +1,0 @@
-use Rattle.std.proofs.Common.{refl}
-use Rattle.bz_hosts.proofs.host_laws.worked_hosts.Goals as goal
-
-pub returns : goal.returns
-unfolding Rattle.bz_grammar.specs.declared.tree.Part.TheBlock.hidden-the_row-Part-0 denote.Hole.Carrier.hidden
-returns c = ((refl, refl), (refl, refl), (refl, refl), ((refl, refl), (refl, refl)), ((refl, refl), (refl, refl)))
