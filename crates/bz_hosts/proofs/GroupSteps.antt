@@ -4,24 +4,13 @@ use Rattle.std.specs.Option.{option_copied}
 use Rattle.bz_value.specs.declared.value.Item.{Item}
 use Rattle.bz_value.specs.declared.value.Item.TheVariants as i
 use Rattle.bz_items.specs.Characters.{Bytes}
-use Rattle.bz_value.specs.Gaps.{GapLine, lines_of, put_on_first, before_groups, groups_of, all_but_last, last_group}
+use Rattle.bz_value.specs.Gaps.{GapLine, lines_of, put_on_first, groups_of, all_but_last, last_group}
 use Rattle.bz_hosts.specs.View.{blocks}
 use Rattle.bz_hosts.specs.Walks.{prepend}
-
-some_first : (text : Bytes) (gs : List (List Bytes)) → (g : List Bytes) × (more : List (List Bytes)) × (put_on_first text gs ≡ g ∷ more)
-some_first text [] = (text ∷ [], [], refl)
-some_first text (g ∷ gs) = (text ∷ g, gs, refl)
-
-some_line : (o : Option Bytes) (ls : List GapLine) → (g : List Bytes) × (more : List (List Bytes)) × (before_groups o (groups_of ls) ≡ g ∷ more)
-some_line None ls = ([], groups_of ls, refl)
-some_line (Some text) ls = some_first text (groups_of ls)
-
-some_group : (ls : List GapLine) → (g : List Bytes) × (more : List (List Bytes)) × (groups_of ls ≡ g ∷ more)
-some_group [] = ([], [], refl)
-some_group (l ∷ ls) = some_line l.comment ls
+use Rattle.bz_hosts.proofs.Numbered.{has_group}
 
 prepend_none : (ls : List GapLine) → prepend [] (groups_of ls) ≡ groups_of ls
-prepend_none ls = let w = some_group ls in ap (prepend []) w.2 ∙ sym w.2
+prepend_none ls = let w = has_group ls in ap (prepend []) w.is ∙ sym w.is
 
 prepend_line : (lines : List Bytes) (text : Bytes) (gs : List (List Bytes)) → prepend lines (put_on_first text gs) ≡ prepend (lines ++ text ∷ []) gs
 prepend_line lines text [] = refl
@@ -36,7 +25,7 @@ group_at group gs = (blocks (all_but_last ((group ++ []) ∷ gs)) ≡ blocks (gr
 
 -- after a line without comment the group so far is a Block, and another one begins
 group_ends : (group : List Bytes) (ls : List GapLine) → group_at group (groups_of ls)
-group_ends group ls = let w = some_group ls in subst (group_at group) (sym w.2) (block_first group (all_but_last (w.0 ∷ w.1)), refl)
+group_ends group ls = let w = has_group ls in subst (group_at group) (sym w.is) (block_first group (all_but_last (w.group ∷ w.others)), refl)
 
 -- ---- one more line
 
@@ -98,7 +87,7 @@ abbrev last_apart : List (List Bytes) → Type 0
 last_apart gs = blocks gs ≡ blocks (all_but_last gs) ++ blocks (last_group gs ∷ [])
 
 last_block : (ls : List GapLine) → last_apart (groups_of ls)
-last_block ls = let w = some_group ls in subst last_apart (sym w.2) (all_groups w.0 w.1)
+last_block ls = let w = has_group ls in subst last_apart (sym w.is) (all_groups w.group w.others)
 
 pub all_pushed : (old mid new : List Item) (group : List Bytes) (ls : List GapLine) → mid ≡ old ++ blocks (all_but_last (groups_of ls)) → group ≡ last_group (groups_of ls) →
     new ≡ mid ++ blocks (group ∷ []) → new ≡ old ++ blocks (groups_of ls)

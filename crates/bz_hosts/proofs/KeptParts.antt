@@ -14,8 +14,7 @@ use Rattle.bz_value.specs.Frames.{Frame, row, sequence, frame, lead, is_binary}
 use Rattle.bz_items.specs.Characters.{Bytes}
 use Rattle.bz_value.specs.Gaps.{suffix_in, others_in, all_in, has_newline}
 use Rattle.bz_value.specs.Proper.{is_operator}
-use Rattle.bz_hosts.specs.View.{Seen, seen, seen_node, plain, first_seen_gap, begins_seen_operator, loose_in, loose_after, row_exprs, items_in}
-use Rattle.bz_hosts.specs.Walks.{form_of_frame, loose_of}
+use Rattle.bz_hosts.specs.View.{Seen, seen, seen_node, plain, first_seen_gap, begins_seen_operator, loose_in, loose_after, row_exprs, items_in, form_of_frame, loose_of}
 use Rattle.bz_hosts.proofs.Alternating.{Alternating}
 use Rattle.bz_hosts.proofs.Cuts.{is_token, mark_token, BracketAt, CutIn, kind_cut}
 use Rattle.bz_hosts.proofs.ProperParts.{dropped}

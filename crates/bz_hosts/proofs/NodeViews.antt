@@ -14,9 +14,8 @@ use Rattle.bz_value.specs.Commented.{with_comments}
 use Rattle.bz_value.specs.Comments.{HostComments, no_comments}
 use Rattle.bz_value.specs.Frames.{Frame, row, sequence, frame, has_brackets, lead}
 use Rattle.bz_value.specs.Gaps.{has_newline}
-use Rattle.bz_hosts.specs.View.{Seen, seen, seen_row, seen_node, plain, first_seen_gap, is_open, is_split}
-use Rattle.bz_hosts.specs.Walks.{form_of_frame, loose_of, seq_in}
-use Rattle.bz_hosts.proofs.SeenParts.{seen_rows, node_gap}
+use Rattle.bz_hosts.specs.View.{Seen, seen, seen_row, seen_node, plain, first_seen_gap, is_open, is_split, form_of_frame, loose_of, seq_in}
+use Rattle.bz_hosts.proofs.SeenParts.{seen_rows}
 
 pub seen_parts : (n : Node) → seen_row (row_of n).1 ≡ map seen n.parts
 seen_parts n = seen_rows _ (row_of n).1 ∙ ap (map seen) (items_of_row n)
@@ -25,14 +24,6 @@ pub seen_Node : (n : Node) → seen (p.Node n) ≡ seen_node (frame n.kind) n.ki
 seen_Node n = ap (seen_node (frame n.kind) n.kind) (seen_parts n)
 
 -- ---- a node by its frame
-
-node_made : (f : Frame) (kind : Kind) (ss : List Seen) (b : Bool) → e.Form (form_of_frame f kind ss no_comments) ≡ (seen_node f kind ss).make no_comments b
-node_made row kind ss b = refl
-node_made (sequence opener closer) kind ss b = refl
-
-node_loose : (f : Frame) (kind : Kind) (ss : List Seen) → loose_of f kind ss ≡ (seen_node f kind ss).loose
-node_loose row kind ss = refl
-node_loose (sequence opener closer) kind ss = refl
 
 node_comments : (f : Frame) (kind : Kind) (ss : List Seen) (b : Bool) (cs : HostComments) → with_comments ((seen_node f kind ss).make no_comments b) cs ≡ (seen_node f kind ss).make cs b
 node_comments row kind ss b cs = refl
@@ -46,13 +37,13 @@ seen_comments (Node' kind _ parts) b cs = node_comments (frame kind) kind (seen_
 -- ---- the same of a part that is a node
 
 pub gap_of_node : (x : Part) (n : Node) → x ≡ p.Node n → first_seen_gap (map seen n.parts) ≡ (seen x).gap
-gap_of_node x n i = sym (ap (λ y. (seen y).gap) i ∙ (ap (λ s. s.gap) (seen_Node n) ∙ node_gap n.kind (map seen n.parts) (frame n.kind)))
+gap_of_node x n i = sym (ap (λ y. (seen y).gap) i ∙ ap (λ s. s.gap) (seen_Node n))
 
 pub made_of_node : (x : Part) (n : Node) (b : Bool) → x ≡ p.Node n → e.Form (form_of_frame (frame n.kind) n.kind (map seen n.parts) no_comments) ≡ (seen x).make no_comments b
-made_of_node x n b i = node_made (frame n.kind) n.kind (map seen n.parts) b ∙ sym (ap (λ y. (seen y).make no_comments b) i ∙ ap (λ s. s.make no_comments b) (seen_Node n))
+made_of_node x n b i = sym (ap (λ y. (seen y).make no_comments b) i ∙ ap (λ s. s.make no_comments b) (seen_Node n))
 
 pub loose_of_node : (x : Part) (n : Node) → x ≡ p.Node n → loose_of (frame n.kind) n.kind (map seen n.parts) ≡ (seen x).loose
-loose_of_node x n i = node_loose (frame n.kind) n.kind (map seen n.parts) ∙ sym (ap (λ y. (seen y).loose) i ∙ ap (λ s. s.loose) (seen_Node n))
+loose_of_node x n i = sym (ap (λ y. (seen y).loose) i ∙ ap (λ s. s.loose) (seen_Node n))
 
 -- ---- a sequence
 

@@ -2,8 +2,9 @@
 use Rattle.std.proofs.Common.{◌≡◌, ℕ, zero, suc, Bool, true, false, ◌&&◌, List, [], ◌∷◌, ◌++◌, Option, None, Some, length, refl, sym, ap, ◌∙◌, map, append_assoc, if◌then◌else◌}
 use Rattle.std.proofs.lemmas.List.{map-append}
 use Rattle.bz_items.specs.Characters.{Bytes}
+use Rattle.std.specs.Option.{option_map_or}
 use Rattle.bz_value.specs.Gaps.{GapLine, as_list, before_groups, groups_of, all_but_last, last_group}
-use Rattle.bz_hosts.specs.Hosts.{comment_on, with_last, right_above, unless_comment, bare_lines}
+use Rattle.bz_hosts.specs.Hosts.{comment_on, right_above, bare_lines}
 
 -- ---- what one line more on top adds
 
@@ -25,11 +26,11 @@ reaches_after : (x : GapLine) (ls : List GapLine) (n : ℕ) → reaches (x ∷ l
 reaches_after x ls zero = refl
 reaches_after x ls (suc n) = ap (λ b. has (comment_on ls n) && b) (reaches_after x ls n) ∙ swap (has (comment_on ls n)) (has x.comment) (reaches ls n)
 
-first_above : (c : Option Bytes) → with_last [] c ≡ as_list c ++ []
+first_above : (c : Option Bytes) → option_map_or (λ text. text ∷ []) c [] ≡ as_list c ++ []
 first_above None = refl
 first_above (Some text) = refl
 
-next_above : (c : Option Bytes) (r : Bool) (top a b : List Bytes) → a ≡ (if r then top else []) ++ b → with_last a c ≡ (if has c && r then top else []) ++ with_last b c
+next_above : (c : Option Bytes) (r : Bool) (top a b : List Bytes) → a ≡ (if r then top else []) ++ b → option_map_or (λ text. a ++ text ∷ []) c [] ≡ (if has c && r then top else []) ++ option_map_or (λ text. b ++ text ∷ []) c []
 next_above None r top a b e = refl
 next_above (Some text) r top a b e = ap (λ (z : List Bytes). z ++ text ∷ []) e ∙ append_assoc (if r then top else []) b (text ∷ [])
 
@@ -59,7 +60,7 @@ all_collected : (x : GapLine) (ls : List GapLine) (ns : List ℕ) → map (colle
 all_collected x ls [] = refl
 all_collected x ls (n ∷ ns) = ap (λ (z : Collected). z ∷ map (collected (x ∷ ls)) (map (λ n. suc n) ns)) (collected_after x ls n) ∙ ap (λ (z : List Collected). more x.comment (collected ls n) ∷ z) (all_collected x ls ns)
 
-unless_shift : (c : Option Bytes) (n : ℕ) → unless_comment c (suc n) ≡ map (λ n. suc n) (unless_comment c n)
+unless_shift : (c : Option Bytes) (n : ℕ) → option_map_or (λ text. []) c (suc n ∷ []) ≡ map (λ n. suc n) (option_map_or (λ text. []) c (n ∷ []))
 unless_shift None n = refl
 unless_shift (Some text) n = refl
 
@@ -67,12 +68,12 @@ bare_shift : (n : ℕ) (ls : List GapLine) → bare_lines (suc n) ls ≡ map (λ
 bare_shift n [] = refl
 bare_shift n (x ∷ ls) =
     ap (λ z. z ++ bare_lines (suc (suc n)) ls) (unless_shift x.comment n)
-    ∙ (ap (λ z. map (λ n. suc n) (unless_comment x.comment n) ++ z) (bare_shift (suc n) ls) ∙ sym (map-append (λ n. suc n) (unless_comment x.comment n) (bare_lines (suc n) ls)))
+    ∙ (ap (λ z. map (λ n. suc n) (option_map_or (λ text. []) x.comment (n ∷ [])) ++ z) (bare_shift (suc n) ls) ∙ sym (map-append (λ n. suc n) (option_map_or (λ text. []) x.comment (n ∷ [])) (bare_lines (suc n) ls)))
 
-stops_after : (x : GapLine) (ls : List GapLine) → stops (x ∷ ls) ≡ unless_comment x.comment 0 ++ map (λ n. suc n) (stops ls)
+stops_after : (x : GapLine) (ls : List GapLine) → stops (x ∷ ls) ≡ option_map_or (λ text. []) x.comment (0 ∷ []) ++ map (λ n. suc n) (stops ls)
 stops_after x ls =
-    append_assoc (unless_comment x.comment 0) (bare_lines 1 ls) (suc (length ls) ∷ [])
-    ∙ ap (λ z. unless_comment x.comment 0 ++ z) (ap (λ z. z ++ suc (length ls) ∷ []) (bare_shift 0 ls) ∙ sym (map-append (λ n. suc n) (bare_lines 0 ls) (length ls ∷ [])))
+    append_assoc (option_map_or (λ text. []) x.comment (0 ∷ [])) (bare_lines 1 ls) (suc (length ls) ∷ [])
+    ∙ ap (λ z. option_map_or (λ text. []) x.comment (0 ∷ []) ++ z) (ap (λ z. z ++ suc (length ls) ∷ []) (bare_shift 0 ls) ∙ sym (map-append (λ n. suc n) (bare_lines 0 ls) (length ls ∷ [])))
 
 abbrev unmarked : List Bytes → Collected
 unmarked group = (false, group)
@@ -81,41 +82,38 @@ abbrev marked : List (List Bytes) → List Collected
 marked [] = []
 marked (group ∷ groups) = let t : Collected = (true, group) in t ∷ map unmarked groups
 
-none_more : (groups : List (List Bytes)) → map (more None) (map unmarked groups) ≡ map unmarked groups
-none_more [] = refl
-none_more (group ∷ groups) = ap (λ (z : List Collected). unmarked group ∷ z) (none_more groups)
-
-some_more : (text : Bytes) (groups : List (List Bytes)) → map (more (Some text)) (map unmarked groups) ≡ map unmarked groups
-some_more text [] = refl
-some_more text (group ∷ groups) = ap (λ (z : List Collected). unmarked group ∷ z) (some_more text groups)
+unmarked_more : (c : Option Bytes) (groups : List (List Bytes)) → map (more c) (map unmarked groups) ≡ map unmarked groups
+unmarked_more c [] = refl
+unmarked_more None (group ∷ groups) = ap (λ (z : List Collected). unmarked group ∷ z) (unmarked_more None groups)
+unmarked_more (Some text) (group ∷ groups) = ap (λ (z : List Collected). unmarked group ∷ z) (unmarked_more (Some text) groups)
 
 -- there is a group, if an empty one
-record HasGroup (groups : List (List Bytes)) : Type 0 where
-  group : List Bytes
-  others : List (List Bytes)
-  is : groups ≡ group ∷ others
+pub record HasGroup (groups : List (List Bytes)) : Type 0 where
+  pub group : List Bytes
+  pub others : List (List Bytes)
+  pub is : groups ≡ group ∷ others
 
 before_has : (c : Option Bytes) (groups : List (List Bytes)) → HasGroup (before_groups c groups)
 before_has None groups = record { group = []; others = groups; is = refl }
 before_has (Some text) [] = record { group = text ∷ []; others = []; is = refl }
 before_has (Some text) (group ∷ groups) = record { group = text ∷ group; others = groups; is = refl }
 
-has_group : (ls : List GapLine) → HasGroup (groups_of ls)
+pub has_group : (ls : List GapLine) → HasGroup (groups_of ls)
 has_group [] = record { group = []; others = []; is = refl }
 has_group (x ∷ ls) = before_has x.comment (groups_of ls)
 
 marked_before : (x : GapLine) (ls : List GapLine) (c : Option Bytes) (group : List Bytes) (groups : List (List Bytes)) →
-    map (collected (x ∷ ls)) (unless_comment c 0) ++ map (more c) (marked (group ∷ groups)) ≡ marked (before_groups c (group ∷ groups))
-marked_before x ls None group groups = ap (λ (z : List Collected). collected (x ∷ ls) 0 ∷ unmarked group ∷ z) (none_more groups)
-marked_before x ls (Some text) group groups = ap (λ (z : List Collected). let t : Collected = (true, text ∷ group) in t ∷ z) (some_more text groups)
+    map (collected (x ∷ ls)) (option_map_or (λ text. []) c (0 ∷ [])) ++ map (more c) (marked (group ∷ groups)) ≡ marked (before_groups c (group ∷ groups))
+marked_before x ls None group groups = ap (λ (z : List Collected). collected (x ∷ ls) 0 ∷ unmarked group ∷ z) (unmarked_more None groups)
+marked_before x ls (Some text) group groups = ap (λ (z : List Collected). let t : Collected = (true, text ∷ group) in t ∷ z) (unmarked_more (Some text) groups)
 
 groups_collected : (ls : List GapLine) → map (collected ls) (stops ls) ≡ marked (groups_of ls)
 groups_collected [] = refl
 groups_collected (x ∷ ls) =
     let g : HasGroup (groups_of ls) = has_group ls in
     ap (map (collected (x ∷ ls))) (stops_after x ls)
-    ∙ (map-append (collected (x ∷ ls)) (unless_comment x.comment 0) (map (λ n. suc n) (stops ls))
-    ∙ (ap (λ (z : List Collected). map (collected (x ∷ ls)) (unless_comment x.comment 0) ++ z) (all_collected x ls (stops ls) ∙ ap (map (more x.comment)) (groups_collected ls ∙ ap marked g.is))
+    ∙ (map-append (collected (x ∷ ls)) (option_map_or (λ text. []) x.comment (0 ∷ [])) (map (λ n. suc n) (stops ls))
+    ∙ (ap (λ (z : List Collected). map (collected (x ∷ ls)) (option_map_or (λ text. []) x.comment (0 ∷ [])) ++ z) (all_collected x ls (stops ls) ∙ ap (map (more x.comment)) (groups_collected ls ∙ ap marked g.is))
     ∙ (marked_before x ls x.comment g.group g.others ∙ ap (λ (z : List (List Bytes)). marked (before_groups x.comment z)) (sym g.is))))
 
 -- ---- the groups alone

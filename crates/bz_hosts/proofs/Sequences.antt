@@ -1,6 +1,7 @@
 -- The texts after the opening bracket of a sequence: those above each item, its suffix, and those at the end.
 use Rattle.std.proofs.Common.{◌≡◌, ◌≢◌, ℕ, suc, ◌+◌, ◌<◌, ◌≤◌, true, false, ◌&&◌, List, [], ◌∷◌, ◌++◌, ◌⊎◌, inl, inr, Option, Some, refl, sym, ap, ◌∙◌, subst, map, append-nil, nat_lt, nat_le, arith}
 use Rattle.std.specs.List.{AllByRecursion}
+use Rattle.std.specs.Option.{option_map_or}
 use Rattle.std.proofs.lemmas.Bool.{lt-ltb}
 use Rattle.std.proofs.lemmas.Bool.Decides.{nat_tests}
 use Rattle.std.proofs.lemmas.List.{map-append}
@@ -15,7 +16,7 @@ use Rattle.bz_value.specs.Gaps.{as_list, suffix_in, others_in, all_in}
 use Rattle.bz_value.specs.Proper.{comments_of}
 use Rattle.bz_hosts.specs.View.{seen, plain, items_in}
 use Rattle.bz_hosts.proofs.SeenParts.{comments_made}
-use Rattle.bz_hosts.specs.Hosts.{Region, host, between, beginning_in, place_at_end, Comment, comments_at, sizes, measured, hosts_from, CommentPlace, suffix_of, above, end_of, texts_at, Hosted, hosted, hosted_at, hosted_by, inside_expr}
+use Rattle.bz_hosts.specs.Hosts.{Region, host, between, beginning_in, Comment, comments_at, sizes, measured, hosts_from, CommentPlace, suffix_of, above, end_of, texts_at, Hosted, hosted, hosted_at, hosted_by, inside_expr}
 use Rattle.bz_hosts.proofs.Around.{AllInside, Sees, SeesAt, Ended, sees_after, sees_before, sees_in_host, sees_past_host, sees_ended}
 use Rattle.bz_hosts.proofs.Gathered.{key, pick, pick_same, pick_other, pick_joined, GapPlaces, texts_joined, gap_texts, gap_all}
 use Rattle.bz_hosts.proofs.HostsJoined.{Lines, three_none, three_first, three_second, three_third, five_none, five_first, five_third, five_rest}
@@ -62,23 +63,23 @@ host_begins m n hi h i =
     let e : nat_le m n ≡ true = grind (arith, nat_tests) in
     rw (e, lt-ltb n hi i) refl
 
-pub beginning_first : (o hi m n : ℕ) → m ≤ n → n < hi → (xs : List Part) → Alternating s.comma_mark xs → place_at_end o (beginning_in m hi (hosts_from s.comma_mark n (map measured xs))) ≡ first_place o n xs
+pub beginning_first : (o hi m n : ℕ) → m ≤ n → n < hi → (xs : List Part) → Alternating s.comma_mark xs → option_map_or above (beginning_in m hi (hosts_from s.comma_mark n (map measured xs))) (end_of o) ≡ first_place o n xs
 beginning_first o hi m n h i [] a = absurd a
-beginning_first o hi m n h i (z ∷ []) a = ap (λ (rs : List Region). place_at_end o (beginning_in m hi rs)) (hosts_closed s.comma_mark n z a)
-beginning_first o hi m n h i (x ∷ p.Leaf l ∷ []) a = ap (λ (rs : List Region). place_at_end o (beginning_in m hi rs)) (hosts_last s.comma_mark n x l a.0 a.1) ∙ rw (host_begins m n hi h i) refl
+beginning_first o hi m n h i (z ∷ []) a = ap (λ (rs : List Region). option_map_or above (beginning_in m hi rs) (end_of o)) (hosts_closed s.comma_mark n z a)
+beginning_first o hi m n h i (x ∷ p.Leaf l ∷ []) a = ap (λ (rs : List Region). option_map_or above (beginning_in m hi rs) (end_of o)) (hosts_last s.comma_mark n x l a.0 a.1) ∙ rw (host_begins m n hi h i) refl
 beginning_first o hi m n h i (x ∷ Node' kind c r ∷ []) a = absurd a.1
-beginning_first o hi m n h i (x ∷ p.Leaf l ∷ z ∷ xs) a = ap (λ (rs : List Region). place_at_end o (beginning_in m hi rs)) (hosts_more s.comma_mark n x l (z ∷ xs) a.0 a.1) ∙ rw (host_begins m n hi h i) refl
+beginning_first o hi m n h i (x ∷ p.Leaf l ∷ z ∷ xs) a = ap (λ (rs : List Region). option_map_or above (beginning_in m hi rs) (end_of o)) (hosts_more s.comma_mark n x l (z ∷ xs) a.0 a.1) ∙ rw (host_begins m n hi h i) refl
 beginning_first o hi m n h i (x ∷ Node' kind c r ∷ z ∷ xs) a = absurd a.1
 
 -- a gap in a sequence and in none of its items
 pub gap_free : (all : List Region) (m o hi lo up : ℕ) (rs : List Region) → AllInside lo up rs → m ≤ lo → m ≤ hi → Sees all m (Some (between o hi)) hi rs →
-    GapPlaces all m (place_at_end o (beginning_in m hi rs)) (place_at_end o (beginning_in m hi rs))
+    GapPlaces all m (option_map_or above (beginning_in m hi rs) (end_of o)) (option_map_or above (beginning_in m hi rs) (end_of o))
 gap_free all m o hi lo up rs i l u h =
     let w = sees_before all m (Some (between o hi)) hi lo up m [] rs i l l u h in
     let e = h.begins hi (omega arith) in
     record { on_line = λ t. rw (w.ends, w.inner, e) refl; below = λ t. rw (w.inner, e) refl }
 
-gap_ended : (all : List Region) (m first o hi : ℕ) (rs : List Region) → Ended all m first (Some (between o hi)) hi rs → GapPlaces all m (suffix_of first) (place_at_end o (beginning_in m hi rs))
+gap_ended : (all : List Region) (m first o hi : ℕ) (rs : List Region) → Ended all m first (Some (between o hi)) hi rs → GapPlaces all m (suffix_of first) (option_map_or above (beginning_in m hi rs) (end_of o))
 gap_ended all m first o hi rs h = record { on_line = λ t. rw h.ends refl; below = λ t. rw (h.inner, h.begins) refl }
 
 -- ---- an item with its comments

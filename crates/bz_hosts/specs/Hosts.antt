@@ -2,6 +2,7 @@
 -- A host is a statement or an item of a sequence; a sequence is what is between the brackets of a Call, List, Dict,
 -- Tuple or Load. Both are given by the numbers of their leaves alone.
 use Rattle.std.specs.Prelude.{ℕ, zero, suc, ◌+◌, Bool, true, false, ◌&&◌, List, [], ◌∷◌, ◌++◌, Option, Some, None, length, map, take, drop, nat_eq, nat_lt, nat_le, if◌then◌else◌}
+use Rattle.std.specs.Option.{option_map_or}
 use Rattle.bz_token.specs.declared.class.Class.{Class}
 use Rattle.bz_token.specs.declared.class.Class.TheVariants as c
 use Rattle.bz_lex.specs.declared.leaf.Leaf.{Leaf}
@@ -142,24 +143,16 @@ abbrev pub innermost : ℕ → Option Region → List Region → Option Region
 innermost leaf found [] = found
 innermost leaf found (r ∷ rs) = innermost leaf (if holds_gap leaf r then Some r else found) rs
 
-abbrev pub place_at_end : ℕ → Option ℕ → CommentPlace
-place_at_end opening (Some first) = above first
-place_at_end opening None = end_of opening
-
 -- In a host: above it. In a sequence: above the item that begins next, or at its end where none does.
 abbrev pub place_in : ℕ → List Region → Option Region → CommentPlace
 place_in leaf rs None = outside
 place_in leaf rs (Some (host first following next)) = above first
-place_in leaf rs (Some (between opening following)) = place_at_end opening (beginning_in leaf following rs)
-
-abbrev pub place_unless : Option ℕ → CommentPlace → CommentPlace
-place_unless (Some first) place = suffix_of first
-place_unless None place = place
+place_in leaf rs (Some (between opening following)) = option_map_or above (beginning_in leaf following rs) (end_of opening)
 
 -- A comment that follows a host's end with only blanks between is its suffix. Any other belongs to the innermost host or
 -- sequence that it is in.
 abbrev pub comment_place : List Region → Comment → CommentPlace
-comment_place rs c = place_unless (if c.on_line then ending_at c.leaf rs else None) (place_in c.leaf rs (innermost c.leaf None rs))
+comment_place rs c = option_map_or suffix_of (if c.on_line then ending_at c.leaf rs else None) (place_in c.leaf rs (innermost c.leaf None rs))
 
 -- ---- the comments of each host and sequence
 
@@ -215,24 +208,16 @@ comment_on [] n = None
 comment_on (line ∷ lines) zero = line.comment
 comment_on (line ∷ lines) (suc n) = comment_on lines n
 
-abbrev pub with_last : List Bytes → Option Bytes → List Bytes
-with_last texts None = []
-with_last texts (Some text) = texts ++ text ∷ []
-
 -- The comment lines that follow each other right above the line of this number: the line before it, if it has a comment, and
 -- those right above that one.
 abbrev pub right_above : List GapLine → ℕ → List Bytes
 right_above lines zero = []
-right_above lines (suc n) = with_last (right_above lines n) (comment_on lines n)
-
-abbrev pub unless_comment : Option Bytes → ℕ → List ℕ
-unless_comment None n = n ∷ []
-unless_comment (Some text) n = []
+right_above lines (suc n) = option_map_or (λ text. right_above lines n ++ text ∷ []) (comment_on lines n) []
 
 -- the numbers of the lines without token and comment; the first line has this number
 abbrev pub bare_lines : ℕ → List GapLine → List ℕ
 bare_lines n [] = []
-bare_lines n (line ∷ lines) = unless_comment line.comment n ++ bare_lines (suc n) lines
+bare_lines n (line ∷ lines) = option_map_or (λ text. []) line.comment (n ∷ []) ++ bare_lines (suc n) lines
 
 -- Comment lines that follow each other form a group. A group whose last line is followed by a line without token and
 -- comment, or by no token at all, is on its own; otherwise it is above the next statement.

@@ -7,6 +7,8 @@ use Rattle.bz_grammar.specs.declared.tree.Part.{Part, Row_of-Part, end_of-Part, 
 use Rattle.bz_grammar.specs.declared.tree.Part.TheVariants as p
 use Rattle.bz_value.specs.declared.value.Expr.{Expr}
 use Rattle.bz_value.specs.declared.value.Expr.TheVariants as e
+use Rattle.bz_value.specs.declared.value.Form.{Form}
+use Rattle.bz_value.specs.declared.value.Seq.{Seq}
 use Rattle.bz_value.specs.declared.value.Item.{Item}
 use Rattle.bz_value.specs.declared.value.Item.TheVariants as i
 use Rattle.bz_value.specs.Comments.{HostComments, no_comments}
@@ -91,35 +93,37 @@ abbrev pub is_open : List Seen → Bool
 is_open [] = false
 is_open (s ∷ ss) = has_newline (first_seen_gap ss)
 
-abbrev pub row_form : Kind → List Seen → HostComments → Expr
-row_form kind ss comments = e.Form (record {
+-- a sequence, from the end of its opening bracket on
+abbrev pub seq_in : List Seen → Seq
+seq_in body =
+    let found : List Expr × List Bytes = items_in (all_in (first_seen_gap body)) body in
+    record { items = found.0; end = found.1; split = is_split body }
+
+abbrev pub sequence_in : Kind → List Seen → List Seen → HostComments → Form
+sequence_in kind head body comments = record { kind = kind; parts = map plain head; seq = seq_in body; open_break = false; comments = comments }
+
+abbrev pub sequence_form : Kind → List Seen → List Seen → HostComments → Expr
+sequence_form kind head body comments = e.Form (sequence_in kind head body comments)
+
+-- A node without gaps. Of a sequence stay what is before the bracket and the items; brackets and commas are gone.
+-- Every other node keeps the row of its parts.
+abbrev pub form_of_frame : Frame → Kind → List Seen → HostComments → Form
+form_of_frame row kind ss comments = record {
   kind = kind;
   parts = row_exprs (is_binary kind) false false ss;
   seq = record { items = []; end = []; split = false };
   open_break = is_comprehension kind && is_open ss;
   comments = comments;
-})
-
-abbrev pub sequence_form : Kind → List Seen → List Seen → HostComments → Expr
-sequence_form kind head body comments =
-    let found : List Expr × List Bytes = items_in (all_in (first_seen_gap body)) body in
-    e.Form (record {
-      kind = kind;
-      parts = map plain head;
-      seq = record { items = found.0; end = found.1; split = is_split body };
-      open_break = false;
-      comments = comments;
-    })
-
--- A node without gaps. Of a sequence stay what is before the bracket and the items; brackets and commas are gone.
--- Every other node keeps the row of its parts.
-abbrev pub seen_node : Frame → Kind → List Seen → Seen
-seen_node row kind ss = record { make = λ comments break. row_form kind ss comments; gap = first_seen_gap ss; loose = loose_in ss }
-seen_node (sequence opener closer) kind ss = record {
-  make = λ comments break. sequence_form kind (take (lead kind) ss) (drop (suc (lead kind)) ss) comments;
-  gap = first_seen_gap ss;
-  loose = loose_in (take (suc (lead kind)) ss);
 }
+form_of_frame (sequence opener closer) kind ss comments = sequence_in kind (take (lead kind) ss) (drop (suc (lead kind)) ss) comments
+
+-- the comments of a node that are in no host or sequence inside it
+abbrev pub loose_of : Frame → Kind → List Seen → List Bytes
+loose_of row kind ss = loose_in ss
+loose_of (sequence opener closer) kind ss = loose_in (take (suc (lead kind)) ss)
+
+abbrev pub seen_node : Frame → Kind → List Seen → Seen
+seen_node f kind ss = record { make = λ comments break. e.Form (form_of_frame f kind ss comments); gap = first_seen_gap ss; loose = loose_of f kind ss }
 
 abbrev pub leaf_seen : Leaf → Seen
 leaf_seen l = record { make = λ comments break. e.Token (record { class = l.class; text = l.token; line_break = break; comments = comments }); gap = l.gap; loose = [] }

@@ -2,8 +2,7 @@
 ghost use Rattle.std.specs.Prelude.{◌≡◌, [], ◌∷◌, ◌++◌, ◌+◌, ◌<◌, ◌≤◌, length, map, take, drop, suc, false, IfOk, OnOk};
 ghost use Rattle.bz_value.specs.Comments.{no_comments};
 ghost use Rattle.bz_value.specs.Frames.{frame};
-ghost use Rattle.bz_hosts.specs.View.{items_in, loose_in, plain, row_exprs, seen};
-ghost use Rattle.bz_hosts.specs.Walks.{form_of_frame, loose_of, seq_in};
+ghost use Rattle.bz_hosts.specs.View.{form_of_frame, items_in, loose_in, loose_of, plain, row_exprs, seen, seq_in};
 
 use crate::before::{breaks_from, is_followed, is_operator_in};
 use crate::commented::comment_last;
