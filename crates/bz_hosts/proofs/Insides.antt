@@ -39,13 +39,9 @@ form_inside f =
 
 -- ---- what is made of a part has the same in it for any comments and break
 
-node_made : (kind : Kind) (ss : List Seen) (cs : HostComments) (b : Bool) (f : Frame) → inside_expr ((seen_node f kind ss).make cs b) ≡ inside_expr (plain (seen_node f kind ss))
-node_made kind ss cs b row = refl
-node_made kind ss cs b (sequence opener closer) = refl
-
 pub inside_made : (x : Part) (cs : HostComments) (b : Bool) → inside_expr ((seen x).make cs b) ≡ inside_expr (plain (seen x))
 inside_made (p.Leaf l) cs b = refl
-inside_made (Node' kind n r) cs b = node_made kind (seen_row r) cs b (frame kind)
+inside_made (Node' kind n r) cs b = refl
 
 abbrev pub insides : List Part → List Hosted
 insides [] = []

@@ -165,13 +165,9 @@ module _ (number : Bytes → ℕ) where
       omega arith
 
   pub node_kept : (f : Frame) (kind : Kind) (xs : List Part) → AllKept xs → CutIn f kind xs → gap_amount number (seen_node f kind (map seen xs)).gap + held (seen_node f kind (map seen xs)) ≡ total (part_amount number) xs
-  node_kept row kind xs h b =
-      let made = node_amount number row kind (map seen xs) no_comments false in
-      let all = form_kept row kind xs h b in
-      omega arith
-  node_kept (sequence opener closer) kind xs h b =
-      let made = node_amount number (sequence opener closer) kind (map seen xs) no_comments false in
-      let all = form_kept (sequence opener closer) kind xs h b in
+  node_kept f kind xs h b =
+      let made = node_amount number f kind (map seen xs) no_comments false in
+      let all = form_kept f kind xs h b in
       omega arith
 
   mutual

@@ -23,16 +23,10 @@ seen_parts n = seen_rows _ (row_of n).1 ∙ ap (map seen) (items_of_row n)
 pub seen_Node : (n : Node) → seen (p.Node n) ≡ seen_node (frame n.kind) n.kind (map seen n.parts)
 seen_Node n = ap (seen_node (frame n.kind) n.kind) (seen_parts n)
 
--- ---- a node by its frame
-
-node_comments : (f : Frame) (kind : Kind) (ss : List Seen) (b : Bool) (cs : HostComments) → with_comments ((seen_node f kind ss).make no_comments b) cs ≡ (seen_node f kind ss).make cs b
-node_comments row kind ss b cs = refl
-node_comments (sequence opener closer) kind ss b cs = refl
-
 -- comments and break make no other expression
 pub seen_comments : (x : Part) (b : Bool) (cs : HostComments) → with_comments ((seen x).make no_comments b) cs ≡ (seen x).make cs b
 seen_comments (p.Leaf l) b cs = refl
-seen_comments (Node' kind _ parts) b cs = node_comments (frame kind) kind (seen_row parts) b cs
+seen_comments (Node' kind _ parts) b cs = refl
 
 -- ---- the same of a part that is a node
 

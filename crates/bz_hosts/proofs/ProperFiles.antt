@@ -53,13 +53,9 @@ blocks_proper ((text ∷ group) ∷ gs) h = (((λ e. cc), All-from_recursion IsC
 
 -- ---- statements
 
-node_statement : (kind : Kind) (ss : List Seen) (cs : HostComments) (f : Frame) → has_statement_kind ((seen_node f kind ss).make cs false) ≡ is_statement kind
-node_statement kind ss cs row = refl
-node_statement kind ss cs (sequence opener closer) = refl
-
 statement_made : (x : Part) (cs : HostComments) → IsNonterminal s.small x → LegalPart x → has_statement_kind ((seen x).make cs false) ≡ true
 statement_made (p.Leaf l) cs h legal = no_such h
-statement_made (Node' kind n r) cs h legal = node_statement kind (seen_row r) cs (frame kind) ∙ small_statement kind (items-the_row-Part _ r) legal.0 h
+statement_made (Node' kind n r) cs h legal = small_statement kind (items-the_row-Part _ r) legal.0 h
 
 statement_proper : (here : Spot) (x : Part) (above : List Bytes) (suffix : Option Bytes) → onward here ≡ onward Begins → IsNonterminal s.small x → LegalPart x → Ready shape x → Decoded (seen x) → AtLeaves BzlStands here x → Group above → MaybeComment suffix →
     IsProperItem (statement above suffix (seen x))

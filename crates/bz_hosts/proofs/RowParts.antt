@@ -18,7 +18,7 @@ use Rattle.bz_value.proofs.FormParts.{operator_first, ArePartsBy}
 use Rattle.bz_value.proofs.Wider.{IsWider}
 use Rattle.bz_hosts.specs.View.{seen, seen_row, plain, first_seen_gap, begins_seen_operator, row_exprs}
 use Rattle.bz_hosts.proofs.InnerParts.{GoesOn, binary_goes, binary_begins, nonterminal_unsigned}
-use Rattle.bz_hosts.proofs.SeenParts.{node_operator, comments_made, break_made, no_break_made, operator_made, after_made, part_along}
+use Rattle.bz_hosts.proofs.SeenParts.{comments_made, break_made, no_break_made, operator_made, after_made, part_along}
 
 -- ---- where parts are
 
@@ -50,7 +50,7 @@ first_operator binary inside newline (x ∷ xs) = operator_made x no_comments _
 
 part_unsigned : (a : Nonterminal) (x : Part) → IsNonterminal a x → is_operator (plain (seen x)) ≡ false
 part_unsigned a (p.Leaf l) h = nonterminal_unsigned a l h
-part_unsigned a (Node' kind n r) h = node_operator kind (seen_row r) no_comments false (frame kind)
+part_unsigned a (Node' kind n r) h = refl
 
 -- ---- rows by a grammar, of which that of lines is the widest
 

@@ -30,58 +30,33 @@ seen_rows m (more_of-Part x rest) = ap (λ t. seen x ∷ t) (seen_rows _ rest)
 
 -- ---- facts of what is made of a part, for any comments and break
 
-module _ (kind : Kind) (ss : List Seen) (cs : HostComments) (b : Bool) where
-  node_root : (f : Frame) → root ((seen_node f kind ss).make cs b) ≡ p.Node (record { kind = kind; parts = [] })
-  node_root row = refl
-  node_root (sequence opener closer) = refl
-
-  node_comments : (f : Frame) → comments_of ((seen_node f kind ss).make cs b) ≡ cs
-  node_comments row = refl
-  node_comments (sequence opener closer) = refl
-
-  node_break : (f : Frame) → has_break ((seen_node f kind ss).make cs b) ≡ false
-  node_break row = refl
-  node_break (sequence opener closer) = refl
-
-  pub node_operator : (f : Frame) → is_operator ((seen_node f kind ss).make cs b) ≡ false
-  node_operator row = refl
-  node_operator (sequence opener closer) = refl
-
-  node_after : (f : Frame) (outer here : Spot) → after_expr outer here ((seen_node f kind ss).make cs b) ≡ after_node kind here
-  node_after row outer here = refl
-  node_after (sequence opener closer) outer here = refl
-
 pub node_gap : (kind : Kind) (ss : List Seen) (f : Frame) → (seen_node f kind ss).gap ≡ first_seen_gap ss
-node_gap kind ss row = refl
-node_gap kind ss (sequence opener closer) = refl
+node_gap kind ss f = refl
 
 -- the part's root
 pub root_made : (x : Part) (cs : HostComments) (b : Bool) → SameRoot x (root ((seen x).make cs b))
 root_made (p.Leaf l) cs b = record { token = λ ts. one_of_same ts l; nonterminal = λ q. one_of_same (leaves_at q) l }
-root_made (Node' kind n r) cs b = record {
-  token = λ ts. sym (ap (λ y. has_token ts y) (node_root kind (seen_row r) cs b (frame kind)));
-  nonterminal = λ q. sym (ap (λ y. has_nonterminal q y) (node_root kind (seen_row r) cs b (frame kind)));
-}
+root_made (Node' kind n r) cs b = record { token = λ ts. refl; nonterminal = λ q. refl }
 
 pub comments_made : (x : Part) (cs : HostComments) (b : Bool) → comments_of ((seen x).make cs b) ≡ cs
 comments_made (p.Leaf l) cs b = refl
-comments_made (Node' kind n r) cs b = node_comments kind (seen_row r) cs b (frame kind)
+comments_made (Node' kind n r) cs b = refl
 
 pub break_made : (x : Part) (cs : HostComments) (b : Bool) → has_break ((seen x).make cs b) ≡ true → b ≡ true
 break_made (p.Leaf l) cs b h = h
-break_made (Node' kind n r) cs b h = no_such (sym (node_break kind (seen_row r) cs b (frame kind)) ∙ h)
+break_made (Node' kind n r) cs b h = no_such h
 
 pub no_break_made : (x : Part) (cs : HostComments) → has_break ((seen x).make cs false) ≡ false
 no_break_made (p.Leaf l) cs = refl
-no_break_made (Node' kind n r) cs = node_break kind (seen_row r) cs false (frame kind)
+no_break_made (Node' kind n r) cs = refl
 
 pub operator_made : (x : Part) (cs : HostComments) (b : Bool) → is_operator ((seen x).make cs b) ≡ is_operator (plain (seen x))
 operator_made (p.Leaf l) cs b = refl
-operator_made (Node' kind n r) cs b = node_operator kind (seen_row r) cs b (frame kind) ∙ sym (node_operator kind (seen_row r) no_comments false (frame kind))
+operator_made (Node' kind n r) cs b = refl
 
 pub after_made : (outer here : Spot) (x : Part) (cs : HostComments) (b : Bool) → after_expr outer here ((seen x).make cs b) ≡ after_part outer here x
 after_made outer here (p.Leaf l) cs b = refl
-after_made outer here (Node' kind n r) cs b = node_after kind (seen_row r) cs b (frame kind) outer here
+after_made outer here (Node' kind n r) cs b = refl
 
 -- ---- no unescaped newline is before a part along a line
 
@@ -93,7 +68,7 @@ gap_along _ gap h = (along false gap h).0
 mutual
   pub part_along : (x : Part) → AtLeaves BzlStands Along x → has_newline (seen x).gap ≡ false
   part_along (p.Leaf l) h = gap_along l.class l.gap h
-  part_along (Node' kind n r) h = ap has_newline (node_gap kind (seen_row r) (frame kind)) ∙ row_along _ r h
+  part_along (Node' kind n r) h = row_along _ r h
 
   row_along : (m : _) (r : Row_of-Part m) → AtRow BzlStands Along Along r → has_newline (first_seen_gap (seen_row r)) ≡ false
   row_along m end_of-Part h = refl

@@ -89,8 +89,7 @@ module _ (number : Bytes → ℕ) where
 
   -- what is made of a node has its own comments, and what is in it
   pub node_amount : (f : Frame) (kind : Kind) (ss : List Seen) (cs : HostComments) (b : Bool) → amount number ((seen_node f kind ss).make cs b) ≡ host_amount number cs + inner_amount number (form_of_frame f kind ss no_comments)
-  node_amount row kind ss cs b = form_amount number (form_of_frame row kind ss cs)
-  node_amount (sequence opener closer) kind ss cs b = form_amount number (form_of_frame (sequence opener closer) kind ss cs)
+  node_amount f kind ss cs b = form_amount number (form_of_frame f kind ss cs)
 
   -- so do comments and break add no more than these comments
   pub made_amount : (x : Part) (cs : HostComments) (b : Bool) → amount number ((seen x).make cs b) ≡ host_amount number cs + amount number (plain (seen x))

@@ -99,23 +99,19 @@ seq_in body =
     let found : List Expr × List Bytes = items_in (all_in (first_seen_gap body)) body in
     record { items = found.0; end = found.1; split = is_split body }
 
-abbrev pub sequence_in : Kind → List Seen → List Seen → HostComments → Form
-sequence_in kind head body comments = record { kind = kind; parts = map plain head; seq = seq_in body; open_break = false; comments = comments }
-
 abbrev pub sequence_form : Kind → List Seen → List Seen → HostComments → Expr
-sequence_form kind head body comments = e.Form (sequence_in kind head body comments)
+sequence_form kind head body comments = e.Form (record { kind = kind; parts = map plain head; seq = seq_in body; open_break = false; comments = comments })
 
--- A node without gaps. Of a sequence stay what is before the bracket and the items; brackets and commas are gone.
--- Every other node keeps the row of its parts.
+-- A node without gaps: its parts, its sequence, and whether it is open. Of a sequence stay what is before the bracket and the items;
+-- brackets and commas are gone. Every other node keeps the row of its parts.
+abbrev pub held_in : Frame → Kind → List Seen → List Expr × Seq × Bool
+held_in row kind ss = (row_exprs (is_binary kind) false false ss, seq_in [], is_comprehension kind && is_open ss)
+held_in (sequence opener closer) kind ss = (map plain (take (lead kind) ss), seq_in (drop (suc (lead kind)) ss), false)
+
 abbrev pub form_of_frame : Frame → Kind → List Seen → HostComments → Form
-form_of_frame row kind ss comments = record {
-  kind = kind;
-  parts = row_exprs (is_binary kind) false false ss;
-  seq = record { items = []; end = []; split = false };
-  open_break = is_comprehension kind && is_open ss;
-  comments = comments;
-}
-form_of_frame (sequence opener closer) kind ss comments = sequence_in kind (take (lead kind) ss) (drop (suc (lead kind)) ss) comments
+form_of_frame f kind ss comments =
+    let held : List Expr × Seq × Bool = held_in f kind ss in
+    record { kind = kind; parts = held.0; seq = held.1; open_break = held.2; comments = comments }
 
 -- the comments of a node that are in no host or sequence inside it
 abbrev pub loose_of : Frame → Kind → List Seen → List Bytes
