@@ -63,7 +63,7 @@ module _ (all : List Region) (h b e n : ℕ) (under : h ≤ n) where
       let up : ℕ = n + sizes (map measured xs) in
       subst (λ (z : List Hosted). Texts all h n up (after_parts n xs) (loose_in (map seen xs)) (in_node row kind n (map measured xs)) z) (sym (row_hosts kind d xs)) (first_texts all h b e n up xs under refl r i v)
   node_texts kind (sequence opener closer) d xs fits r i v =
-      let c : Cut kind xs = sequence_cut kind opener closer xs d fits in
+      let c : Cut (lead kind) xs = sequence_cut kind opener closer xs d fits in
       let head : List Part = head_of kind xs c in
       let body : List Part = body_of kind xs c in
       let rs : List Region = in_node (sequence opener closer) kind n (map measured xs) in

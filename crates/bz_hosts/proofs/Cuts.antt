@@ -1,6 +1,6 @@
 -- Where single tokens are in a legal tree: a node with a sequence is cut at its opening bracket; after it items and commas
 -- alternate, as statements and semicolons do in a line.
-use Rattle.std.proofs.Common.{◌≡◌, ℕ, zero, suc, Bool, true, false, not, List, [], ◌∷◌, ◌++◌, inl, inr, refl, subst, take, drop}
+use Rattle.std.proofs.Common.{◌≡◌, ℕ, zero, suc, Bool, true, false, not, List, [], ◌∷◌, ◌++◌, inl, inr, refl, ap, subst, take, drop}
 use Rattle.std.specs.List.{list_all}
 use Rattle.std.proofs.lemmas.Bool.{not-true}
 use Rattle.bz_token.specs.declared.class.Class.{Class}
@@ -11,7 +11,7 @@ use Rattle.bz_grammar.specs.declared.kind.Kind.TheVariants as k
 use Rattle.bz_grammar.specs.declared.tree.Part.{Part, Node'}
 use Rattle.bz_grammar.specs.declared.tree.Part.TheVariants as p
 use Rattle.bz_grammar.specs.Shapes as s
-use Rattle.bz_grammar.specs.Shapes.{Nonterminal, Terminal, Fits, Listed, bzl_shape, items, tok, done, has_token, is_one_of, leaves_at}
+use Rattle.bz_grammar.specs.Shapes.{Nonterminal, Terminal, Shape, Fits, Listed, bzl_shape, items, tok, done, has_token, is_one_of, leaves_at}
 use Rattle.bz_grammar.specs.Legal.{IsNonterminal}
 use Rattle.bz_grammar.specs.Spots.{Spot, Within, opens, plain, role, after_part}
 use Rattle.bz_grammar.proofs.Balance.{no_such, inner_nonterminal}
@@ -138,58 +138,48 @@ module _ (close : List Terminal) (none' : no_words close ≡ true) (apart : disj
   one_alternating q o x (y ∷ z ∷ xs) i (inr h) = (i, separator_mark s.comma_mark close refl none' apart y h.0, items_alternating q o (z ∷ xs) h.1)
 
 -- the parts of a node before its opening bracket, and those after it
-pub record Cut (kind : Kind) (xs : List Part) : Type 0 where
+pub record Cut (n : ℕ) (xs : List Part) : Type 0 where
   pub opener : Leaf
-  pub parts : xs ≡ take (lead kind) xs ++ p.Leaf opener ∷ drop (suc (lead kind)) xs
-  pub front : take (suc (lead kind)) xs ≡ take (lead kind) xs ++ p.Leaf opener ∷ []
-  pub bracket_at : BracketAt (lead kind) xs
-  pub alternating : Alternating s.comma_mark (drop (suc (lead kind)) xs)
+  pub parts : xs ≡ take n xs ++ p.Leaf opener ∷ drop (suc n) xs
+  pub front : take (suc n) xs ≡ take n xs ++ p.Leaf opener ∷ []
+  pub bracket_at : BracketAt n xs
+  pub alternating : Alternating s.comma_mark (drop (suc n) xs)
 
-call_cut : (xs : List Part) → Fits IsNonterminal (bzl_shape k.Call) xs → Cut k.Call xs
-call_cut [] h = absurd h
-call_cut (x ∷ []) h = absurd h.1
-call_cut (x ∷ p.Leaf l ∷ xs) h = record { opener = l; parts = refl; front = refl; bracket_at = bracket s.open_round (p.Leaf l) refl h.1.0; alternating = items_alternating s.close_round refl refl s.argument refl xs h.1.1 }
-call_cut (x ∷ Node' kind n r ∷ xs) h = no_such h.1.0
+-- of a node that begins with its opening bracket, and of one with a part before it
+opened : (open_ : List Terminal) (rest : Shape) → all_turn opens open_ ≡ true → ((xs : List Part) → Fits IsNonterminal rest xs → Alternating s.comma_mark xs) → (xs : List Part) → Fits IsNonterminal (tok open_ rest) xs → Cut zero xs
+opened open_ rest o f [] h = absurd h
+opened open_ rest o f (p.Leaf l ∷ xs) h = record { opener = l; parts = refl; front = refl; bracket_at = bracket open_ (p.Leaf l) o h.0; alternating = f xs h.1 }
+opened open_ rest o f (Node' kind n r ∷ xs) h = no_such h.0
 
-load_cut : (xs : List Part) → Fits IsNonterminal (bzl_shape k.Load) xs → Cut k.Load xs
-load_cut [] h = absurd h
-load_cut (x ∷ []) h = absurd h.1
-load_cut (x ∷ p.Leaf l ∷ []) h = absurd h.1.1
-load_cut (x ∷ p.Leaf l ∷ y ∷ xs) h = record { opener = l; parts = refl; front = refl; bracket_at = bracket s.open_round (p.Leaf l) refl h.1.0; alternating = one_alternating s.close_round refl refl s.loaded refl y xs (token_item s.string y refl h.1.1.0) h.1.1.1 }
-load_cut (x ∷ Node' kind n r ∷ xs) h = no_such h.1.0
+after_one : (x : Part) (xs : List Part) → Cut zero xs → Cut 1 (x ∷ xs)
+after_one x xs c = record { opener = c.opener; parts = ap (λ ys. x ∷ ys) c.parts; front = ap (λ ys. x ∷ ys) c.front; bracket_at = c.bracket_at; alternating = c.alternating }
 
-tuple_cut : (xs : List Part) → Fits IsNonterminal (bzl_shape k.Tuple) xs → Cut k.Tuple xs
-tuple_cut [] h = absurd h
-tuple_cut (p.Leaf l ∷ xs) h = record { opener = l; parts = refl; front = refl; bracket_at = bracket s.open_round (p.Leaf l) refl h.0; alternating = first xs h.1 }
-  where
-    first : (xs : List Part) → Fits IsNonterminal (s.alt (tok s.close_round done) (s.sub s.test (tok s.comma_mark (items s.test s.close_round)))) xs → Alternating s.comma_mark xs
-    first [] (inl i) = absurd i
-    first [] (inr i) = absurd i
-    first (x ∷ xs) (inl i) = ends_alternating s.comma_mark s.close_round refl refl refl x xs i
-    first (x ∷ xs) (inr i) = one_alternating s.close_round refl refl s.test refl x xs (nonterminal_item s.test x refl i.0) (inr i.1)
-tuple_cut (Node' kind n r ∷ xs) h = no_such h.0
+abbrev one_of : Nonterminal → List Terminal → Shape
+one_of q close = s.alt (tok close done) (tok s.comma_mark (items q close))
 
-list_cut : (xs : List Part) → Fits IsNonterminal (bzl_shape k.List) xs → Cut k.List xs
-list_cut [] h = absurd h
-list_cut (p.Leaf l ∷ xs) h = record { opener = l; parts = refl; front = refl; bracket_at = bracket s.open_square (p.Leaf l) refl h.0; alternating = items_alternating s.close_square refl refl s.test refl xs h.1 }
-list_cut (Node' kind n r ∷ xs) h = no_such h.0
+loaded_alternating : (xs : List Part) → Fits IsNonterminal (tok s.string (one_of s.loaded s.close_round)) xs → Alternating s.comma_mark xs
+loaded_alternating [] h = absurd h
+loaded_alternating (y ∷ xs) h = one_alternating s.close_round refl refl s.loaded refl y xs (token_item s.string y refl h.0) h.1
 
-dict_cut : (xs : List Part) → Fits IsNonterminal (bzl_shape k.Dict) xs → Cut k.Dict xs
-dict_cut [] h = absurd h
-dict_cut (p.Leaf l ∷ xs) h = record { opener = l; parts = refl; front = refl; bracket_at = bracket s.open_curly (p.Leaf l) refl h.0; alternating = items_alternating s.close_curly refl refl s.entry refl xs h.1 }
-dict_cut (Node' kind n r ∷ xs) h = no_such h.0
+tuple_alternating : (xs : List Part) → Fits IsNonterminal (s.alt (tok s.close_round done) (s.sub s.test (tok s.comma_mark (items s.test s.close_round)))) xs → Alternating s.comma_mark xs
+tuple_alternating [] (inl i) = absurd i
+tuple_alternating [] (inr i) = absurd i
+tuple_alternating (x ∷ xs) (inl i) = ends_alternating s.comma_mark s.close_round refl refl refl x xs i
+tuple_alternating (x ∷ xs) (inr i) = one_alternating s.close_round refl refl s.test refl x xs (nonterminal_item s.test x refl i.0) (inr i.1)
 
 abbrev pub CutIn : Frame → Kind → List Part → Type 0
 CutIn row kind xs = Unit {0}
-CutIn (sequence opener closer) kind xs = Cut kind xs
+CutIn (sequence opener closer) kind xs = Cut (lead kind) xs
 
 pub kind_cut : (kind : Kind) (xs : List Part) → Fits IsNonterminal (bzl_shape kind) xs → CutIn (frame kind) kind xs
-kind_cut k.Call xs h = call_cut xs h
-kind_cut k.Load xs h = load_cut xs h
-kind_cut k.Tuple xs h = tuple_cut xs h
-kind_cut k.List xs h = list_cut xs h
-kind_cut k.Dict xs h = dict_cut xs h
+kind_cut k.Call [] h = absurd h
+kind_cut k.Call (x ∷ xs) h = after_one x xs (opened s.open_round (items s.argument s.close_round) refl (items_alternating s.close_round refl refl s.argument refl) xs h.1)
+kind_cut k.Load [] h = absurd h
+kind_cut k.Load (x ∷ xs) h = after_one x xs (opened s.open_round (tok s.string (one_of s.loaded s.close_round)) refl loaded_alternating xs h.1)
+kind_cut k.Tuple xs h = opened s.open_round (s.alt (tok s.close_round done) (s.sub s.test (tok s.comma_mark (items s.test s.close_round)))) refl tuple_alternating xs h
+kind_cut k.List xs h = opened s.open_square (items s.test s.close_square) refl (items_alternating s.close_square refl refl s.test refl) xs h
+kind_cut k.Dict xs h = opened s.open_curly (items s.entry s.close_curly) refl (items_alternating s.close_curly refl refl s.entry refl) xs h
 kind_cut _ xs h = tt
 
-pub sequence_cut : (kind : Kind) (opener closer : ℕ) (xs : List Part) → frame kind ≡ sequence opener closer → Fits IsNonterminal (bzl_shape kind) xs → Cut kind xs
+pub sequence_cut : (kind : Kind) (opener closer : ℕ) (xs : List Part) → frame kind ≡ sequence opener closer → Fits IsNonterminal (bzl_shape kind) xs → Cut (lead kind) xs
 sequence_cut kind opener closer xs e h = subst (λ f. CutIn f kind xs) e (kind_cut kind xs h)

@@ -17,12 +17,11 @@ use Rattle.bz_grammar.proofs.Balance.{no_such, parts_of_row}
 use Rattle.bz_grammar.proofs.Build.{legal_by_lines}
 use Rattle.bz_grammar.proofs.Numbers.{same_kind}
 use Rattle.bz_value.specs.Comments.{HostComments}
-use Rattle.bz_value.specs.Frames.{frame}
 use Rattle.bz_items.specs.Characters.{Bytes}
 use Rattle.bz_value.specs.Gaps.{GapLine, lines_of, after_first_line, groups_of, all_but_last, last_group}
 use Rattle.bz_hosts.specs.View as v
 use Rattle.bz_hosts.specs.View.{Seen, seen, seen_row, first_seen_gap, blocks, statement, statements_in, file_items, view_of}
-use Rattle.bz_hosts.proofs.SeenParts.{seen_rows, node_gap, comments_made}
+use Rattle.bz_hosts.proofs.SeenParts.{all_mapped, seen_rows, comments_made}
 use Rattle.bz_hosts.proofs.QuietGaps.{Quiet, Statements, parts_silent, statements_quiet, line_alternating}
 use Rattle.bz_hosts.specs.Hosts.{Region, Comment, comments_at, comments_from, Measured, sizes, measured, measured_row, hosts_from, in_line, regions_from, CommentPlace, outside, texts_at, Hosted, block, hosted_at, hosted_by, hosts_alone, with_group, hosted_in, inside_expr, inside_item}
 use Rattle.bz_hosts.specs.Laws.{HostsByPlace}
@@ -230,14 +229,13 @@ lines_texts all n up (Node' kind z r ∷ xs) u (inr h) g at_ sees =
     let at_rest : AtParts BzlStands Begins Begins xs = subst (λ kd. AtParts BzlStands Begins (after_node kd Begins) xs) e at_.1 in
     let rest : FileTexts all m up xs = lines_texts all m up xs (omega arith) h.1 g.1 at_rest (λ q a b. sees_after all q None up n m (in_line n x) (regions_from m xs) (there.within n) a (sees q (omega arith) b)) in
     let solid : Solid x = part_solid x g.0 in
-    let first : gap_of (leaves_row r) ≡ first_seen_gap (seen_row r) = first_gap_of (leaves_row r) solid.first solid.rest (first_seen_gap (seen_row r)) solid.leaves (sym (node_gap kind (seen_row r) (frame kind)) ∙ solid.gap) in
+    let first : gap_of (leaves_row r) ≡ first_seen_gap (seen_row r) = first_gap_of (leaves_row r) solid.first solid.rest (first_seen_gap (seen_row r)) solid.leaves solid.gap in
     let last : last_gap (leaves_row r) ≡ v.last_gap (seen_row r) = ap last_gap (leaves_rows _ r) ∙ (last_same s.semicolon ys (line_alternating ys statements) (row_solid _ r g.0.1) ∙ ap v.last_gap (sym (seen_rows _ r))) in
     line_step all n up x xs h.0 some (omega arith) gap texts rest first last
     (λ group. subst (λ (ss : List Seen). with_group group (flat_map inside_item (statements_in [] ss)) ≡ flat_map inside_item (statements_in group ss)) (sym (seen_rows _ r)) (group_above group ys))
 
 pub all_solid : (xs : List Part) → AllByRecursion LegalBzlPart xs → AllByRecursion Solid xs
-all_solid [] g = tt
-all_solid (x ∷ xs) g = (part_solid x g.0, all_solid xs g.1)
+all_solid xs g = all_mapped LegalBzlPart Solid part_solid xs g
 
 leaf_last : (xs : List Part) → LinesOf xs → LeafLast xs
 leaf_last [] h = tt

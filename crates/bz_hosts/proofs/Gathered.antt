@@ -50,6 +50,14 @@ all_split : (ls : List GapLine) → comments_in ls ≡ as_list (first_comment ls
 all_split [] = refl
 all_split (line ∷ ls) = refl
 
+nil_both : {A : Type 0} (a b : List A) → a ++ b ≡ [] → (a ≡ []) × (b ≡ [])
+nil_both [] b e = (refl, e)
+nil_both (x ∷ a) b e = cc
+
+-- a gap without comments
+pub none_in : (gap : Bytes) → all_in gap ≡ [] → (as_list (suffix_in gap) ≡ []) × (others_in gap ≡ [])
+none_in gap e = nil_both (as_list (suffix_in gap)) (others_in gap) (sym (all_split (lines_of gap)) ∙ e)
+
 -- Where the comments in the gap of a leaf are: one that only blanks are before, and the others.
 pub record GapPlaces (all : List Region) (n : ℕ) (first rest : CommentPlace) : Type 0 where
   pub on_line : (t : Bytes) → comment_place all (record { leaf = n; on_line = true; text = t }) ≡ first

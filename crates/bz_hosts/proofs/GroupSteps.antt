@@ -6,7 +6,7 @@ use Rattle.bz_value.specs.declared.value.Item.TheVariants as i
 use Rattle.bz_items.specs.Characters.{Bytes}
 use Rattle.bz_value.specs.Gaps.{GapLine, lines_of, put_on_first, groups_of, all_but_last, last_group}
 use Rattle.bz_hosts.specs.View.{blocks}
-use Rattle.bz_hosts.specs.Walks.{prepend}
+use Rattle.bz_hosts.specs.private.Walks.{prepend}
 use Rattle.bz_hosts.proofs.Numbered.{has_group}
 
 prepend_none : (ls : List GapLine) → prepend [] (groups_of ls) ≡ groups_of ls
@@ -29,32 +29,27 @@ group_ends group ls = let w = has_group ls in subst (group_at group) (sym w.is) 
 
 -- ---- one more line
 
-pub line_pushed : (gap : Bytes) (indent : ℕ) (text : Bytes) (newline : Bool) (rest more : List GapLine) (old new : List Bytes) (items all : List Item) → lines_of gap ≡ record { indent = indent; comment = Some text; newline = newline } ∷ rest → new ≡ old ++ text ∷ [] →
-    items ++ blocks (all_but_last (prepend old (groups_of (lines_of gap ++ more)))) ≡ all → items ++ blocks (all_but_last (prepend new (groups_of (rest ++ more)))) ≡ all
-line_pushed gap indent text newline rest more old new items all e n h =
-    let same : prepend new (groups_of (rest ++ more)) ≡ prepend old (groups_of (lines_of gap ++ more)) =
-    ap (λ t. prepend t (groups_of (rest ++ more))) n ∙ (sym (prepend_line old text (groups_of (rest ++ more))) ∙ sym (ap (λ ls. prepend old (groups_of (ls ++ more))) e)) in
-    ap (λ gs. items ++ blocks (all_but_last gs)) same ∙ h
+-- items and the last group so far, with the lines that are left, are the same as those with all lines
+abbrev pub Pushed : List Item → List Bytes → List GapLine → List Item → List Bytes → List GapLine → Type 0
+Pushed new last rest old group lines = (more : List GapLine) → (new ++ blocks (all_but_last (prepend last (groups_of (rest ++ more)))) ≡ old ++ blocks (all_but_last (prepend group (groups_of (lines ++ more)))))
+    × (last_group (prepend last (groups_of (rest ++ more))) ≡ last_group (prepend group (groups_of (lines ++ more))))
 
-pub line_kept : (gap : Bytes) (indent : ℕ) (text : Bytes) (newline : Bool) (rest more : List GapLine) (old new all : List Bytes) → lines_of gap ≡ record { indent = indent; comment = Some text; newline = newline } ∷ rest → new ≡ old ++ text ∷ [] →
-    last_group (prepend old (groups_of (lines_of gap ++ more))) ≡ all → last_group (prepend new (groups_of (rest ++ more))) ≡ all
-line_kept gap indent text newline rest more old new all e n h =
-    let same : prepend new (groups_of (rest ++ more)) ≡ prepend old (groups_of (lines_of gap ++ more)) =
-    ap (λ t. prepend t (groups_of (rest ++ more))) n ∙ (sym (prepend_line old text (groups_of (rest ++ more))) ∙ sym (ap (λ ls. prepend old (groups_of (ls ++ more))) e)) in
-    ap last_group same ∙ h
+pub line_pushed : (gap : Bytes) (indent : ℕ) (text : Bytes) (newline : Bool) (rest lines : List GapLine) (last next group : List Bytes) (items old : List Item) → lines_of gap ≡ record { indent = indent; comment = Some text; newline = newline } ∷ rest →
+    next ≡ last ++ text ∷ [] → Pushed items last (lines_of gap) old group lines → Pushed items next rest old group lines
+line_pushed gap indent text newline rest lines last next group items old e n h more =
+    let same : prepend next (groups_of (rest ++ more)) ≡ prepend last (groups_of (lines_of gap ++ more)) =
+    ap (λ t. prepend t (groups_of (rest ++ more))) n ∙ (sym (prepend_line last text (groups_of (rest ++ more))) ∙ sym (ap (λ ls. prepend last (groups_of (ls ++ more))) e)) in
+    (ap (λ gs. items ++ blocks (all_but_last gs)) same ∙ (h more).0, ap last_group same ∙ (h more).1)
 
-pub block_pushed : (gap : Bytes) (indent : ℕ) (newline : Bool) (rest more : List GapLine) (old new : List Bytes) (items after all : List Item) → lines_of gap ≡ record { indent = indent; comment = None; newline = newline } ∷ rest → new ≡ [] → after ≡ items ++ blocks (old ∷ []) →
-    items ++ blocks (all_but_last (prepend old (groups_of (lines_of gap ++ more)))) ≡ all → after ++ blocks (all_but_last (prepend new (groups_of (rest ++ more)))) ≡ all
-block_pushed gap indent newline rest more old new items after all e n f h =
+pub block_pushed : (gap : Bytes) (indent : ℕ) (newline : Bool) (rest lines : List GapLine) (last next group : List Bytes) (items after old : List Item) → lines_of gap ≡ record { indent = indent; comment = None; newline = newline } ∷ rest →
+    next ≡ [] → after ≡ items ++ blocks (last ∷ []) → Pushed items last (lines_of gap) old group lines → Pushed after next rest old group lines
+block_pushed gap indent newline rest lines last next group items after old e n f h more =
     let left : List Item = blocks (all_but_last (prepend [] (groups_of (rest ++ more)))) in
-    ap (λ t. after ++ blocks (all_but_last (prepend t (groups_of (rest ++ more))))) n ∙
-    (ap (λ t. t ++ left) f ∙ (append_assoc items (blocks (old ∷ [])) left ∙
-    (ap (λ t. items ++ t) (sym (ap (λ ls. blocks (all_but_last (prepend old (groups_of (ls ++ more))))) e ∙ (group_ends old (rest ++ more)).0)) ∙ h)))
-
-pub block_kept : (gap : Bytes) (indent : ℕ) (newline : Bool) (rest more : List GapLine) (old new all : List Bytes) → lines_of gap ≡ record { indent = indent; comment = None; newline = newline } ∷ rest → new ≡ [] →
-    last_group (prepend old (groups_of (lines_of gap ++ more))) ≡ all → last_group (prepend new (groups_of (rest ++ more))) ≡ all
-block_kept gap indent newline rest more old new all e n h =
-    ap (λ t. last_group (prepend t (groups_of (rest ++ more)))) n ∙ (sym (ap (λ ls. last_group (prepend old (groups_of (ls ++ more)))) e ∙ (group_ends old (rest ++ more)).1) ∙ h)
+    let gone : group_at last (groups_of (rest ++ more)) = group_ends last (rest ++ more) in (
+      ap (λ t. after ++ blocks (all_but_last (prepend t (groups_of (rest ++ more))))) n ∙ (ap (λ t. t ++ left) f ∙ (append_assoc items (blocks (last ∷ [])) left ∙
+          (ap (λ t. items ++ t) (sym (ap (λ ls. blocks (all_but_last (prepend last (groups_of (ls ++ more))))) e ∙ gone.0)) ∙ (h more).0))),
+      ap (λ t. last_group (prepend t (groups_of (rest ++ more)))) n ∙ (sym (ap (λ ls. last_group (prepend last (groups_of (ls ++ more)))) e ∙ gone.1) ∙ (h more).1),
+    )
 
 -- a line that was read and has no comment
 pub bare_line : (ls rest : List GapLine) (o : Option (Bor Bytes)) (indent : ℕ) (newline : Bool) → ls ≡ record { indent = indent; comment = option_copied o; newline = newline } ∷ rest → o ≡ None → ls ≡ record { indent = indent; comment = None; newline = newline } ∷ rest
@@ -63,19 +58,13 @@ bare_line ls rest (Some b) indent newline e i = cc
 
 -- ---- two gaps
 
-pub groups_pushed : (ls ms : List GapLine) (none first last : List Bytes) (old mid new : List Item) → none ≡ [] →
-    ((more : List GapLine) → mid ++ blocks (all_but_last (prepend first (groups_of more))) ≡ old ++ blocks (all_but_last (prepend none (groups_of (ls ++ more))))) →
-    ((more : List GapLine) → new ++ blocks (all_but_last (prepend last (groups_of more))) ≡ mid ++ blocks (all_but_last (prepend first (groups_of (ms ++ more))))) → new ≡ old ++ blocks (all_but_last (groups_of (ls ++ ms)))
+pub groups_pushed : (ls ms : List GapLine) (none first last : List Bytes) (old mid new : List Item) → none ≡ [] → Pushed mid first [] old none ls → Pushed new last [] mid first ms →
+    (new ≡ old ++ blocks (all_but_last (groups_of (ls ++ ms)))) × (last ≡ last_group (groups_of (ls ++ ms)))
 groups_pushed ls ms none first last old mid new n f g =
-    sym (append-nil new) ∙ (g [] ∙ (ap (λ t. mid ++ blocks (all_but_last (prepend first (groups_of t)))) (append-nil ms) ∙
-    (f ms ∙ (ap (λ t. old ++ blocks (all_but_last (prepend t (groups_of (ls ++ ms))))) n ∙ ap (λ t. old ++ blocks (all_but_last t)) (prepend_none (ls ++ ms))))))
-
-pub groups_kept : (ls ms : List GapLine) (none first last : List Bytes) → none ≡ [] →
-    ((more : List GapLine) → last_group (prepend first (groups_of more)) ≡ last_group (prepend none (groups_of (ls ++ more)))) →
-    ((more : List GapLine) → last_group (prepend last (groups_of more)) ≡ last_group (prepend first (groups_of (ms ++ more)))) → last ≡ last_group (groups_of (ls ++ ms))
-groups_kept ls ms none first last n f g =
-    sym (append-nil last) ∙ (g [] ∙ (ap (λ t. last_group (prepend first (groups_of t))) (append-nil ms) ∙
-    (f ms ∙ (ap (λ t. last_group (prepend t (groups_of (ls ++ ms)))) n ∙ ap last_group (prepend_none (ls ++ ms))))))
+    let whole : prepend none (groups_of (ls ++ ms)) ≡ groups_of (ls ++ ms) = ap (λ t. prepend t (groups_of (ls ++ ms))) n ∙ prepend_none (ls ++ ms) in (
+      sym (append-nil new) ∙ ((g []).0 ∙ (ap (λ t. mid ++ blocks (all_but_last (prepend first (groups_of t)))) (append-nil ms) ∙ ((f ms).0 ∙ ap (λ t. old ++ blocks (all_but_last t)) whole))),
+      sym (append-nil last) ∙ ((g []).1 ∙ (ap (λ t. last_group (prepend first (groups_of t))) (append-nil ms) ∙ ((f ms).1 ∙ ap last_group whole))),
+    )
 
 -- all groups are those but the last, and the last
 all_groups : (group : List Bytes) (gs : List (List Bytes)) → blocks (group ∷ gs) ≡ blocks (all_but_last (group ∷ gs)) ++ blocks (last_group (group ∷ gs) ∷ [])
@@ -94,7 +83,3 @@ pub all_pushed : (old mid new : List Item) (group : List Bytes) (ls : List GapLi
 all_pushed old mid new group ls m g n =
     n ∙ (ap (λ t. mid ++ blocks (t ∷ [])) g ∙ (ap (λ t. t ++ blocks (last_group (groups_of ls) ∷ [])) m ∙
     (append_assoc old (blocks (all_but_last (groups_of ls))) (blocks (last_group (groups_of ls) ∷ [])) ∙ ap (λ t. old ++ t) (sym (last_block ls)))))
-
-pub decoded : {X Y : Type 0} (r : Result X Y) (P : X → Type 0) (Q : Type 0) → ((x : X) → P x → Q) → IfOk r P → OnOk r Q
-decoded (Ok x) P Q f h = f x h
-decoded (Err e) P Q f h = h

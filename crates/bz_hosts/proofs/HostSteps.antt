@@ -11,7 +11,7 @@ use Rattle.bz_value.specs.Comments.{HostComments, no_comments}
 use Rattle.bz_value.specs.Gaps.{suffix_in, all_in}
 use Rattle.bz_items.specs.Characters.{Bytes}
 use Rattle.bz_hosts.specs.View.{Seen, seen, plain, first_seen_gap, items_in, is_split, seq_in}
-use Rattle.bz_hosts.specs.Walks.{above_after, item_gap}
+use Rattle.bz_hosts.specs.private.Walks.{above_after, item_gap}
 use Rattle.bz_hosts.proofs.NodeViews.{seen_comments}
 use Rattle.bz_hosts.proofs.RowSteps.{part_here, two_further}
 use Rattle.bz_hosts.proofs.UnsignedGaps.{quiet_after, nothing_after}

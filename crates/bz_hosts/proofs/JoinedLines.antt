@@ -16,7 +16,7 @@ use Rattle.bz_grammar.proofs.Spells.{leaves_Node}
 use Rattle.bz_value.specs.declared.value.Item.{Item}
 use Rattle.bz_value.specs.Gaps.{GapLine, lines_of, after_first_line, groups_of}
 use Rattle.bz_hosts.specs.View.{seen, seen_row, first_seen_gap, last_gap, line_items, blocks, file_items, view_of}
-use Rattle.bz_hosts.specs.Joined.{lines_left, EndInNewline, EndsWithLine, ViewsJoin, EmptyReads}
+use Rattle.bz_hosts.specs.Joined.{lines_left, EndsWithLine, ViewsJoin, EmptyReads}
 use Rattle.bz_hosts.proofs.NodeViews.{seen_parts}
 
 -- ---- items
@@ -104,8 +104,9 @@ left_after_line : (left : List GapLine) (front : List Part) (n : Node) → lines
 left_after_line left front n = left_both left front (p.Node n ∷ []) ∙ ap (λ ss. after_first_line (lines_of (last_gap ss))) (seen_parts n)
 
 -- the last line of a file, and its end
-ends_so : (n line : Node) (front : List Part) (e : Leaf) → n.parts ≡ (front ++ p.Node line ∷ []) ++ p.Leaf e ∷ [] → e.gap ≡ [] → EndInNewline line.parts → EndsWithLine n
-ends_so n line front e is none (before, newline, at, token, left) =
+ends_so : (n line : Node) (front before : List Part) (e newline : Leaf) → n.parts ≡ (front ++ p.Node line ∷ []) ++ p.Leaf e ∷ [] → line.parts ≡ before ++ p.Leaf newline ∷ [] → e.gap ≡ [] → newline.token ≡ 10 ∷ [] →
+    after_first_line (lines_of newline.gap) ≡ [] → EndsWithLine n
+ends_so n line front before e newline is at none token left =
     let own : leaves_part (p.Node line) ≡ flat_map leaves_part before ++ newline ∷ [] = leaves_Node line ∙ (ap (flat_map leaves_part) at ∙ flat_map-append leaves_part before (p.Leaf newline ∷ [])) in
     let all : flat_map leaves_part (front ++ p.Node line ∷ []) ≡ (flat_map leaves_part front ++ flat_map leaves_part before) ++ newline ∷ [] =
     flat_map-append leaves_part front (p.Node line ∷ [])
@@ -119,5 +120,7 @@ ends_so n line front e is none (before, newline, at, token, left) =
       left = left_after_line [] front line ∙ (ap (λ ps. after_first_line (lines_of (last_gap (map seen ps)))) at ∙ (ap (λ g. after_first_line (lines_of g)) (last_seen before (p.Leaf newline)) ∙ left));
     }
 
-pub line_last : (n : Node) (front rest : List Part) (x y : Part) (line : Node) (e : Leaf) → n.parts ≡ rest ++ y ∷ [] → rest ≡ front ++ x ∷ [] → y ≡ p.Leaf e → x ≡ p.Node line → e.gap ≡ [] → EndInNewline line.parts → EndsWithLine n
-line_last n front rest x y line e is re ye xe none h = ends_so n line front e (is ∙ (ap (λ z. rest ++ z ∷ []) ye ∙ ap (λ z. z ++ p.Leaf e ∷ []) (re ∙ ap (λ z. front ++ z ∷ []) xe))) none h
+pub line_last : (n line : Node) (front rest before : List Part) (x y z : Part) (e newline : Leaf) → n.parts ≡ rest ++ y ∷ [] → rest ≡ front ++ x ∷ [] → line.parts ≡ before ++ z ∷ [] → y ≡ p.Leaf e → x ≡ p.Node line → z ≡ p.Leaf newline →
+    e.gap ≡ [] → newline.token ≡ 10 ∷ [] → after_first_line (lines_of newline.gap) ≡ [] → EndsWithLine n
+line_last n line front rest before x y z e newline is re at ye xe ze =
+    ends_so n line front before e newline (is ∙ (ap (λ z. rest ++ z ∷ []) ye ∙ ap (λ z. z ++ p.Leaf e ∷ []) (re ∙ ap (λ z. front ++ z ∷ []) xe))) (at ∙ ap (λ z. before ++ z ∷ []) ze)

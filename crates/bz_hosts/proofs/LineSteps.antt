@@ -10,7 +10,7 @@ use Rattle.bz_value.specs.declared.value.Item.TheVariants as i
 use Rattle.bz_items.specs.Characters.{Bytes}
 use Rattle.bz_value.specs.Gaps.{GapLine, lines_of, after_first_line, groups_of, all_but_last, last_group, suffix_in}
 use Rattle.bz_hosts.specs.View.{Seen, seen, plain, first_seen_gap, last_gap, blocks, statement, statements_in, line_items, file_items}
-use Rattle.bz_hosts.specs.Walks.{line_gap}
+use Rattle.bz_hosts.specs.private.Walks.{line_gap}
 use Rattle.bz_hosts.proofs.HostSteps.{host_comments}
 use Rattle.bz_hosts.proofs.NodeViews.{seen_parts}
 use Rattle.bz_hosts.proofs.RowSteps.{part_here, two_further}

@@ -1,5 +1,5 @@
 -- What is seen of a node, by the list of its parts.
-use Rattle.std.proofs.Common.{ℕ, zero, suc, Bool, true, false, ◌≡◌, List, [], ◌∷◌, refl, sym, ap, ◌∙◌, map, take, drop, ◌+◌, add-one}
+use Rattle.std.proofs.Common.{ℕ, zero, suc, Bool, true, false, ◌≡◌, List, [], ◌∷◌, ◌++◌, refl, sym, ap, ◌∙◌, map, take, drop, ◌+◌, add-one}
 use Rattle.std.proofs.lemmas.List.{drop-map}
 use Rattle.bz_grammar.specs.declared.kind.Kind.{Kind}
 use Rattle.bz_grammar.specs.declared.tree.Node.{Node}
@@ -13,6 +13,7 @@ use Rattle.bz_value.specs.declared.value.Seq.{Seq}
 use Rattle.bz_value.specs.Commented.{with_comments}
 use Rattle.bz_value.specs.Comments.{HostComments, no_comments}
 use Rattle.bz_value.specs.Frames.{Frame, row, sequence, frame, has_brackets, lead}
+use Rattle.bz_items.specs.Characters.{Bytes}
 use Rattle.bz_value.specs.Gaps.{has_newline}
 use Rattle.bz_hosts.specs.View.{Seen, seen, seen_row, seen_node, plain, first_seen_gap, is_open, is_split, form_of_frame, loose_of, seq_in}
 use Rattle.bz_hosts.proofs.SeenParts.{seen_rows}
@@ -33,11 +34,11 @@ seen_comments (Node' kind _ parts) b cs = refl
 pub gap_of_node : (x : Part) (n : Node) → x ≡ p.Node n → first_seen_gap (map seen n.parts) ≡ (seen x).gap
 gap_of_node x n i = sym (ap (λ y. (seen y).gap) i ∙ ap (λ s. s.gap) (seen_Node n))
 
-pub made_of_node : (x : Part) (n : Node) (b : Bool) → x ≡ p.Node n → e.Form (form_of_frame (frame n.kind) n.kind (map seen n.parts) no_comments) ≡ (seen x).make no_comments b
-made_of_node x n b i = sym (ap (λ y. (seen y).make no_comments b) i ∙ ap (λ s. s.make no_comments b) (seen_Node n))
+pub node_pushed : (x : Part) (n : Node) (b : Bool) (old new : List Expr) → x ≡ p.Node n → new ≡ old ++ e.Form (form_of_frame (frame n.kind) n.kind (map seen n.parts) no_comments) ∷ [] → new ≡ old ++ (seen x).make no_comments b ∷ []
+node_pushed x n b old new i h = h ∙ ap (λ t. old ++ t ∷ []) (sym (ap (λ y. (seen y).make no_comments b) i ∙ ap (λ s. s.make no_comments b) (seen_Node n)))
 
-pub loose_of_node : (x : Part) (n : Node) → x ≡ p.Node n → loose_of (frame n.kind) n.kind (map seen n.parts) ≡ (seen x).loose
-loose_of_node x n i = sym (ap (λ y. (seen y).loose) i ∙ ap (λ s. s.loose) (seen_Node n))
+pub node_loose : (x : Part) (n : Node) (old new : List Bytes) → x ≡ p.Node n → new ≡ old ++ loose_of (frame n.kind) n.kind (map seen n.parts) → new ≡ old ++ (seen x).loose
+node_loose x n old new i h = h ∙ ap (λ ls. old ++ ls) (sym (ap (λ y. (seen y).loose) i ∙ ap (λ s. s.loose) (seen_Node n)))
 
 -- ---- a sequence
 

@@ -81,7 +81,7 @@ cut_inside n head body a r r' =
     ((omega arith, omega arith), all_wider (suc o) up n up (omega arith) (omega arith) (hosts_from s.comma_mark (suc o) (map measured body)) (hosts_inside s.comma_mark (suc o) body a r'))
 
 -- of a node with a sequence
-module _ (kind : Kind) (xs : List Part) (c : Cut kind xs) where
+module _ (kind : Kind) (xs : List Part) (c : Cut (lead kind) xs) where
   abbrev pub head_of : List Part
   head_of = take (lead kind) xs
 
@@ -107,7 +107,7 @@ module _ (kind : Kind) (xs : List Part) (c : Cut kind xs) where
 node_inside : (kind : Kind) (f : Frame) → frame kind ≡ f → (xs : List Part) → Fits IsNonterminal (bzl_shape kind) xs → AllByRecursion Regions xs → (n : ℕ) → AllInside n (n + sizes (map measured xs)) (in_node f kind n (map measured xs))
 node_inside kind row e xs h r n = row_inside n xs r
 node_inside kind (sequence opener closer) e xs h r n =
-    let c : Cut kind xs = sequence_cut kind opener closer xs e h in
+    let c : Cut (lead kind) xs = sequence_cut kind opener closer xs e h in
     let w = parted kind xs c Regions r in
     subst (λ (rs : List Region). AllInside n (n + sizes (map measured xs)) rs) (sym (node_cut kind xs c opener closer n))
     (subst (λ (z : ℕ). AllInside n z (cut_regions n (head_of kind xs c) (body_of kind xs c))) (sym (cut_size kind xs c n)) (cut_inside n (head_of kind xs c) (body_of kind xs c) c.alternating w.0 w.1))

@@ -1,6 +1,8 @@
 -- Groups of comment lines, given by the numbers of the lines.
 use Rattle.std.proofs.Common.{◌≡◌, ℕ, zero, suc, Bool, true, false, ◌&&◌, List, [], ◌∷◌, ◌++◌, Option, None, Some, length, refl, sym, ap, ◌∙◌, map, append_assoc, if◌then◌else◌}
+use Rattle.std.proofs.Math.Bool.{and_assoc, and_comm}
 use Rattle.std.proofs.lemmas.List.{map-append}
+use Rattle.std.proofs.lemmas.Simd.{map-map}
 use Rattle.bz_items.specs.Characters.{Bytes}
 use Rattle.std.specs.Option.{option_map_or}
 use Rattle.bz_value.specs.Gaps.{GapLine, as_list, before_groups, groups_of, all_but_last, last_group}
@@ -18,9 +20,7 @@ reaches ls zero = true
 reaches ls (suc n) = has (comment_on ls n) && reaches ls n
 
 swap : (a b c : Bool) → (a && (b && c)) ≡ (b && (a && c))
-swap true b c = refl
-swap false true c = refl
-swap false false c = refl
+swap a b c = sym (and_assoc a b c) ∙ (ap (λ z. z && c) (and_comm a b) ∙ and_assoc b a c)
 
 reaches_after : (x : GapLine) (ls : List GapLine) (n : ℕ) → reaches (x ∷ ls) (suc n) ≡ (has x.comment && reaches ls n)
 reaches_after x ls zero = refl
@@ -119,16 +119,9 @@ groups_collected (x ∷ ls) =
 -- ---- the groups alone
 
 texts : List Collected → List (List Bytes)
-texts [] = []
-texts (t ∷ ts) = t.1 ∷ texts ts
+texts ts = map (λ t. t.1) ts
 
-texts_collected : (ls : List GapLine) (ns : List ℕ) → texts (map (collected ls) ns) ≡ map (right_above ls) ns
-unfolding texts
-texts_collected ls [] = refl
-texts_collected ls (n ∷ ns) = ap (λ (z : List (List Bytes)). right_above ls n ∷ z) (texts_collected ls ns)
-
-texts_unmarked : (groups : List (List Bytes)) → texts (map unmarked groups) ≡ groups
-unfolding texts
+texts_unmarked : (groups : List (List Bytes)) → map (λ (t : Collected). t.1) (map unmarked groups) ≡ groups
 texts_unmarked [] = refl
 texts_unmarked (group ∷ groups) = ap (λ (z : List (List Bytes)). group ∷ z) (texts_unmarked groups)
 
@@ -136,6 +129,10 @@ texts_marked : (groups : List (List Bytes)) → texts (marked groups) ≡ groups
 unfolding texts
 texts_marked [] = refl
 texts_marked (group ∷ groups) = ap (λ (z : List (List Bytes)). group ∷ z) (texts_unmarked groups)
+
+texts_collected : (ls : List GapLine) (ns : List ℕ) → texts (map (collected ls) ns) ≡ map (right_above ls) ns
+unfolding texts
+texts_collected ls ns = map-map _ _ ns
 
 pub all_numbered : (ls : List GapLine) → groups_of ls ≡ map (right_above ls) (bare_lines 0 ls ++ length ls ∷ [])
 all_numbered ls = sym (texts_marked (groups_of ls)) ∙ (ap texts (sym (groups_collected ls)) ∙ texts_collected ls (stops ls))

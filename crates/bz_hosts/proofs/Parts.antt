@@ -9,10 +9,8 @@ use Rattle.bz_grammar.specs.declared.tree.Part.TheVariants as p
 use Rattle.bz_grammar.specs.Shapes.{Fits, bzl_shape}
 use Rattle.bz_grammar.specs.Spell.{leaves_part, leaves_row}
 use Rattle.bz_grammar.specs.Legal.{IsNonterminal, LegalBzlPart, LegalBzlRow}
-use Rattle.bz_value.specs.Frames.{frame}
 use Rattle.bz_items.specs.Characters.{Bytes}
 use Rattle.bz_hosts.specs.View.{seen, seen_row, first_seen_gap}
-use Rattle.bz_hosts.proofs.SeenParts.{node_gap}
 use Rattle.bz_hosts.specs.Hosts.{Comment, comments_at, comments_from, Measured, sizes, measured, measured_row}
 
 abbrev pub size : Part → ℕ
@@ -71,7 +69,7 @@ mutual
   part_solid (p.Leaf l) h = record { first = l; rest = []; leaves = refl; gap = refl }
   part_solid (Node' kind n r) h =
       let w = node_solid kind _ r h.0 (first_solid _ r h.1) in
-      record { first = w.0; rest = w.1; leaves = w.2; gap = node_gap kind (seen_row r) (frame kind) ∙ w.3 }
+      record { first = w.0; rest = w.1; leaves = w.2; gap = w.3 }
 
   first_solid : (m : _) (r : Row_of-Part m) → LegalBzlRow r → SolidFirst (items-the_row-Part m r)
   first_solid m end_of-Part h = tt

@@ -98,7 +98,7 @@ module _ (grammar : Kind → Shape) where
         let body : List Seen = drop (suc n) (map seen xs) in
         let found : List Expr × List Bytes = items_in (all_in (first_seen_gap body)) body in
         let es : List Expr = map plain (take n (map seen xs)) in
-        let cut : Cut kind xs = sequence_cut kind opener closer xs e (lines_bzl kind xs (wider kind xs h)) in
+        let cut : Cut (lead kind) xs = sequence_cut kind opener closer xs e (lines_bzl kind xs (wider kind xs h)) in
         let stands = sequence_stands kind here xs cut at_ in
         let same : body ≡ map seen (drop (suc n) xs) = drop-map seen (suc n) xs in
         let decoded : AllDecoded (map seen (drop (suc n) xs)) = subst AllDecoded same (dropped Decoded (suc n) (map seen xs) t) in

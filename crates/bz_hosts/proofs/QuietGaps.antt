@@ -11,9 +11,8 @@ use Rattle.bz_grammar.specs.Shapes as s
 use Rattle.bz_grammar.specs.Shapes.{Fits, Listed, tok, done}
 use Rattle.bz_grammar.specs.Legal.{IsNonterminal, LegalBzlPart, LegalBzlRow}
 use Rattle.bz_grammar.specs.Spots.{Spot, Begins, Along, onward, after_part, BzlGapStands, BzlStands, AtLeaves, AtRow, AtParts}
-use Rattle.bz_grammar.proofs.Balance.{no_such}
 use Rattle.bz_items.specs.Characters.{Bytes}
-use Rattle.bz_value.specs.Frames.{frame}
+use Rattle.bz_grammar.proofs.Balance.{legal_row, no_such}
 use Rattle.bz_value.specs.Gaps.{as_list, all_in}
 use Rattle.bz_value.proofs.AlongGaps.{along}
 use Rattle.bz_hosts.specs.View.{seen, seen_row, first_seen_gap}
@@ -21,7 +20,7 @@ use Rattle.bz_hosts.proofs.Alternating.{Alternating}
 use Rattle.bz_hosts.proofs.Cuts.{listed_alternating}
 use Rattle.bz_hosts.proofs.InnerParts.{ends_line, is_inner, token_inner, nonterminal_inner, inner_parts, nonterminal_goes, token_goes}
 use Rattle.bz_hosts.proofs.RowParts.{on_twice}
-use Rattle.bz_hosts.proofs.SeenParts.{node_gap}
+use Rattle.bz_hosts.proofs.SeenParts.{all_mapped}
 
 pub along_silent : (gap : Bytes) → IsGap false false gap → all_in gap ≡ []
 along_silent gap h = let w = along false gap h in w.2 ∙ ap as_list (w.3 refl)
@@ -38,15 +37,14 @@ Silent x = is_inner x ≡ true → AtLeaves BzlStands Along x → all_in (seen x
 mutual
   pub part_silent : (x : Part) → LegalBzlPart x → Silent x
   part_silent (p.Leaf l) g i h = gap_silent l.class l.gap i h
-  part_silent (Node' kind n r) g i h = ap all_in (node_gap kind (seen_row r) (frame kind)) ∙ row_silent _ r (inner_parts kind i (items-the_row-Part _ r) g.0) g.1 h
+  part_silent (Node' kind n r) g i h = row_silent _ r (inner_parts kind i (items-the_row-Part _ r) g.0) g.1 h
 
   row_silent : (m : _) (r : Row_of-Part m) → AllByRecursion (λ x. is_inner x ≡ true) (items-the_row-Part m r) → LegalBzlRow r → AtRow BzlStands Along Along r → all_in (first_seen_gap (seen_row r)) ≡ []
   row_silent m end_of-Part i g h = refl
   row_silent m (more_of-Part x rest) i g h = part_silent x g.0 i.0 h.0
 
 pub parts_silent : (m : _) (r : Row_of-Part m) → LegalBzlRow r → AllByRecursion Silent (items-the_row-Part m r)
-parts_silent m end_of-Part g = tt
-parts_silent m (more_of-Part x rest) g = (part_silent x g.0, parts_silent _ rest g.1)
+parts_silent m r g = all_mapped LegalBzlPart Silent part_silent (items-the_row-Part m r) (legal_row m r g)
 
 -- statement, semicolon, statement, .. Newline: before semicolons and before each statement but the first
 abbrev pub Quiet : List Part → Type 0

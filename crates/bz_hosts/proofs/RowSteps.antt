@@ -9,7 +9,7 @@ use Rattle.bz_items.specs.Characters.{Bytes}
 use Rattle.bz_value.specs.Gaps.{others_in, all_in, has_newline}
 use Rattle.bz_value.specs.Proper.{is_operator}
 use Rattle.bz_hosts.specs.View.{Seen, seen, plain, begins_seen_operator, row_exprs, first_seen_gap, last_gap, loose_in, loose_after}
-use Rattle.bz_hosts.specs.Walks.{above_after, gap_inside, item_gap}
+use Rattle.bz_hosts.specs.private.Walks.{above_after, gap_inside, item_gap}
 
 pub gap_of_last : (ps : List Part) (k : ℕ) (y : Part) → suc k ≡ length ps → y ≡ get_or ps k y → (seen y).gap ≡ last_gap (map seen ps)
 gap_of_last [] k y l i = absurd (omega arith)

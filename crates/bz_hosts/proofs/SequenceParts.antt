@@ -42,7 +42,7 @@ lead_one k.Call = omega arith
 lead_one k.Load = omega arith
 lead_one _ = omega arith
 
-pub sequence_stands : (kind : Kind) (here : Spot) (xs : List Part) → Cut kind xs → AtParts BzlStands here here xs → Stand here (lead kind) xs
+pub sequence_stands : (kind : Kind) (here : Spot) (xs : List Part) → Cut (lead kind) xs → AtParts BzlStands here here xs → Stand here (lead kind) xs
 sequence_stands kind here xs c at_ = stand here (lead kind) xs (lead_one kind) c.bracket_at at_
 
 -- ---- what is before the bracket

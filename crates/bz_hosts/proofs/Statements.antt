@@ -7,12 +7,12 @@ use Rattle.bz_grammar.specs.declared.tree.Part.TheVariants as p
 use Rattle.bz_grammar.specs.Shapes as s
 use Rattle.bz_value.specs.declared.value.Item.{Item}
 use Rattle.bz_items.specs.Characters.{Bytes}
-use Rattle.bz_value.specs.Gaps.{GapLine, lines_of, as_list, after_first_line, comments_in, first_comment, suffix_in, others_in, all_in}
+use Rattle.bz_value.specs.Gaps.{as_list, suffix_in, others_in, all_in}
 use Rattle.bz_hosts.specs.View.{seen, plain, statement, statements_in}
 use Rattle.bz_hosts.proofs.QuietGaps.{Quiet}
 use Rattle.bz_hosts.specs.Hosts.{Region, host, Comment, comments_at, sizes, measured, hosts_from, CommentPlace, suffix_of, above, outside, texts_at, hosted_at, inside_expr, inside_item}
 use Rattle.bz_hosts.proofs.Around.{AllInside, Sees, SeesAt, Ended, sees_after, sees_before, sees_in_host, sees_past_host, sees_ended}
-use Rattle.bz_hosts.proofs.Gathered.{key, pick, pick_same, pick_other, pick_none, GapPlaces, texts_joined, gap_texts}
+use Rattle.bz_hosts.proofs.Gathered.{key, pick, pick_same, pick_other, pick_none, GapPlaces, none_in, texts_joined, gap_texts}
 use Rattle.bz_hosts.proofs.Parts.{size, inner, in_parts, after_parts}
 use Rattle.bz_hosts.proofs.Alternating.{IsItem, IsMark, Alternating, Regions, hosts_closed, hosts_last, hosts_more, hosts_inside}
 use Rattle.bz_hosts.proofs.Texts.{PartTexts, InHost}
@@ -30,18 +30,8 @@ nothing_there all n hi = record { outer = λ q k o. refl; found = λ cs f. refl 
 
 -- ---- gaps of a line
 
-nil_both : {A : Type 0} (a b : List A) → a ++ b ≡ [] → (a ≡ []) × (b ≡ [])
-nil_both [] b e = (refl, e)
-nil_both (x ∷ a) b e = cc
-
-silent_lines : (n : ℕ) (ls : List GapLine) → comments_in ls ≡ [] →
-    map (λ (text : Bytes). let c : Comment = record { leaf = n; on_line = true; text = text } in c) (as_list (first_comment ls)) ++ map
-    (λ (text : Bytes). let c : Comment = record { leaf = n; on_line = false; text = text } in c) (comments_in (after_first_line ls)) ≡ []
-silent_lines n [] e = refl
-silent_lines n (line ∷ ls) e = let w = nil_both (as_list line.comment) (comments_in ls) e in rw (w.0, w.1) refl
-
 pub silent_gap : (n : ℕ) (gap : Bytes) → all_in gap ≡ [] → comments_at n gap ≡ []
-silent_gap n gap e = silent_lines n (lines_of gap) e
+silent_gap n gap e = let w = none_in gap e in rw (w.0, w.1) refl
 
 pub gap_ended : (all : List Region) (m first hi : ℕ) (rs : List Region) → Ended all m first None hi rs → GapPlaces all m (suffix_of first) outside
 gap_ended all m first hi rs h = record { on_line = λ t. rw h.ends refl; below = λ t. rw h.inner refl }
@@ -84,25 +74,41 @@ module _ (all : List Region) (n n' hi next : ℕ) (x : Part) (suffix : Option By
 -- ---- the line
 
 module _ (all : List Region) (n hi : ℕ) (x : Part) (l : Leaf) (r : Regions x) (i : InHost all x) where
-  -- no semicolon after the last statement
-  bare_end : hi ≡ suc (n + size x) → IsItem x → IsMark s.semicolon false (p.Leaf l) → SeesAt all None (suc n) hi (hosts_from s.semicolon n (map measured (x ∷ p.Leaf l ∷ []))) →
-      LineTexts all n hi (after_parts n (x ∷ p.Leaf l ∷ [])) (hosts_from s.semicolon n (map measured (x ∷ p.Leaf l ∷ []))) (statements_in [] (map seen (x ∷ p.Leaf l ∷ [])))
-  bare_end up item mark s' =
+  -- the last statement, in the gap of whose end at next its suffix is
+  last_statement : (l' : Leaf) (next : ℕ) (whole : List Comment) (there : List Region) → n + size x ≤ next → hi ≡ suc next → whole ≡ inner n x ++ (comments_at next l'.gap ++ []) →
+      there ≡ host n (n + size x) next ∷ ((measured x).inside n ++ []) → SeesAt all None (suc n) hi there → LineTexts all n hi whole there (statement [] (suffix_in l'.gap) (seen x) ∷ [])
+  last_statement l' next whole there far up same is s' =
       let b : ℕ = n + size x in
       let rs : List Region = (measured x).inside n in
       let some = r.some in
-      let whole : List Comment = after_parts n (x ∷ p.Leaf l ∷ []) in
-      let sees : SeesAt all None (suc n) hi (host n b b ∷ (rs ++ [])) = λ q v w. subst (Sees all q None hi) (hosts_last s.semicolon n x l item mark) (s' q v w) in
-      let part : PartTexts all n n x = i n b b n (omega arith) (λ q v w. sees_before all q (Some (host n b b)) hi b hi b rs [] tt (omega arith) (omega arith) (omega arith)
-      (sees_in_host all q None hi n b b (rs ++ []) (omega arith) w (omega arith) (sees q v (omega arith)))) in
-      let places : GapPlaces all b (suffix_of n) outside = gap_ended all b n hi [] (sees_ended all b None hi n b b hi rs [] (omega arith) (omega arith) (omega arith) (r.within n) tt (omega arith) (sees b (omega arith) (omega arith))) in
-      let collected : (q : CommentPlace) → 0 < key q → texts_at all q whole ≡ texts_at all q (inner n x) ++ (pick (suffix_of n) q (as_list (suffix_in l.gap)) ++ texts_at all q []) =
-      λ q k. texts_joined all q (inner n x) (comments_at b l.gap ++ []) ∙ ap (λ (z : Lines). texts_at all q (inner n x) ++ z) (texts_joined all q (comments_at b l.gap) [] ∙ ap (λ (z : Lines). z ++ []) (gap_suffix all b n l.gap places q k)) in
-      subst (λ (z : List Region). LineTexts all n hi whole z (statements_in [] (map seen (x ∷ p.Leaf l ∷ [])))) (sym (hosts_last s.semicolon n x l item mark))
-      (statement_texts all n hi hi b x (suffix_in l.gap) whole [] [] [] some (omega arith) (omega arith) part collected (nothing_there all hi hi))
+      let sees : SeesAt all None (suc n) hi (host n b next ∷ (rs ++ [])) = λ q v w. subst (Sees all q None hi) is (s' q v w) in
+      let part : PartTexts all n n x = i n b next n (omega arith) (λ q v w. sees_before all q (Some (host n b next)) hi b hi b rs [] tt (omega arith) (omega arith) (omega arith)
+      (sees_in_host all q None hi n b next (rs ++ []) (omega arith) w (omega arith) (sees q v (omega arith)))) in
+      let places : GapPlaces all next (suffix_of n) outside =
+      gap_ended all next n hi [] (sees_ended all next None hi n b hi hi rs [] (omega arith) (omega arith) (omega arith) (r.within n) tt (omega arith) (sees next (omega arith) (omega arith))) in
+      let collected : (q : CommentPlace) → 0 < key q → texts_at all q whole ≡ texts_at all q (inner n x) ++ (pick (suffix_of n) q (as_list (suffix_in l'.gap)) ++ texts_at all q []) =
+      λ q k. ap (texts_at all q) same ∙ (texts_joined all q (inner n x) (comments_at next l'.gap ++ []) ∙ ap (λ (z : Lines). texts_at all q (inner n x) ++ z)
+      (texts_joined all q (comments_at next l'.gap) [] ∙ ap (λ (z : Lines). z ++ []) (gap_suffix all next n l'.gap places q k))) in
+      subst (λ (z : List Region). LineTexts all n hi whole z (statement [] (suffix_in l'.gap) (seen x) ∷ [])) (sym is)
+      (statement_texts all n hi hi next x (suffix_in l'.gap) whole [] [] [] some (omega arith) (omega arith) part collected (nothing_there all hi hi))
+
+  -- the comments after the statement are those after its semicolon
+  split : (z : Part) (xs : List Part) → all_in l.gap ≡ [] → after_parts n (x ∷ p.Leaf l ∷ z ∷ xs) ≡ inner n x ++ in_parts (suc (n + size x)) (z ∷ xs)
+  split z xs silent =
+      let one : n + size x + 1 ≡ suc (n + size x) = omega arith in
+      ap (λ (y : List Comment). inner n x ++ (y ++ in_parts (n + size x + 1) (z ∷ xs))) (silent_gap (n + size x) l.gap silent) ∙ ap (λ (y : ℕ). inner n x ++ in_parts y (z ∷ xs)) one
+
+  semicolon_end : (l' : Leaf) → IsItem x → IsMark s.semicolon true (p.Leaf l) → hi ≡ suc (n + size x) + 1 → IsMark s.semicolon false (p.Leaf l') → all_in l.gap ≡ [] →
+      SeesAt all None (suc n) hi (hosts_from s.semicolon n (map measured (x ∷ p.Leaf l ∷ p.Leaf l' ∷ []))) →
+      LineTexts all n hi (after_parts n (x ∷ p.Leaf l ∷ p.Leaf l' ∷ [])) (hosts_from s.semicolon n (map measured (x ∷ p.Leaf l ∷ p.Leaf l' ∷ []))) (statements_in [] (map seen (x ∷ p.Leaf l ∷ p.Leaf l' ∷ [])))
+  semicolon_end l' item mark up mark' silent s' =
+      let n' : ℕ = suc (n + size x) in
+      let closed : hosts_from s.semicolon n' (map measured (p.Leaf l' ∷ [])) ≡ [] = hosts_closed s.semicolon n' (p.Leaf l') mark' in
+      last_statement l' n' _ _ (omega arith) (omega arith) (split (p.Leaf l') [] silent)
+      (hosts_more s.semicolon n x l (p.Leaf l' ∷ []) item mark ∙ ap (λ (y : List Region). host n (n + size x) n' ∷ ((measured x).inside n ++ y)) closed) s'
 
   module _ (z : Part) (xs : List Part) (item : IsItem x) (mark : IsMark s.semicolon true (p.Leaf l)) (up : hi ≡ suc (n + size x) + sizes (map measured (z ∷ xs))) (a : Alternating s.semicolon (z ∷ xs))
-      (r' : AllByRecursion Regions (z ∷ xs)) (silent : all_in l.gap ≡ []) (s' : SeesAt all None (suc n) hi (hosts_from s.semicolon n (map measured (x ∷ p.Leaf l ∷ z ∷ xs)))) where
+      (r' : AllByRecursion Regions (z ∷ xs)) (s' : SeesAt all None (suc n) hi (hosts_from s.semicolon n (map measured (x ∷ p.Leaf l ∷ z ∷ xs)))) where
     abbrev after_it : ℕ
     after_it = suc (n + size x)
 
@@ -125,35 +131,6 @@ module _ (all : List Region) (n hi : ℕ) (x : Part) (l : Leaf) (r : Regions x) 
         i n b after_it n (omega arith) (λ q v w. sees_before all q (Some (host n b after_it)) hi after_it (after_it + sizes (map measured (z ∷ xs))) b ((measured x).inside n) later later_inside (omega arith)
         (omega arith) (omega arith) (sees_in_host all q None hi n b after_it ((measured x).inside n ++ later) (omega arith) w (omega arith) (sees_whole q v (omega arith))))
 
-    -- the comments after the statement are those after its semicolon
-    split : after_parts n (x ∷ p.Leaf l ∷ z ∷ xs) ≡ inner n x ++ in_parts after_it (z ∷ xs)
-    split =
-        let one : n + size x + 1 ≡ after_it = omega arith in
-        ap (λ (y : List Comment). inner n x ++ (y ++ in_parts (n + size x + 1) (z ∷ xs))) (silent_gap (n + size x) l.gap silent) ∙ ap (λ (y : ℕ). inner n x ++ in_parts y (z ∷ xs)) one
-
-  semicolon_end : (l' : Leaf) → IsItem x → IsMark s.semicolon true (p.Leaf l) → hi ≡ suc (n + size x) + 1 → IsMark s.semicolon false (p.Leaf l') → all_in l.gap ≡ [] →
-      SeesAt all None (suc n) hi (hosts_from s.semicolon n (map measured (x ∷ p.Leaf l ∷ p.Leaf l' ∷ []))) →
-      LineTexts all n hi (after_parts n (x ∷ p.Leaf l ∷ p.Leaf l' ∷ [])) (hosts_from s.semicolon n (map measured (x ∷ p.Leaf l ∷ p.Leaf l' ∷ []))) (statements_in [] (map seen (x ∷ p.Leaf l ∷ p.Leaf l' ∷ [])))
-  semicolon_end l' item mark up mark' silent s' =
-      let b : ℕ = n + size x in
-      let n' : ℕ = suc b in
-      let z : Part = p.Leaf l' in
-      let rs : List Region = (measured x).inside n in
-      let some = r.some in
-      let r' : AllByRecursion Regions (z ∷ []) = (record { some = omega arith; within = λ m. tt }, tt) in
-      let whole : List Comment = after_parts n (x ∷ p.Leaf l ∷ z ∷ []) in
-      let closed : hosts_from s.semicolon n' (map measured (z ∷ [])) ≡ [] = hosts_closed s.semicolon n' z mark' in
-      let there : hosts_from s.semicolon n (map measured (x ∷ p.Leaf l ∷ z ∷ [])) ≡ host n b n' ∷ (rs ++ []) = hosts_more s.semicolon n x l (z ∷ []) item mark ∙ ap (λ (y : List Region). host n b n' ∷ (rs ++ y)) closed in
-      let part : PartTexts all n n x = inside_it z [] item mark (omega arith) mark' r' silent s' in
-      let places : GapPlaces all n' (suffix_of n) outside = gap_ended all n' n hi []
-      (sees_ended all n' None hi n b hi hi rs [] (omega arith) (omega arith) (omega arith) (r.within n) tt (omega arith) (subst (Sees all n' None hi) there (s' n' (omega arith) (omega arith)))) in
-      let collected : (q : CommentPlace) → 0 < key q → texts_at all q whole ≡ texts_at all q (inner n x) ++ (pick (suffix_of n) q (as_list (suffix_in l'.gap)) ++ texts_at all q []) =
-      λ q k. ap (texts_at all q) (split z [] item mark (omega arith) mark' r' silent s') ∙
-      (texts_joined all q (inner n x) (comments_at n' l'.gap ++ []) ∙ ap (λ (y : Lines). texts_at all q (inner n x) ++ y)
-      (texts_joined all q (comments_at n' l'.gap) [] ∙ ap (λ (y : Lines). y ++ []) (gap_suffix all n' n l'.gap places q k))) in
-      subst (λ (y : List Region). LineTexts all n hi whole y (statements_in [] (map seen (x ∷ p.Leaf l ∷ z ∷ [])))) (sym there)
-      (statement_texts all n hi hi n' x (suffix_in l'.gap) whole [] [] [] some (omega arith) (omega arith) part collected (nothing_there all hi hi))
-
   before_others : (z u : Part) (xs : List Part) → IsItem x → IsMark s.semicolon true (p.Leaf l) → hi ≡ suc (n + size x) + sizes (map measured (z ∷ u ∷ xs)) → Alternating s.semicolon (z ∷ u ∷ xs) →
       AllByRecursion Regions (z ∷ u ∷ xs) → all_in l.gap ≡ [] → all_in (seen z).gap ≡ [] →
       SeesAt all None (suc n) hi (hosts_from s.semicolon n (map measured (x ∷ p.Leaf l ∷ z ∷ u ∷ xs))) →
@@ -165,13 +142,13 @@ module _ (all : List Region) (n hi : ℕ) (x : Part) (l : Leaf) (r : Regions x) 
       let some = r.some in
       let whole : List Comment = after_parts n (x ∷ p.Leaf l ∷ z ∷ u ∷ xs) in
       let following : List Comment = after_parts n' (z ∷ u ∷ xs) in
-      let part : PartTexts all n n x = inside_it z (u ∷ xs) item mark up a r' silent s' in
-      let same : whole ≡ inner n x ++ following = split z (u ∷ xs) item mark up a r' silent s' ∙ ap (λ (y : List Comment). inner n x ++ (y ++ following)) (silent_gap n' (seen z).gap silent') in
+      let part : PartTexts all n n x = inside_it z (u ∷ xs) item mark up a r' s' in
+      let same : whole ≡ inner n x ++ following = split z (u ∷ xs) silent ∙ ap (λ (y : List Comment). inner n x ++ (y ++ following)) (silent_gap n' (seen z).gap silent') in
       let collected : (q : CommentPlace) → 0 < key q → texts_at all q whole ≡ texts_at all q (inner n x) ++ (pick (suffix_of n) q (as_list None) ++ texts_at all q following) =
       λ q k. ap (texts_at all q) same ∙ (texts_joined all q (inner n x) following ∙ ap (λ (y : Lines). texts_at all q (inner n x) ++ (y ++ texts_at all q following)) (sym (pick_none (suffix_of n) q))) in
       subst (λ (y : List Region). LineTexts all n hi whole y (statements_in [] (map seen (x ∷ p.Leaf l ∷ z ∷ u ∷ xs)))) (sym (hosts_more s.semicolon n x l (z ∷ u ∷ xs) item mark))
       (statement_texts all n n' hi n' x None whole following (hosts_from s.semicolon n' (map measured (z ∷ u ∷ xs))) (statements_in [] (map seen (z ∷ u ∷ xs))) some (omega arith) (omega arith) part collected
-      (next (sees_later z (u ∷ xs) item mark up a r' silent s')))
+      (next (sees_later z (u ∷ xs) item mark up a r' s')))
 
 pub line_texts : (all : List Region) (n hi : ℕ) (xs : List Part) → hi ≡ n + sizes (map measured xs) → Alternating s.semicolon xs → Quiet xs → AllByRecursion Regions xs → AllByRecursion (InHost all) xs →
     SeesAt all None (suc n) hi (hosts_from s.semicolon n (map measured xs)) →
@@ -179,7 +156,7 @@ pub line_texts : (all : List Region) (n hi : ℕ) (xs : List Part) → hi ≡ n 
 line_texts all n hi [] u a q r i s' = absurd a
 line_texts all n hi (p.Leaf l ∷ []) u a q r i s' = record { outer = λ place k o. refl; found = λ cs f. ap (map (hosted_at all cs)) (hosts_closed s.semicolon n (p.Leaf l) a) }
 line_texts all n hi (Node' kind c t ∷ []) u a q r i s' = absurd a
-line_texts all n hi (x ∷ p.Leaf l ∷ []) u a q r i s' = bare_end all n hi x l r.0 i.0 (omega arith) a.0 a.1 s'
+line_texts all n hi (x ∷ p.Leaf l ∷ []) u a q r i s' = last_statement all n hi x l r.0 i.0 l (n + size x) _ _ (omega arith) (omega arith) refl (hosts_last s.semicolon n x l a.0 a.1) s'
 line_texts all n hi (x ∷ Node' kind c t ∷ []) u a q r i s' = absurd a.1
 line_texts all n hi (x ∷ p.Leaf l ∷ p.Leaf l' ∷ []) u a q r i s' = semicolon_end all n hi x l r.0 i.0 l' a.0 a.1 (omega arith) a.2 q s'
 line_texts all n hi (x ∷ p.Leaf l ∷ Node' kind c t ∷ []) u a q r i s' = absurd a.2

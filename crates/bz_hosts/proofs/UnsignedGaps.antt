@@ -1,13 +1,14 @@
 -- A gap without a number sign has no comment.
-use Rattle.std.proofs.Common.{◌≡◌, ◌⊎◌, ℕ, suc, zero, Bool, true, false, not, ◌&&◌, if◌then◌else◌, nat_eq, List, [], ◌∷◌, ◌++◌, ◌+◌, inl, inr, None, refl, sym, ap, ◌∙◌, subst, map, drop, get_or, replicate, append-nil, add-one}
+use Rattle.std.proofs.Common.{◌≡◌, ◌⊎◌, ℕ, suc, zero, Bool, true, false, not, ◌&&◌, if◌then◌else◌, nat_eq, List, [], ◌∷◌, ◌++◌, ◌+◌, inl, inr, Option, None, Some, refl, sym, ap, ◌∙◌, subst, map, drop, get_or, replicate, append-nil, add-one}
 use Rattle.std.specs.List.{AllByRecursion}
-use Rattle.std.proofs.lemmas.Bool.{cases_Bool, false≢true, not-true}
+use Rattle.std.proofs.lemmas.Bool.{and_parts, cases_Bool, not-true}
 use Rattle.bz_grammar.specs.declared.tree.Part.{Part}
 use Rattle.bz_lex.specs.Gaps.{is_indent}
 use Rattle.bz_items.specs.Characters.{Bytes, backslash, line_feed, number_sign, space}
-use Rattle.bz_value.specs.Gaps.{GapLine, lines_from, rest_of_line, lines_of, as_list, comments_in, first_comment, after_first_line, suffix_in, others_in, all_in, some_newline, has_newline}
+use Rattle.bz_value.specs.Gaps.{GapLine, lines_from, rest_of_line, lines_of, as_list, comments_in, suffix_in, others_in, all_in, some_newline, has_newline}
 use Rattle.bz_hosts.specs.View.{Seen, seen, first_seen_gap}
-use Rattle.bz_hosts.specs.Walks.{above_after, gap_inside, is_unsigned, item_gap}
+use Rattle.bz_hosts.proofs.Gathered.{none_in}
+use Rattle.bz_hosts.specs.private.Walks.{above_after, gap_inside, is_unsigned, item_gap}
 
 -- ---- what is known of a gap
 
@@ -36,14 +37,10 @@ spacing_breaks gap bytes begins (count, inr line) i b = b ∙ (ap (λ g. nat_eq 
 abbrev Bare : List GapLine → Type 0
 Bare lines = AllByRecursion (λ line. line.comment ≡ None) lines
 
-both : (a b : Bool) → (a && b) ≡ true → (a ≡ true) × (b ≡ true)
-both true b h = (refl, h)
-both false b h = absurd (false≢true h)
-
 bare_from : (g : Bytes) → is_unsigned g ≡ true → ((indent : ℕ) → Bare (lines_from indent g)) × Bare (rest_of_line g).lines
 bare_from [] h = (λ indent. tt, tt)
 bare_from (c ∷ g) h =
-    let w = both (not (nat_eq c number_sign)) (is_unsigned g) h in
+    let w = and_parts (not (nat_eq c number_sign)) (is_unsigned g) h in
     let sign = not-true (nat_eq c number_sign) w.0 in
     let rest = bare_from g w.1 in
     elim (cases_Bool (nat_eq c line_feed)) [
@@ -61,14 +58,6 @@ comments_bare : (lines : List GapLine) → Bare lines → comments_in lines ≡ 
 comments_bare [] h = refl
 comments_bare (line ∷ lines) h = ap (λ o. as_list o ++ comments_in lines) h.0 ∙ comments_bare lines h.1
 
-rest_bare : (lines : List GapLine) → Bare lines → Bare (after_first_line lines)
-rest_bare [] h = tt
-rest_bare (line ∷ lines) h = h.1
-
-first_bare : (lines : List GapLine) → Bare lines → first_comment lines ≡ None
-first_bare [] h = refl
-first_bare (line ∷ lines) h = h.0
-
 all_quiet : (g : Bytes) → is_unsigned g ≡ true → all_in g ≡ []
 all_quiet g h = comments_bare (lines_of g) (lines_bare g h)
 
@@ -77,10 +66,14 @@ pub none_quiet : (g seen : Bytes) (quiet : Bool) (above : List Bytes) → g ≡ 
 none_quiet g seen quiet above i q t e = e ∙ (sym (all_quiet g (sym q ∙ t)) ∙ ap all_in i)
 
 others_quiet : (g : Bytes) → is_unsigned g ≡ true → others_in g ≡ []
-others_quiet g h = comments_bare (after_first_line (lines_of g)) (rest_bare (lines_of g) (lines_bare g h))
+others_quiet g h = (none_in g (all_quiet g h)).1
 
 suffix_quiet : (g : Bytes) → is_unsigned g ≡ true → suffix_in g ≡ None
-suffix_quiet g h = first_bare (lines_of g) (lines_bare g h)
+suffix_quiet g h = no_text (suffix_in g) (none_in g (all_quiet g h)).0
+  where
+    no_text : (o : Option Bytes) → as_list o ≡ [] → o ≡ None
+    no_text None e = refl
+    no_text (Some text) e = cc
 
 -- ---- after an item, from its mark on
 
@@ -105,7 +98,7 @@ quiet_after ps at = is_unsigned (first_seen_gap (map seen (drop at ps))) && is_u
 
 pub nothing_after : (ps : List Part) (at : ℕ) → quiet_after ps at ≡ true → (above_after (map seen (drop at ps)) ≡ []) × (suffix_in (item_gap (map seen (drop at ps))) ≡ None)
 nothing_after ps at h =
-    let w = both (is_unsigned (first_seen_gap (map seen (drop at ps)))) (is_unsigned (first_seen_gap (map seen (drop (at + 1) ps)))) h in
+    let w = and_parts (is_unsigned (first_seen_gap (map seen (drop at ps)))) (is_unsigned (first_seen_gap (map seen (drop (at + 1) ps)))) h in
     let next : is_unsigned (first_seen_gap (drop 1 (map seen (drop at ps)))) ≡ true =
     subst (λ (g : Bytes). is_unsigned g ≡ true) (ap (λ k. first_seen_gap (map seen (drop k ps))) (add-one at) ∙ next_gap ps at) w.1 in
     (above_at (map seen (drop at ps)) w.0 next, suffix_at (map seen (drop at ps)) w.0 next)

@@ -1,6 +1,6 @@
 -- The view of a text after another one.
 use Rattle.std.specs.Prelude.{◌≡◌, ◌≤◌, List, [], ◌∷◌, ◌++◌, length}
-use Rattle.bz_items.specs.Characters.{Bytes, line_feed}
+use Rattle.bz_items.specs.Characters.{Bytes}
 use Rattle.bz_lex.specs.declared.leaf.Leaf.{Leaf}
 use Rattle.bz_grammar.specs.declared.tree.Node.{Node}
 use Rattle.bz_grammar.specs.declared.tree.Part.{Part, Node'}
@@ -36,8 +36,3 @@ ViewsJoin = (s t : Bytes) (n m : Node) → EndsWithLine n → Reads s n → Read
 -- the text of no bytes reads as a file without items, which ends with a line
 abbrev pub EmptyReads : Type 0
 EmptyReads = (n : Node) × Reads [] n × (view_of n ≡ []) × EndsWithLine n
-
--- For a private function: a line ends with a newline that is a line feed, in whose gap no newline is escaped.
-abbrev pub EndInNewline : List Part → Type 0
-EndInNewline parts =
-    (before : List Part) × (newline : Leaf) × (parts ≡ before ++ p.Leaf newline ∷ []) × (newline.token ≡ line_feed ∷ []) × (after_first_line (lines_of newline.gap) ≡ [])

@@ -3,5 +3,5 @@ pub mod Joined
 pub mod Kept
 pub mod Laws
 pub mod View
-pub mod Walks
+pub mod private
 pub mod Worked

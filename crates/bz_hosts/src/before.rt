@@ -4,7 +4,7 @@ ghost use Rattle.bz_items.specs.Characters.{line_feed};
 ghost use Rattle.bz_value.specs.Gaps.{has_newline};
 ghost use Rattle.bz_value.specs.Proper.{is_operator};
 ghost use Rattle.bz_hosts.specs.View.{begins_seen_operator, first_seen_gap, is_split, last_gap, plain, seen};
-ghost use Rattle.bz_hosts.specs.Walks.{is_unsigned};
+ghost use Rattle.bz_hosts.specs.private.Walks.{is_unsigned};
 
 use bz_grammar::Part;
 use bz_items::Gap;

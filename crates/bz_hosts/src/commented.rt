@@ -4,7 +4,7 @@ ghost use Rattle.bz_grammar.specs.declared.tree.Part.{Part};
 ghost use Rattle.bz_value.specs.declared.value.Expr.{Expr};
 ghost use Rattle.bz_value.specs.Gaps.{suffix_in as suffix_decoded};
 ghost use Rattle.bz_hosts.specs.View.{plain, seen};
-ghost use Rattle.bz_hosts.specs.Walks.{above_after, item_gap, line_gap};
+ghost use Rattle.bz_hosts.specs.private.Walks.{above_after, item_gap, line_gap};
 
 use crate::marks::{above_next, gap_after_item, gap_after_statement, is_quiet_after};
 use bz_grammar::Part;

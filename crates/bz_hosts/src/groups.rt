@@ -2,7 +2,7 @@
 ghost use Rattle.std.specs.Prelude.{◌≡◌, [], ◌∷◌, ◌++◌, List, OnOk, IfOk};
 ghost use Rattle.bz_value.specs.Gaps.{GapLine, all_but_last, groups_of, last_group, lines_of};
 ghost use Rattle.bz_hosts.specs.View.{blocks};
-ghost use Rattle.bz_hosts.specs.Walks.{prepend};
+ghost use Rattle.bz_hosts.specs.private.Walks.{prepend};
 
 use bz_items::{Items, Memory, Text};
 use bz_value::{Item, first_line};
@@ -25,8 +25,8 @@ fn push_lines(
     group: Items<Text>,
     items: &mut Items<Item>,
 ) -> Result<Items<Text>, Memory>
-    ensures blocks { IfOk result (λ last. (more : List GapLine) → items.new ++ blocks (all_but_last (prepend last (groups_of more))) ≡ items.old ++ blocks (all_but_last (prepend group (groups_of (lines_of gap.now ++ more))))) }
-    ensures last { IfOk result (λ last. (more : List GapLine) → last_group (prepend last (groups_of more)) ≡ last_group (prepend group (groups_of (lines_of gap.now ++ more)))) }
+    ensures { IfOk result (λ last. (more : List GapLine) → (items.new ++ blocks (all_but_last (prepend last (groups_of more))) ≡ items.old ++ blocks (all_but_last (prepend group (groups_of (lines_of gap.now ++ more)))))
+        × (last_group (prepend last (groups_of more)) ≡ last_group (prepend group (groups_of (lines_of gap.now ++ more))))) }
 {
     let mut last = group;
     let mut rest = gap;
@@ -55,7 +55,8 @@ pub fn push_groups(
     ensures last { IfOk result (λ last. last ≡ last_group (groups_of (lines_of left.now ++ lines_of gap.now))) }
 {
     let group = push_lines(alloc, left, Items::new(alloc), items)?;
-    push_lines(alloc, gap, group, items)
+    let last = push_lines(alloc, gap, group, items)?;
+    Ok(last)
 }
 
 /// Appends all groups of comment lines of two gaps that follow each other.

@@ -3,7 +3,7 @@ ghost use Rattle.std.specs.Prelude.{◌≡◌, ◌++◌, ◌+◌, ◌<◌, ◌&&
 ghost use Rattle.bz_value.specs.Frames.{is_comprehension};
 ghost use Rattle.bz_value.specs.Gaps.{all_in, has_newline};
 ghost use Rattle.bz_hosts.specs.View.{begins_seen_operator, first_seen_gap, is_open, seen};
-ghost use Rattle.bz_hosts.specs.Walks.{above_after, gap_inside, is_unsigned, item_gap, line_gap};
+ghost use Rattle.bz_hosts.specs.private.Walks.{above_after, gap_inside, is_unsigned, item_gap, line_gap};
 
 use crate::before::{breaks_before, gap_at, gap_of_last, is_followed, is_operator_at, is_quiet_at};
 use bz_grammar::{Kind, Part};

@@ -1,20 +1,19 @@
-use Rattle.std.proofs.Common.{◌≡◌, ◌&&◌, if◌then◌else◌, [], ◌∷◌, map, ◌++◌, ◌+◌, suc, sym, ap, refl, ◌∙◌, drop, subst, OnOk, arith}
+use Rattle.std.proofs.Common.{◌≡◌, ◌&&◌, if◌then◌else◌, [], ◌∷◌, map, ◌++◌, ◌+◌, suc, sym, ap, refl, ◌∙◌, drop, arith}
 use Rattle.std.proofs.lemmas.List.{take_all}
-use Rattle.bz_value.specs.Frames.{frame}
+use Rattle.std.proofs.lemmas.Result.{on_ok_weaker}
 use Rattle.bz_value.specs.Gaps.{has_newline}
 use Rattle.bz_hosts.specs.View.{first_seen_gap, seen}
 use Rattle.bz_hosts.proofs.HostSteps.{item_more, items_done}
-use Rattle.bz_hosts.proofs.NodeViews.{made_of_node, loose_of_node, sequence_made}
+use Rattle.bz_hosts.proofs.NodeViews.{node_pushed, node_loose}
 use Rattle.bz_hosts.proofs.RowSteps.{part_here, at_operator, at_operand, row_more, row_done, loose_done, loose_more, head_row, bracket_loose, most_taken}
 use Rattle.bz_hosts.proofs.expr.+seen.Goals as goal
 use Rattle.bz_hosts.proofs.expr.+seen.Goals.{row_of-then-operator, row_of-else-operator}
 
 pub push_expr-returns-in_ok-push_form-in-Node-clause-exprs : goal.push_expr-returns-in_ok-push_form-in-Node-clause-exprs
-push_expr-returns-in_ok-push_form-in-Node-clause-exprs t c =
-    c.in_ok-push_form-in-Node.ensures.exprs ∙ ap (λ x. c.args.exprs.now.items ++ x ∷ []) (made_of_node c.args.part.now c.in-Node.node c.args.line_break c.in-Node.is)
+push_expr-returns-in_ok-push_form-in-Node-clause-exprs t c = node_pushed c.args.part.now c.in-Node.node c.args.line_break c.args.exprs.now.items _ c.in-Node.is c.in_ok-push_form-in-Node.ensures.exprs
 
 pub push_expr-returns-in_ok-push_form-in-Node-clause-loose : goal.push_expr-returns-in_ok-push_form-in-Node-clause-loose
-push_expr-returns-in_ok-push_form-in-Node-clause-loose t c = c.in_ok-push_form-in-Node.ensures.loose ∙ ap (λ ls. c.args.loose.now ++ ls) (loose_of_node c.args.part.now c.in-Node.node c.in-Node.is)
+push_expr-returns-in_ok-push_form-in-Node-clause-loose t c = node_loose c.args.part.now c.in-Node.node c.args.loose.now _ c.in-Node.is c.in_ok-push_form-in-Node.ensures.loose
 
 pub row_of-loop-at-preserved : goal.row_of-loop-at-preserved
 row_of-loop-at-preserved t c =
@@ -60,4 +59,4 @@ head_of-returns-clause-loose t c =
     bracket_loose c.args.parts.now _ c.args.lead c.index-parts-lead.result c.args.loose.now _ _ _ (omega arith) c.index-parts-lead.is refl c.in_ok-exprs-2.ensures.loose c.in_ok-push_gap.ensures c.in_ok-push_loose.ensures
 
 pub push_loose-returns-in-Node : goal.push_loose-returns-in-Node
-push_loose-returns-in-Node t c = subst (λ ls. OnOk c.push_form.result (c.push_form.new.loose ≡ c.args.loose.now ++ ls)) (loose_of_node c.args.part.now c.in-Node.node c.in-Node.is) c.push_form.ensures.loose
+push_loose-returns-in-Node t c = on_ok_weaker c.push_form.result (node_loose c.args.part.now c.in-Node.node c.args.loose.now c.push_form.new.loose c.in-Node.is) c.push_form.ensures.loose

@@ -6,15 +6,14 @@ use Rattle.bz_value.specs.declared.value.Expr.TheVariants as e
 use Rattle.bz_value.specs.Frames.{frame}
 use Rattle.bz_hosts.specs.View.{is_split, plain, seen}
 use Rattle.bz_hosts.proofs.HostSteps.{item_more, items_done}
-use Rattle.bz_hosts.proofs.NodeViews.{made_of_node, loose_of_node, sequence_made}
+use Rattle.bz_hosts.proofs.NodeViews.{node_pushed, node_loose, sequence_made}
 use Rattle.bz_hosts.proofs.moved.+moved.Goals as goal
 
 pub push_moved-returns-in_ok-push_form_moved-in-Node-clause-exprs : goal.push_moved-returns-in_ok-push_form_moved-in-Node-clause-exprs
-push_moved-returns-in_ok-push_form_moved-in-Node-clause-exprs t c =
-    c.in_ok-push_form_moved-in-Node.ensures.exprs ∙ ap (λ x. c.args.exprs.now.items ++ x ∷ []) (made_of_node c.args.part.now _ c.args.line_break (c.in-Node.is ∙ ap p.Node (sym c.in-Node.node-is)))
+push_moved-returns-in_ok-push_form_moved-in-Node-clause-exprs t c = node_pushed c.args.part.now _ c.args.line_break c.args.exprs.now.items _ (c.in-Node.is ∙ ap p.Node (sym c.in-Node.node-is)) c.in_ok-push_form_moved-in-Node.ensures.exprs
 
 pub push_moved-returns-in_ok-push_form_moved-in-Node-clause-loose : goal.push_moved-returns-in_ok-push_form_moved-in-Node-clause-loose
-push_moved-returns-in_ok-push_form_moved-in-Node-clause-loose t c = c.in_ok-push_form_moved-in-Node.ensures.loose ∙ ap (λ ls. c.args.loose.now ++ ls) (loose_of_node c.args.part.now _ (c.in-Node.is ∙ ap p.Node (sym c.in-Node.node-is)))
+push_moved-returns-in_ok-push_form_moved-in-Node-clause-loose t c = node_loose c.args.part.now _ c.args.loose.now _ (c.in-Node.is ∙ ap p.Node (sym c.in-Node.node-is)) c.in_ok-push_form_moved-in-Node.ensures.loose
 
 pub seq_moved-loop-alloc-preserved : goal.seq_moved-loop-alloc-preserved
 seq_moved-loop-alloc-preserved t c =
