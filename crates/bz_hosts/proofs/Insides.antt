@@ -1,18 +1,17 @@
 -- The hosts and sequences in an expression, stated for lists.
 use Rattle.std.proofs.Common.{◌≡◌, Bool, not, ◌&&◌, ◌||◌, List, [], ◌∷◌, ◌++◌, refl, ap, ◌∙◌, map, if◌then◌else◌}
 use Rattle.std.specs.List.{flat_map}
-use Rattle.bz_grammar.specs.declared.kind.Kind.{Kind}
 use Rattle.bz_grammar.specs.declared.tree.Part.{Part, Node'}
 use Rattle.bz_grammar.specs.declared.tree.Part.TheVariants as p
 use Rattle.bz_value.specs.declared.value.Form.{Form}
 use Rattle.bz_value.specs.declared.value.Expr.{Expr, Row_of-Expr, end_of-Expr, more_of-Expr, items-the_row-Expr, items_hidden-the_row-Expr-0}
 use Rattle.bz_value.specs.declared.value.Expr.TheVariants as e
 use Rattle.bz_value.specs.Comments.{HostComments, no_comments}
-use Rattle.bz_value.specs.Frames.{Frame, row, sequence, frame}
+use Rattle.bz_value.specs.Frames.{frame}
 use Rattle.bz_value.specs.Gaps.{has_newline}
 use Rattle.bz_value.specs.Proper.{comments_of, is_operator}
 use Rattle.bz_value.proofs.FormParts.{parts_in, items_in}
-use Rattle.bz_hosts.specs.View.{Seen, seen, seen_row, plain, seen_node, first_seen_gap, begins_seen_operator, row_exprs}
+use Rattle.bz_hosts.specs.View.{seen, plain, first_seen_gap, begins_seen_operator, row_exprs}
 use Rattle.bz_hosts.specs.Hosts.{Hosted, ended, hosted_by, by_frame, inside_expr, inside_row, inside_items}
 
 -- the items of a sequence, each with what is in it

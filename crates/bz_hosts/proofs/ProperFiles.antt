@@ -10,7 +10,6 @@ use Rattle.bz_token.specs.declared.class.Class.TheVariants as c
 use Rattle.bz_token.specs.Lexemes.{IsLexeme}
 use Rattle.bz_lex.specs.declared.leaf.Leaf.{Leaf}
 use Rattle.bz_lex.specs.Leaves.{IsCodedLeaf}
-use Rattle.bz_grammar.specs.declared.kind.Kind.{Kind}
 use Rattle.bz_grammar.specs.declared.kind.Kind.TheVariants as k
 use Rattle.bz_grammar.specs.declared.tree.Node.{Node}
 use Rattle.bz_grammar.specs.declared.tree.Part.{Part, Node', items-the_row-Part}
@@ -26,7 +25,6 @@ use Rattle.bz_grammar.proofs.Numbers.{same_kind}
 use Rattle.bz_grammar.proofs.Trees.{parts_legal}
 use Rattle.bz_value.specs.declared.value.Item.{Item}
 use Rattle.bz_value.specs.Comments.{HostComments}
-use Rattle.bz_value.specs.Frames.{Frame, row, sequence, frame, is_statement}
 use Rattle.bz_items.specs.Characters.{Bytes}
 use Rattle.bz_value.specs.Gaps.{GapLine, lines_of, after_first_line, groups_of, all_but_last, last_group, suffix_in}
 use Rattle.bz_value.specs.Proper.{IsComment, MaybeComment, AreComments, has_statement_kind, IsProperItem, IsProper}
@@ -35,7 +33,7 @@ use Rattle.bz_value.proofs.GapComments.{AreFine, Group, Groups, all_joined, fine
 use Rattle.bz_value.proofs.LegalBy.{of_build}
 use Rattle.bz_value.proofs.Rooted.{kind_fits}
 use Rattle.bz_value.proofs.Wider.{lines_wider}
-use Rattle.bz_hosts.specs.View.{Seen, seen, seen_row, seen_node, first_seen_gap, blocks, statement, statements_in, last_gap, line_items, file_items, view_of}
+use Rattle.bz_hosts.specs.View.{Seen, seen, seen_row, first_seen_gap, blocks, statement, statements_in, last_gap, line_items, file_items, view_of}
 use Rattle.bz_hosts.proofs.InnerParts.{ends_line, nonterminal_inner, nonterminal_goes, token_goes, small_statement}
 use Rattle.bz_hosts.proofs.SeenParts.{seen_rows, Decoded, AllDecoded, gap_decoded, all_parted, comments_made, row_decoded}
 use Rattle.bz_hosts.proofs.RowParts.{on_twice}

@@ -3,7 +3,6 @@ use Rattle.std.proofs.Common.{◌≡◌, true, false, not, List, [], ◌∷◌, 
 use Rattle.std.specs.List.{AllByRecursion}
 use Rattle.bz_token.specs.declared.class.Class.{Class}
 use Rattle.bz_token.specs.declared.class.Class.TheVariants as c
-use Rattle.bz_lex.specs.declared.leaf.Leaf.{Leaf}
 use Rattle.bz_lex.specs.Gaps.{IsGap}
 use Rattle.bz_grammar.specs.declared.tree.Part.{Part, Row_of-Part, end_of-Part, more_of-Part, Node', items-the_row-Part}
 use Rattle.bz_grammar.specs.declared.tree.Part.TheVariants as p

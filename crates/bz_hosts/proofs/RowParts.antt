@@ -10,13 +10,13 @@ use Rattle.bz_grammar.specs.Legal.{IsNonterminal}
 use Rattle.bz_grammar.specs.Spots.{Spot, Begins, Within, Along, onward, after_part, BzlStands, AtLeaves, AtParts}
 use Rattle.bz_grammar.proofs.Balance.{no_such}
 use Rattle.bz_value.specs.Comments.{HostComments, no_comments}
-use Rattle.bz_value.specs.Frames.{frame, is_binary}
+use Rattle.bz_value.specs.Frames.{is_binary}
 use Rattle.bz_value.specs.Gaps.{has_newline}
 use Rattle.bz_value.specs.LineShapes.{line_shape}
 use Rattle.bz_value.specs.Proper.{is_operator, after_expr, ProperBy}
 use Rattle.bz_value.proofs.FormParts.{operator_first, ArePartsBy}
 use Rattle.bz_value.proofs.Wider.{IsWider}
-use Rattle.bz_hosts.specs.View.{seen, seen_row, plain, first_seen_gap, begins_seen_operator, row_exprs}
+use Rattle.bz_hosts.specs.View.{seen, plain, first_seen_gap, begins_seen_operator, row_exprs}
 use Rattle.bz_hosts.proofs.InnerParts.{GoesOn, binary_goes, binary_begins, nonterminal_unsigned}
 use Rattle.bz_hosts.proofs.SeenParts.{comments_made, break_made, no_break_made, operator_made, after_made, part_along}
 

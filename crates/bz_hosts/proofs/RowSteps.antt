@@ -1,7 +1,7 @@
 -- Steps of the loops over the parts of a row.
 use Rattle.std.proofs.Common.{ℕ, zero, suc, Bool, true, false, not, ◌&&◌, ◌||◌, if◌then◌else◌, ◌≡◌, List, [], ◌∷◌, ◌++◌, ◌<◌, ◌≤◌, ◌+◌, refl, sym, ap, ◌∙◌, map, take, drop, length, get_or, append_assoc, append-nil, add-one, arith}
 use denote.Param.Weighed.{most}
-use Rattle.std.proofs.lemmas.List.{drop_all, drop-drop, drop_more, drop-map, take_all, take-map}
+use Rattle.std.proofs.lemmas.List.{drop_all, drop-drop, drop_more, drop-map, take-map}
 use Rattle.bz_grammar.specs.declared.tree.Part.{Part}
 use Rattle.bz_value.specs.declared.value.Expr.{Expr}
 use Rattle.bz_value.specs.Comments.{no_comments}

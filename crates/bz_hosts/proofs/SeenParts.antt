@@ -1,5 +1,5 @@
 -- What is seen of a part, whatever its kind: its root, where what follows it is, its comments and its gap.
-use Rattle.std.proofs.Common.{◌≡◌, ℕ, zero, suc, Bool, true, false, List, [], ◌∷◌, ◌++◌, refl, sym, ap, ◌∙◌, map, take}
+use Rattle.std.proofs.Common.{◌≡◌, ℕ, zero, suc, Bool, true, false, List, [], ◌∷◌, ◌++◌, refl, ap, map, take}
 use Rattle.std.specs.List.{AllByRecursion}
 use Rattle.std.specs.Str.{IsUtf8}
 use Rattle.std.proofs.lemmas.Str.{IsUtf8-nil}
@@ -9,11 +9,11 @@ use Rattle.bz_lex.specs.Leaves.{IsCodedLeaf}
 use Rattle.bz_grammar.specs.declared.kind.Kind.{Kind}
 use Rattle.bz_grammar.specs.declared.tree.Part.{Part, Row_of-Part, end_of-Part, more_of-Part, Node', items-the_row-Part}
 use Rattle.bz_grammar.specs.declared.tree.Part.TheVariants as p
-use Rattle.bz_grammar.specs.Shapes.{has_token, has_nonterminal, leaves_at}
+use Rattle.bz_grammar.specs.Shapes.{leaves_at}
 use Rattle.bz_grammar.specs.Spell.{leaves_part, leaves_row}
-use Rattle.bz_grammar.specs.Spots.{Spot, Along, after_node, after_part, BzlGapStands, BzlStands, AtLeaves, AtRow}
+use Rattle.bz_grammar.specs.Spots.{Spot, Along, after_part, BzlGapStands, BzlStands, AtLeaves, AtRow}
 use Rattle.bz_grammar.proofs.Balance.{no_such}
-use Rattle.bz_value.specs.Comments.{HostComments, no_comments}
+use Rattle.bz_value.specs.Comments.{HostComments}
 use Rattle.bz_value.specs.Frames.{Frame, row, sequence, frame, lead}
 use Rattle.bz_items.specs.Characters.{Bytes}
 use Rattle.bz_value.specs.Gaps.{all_in, has_newline}

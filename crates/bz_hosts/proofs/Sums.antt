@@ -10,7 +10,7 @@ use Rattle.bz_grammar.specs.Spell.{leaves_part, leaves_row}
 use Rattle.bz_value.proofs.Totals.{append_total, form_amount, inner_amount}
 use Rattle.bz_value.specs.Comments.{HostComments, no_comments}
 use Rattle.bz_value.specs.Counted.{total, suffix_amount, host_amount, amount, item_amount}
-use Rattle.bz_value.specs.Frames.{Frame, row, sequence, frame}
+use Rattle.bz_value.specs.Frames.{Frame, frame}
 use Rattle.bz_items.specs.Characters.{Bytes}
 use Rattle.bz_value.specs.Gaps.{GapLine, lines_of, as_list, comments_in, first_comment, after_first_line, put_on_first, before_groups, groups_of, all_but_last, last_group, suffix_in, others_in, all_in}
 use Rattle.bz_hosts.specs.View.{Seen, seen, seen_row, seen_node, plain, blocks, form_of_frame}

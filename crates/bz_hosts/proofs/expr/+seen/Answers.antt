@@ -1,4 +1,4 @@
-use Rattle.std.proofs.Common.{◌≡◌, ◌&&◌, if◌then◌else◌, [], ◌∷◌, map, ◌++◌, ◌+◌, suc, sym, ap, refl, ◌∙◌, drop, arith}
+use Rattle.std.proofs.Common.{◌≡◌, ◌&&◌, if◌then◌else◌, map, ◌+◌, sym, refl, ◌∙◌, drop, arith}
 use Rattle.std.proofs.lemmas.List.{take_all}
 use Rattle.std.proofs.lemmas.Result.{on_ok_weaker}
 use Rattle.bz_value.specs.Gaps.{has_newline}
