@@ -1,5 +1,5 @@
 //! The view of a tree that is given up.
-ghost use Rattle.std.specs.Prelude.{◌≡◌, ◌++◌, ◌∷◌, [], ◌+◌, ◌<◌, List, length, map, drop, IfOk, OnOk};
+ghost use Rattle.std.specs.Prelude.{◌≡◌, ◌++◌, ◌∷◌, [], ◌+◌, List, map, IfOk, OnOk};
 ghost use Rattle.bz_grammar.specs.declared.tree.Part.{Part};
 ghost use Rattle.bz_value.specs.Gaps.{lines_of};
 ghost use Rattle.bz_value.specs.Counted.{times};

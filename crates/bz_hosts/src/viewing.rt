@@ -1,5 +1,5 @@
 //! The view of a tree as a file value.
-ghost use Rattle.std.specs.Prelude.{◌≡◌, ◌<◌, [], ◌∷◌, ◌++◌, List, length, map, drop, IfOk, OnOk};
+ghost use Rattle.std.specs.Prelude.{◌≡◌, [], ◌∷◌, ◌++◌, List, map, IfOk, OnOk};
 ghost use Rattle.bz_grammar.specs.declared.tree.Part.{Part};
 ghost use Rattle.bz_value.specs.Counted.{times};
 ghost use Rattle.bz_items.specs.Characters.{Bytes};
