@@ -1,7 +1,6 @@
 -- A row whose parts are taken, and given back: what is left of it.
-use Rattle.std.proofs.Common.{ℕ, zero, suc, ◌≡◌, ◌≤◌, ◌<◌, ◌-◌, List, [], ◌∷◌, ◌++◌, refl, sym, ap, ◌∙◌, length, take, drop, set, length-drop, arith}
+use Rattle.std.proofs.Common.{ℕ, zero, suc, ◌≡◌, ◌≤◌, ◌<◌, ◌-◌, List, [], ◌∷◌, ◌++◌, refl, sym, ap, ◌∙◌, length, take, drop, length-drop, arith}
 use Rattle.std.proofs.Math.Seq.{take-append_seam}
-use Rattle.std.proofs.lemmas.List.{drop-set-lt}
 
 one_further : {X : Type 0} (xs : List X) (gone : ℕ) → drop 1 (drop gone xs) ≡ drop (suc gone) xs
 one_further [] zero = refl
@@ -18,7 +17,3 @@ given_back xs at count turned cut new l w n t c e =
     let further : suc gone ≡ at = omega arith in
     ap (drop 1) (e ∙ (c ∙ (ap (λ ys. take (count - gone) ys) t ∙ (ap (λ m. take m (drop gone xs ++ take gone xs)) (sym kept) ∙ take-append_seam (drop gone xs) (take gone xs)))))
     ∙ (one_further xs gone ∙ ap (λ m. drop m xs) further)
-
--- a part that is taken leaves what is after it
-pub left_after : {X : Type 0} (xs mid new : List X) (at next far : ℕ) (y : X) → mid ≡ set xs at y → at < far → drop next new ≡ drop far mid → drop next new ≡ drop far xs
-left_after xs mid new at next far y m l r = r ∙ (ap (drop far) m ∙ drop-set-lt far xs at y l)
