@@ -12,6 +12,7 @@ use Rattle.bz_value.specs.declared.value.Expr.{Expr, Token, Form', Row_of-Expr, 
 use Rattle.bz_value.specs.declared.value.Item.{Item}
 use Rattle.bz_value.specs.declared.value.Item.TheVariants as i
 use Rattle.bz_items.specs.Characters.{Bytes, comma, space}
+use Rattle.bz_rule.specs.Values.{has_kind}
 use Rattle.bz_value.specs.Comments.{HostComments}
 use Rattle.bz_value.specs.Frames.{Frame, row, sequence, frame}
 use Rattle.bz_value.specs.Proper.{comments_of, has_break}
@@ -19,7 +20,7 @@ use Rattle.bz_value.specs.Roots.{root}
 use Rattle.bz_layout.specs.Layout.{Piece, mark, part, laid, laid_in, rowed, headed, joined, stacked, is_broken, is_tuple, gap_after, margin_after, suffix_text, has_comments, has_named, is_named_argument, is_listed, is_call, new_line_at, margin_lines, firsts}
 use Rattle.bz_value.specs.Empty.{is_empty}
 use Rattle.bz_layout.specs.Spaces.{is_spaced}
-use Rattle.bz_layout.specs.Written.{text_of, texts_of, piece_text, comment_lines, gap_between, past_item, item_text, layout, is_load, is_assign}
+use Rattle.bz_layout.specs.Written.{text_of, texts_of, piece_text, comment_lines, gap_between, past_item, item_text, layout}
 use Rattle.bz_layout.specs.LaidOut.{part_of, parts_of, layouts, piece_part, before_next, line_part, lines_from, laid_out}
 use Rattle.bz_layout.specs.Flags.{settled_split, with_flags, each_with_flags, item_with_flags, flags}
 use Rattle.bz_layout.specs.Writings.{writings}
@@ -43,17 +44,12 @@ same_root (Form' kind s parts s' items end split open_break comments) = refl
 same_margin : (open_break : Bool) (m : ℕ) (x : Expr) → margin_after open_break m (with_flags x) ≡ margin_after open_break m x
 same_margin open_break m x = ap (λ z. if open_break || z then m + 4 else m) (same_break x)
 
+same_kind : (kind : Kind) (x : Expr) → has_kind kind (with_flags x) ≡ has_kind kind x
+same_kind kind (Token t) = refl
+same_kind kind (Form' own s parts s' items end split open_break comments) = refl
+
 pub same_named : (x : Expr) → is_named_argument (with_flags x) ≡ is_named_argument x
-same_named (Token t) = refl
-same_named (Form' kind s parts s' items end split open_break comments) = refl
-
-same_load : (x : Expr) → is_load (with_flags x) ≡ is_load x
-same_load (Token t) = refl
-same_load (Form' kind s parts s' items end split open_break comments) = refl
-
-same_assign : (x : Expr) → is_assign (with_flags x) ≡ is_assign x
-same_assign (Token t) = refl
-same_assign (Form' kind s parts s' items end split open_break comments) = refl
+same_named x = rw (same_kind k.Named x, same_kind k.Star x) refl
 
 -- ---- pieces of expressions with settled flags and without
 
@@ -178,7 +174,7 @@ same_item (i.Stmt x) = rw (same_comments x, text_flags x) refl
 pub same_between : (x y : Item) → gap_between (item_with_flags x) (item_with_flags y) ≡ gap_between x y
 same_between (i.Block texts) y = refl
 same_between (i.Stmt x) (i.Block texts) = refl
-same_between (i.Stmt x) (i.Stmt y) = rw (same_load x, same_load y, same_assign x, same_assign y, same_comments y) refl
+same_between (i.Stmt x) (i.Stmt y) = rw (same_kind k.Load x, same_kind k.Load y, same_kind k.Assign x, same_kind k.Assign y, same_comments y) refl
 
 same_after : (x : Item) (ys : List Item) → past_item (item_with_flags x) (flags ys) ≡ past_item x ys
 same_after x [] = refl

@@ -17,7 +17,6 @@ use Rattle.bz_layout.specs.Drafts.{Drafted, pushed}
 use Rattle.bz_layout.specs.Layout.{gap_after, margin_after}
 use Rattle.bz_layout.specs.Written.{text_of}
 use Rattle.bz_layout.specs.Writings.{row_text}
-use Rattle.bz_layout.specs.private.Brackets.{brackets_of}
 use Rattle.bz_layout.specs.private.Spines.{is_lone_token, row_written, tokens_after, past_front_of, past_front, after_all}
 use Rattle.bz_layout.proofs.Pushing.{pushed_end, pushed_none, pushed_twice}
 use Rattle.bz_layout.proofs.Writing.{row_first, row_form}
@@ -35,37 +34,28 @@ row_tokens kind open_break m n x (y ∷ ys) h =
     ap (λ t. text_of x n ++ (gap_after kind open_break m x (y ∷ ys) ++ t))
     (row_tokens kind open_break m (margin_after open_break m x) y ys w.1 ∙ ap (λ t. t ++ tokens_after kind open_break m y ys) (token_text y (margin_after open_break m x) w.0))
 
--- a row that begins with a form
-front_row : (form front : Form) (first : Expr) (tokens : List Expr) → form.parts ≡ first ∷ tokens → first ≡ e.Form front → front.kind ≡ k.Dot → list_all is_lone_token tokens ≡ true → (m : ℕ) →
-    row_written m form ≡ row_written m front ++ past_front m form
-front_row form front first tokens parts_are is dot all m =
-    let parts : form.parts ≡ e.Form front ∷ tokens = parts_are ∙ ap (λ x. x ∷ tokens) is in
-    ap (row_text form.kind form.open_break m m) parts ∙
-    (row_tokens form.kind form.open_break m m (e.Form front) tokens all ∙
-    (ap (λ t. t ++ tokens_after form.kind form.open_break m (e.Form front) tokens) (row_form front m (ap (λ kind. brackets_of (frame kind)) dot)) ∙
-    ap (λ xs. row_written m front ++ past_front_of form.kind form.open_break m xs) (sym parts)))
-
-front_is_less : (form front : Form) (first : Expr) (tokens : List Expr) → form.parts ≡ first ∷ tokens → first ≡ e.Form front → fronts (e.Form front) < fronts (e.Form form)
-front_is_less form front first tokens parts_are is =
-    let parts : form.parts ≡ e.Form front ∷ tokens = parts_are ∙ ap (λ x. x ∷ tokens) is in
-    let all : fronts (e.Form form) ≡ suc (fronts (e.Form front)) = fronts_Form form ∙ ap (λ xs. suc (fronts_among xs)) parts in
-    omega (arith, all)
-
 all_left : (ys : List Expr) (i : ℕ) → length (drop i ys) ≤ length ys - i
 all_left ys i = omega (arith, length-drop i ys)
 
-first_of : (xs : List Expr) (x : Expr) → 1 ≤ length xs → x ≡ get_or xs 0 x → xs ≡ x ∷ drop 1 xs
-first_of [] x l is = absurd (omega (arith, l))
-first_of (y ∷ ys) x l is = ap (λ z. z ∷ ys) (sym is)
+-- a row that begins with a form, as a list that is taken apart
+front_parts : (form front : Form) (xs : List Expr) (d : Expr) → xs ≡ form.parts → 1 ≤ length xs → get_or xs 0 d ≡ e.Form front → form.parts ≡ e.Form front ∷ drop 1 xs
+front_parts form front [] d same l is = absurd (omega (arith, l))
+front_parts form front (y ∷ ys) d same l is = sym same ∙ ap (λ x. x ∷ ys) is
 
--- the parts of a form as a list that is taken apart
-pub front_row_at : (form front : Form) (xs : List Expr) (first : Expr) → xs ≡ form.parts → 1 ≤ length xs → first ≡ get_or xs 0 first → (first ≡ e.Form front) × (front.kind ≡ k.Dot) →
+pub front_row : (form front : Form) (xs : List Expr) (d : Expr) → xs ≡ form.parts → 1 ≤ length xs → get_or xs 0 d ≡ e.Form front → front.kind ≡ k.Dot →
     true ≡ list_all is_lone_token (take (length xs - 1) (drop 1 xs)) → (m : ℕ) → row_written m form ≡ row_written m front ++ past_front m form
-front_row_at form front xs first same l is dot all m =
-    front_row form front first (drop 1 xs) (sym same ∙ first_of xs first l is) dot.0 dot.1 (sym (all ∙ ap (list_all is_lone_token) (take_all (length xs - 1) (drop 1 xs) (all_left xs 1)))) m
+front_row form front xs d same l is dot all m =
+    let tokens : List Expr = drop 1 xs in
+    let parts : form.parts ≡ e.Form front ∷ tokens = front_parts form front xs d same l is in
+    ap (row_text form.kind form.open_break m m) parts ∙
+    (row_tokens form.kind form.open_break m m (e.Form front) tokens (sym (all ∙ ap (list_all is_lone_token) (take_all (length xs - 1) tokens (all_left xs 1)))) ∙
+    (ap (λ t. t ++ tokens_after form.kind form.open_break m (e.Form front) tokens) (row_form front m (ap frame dot)) ∙
+    ap (λ ys. row_written m front ++ past_front_of form.kind form.open_break m ys) (sym parts)))
 
-pub front_is_less_at : (form front : Form) (xs : List Expr) (first : Expr) → xs ≡ form.parts → 1 ≤ length xs → first ≡ get_or xs 0 first → first ≡ e.Form front → fronts (e.Form front) < fronts (e.Form form)
-front_is_less_at form front xs first same l is dot = front_is_less form front first (drop 1 xs) (sym same ∙ first_of xs first l is) dot
+pub front_is_less : (form front : Form) (xs : List Expr) (d : Expr) → xs ≡ form.parts → 1 ≤ length xs → get_or xs 0 d ≡ e.Form front → fronts (e.Form front) < fronts (e.Form form)
+front_is_less form front xs d same l is =
+    let all : fronts (e.Form form) ≡ suc (fronts (e.Form front)) = fronts_Form form ∙ ap (λ ys. suc (fronts_among ys)) (front_parts form front xs d same l is) in
+    omega (arith, all)
 
 -- a row of tokens
 pub leaves_row : (form : Form) (x : Expr) (xs : List Expr) (m : ℕ) → form.parts ≡ x ∷ xs → list_all is_lone_token form.parts ≡ true → row_written m form ≡ v.text_of x ++ past_front m form

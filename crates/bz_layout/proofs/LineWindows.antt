@@ -7,7 +7,7 @@ use Rattle.bz_value.specs.declared.value.Item.{Item}
 use Rattle.bz_value.specs.declared.value.Item.TheVariants as i
 use Rattle.bz_value.specs.declared.windows.Window.{Window}
 use Rattle.bz_value.specs.Windows.{AreOver, AreWithin}
-use Rattle.bz_layout.specs.private.Windows.{line_count_in, come_items, gone_count, come_end, first_from, AreLinesOver}
+use Rattle.bz_layout.specs.private.Windows.{line_count_in, come_items, old_lines, come_end, first_from, AreLinesOver}
 use Rattle.bz_layout.proofs.Windows.{cut_window}
 use Rattle.bz_layout.specs.Depths.{depth_items}
 use Rattle.bz_layout.specs.LaidOut.{laid_out}
@@ -30,16 +30,6 @@ pub within_next : (ws : List Window) (k : ℕ) (d : Window) (xs : List Item) →
     ((get_or ws k d).from + (get_or ws k d).come ≤ length xs) × AreWithin (drop (k + 1) ws) (drop ((get_or ws k d).from + (get_or ws k d).come) xs)
 within_next ws k d xs h w = subst (λ vs. AreWithin vs xs) (drop_more ws k d h) w
 
--- the same by the place where it is counted from
-pub within_past : (ws : List Window) (k : ℕ) (d : Window) (items : List Item) (at : ℕ) → k < length ws → at ≤ length items → AreWithin (drop k ws) (drop at items) →
-    (at + (get_or ws k d).from + (get_or ws k d).come ≤ length items) × AreWithin (drop (k + 1) ws) (drop (at + (get_or ws k d).from + (get_or ws k d).come) items)
-within_past ws k d items at h l w =
-    let x : Window = get_or ws k d in
-    let next : (x.from + x.come ≤ length (drop at items)) × AreWithin (drop (k + 1) ws) (drop (x.from + x.come) (drop at items)) = within_next ws k d (drop at items) h w in
-    let size : length (drop at items) ≡ length items - at = length-drop at items in
-    let sum : at + (x.from + x.come) ≡ at + x.from + x.come = omega arith in
-    (omega (arith, next.0, size, l), subst (λ zs. AreWithin (drop (k + 1) ws) zs) (drop-drop (x.from + x.come) at items ∙ ap (λ n. drop n items) sum) next.1)
-
 -- what came first, and the rest of it
 module _ (size : List Item → ℕ) (joined : ℕ → ℕ → ℕ) (append : (xs ys : List Item) → size (xs ++ ys) ≡ joined (size xs) (size ys)) where
   pub come_first : (ws : List Window) (k : ℕ) (d : Window) (xs : List Item) → k < length ws →
@@ -48,55 +38,36 @@ module _ (size : List Item → ℕ) (joined : ℕ → ℕ → ℕ) (append : (xs
       ap (λ vs. size (come_items vs xs)) (drop_more ws k d h) ∙
       append (take (get_or ws k d).come (drop (get_or ws k d).from xs)) (come_items (drop (k + 1) ws) (drop ((get_or ws k d).from + (get_or ws k d).come) xs))
 
--- a turn of the loop that counts them
-pub come_turn : (ws : List Window) (k : ℕ) (d : Window) (xs come past : List Item) (count here all most : ℕ) → k < length ws → AreWithin (drop k ws) xs →
-    come ≡ take (get_or ws k d).come (drop (get_or ws k d).from xs) → past ≡ drop ((get_or ws k d).from + (get_or ws k d).come) xs → here ≡ line_count_in come →
-    count + length xs ≤ most → count + line_count_in (come_items (drop k ws) xs) ≡ all →
-    AreWithin (drop (k + 1) ws) past × (count + here + length past ≤ most) × (count + here + line_count_in (come_items (drop (k + 1) ws) past) ≡ all)
-come_turn ws k d xs come past count here all most h w is_come is_past is_here le e =
-    let v : Window = get_or ws k d in
-    let next : (v.from + v.come ≤ length xs) × AreWithin (drop (k + 1) ws) (drop (v.from + v.come) xs) = within_next ws k d xs h w in
-    let few : line_count_in (take v.come (drop v.from xs)) ≤ v.come = count_most v.come (drop v.from xs) in
-    let own : here ≡ line_count_in (take v.come (drop v.from xs)) = is_here ∙ ap line_count_in is_come in
-    let less : length past ≡ length xs - (v.from + v.come) = ap length is_past ∙ length-drop (v.from + v.come) xs in
-    let cut : line_count_in (come_items (drop k ws) xs) ≡ line_count_in (take v.come (drop v.from xs)) + line_count_in (come_items (drop (k + 1) ws) (drop (v.from + v.come) xs)) = come_first line_count_in (λ a b. a + b) count_append ws k d xs h in
-    let rest : line_count_in (come_items (drop (k + 1) ws) past) ≡ line_count_in (come_items (drop (k + 1) ws) (drop (v.from + v.come) xs)) = ap (λ ys. line_count_in (come_items (drop (k + 1) ws) ys)) is_past in
-    (subst (λ ys. AreWithin (drop (k + 1) ws) ys) (sym is_past) next.1, omega (arith, le, few, own, less, next.0), omega (arith, cut, rest, own, e))
+-- a turn of the loop that counts the lines that there were
+pub old_turn : (ws : List Window) (k : ℕ) (d : Window) (xs past stay : List Item) (count here all : ℕ) → k < length ws → AreWithin (drop k ws) xs → stay ≡ take (get_or ws k d).from xs →
+    past ≡ drop ((get_or ws k d).from + (get_or ws k d).come) xs → here ≡ line_count_in stay → count + old_lines (drop k ws) xs ≡ all →
+    AreWithin (drop (k + 1) ws) past × (count + here + (get_or ws k d).gone + old_lines (drop (k + 1) ws) past ≡ all)
+old_turn ws k d xs past stay count here all h w is_stay is_past is_here e =
+    let first : old_lines (drop k ws) xs ≡ old_lines (get_or ws k d ∷ drop (k + 1) ws) xs = ap (λ vs. old_lines vs xs) (drop_more ws k d h) in
+    let own : here ≡ line_count_in (take (get_or ws k d).from xs) = is_here ∙ ap line_count_in is_stay in
+    let rest : old_lines (drop (k + 1) ws) past ≡ old_lines (drop (k + 1) ws) (drop ((get_or ws k d).from + (get_or ws k d).come) xs) = ap (old_lines (drop (k + 1) ws)) is_past in
+    (subst (λ ys. AreWithin (drop (k + 1) ws) ys) (sym is_past) (within_next ws k d xs h w).1, omega (arith, first, own, rest, e))
 
 -- a window: what stays before it, what it has, and what follows
 count_window : (from n : ℕ) (xs : List Item) → line_count_in xs ≡ line_count_in (take from xs) + (line_count_in (take n (drop from xs)) + line_count_in (drop (from + n) xs))
 count_window from n xs = cut_window line_count_in (λ a b. a + b) count_append from n xs
 
--- what one window says: no more of its lines give way than items, and the lines that it takes are those of what came and what follows
-abbrev OneLess : Window → List Window → List Item → List Item → Type 0
-OneLess w ws xs ys =
-    (line_count_in (take w.gone (drop w.from xs)) ≤ w.gone)
-    × (line_count_in (come_items (w ∷ ws) ys) + line_count_in xs + line_count_in (drop (w.from + w.come) ys)
-    ≡ line_count_in ys + line_count_in (come_items ws (drop (w.from + w.come) ys)) + (line_count_in (take w.gone (drop w.from xs)) + line_count_in (drop (w.from + w.gone) xs)))
-
-one_less : (w : Window) (ws : List Window) (xs ys : List Item) → take w.from ys ≡ take w.from xs → OneLess w ws xs ys
-one_less w ws xs ys same =
-    let new = count_window w.from w.come ys in
-    let before = count_window w.from w.gone xs in
-    let front : line_count_in (take w.from ys) ≡ line_count_in (take w.from xs) = ap line_count_in same in
-    let own = count_append (take w.come (drop w.from ys)) (come_items ws (drop (w.from + w.come) ys)) in
-    (count_most w.gone (drop w.from xs), omega (arith, new, before, front, own))
-
--- no more lines give way than items
-lines_most : (ws : List Window) (xs ys : List Item) → AreOver ws xs ys → line_count_in (come_items ws ys) + line_count_in xs ≤ gone_count ws + line_count_in ys
+-- there were no more lines than that
+lines_most : (ws : List Window) (xs ys : List Item) → AreOver ws xs ys → line_count_in xs ≤ old_lines ws ys
 lines_most [] xs ys h = let same : line_count_in xs ≡ line_count_in ys = ap line_count_in h in omega (arith, same)
 lines_most (w ∷ ws) xs ys h =
-    let one : OneLess w ws xs ys = one_less w ws xs ys h.2 in
-    let rest = lines_most ws (drop (w.from + w.gone) xs) (drop (w.from + w.come) ys) h.3 in
-    omega (arith, one.0, one.1, rest)
+    let front : line_count_in (take w.from ys) ≡ line_count_in (take w.from xs) = ap line_count_in h.2 in
+    omega (arith, front, count_window w.from w.gone xs, count_most w.gone (drop w.from xs), lines_most ws (drop (w.from + w.gone) xs) (drop (w.from + w.come) ys) h.3)
 
--- where as many lines give way as items, each window counts lines
-pub all_lines : (ws : List Window) (xs ys : List Item) → line_count_in (come_items ws ys) + line_count_in xs ≡ gone_count ws + line_count_in ys → AreOver ws xs ys → AreLinesOver ws xs ys
+-- where there were as many, each window counts lines
+pub all_lines : (ws : List Window) (xs ys : List Item) → line_count_in xs ≡ old_lines ws ys → AreOver ws xs ys → AreLinesOver ws xs ys
 all_lines [] xs ys e h = h
 all_lines (w ∷ ws) xs ys e h =
-    let one : OneLess w ws xs ys = one_less w ws xs ys h.2 in
+    let front : line_count_in (take w.from ys) ≡ line_count_in (take w.from xs) = ap line_count_in h.2 in
+    let all = count_window w.from w.gone xs in
+    let most = count_most w.gone (drop w.from xs) in
     let rest = lines_most ws (drop (w.from + w.gone) xs) (drop (w.from + w.come) ys) h.3 in
-    (w.gone, h.0, h.1, h.2, omega (arith, one.0, one.1, rest, e), all_lines ws (drop (w.from + w.gone) xs) (drop (w.from + w.come) ys) (omega (arith, one.0, one.1, rest, e)) h.3)
+    (w.gone, h.0, h.1, h.2, omega (arith, front, all, most, rest, e), all_lines ws (drop (w.from + w.gone) xs) (drop (w.from + w.come) ys) (omega (arith, front, all, most, rest, e)) h.3)
 
 -- ---- all windows as one
 

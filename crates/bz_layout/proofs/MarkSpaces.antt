@@ -8,15 +8,11 @@ use Rattle.bz_grammar.specs.declared.kind.Kind.{Kind}
 use Rattle.bz_grammar.specs.declared.tree.Part.{Part}
 use Rattle.bz_grammar.specs.declared.tree.Part.TheVariants as p
 use Rattle.bz_grammar.specs.Shapes as s
-use Rattle.bz_layout.specs.Spaces.{lone, is_dot_terminal, is_prefix_mark, is_colon_spaced, space_after, is_spaced_after}
+use Rattle.bz_layout.specs.Spaces.{is_tight, is_colon_spaced, space_after, is_spaced_after}
 
 -- a comma, or a colon with a space after it
 abbrev pub is_separator : Kind → Bytes → Bool
 is_separator kind text = bytes_eq text (codes ",") || (bytes_eq text (codes ":") && is_colon_spaced kind)
-
--- a mark without a space at either side
-abbrev pub is_tight : Kind → Bytes → Bool
-is_tight kind text = lone (s.this c.Mark text) || (is_dot_terminal (s.this c.Mark text) || is_prefix_mark kind text)
 
 not_first : (a b d : Bool) → (a || b) ≡ false → (a || (b || d)) ≡ d
 not_first true b d h = absurd cc

@@ -111,92 +111,91 @@ gone_most (t ∷ ts) xs =
 
 -- ---- how far the windows are made
 
--- the same by equal fields
-pub reach_as : (xs all : List Part) (made : List TextWindow) (out out' : Drafted) (o o' : Bool) (b d ba pa : ℕ) (left left' rest rest' : List Part) → out' ≡ out → o' ≡ o → left' ≡ left → rest' ≡ rest →
-    Reached xs all made out o b d ba pa left rest → Reached xs all made out' o' b d ba pa left' rest'
-reach_as xs all made out out' o o' b d ba pa left left' rest rest' e f g h r = rw (e, f, g, h) r
-
 own_more : (own : List Part) (x : Part) → flat_map spell_part own ++ spell_part x ≡ flat_map spell_part (own ++ x ∷ [])
 own_more own x = sym (flat_map-append spell_part own (x ∷ []) ∙ ap (λ t. flat_map spell_part own ++ t) (append-nil (spell_part x)))
 
--- a line more
-pub put_line : (xs all : List Part) (made : List TextWindow) (out : Drafted) (o : Bool) (b d ba pa : ℕ) (left : List Part) (x : Part) (rest : List Part) →
-    Reached xs all made out o b d ba pa left (x ∷ rest) → Reached xs all made (pushed out (spell_part x)) true b d ba pa left rest
-put_line xs all made out o b d ba pa left x rest r = record {
-  before = r.before;
-  own = r.own ++ x ∷ [];
-  ahead = r.ahead;
-  back = r.back;
-  within = r.within;
-  text = ap (λ t. pushed t (spell_part x)) r.text ∙ (pushed_twice (drafted limit []) (flat_map spell_part r.own) (spell_part x) ∙ ap (pushed (drafted limit [])) (own_more r.own x));
-  closed = λ e. absurd (true≢false e);
-  left_is = r.left_is;
-  rest_is = ap (λ ps. windows_front r.before.new xs ++ (take (ba - d) (drop d xs) ++ ps)) (append_assoc r.own (x ∷ []) rest) ∙ r.rest_is;
-}
+module _ {xs all : List Part} {made : List TextWindow} {out : Drafted} {o : Bool} {b d ba pa : ℕ} {left rest : List Part} where
+  -- the same by equal fields
+  pub reach_as : {out' : Drafted} {o' : Bool} {rest' : List Part} → out' ≡ out → o' ≡ o → rest' ≡ rest → Reached xs all made out o b d ba pa left rest → Reached xs all made out' o' b d ba pa left rest'
+  reach_as e f g r = rw (e, f, g) r
 
--- lines that give way
-pub take_lines : (xs all : List Part) (made : List TextWindow) (out : Drafted) (o : Bool) (b d ba pa next n : ℕ) (left rest : List Part) → next ≡ pa + n → n ≤ length left →
-    Reached xs all made out o b d ba pa left rest → Reached xs all made out true b d ba next (drop n left) rest
-take_lines xs all made out o b d ba pa next n left rest e h r =
-    let many : length xs - pa ≡ length left = sym (length-drop pa xs) ∙ ap length r.left_is in
-    record {
-      before = r.before;
-      own = r.own;
-      ahead = r.ahead;
-      back = omega (arith, e, r.back);
-      within = omega (arith, e, many, h, r.within);
-      text = r.text;
-      closed = λ shut. absurd (true≢false shut);
-      left_is = ap (λ k. drop k xs) e ∙ (sym (drop-drop n pa xs) ∙ ap (λ ps. drop n ps) r.left_is);
-      rest_is = r.rest_is;
-    }
+  -- a line more
+  pub put_line : (x : Part) → Reached xs all made out o b d ba pa left (x ∷ rest) → Reached xs all made (pushed out (spell_part x)) true b d ba pa left rest
+  put_line x r = record {
+    before = r.before;
+    own = r.own ++ x ∷ [];
+    ahead = r.ahead;
+    back = r.back;
+    within = r.within;
+    text = ap (λ t. pushed t (spell_part x)) r.text ∙ (pushed_twice (drafted limit []) (flat_map spell_part r.own) (spell_part x) ∙ ap (pushed (drafted limit [])) (own_more r.own x));
+    closed = λ e. absurd (true≢false e);
+    left_is = r.left_is;
+    rest_is = ap (λ ps. windows_front r.before.new xs ++ (take (ba - d) (drop d xs) ++ ps)) (append_assoc r.own (x ∷ []) rest) ∙ r.rest_is;
+  }
 
--- a window that nothing is changed in yet
-pub opened : (xs all : List Part) (made : List TextWindow) (out : Drafted) (o : Bool) (b d ba pa : ℕ) (left rest : List Part) → Reached xs all made out o b d ba pa left rest → Reached xs all made out true b d ba pa left rest
-opened xs all made out o b d ba pa left rest r = take_lines xs all made out o b d ba pa pa 0 left rest (omega arith) (omega arith) r
+  -- lines that give way
+  pub take_lines : (next n : ℕ) → next ≡ pa + n → n ≤ length left → Reached xs all made out o b d ba pa left rest → Reached xs all made out true b d ba next (drop n left) rest
+  take_lines next n e h r =
+      let many : length xs - pa ≡ length left = sym (length-drop pa xs) ∙ ap length r.left_is in
+      record {
+        before = r.before;
+        own = r.own;
+        ahead = r.ahead;
+        back = omega (arith, e, r.back);
+        within = omega (arith, e, many, h, r.within);
+        text = r.text;
+        closed = λ shut. absurd (true≢false shut);
+        left_is = ap (λ k. drop k xs) e ∙ (sym (drop-drop n pa xs) ∙ ap (λ ps. drop n ps) r.left_is);
+        rest_is = r.rest_is;
+      }
 
--- lines that stay, where no window is open
-pub skip_lines : (xs all : List Part) (made : List TextWindow) (out : Drafted) (o : Bool) (b d ba pa n : ℕ) (left rest kept left' rest' : List Part) → o ≡ false →
-    left ≡ kept ++ left' → rest ≡ kept ++ rest' → n ≡ pa + length kept → Reached xs all made out o b d ba pa left rest → Reached xs all made out o b d n n left' rest'
-skip_lines xs all made out o b d ba pa n left rest kept left' rest' shut l e c r =
-    let here : drop pa xs ≡ kept ++ left' = r.left_is ∙ l in
-    let many : length xs - pa ≡ length kept + length left' = sym (length-drop pa xs) ∙ (ap length here ∙ length-append kept left') in
-    let still : ba ≡ pa = (r.closed shut).1 in
-    let longer : n - d ≡ (ba - d) + length kept = omega (arith, still, c, r.ahead) in
-    let past : drop (ba - d) (drop d xs) ≡ drop pa xs = drop-drop (ba - d) d xs ∙ (let at : d + (ba - d) ≡ pa = omega (arith, still, r.ahead) in ap (λ m. drop m xs) at) in
-    let more : take (n - d) (drop d xs) ≡ take (ba - d) (drop d xs) ++ kept =
-    ap (λ m. take m (drop d xs)) longer ∙ (take-add (ba - d) (length kept) (drop d xs) ∙ ap (λ ps. take (ba - d) (drop d xs) ++ ps) (ap (λ ps. take (length kept) ps) (past ∙ here) ∙ take_at kept left' (length kept) refl)) in
-    let so_far : List Part = take (ba - d) (drop d xs) in
-    record {
-      before = r.before;
-      own = r.own;
-      ahead = omega (arith, c, still, r.ahead);
-      back = omega arith;
-      within = omega (arith, c, many, r.within);
-      text = r.text;
-      closed = λ e. ((r.closed e).0, refl);
-      left_is = ap (λ m. drop m xs) c ∙ (sym (drop-drop (length kept) pa xs) ∙ (ap (λ ps. drop (length kept) ps) here ∙ drop_at kept left' (length kept) refl));
-      rest_is =
-          ap (λ ps. windows_front r.before.new xs ++ (ps ++ (r.own ++ rest'))) more ∙
-          (ap (λ ps. windows_front r.before.new xs ++ ((so_far ++ kept) ++ (ps ++ rest'))) (r.closed shut).0 ∙
-          (ap (λ ps. windows_front r.before.new xs ++ ps) (append_assoc so_far kept rest') ∙
-          (ap (λ ps. windows_front r.before.new xs ++ (so_far ++ ps)) (sym e) ∙ (ap (λ ps. windows_front r.before.new xs ++ (so_far ++ (ps ++ rest))) (sym (r.closed shut).0) ∙ r.rest_is))));
-    }
+  -- a window that nothing is changed in yet
+  pub opened : Reached xs all made out o b d ba pa left rest → Reached xs all made out true b d ba pa left rest
+  opened r = take_lines pa 0 (omega arith) (omega arith) r
 
--- all that is left stays
-pub finished : (xs all : List Part) (made : List TextWindow) (out : Drafted) (o : Bool) (b d ba pa : ℕ) (left rest : List Part) → o ≡ false → left ≡ rest → Reached xs all made out o b d ba pa left rest → IsPut xs all made b d
-finished xs all made out o b d ba pa left rest shut l r =
-    let still : ba ≡ pa = (r.closed shut).1 in
-    let so_far : List Part = take (ba - d) (drop d xs) in
-    let past : drop (ba - d) (drop d xs) ≡ drop pa xs = drop-drop (ba - d) d xs ∙ (let at : d + (ba - d) ≡ pa = omega (arith, still, r.ahead) in ap (λ m. drop m xs) at) in
-    let behind : drop d xs ≡ so_far ++ rest = sym (take-append-drop (ba - d) (drop d xs)) ∙ ap (λ ps. so_far ++ ps) (past ∙ (r.left_is ∙ l)) in
-    record {
-      windows = r.before;
-      put =
-          all_put r.before.new xs ∙
-          (ap (λ n. windows_front r.before.new xs ++ drop n xs) (sym r.before.done_is) ∙
-          (ap (λ ps. windows_front r.before.new xs ++ ps) behind ∙ (ap (λ ps. windows_front r.before.new xs ++ (so_far ++ (ps ++ rest))) (sym (r.closed shut).0) ∙ r.rest_is)));
-    }
+  -- where no window is open, all is made up to the lines that are left
+  made_so_far : o ≡ false → Reached xs all made out o b d ba pa left rest → drop (ba - d) (drop d xs) ≡ left
+  made_so_far shut r =
+      drop-drop (ba - d) d xs ∙ ((let at : d + (ba - d) ≡ pa = omega (arith, (r.closed shut).1, r.ahead) in ap (λ m. drop m xs) at) ∙ r.left_is)
+
+  -- lines that stay, where no window is open
+  pub skip_lines : (n : ℕ) (kept left' rest' : List Part) → o ≡ false → left ≡ kept ++ left' → rest ≡ kept ++ rest' → n ≡ pa + length kept →
+      Reached xs all made out o b d ba pa left rest → Reached xs all made out o b d n n left' rest'
+  skip_lines n kept left' rest' shut l e c r =
+      let many : length xs - pa ≡ length kept + length left' = sym (length-drop pa xs) ∙ (ap length (r.left_is ∙ l) ∙ length-append kept left') in
+      let still : ba ≡ pa = (r.closed shut).1 in
+      let longer : n - d ≡ (ba - d) + length kept = omega (arith, still, c, r.ahead) in
+      let so_far : List Part = take (ba - d) (drop d xs) in
+      let more : take (n - d) (drop d xs) ≡ so_far ++ kept =
+      ap (λ m. take m (drop d xs)) longer ∙ (take-add (ba - d) (length kept) (drop d xs) ∙ ap (λ ps. so_far ++ ps) (ap (λ ps. take (length kept) ps) (made_so_far shut r ∙ l) ∙ take_at kept left' (length kept) refl)) in
+      record {
+        before = r.before;
+        own = r.own;
+        ahead = omega (arith, c, still, r.ahead);
+        back = omega arith;
+        within = omega (arith, c, many, r.within);
+        text = r.text;
+        closed = λ e. ((r.closed e).0, refl);
+        left_is = ap (λ m. drop m xs) c ∙ (sym (drop-drop (length kept) pa xs) ∙ (ap (λ ps. drop (length kept) ps) (r.left_is ∙ l) ∙ drop_at kept left' (length kept) refl));
+        rest_is =
+            ap (λ ps. windows_front r.before.new xs ++ (ps ++ (r.own ++ rest'))) more ∙
+            (ap (λ ps. windows_front r.before.new xs ++ ((so_far ++ kept) ++ (ps ++ rest'))) (r.closed shut).0 ∙
+            (ap (λ ps. windows_front r.before.new xs ++ ps) (append_assoc so_far kept rest') ∙
+            (ap (λ ps. windows_front r.before.new xs ++ (so_far ++ ps)) (sym e) ∙ (ap (λ ps. windows_front r.before.new xs ++ (so_far ++ (ps ++ rest))) (sym (r.closed shut).0) ∙ r.rest_is))));
+      }
+
+  -- all that is left stays
+  pub finished : o ≡ false → left ≡ rest → Reached xs all made out o b d ba pa left rest → IsPut xs all made b d
+  finished shut l r =
+      let so_far : List Part = take (ba - d) (drop d xs) in
+      let after : drop d xs ≡ so_far ++ rest = sym (take-append-drop (ba - d) (drop d xs)) ∙ ap (λ ps. so_far ++ ps) (made_so_far shut r ∙ l) in
+      record {
+        windows = r.before;
+        put =
+            all_put r.before.new xs ∙
+            (ap (λ n. windows_front r.before.new xs ++ drop n xs) (sym r.before.done_is) ∙
+            (ap (λ ps. windows_front r.before.new xs ++ ps) after ∙ (ap (λ ps. windows_front r.before.new xs ++ (so_far ++ (ps ++ rest))) (sym (r.closed shut).0) ∙ r.rest_is)));
+      }
 
 -- ---- sums that stay in a number
 

@@ -7,7 +7,7 @@ use Rattle.bz_value.specs.declared.value.Item.TheVariants as i
 use Rattle.bz_items.specs.Characters.{Bytes}
 use Rattle.bz_layout.specs.Written.{gap_between, comment_lines}
 use Rattle.bz_layout.specs.LaidOut.{own_lines, left_gap, before_next, lines_from}
-use Rattle.bz_layout.specs.private.Windows.{is_statement_item, line_count_in, statement_gap, place_after}
+use Rattle.bz_layout.specs.private.Windows.{line_count_in, statement_gap, place_after}
 
 -- ---- a window of a list
 
@@ -80,38 +80,14 @@ gap_next gap from xs k d g h =
     ap (λ ys. statement_gap gap (from - k) ys) (drop_more xs k d h) ∙ ap (λ n. statement_gap gap n (get_or xs k d ∷ drop (k + 1) xs)) one
 
 -- a turn of the loop that makes it: an item is passed over, and what is between it and the others comes to the gap
-pub gap_turn : (from : ℕ) (xs : List Item) (k : ℕ) (item : Item) (gap left new : Bytes) (others : List Item) (all : Bytes) → k < from → from ≤ length xs → item ≡ get_or xs k item →
-    left ≡ left_gap gap item → new ≡ left ++ before_next item others → others ≡ drop (k + 1) xs → statement_gap gap (from - k) (drop k xs) ≡ all → statement_gap new (from - (k + 1)) (drop (k + 1) xs) ≡ all
-gap_turn from xs k item gap left new others all g h is passed joined others_are before =
+pub gap_turn : (count : ℕ) (xs : List Item) (k : ℕ) (item : Item) (gap new : Bytes) (others : List Item) (all : Bytes) → k < count → count ≤ length xs → item ≡ get_or xs k item →
+    new ≡ left_gap gap item ++ before_next item others → others ≡ drop (k + 1) xs → statement_gap gap (count - k) (drop k xs) ≡ all → statement_gap new (count - (k + 1)) (drop (k + 1) xs) ≡ all
+gap_turn count xs k item gap new others all g h is left others_are before =
     let rest : List Item = drop (k + 1) xs in
-    ap (λ t. statement_gap t (from - (k + 1)) rest) (joined ∙ (ap (λ ys. left ++ before_next item ys) others_are ∙ ap (λ t. t ++ before_next item rest) passed)) ∙
-    (ap (λ x. statement_gap (left_gap gap x ++ before_next x rest) (from - (k + 1)) rest) is ∙ (sym (gap_next gap from xs k item g (omega arith)) ∙ before))
+    ap (λ t. statement_gap t (count - (k + 1)) rest) (left ∙ ap (λ ys. left_gap gap item ++ before_next item ys) others_are) ∙
+    (ap (λ x. statement_gap (left_gap gap x ++ before_next x rest) (count - (k + 1)) rest) is ∙ (sym (gap_next gap count xs k item g (omega (arith, g, h))) ∙ before))
 
 pub gap_found : (gap : Bytes) (from k : ℕ) (xs : List Item) (all : Bytes) → from ≤ k → statement_gap gap (from - k) xs ≡ all → gap ≡ all
 gap_found gap from k xs all h e =
     let none : 0 ≡ from - k = omega arith in
     ap (λ n. statement_gap gap n xs) none ∙ e
-
-pub gap_split : (gap : Bytes) (k from : ℕ) (xs : List Item) → k ≤ from → k ≤ length xs → statement_gap gap from xs ≡ statement_gap (statement_gap gap k xs) (from - k) (drop k xs)
-gap_split gap zero from xs g h = let all : from ≡ from - 0 = omega arith in ap (λ n. statement_gap gap n xs) all
-gap_split gap (suc k) zero xs g h = absurd (omega arith)
-gap_split gap (suc k) (suc from) [] g h = absurd (omega arith)
-gap_split gap (suc k) (suc from) (x ∷ xs) g h =
-    let next : Bytes = left_gap gap x ++ before_next x xs in
-    let less : from - k ≡ suc from - suc k = omega arith in
-    gap_split next k from xs (omega arith) (omega arith) ∙ ap (λ n. statement_gap (statement_gap next k xs) n (drop k xs)) less
-
--- nothing is left of the gap before a statement
-nothing_left : (x : Item) → is_statement_item x ≡ true → (g h : Bytes) → left_gap g x ≡ left_gap h x
-nothing_left (i.Block texts) s g h = absurd (true≢false (sym s))
-nothing_left (i.Stmt x) s g h = refl
-
-pub statement_before : (from k : ℕ) (xs : List Item) (d : Item) → k < from → from ≤ length xs → is_statement_item (get_or xs k d) ≡ true →
-    statement_gap [] (from - k) (drop k xs) ≡ statement_gap [] from xs
-statement_before from k xs d g h s =
-    let x : Item = get_or xs k d in
-    let rest : List Item = drop (k + 1) xs in
-    let here : Bytes = statement_gap [] k xs in
-    gap_next [] from xs k d g (omega arith) ∙
-    (ap (λ t. statement_gap (t ++ before_next x rest) (from - (k + 1)) rest) (nothing_left x s [] here) ∙
-    (sym (gap_next here from xs k d g (omega arith)) ∙ sym (gap_split [] k from xs (omega arith) (omega arith))))

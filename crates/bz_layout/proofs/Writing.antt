@@ -17,12 +17,10 @@ use Rattle.bz_value.specs.Frames.{Frame, row, sequence, frame}
 use Rattle.bz_value.specs.Proper.{comments_of, has_break}
 use Rattle.bz_value.specs.declared.value.Item.{Item}
 use Rattle.bz_value.specs.Roots.{root}
-use Rattle.bz_layout.specs.declared.brackets.Brackets.{Brackets}
-use Rattle.bz_layout.specs.private.Brackets.{brackets_of}
 use Rattle.bz_layout.specs.Layout.{Piece, new_line_at, margin_lines, ended, suffix_text, stacked, joined, rowed, headed, laid_in, is_broken, is_tuple, gap_after, margin_after, firsts}
 use Rattle.bz_layout.specs.Written.{piece_text, text_of, item_text, layout}
 use Rattle.bz_layout.specs.LaidOut.{before_next}
-use Rattle.bz_layout.specs.Writings.{writings, row_text, head_text, comma_text, joined_text, stacked_item_text, stacked_text, sequence_text}
+use Rattle.bz_layout.specs.Writings.{writings, row_text, head_text, comma_text, joined_text, stacked_item_text, stacked_text, body_text}
 use Rattle.bz_layout.specs.Drafts.{Drafted, pushed}
 use Rattle.bz_layout.proofs.Made.{text_Form, values_of}
 use Rattle.bz_layout.proofs.Pushing.{pushed_end, pushed_twice}
@@ -118,14 +116,9 @@ stacked_end m closer end xs k l = ap (stacked_text m closer end) (drop_all k xs 
 
 -- ---- forms by their frames
 
-row_laid : (f : Frame) (kind : Kind) (split open_break : Bool) (m : ℕ) (hs xs : List (Expr × (ℕ → Bytes))) (end : List Bytes) → brackets_of f ≡ None →
-    laid_in f kind split open_break [] m hs xs end ≡ rowed kind open_break m [] m hs
-row_laid row kind split open_break m hs xs end h = refl
-row_laid (sequence opener closer) kind split open_break m hs xs end h = absurd cc
-
-pub row_form : (f : Form) (m : ℕ) → brackets_of (frame f.kind) ≡ None → text_of (e.Form f) m ≡ row_text f.kind f.open_break m m f.parts
+pub row_form : (f : Form) (m : ℕ) → frame f.kind ≡ row → text_of (e.Form f) m ≡ row_text f.kind f.open_break m m f.parts
 row_form f m h =
-    text_Form f m ∙ ap written (row_laid (frame f.kind) f.kind f.seq.split f.open_break m (writings f.parts) (writings f.seq.items) f.seq.end h)
+    text_Form f m ∙ ap (λ own. written (laid_in own f.kind f.seq.split f.open_break [] m (writings f.parts) (writings f.seq.items) f.seq.end)) h
 
 -- what is before the bracket, the bracket, then
 head_first : (m opener : ℕ) (xs : List Expr) (after : List (Piece (ℕ → Bytes))) → written (headed m [] opener (writings xs) after) ≡ head_text m xs ++ (opener ∷ written after)
@@ -138,24 +131,18 @@ chosen : (b one : Bool) (m closer : ℕ) (end : List Bytes) (xs : List Expr) →
 chosen true one m closer end xs = refl
 chosen false one m closer end xs = refl
 
-sequence_laid : (f : Frame) (b : Brackets) (kind : Kind) (split open_break : Bool) (m : ℕ) (hs xs : List Expr) (end : List Bytes) → brackets_of f ≡ Some b →
-    written (laid_in f kind split open_break [] m (writings hs) (writings xs) end) ≡
-    head_text m hs ++ (b.opener ∷ (if is_broken kind split xs end then stacked_text m b.closer end xs else joined_text m b.closer (is_tuple kind && nat_eq (length xs) 1) xs))
-sequence_laid row b kind split open_break m hs xs end h = absurd cc
-sequence_laid (sequence opener closer) b kind split open_break m hs xs end h =
-    let here : Brackets = record { opener = opener; closer = closer } in
-    let is : here ≡ b = same_Some here b h in
+pub sequence_form : (f : Form) (opener closer m : ℕ) → frame f.kind ≡ sequence opener closer → text_of (e.Form f) m ≡ head_text m f.parts ++ (opener ∷ body_text f m closer)
+sequence_form f opener closer m h =
+    let xs : List Expr = f.seq.items in
     let after : List Expr → ℕ → List (Piece (ℕ → Bytes)) = λ ys n.
-    if is_broken kind split ys end then stacked m None closer end (writings xs) else joined m [] closer (is_tuple kind && nat_eq n 1) (writings xs) in
-    let all : List Expr → ℕ → Bytes = λ ys n. written (headed m [] opener (writings hs) (after ys n)) in
-    ap (λ ys. all ys (length (writings xs))) (values_of text_of xs) ∙
+    if is_broken f.kind f.seq.split ys f.seq.end then stacked m None closer f.seq.end (writings xs) else joined m [] closer (is_tuple f.kind && nat_eq n 1) (writings xs) in
+    let all : List Expr → ℕ → Bytes = λ ys n. written (headed m [] opener (writings f.parts) (after ys n)) in
+    text_Form f m ∙
+    (ap (λ own. written (laid_in own f.kind f.seq.split f.open_break [] m (writings f.parts) (writings xs) f.seq.end)) h ∙
+    (ap (λ ys. all ys (length (writings xs))) (values_of text_of xs) ∙
     (ap (λ n. all xs n) (length-map xs (λ x. (x, text_of x))) ∙
-    (head_first m opener hs (after xs (length xs)) ∙
-    (ap (λ t. head_text m hs ++ (opener ∷ t)) (chosen (is_broken kind split xs end) (is_tuple kind && nat_eq (length xs) 1) m closer end xs) ∙
-    ap (λ z. head_text m hs ++ (z.opener ∷ (if is_broken kind split xs end then stacked_text m z.closer end xs else joined_text m z.closer (is_tuple kind && nat_eq (length xs) 1) xs))) is)))
-
-pub sequence_form : (f : Form) (b : Brackets) (m : ℕ) → brackets_of (frame f.kind) ≡ Some b → text_of (e.Form f) m ≡ sequence_text b f m
-sequence_form f b m h = text_Form f m ∙ sequence_laid (frame f.kind) b f.kind f.seq.split f.open_break m f.parts f.seq.items f.seq.end h
+    (head_first m opener f.parts (after xs (length xs)) ∙
+    ap (λ t. head_text m f.parts ++ (opener ∷ t)) (chosen (is_broken f.kind f.seq.split xs f.seq.end) (is_tuple f.kind && nat_eq (length xs) 1) m closer f.seq.end xs)))))
 
 -- ---- comments above an item and at the end of a sequence
 
@@ -171,7 +158,7 @@ ended_next m ts k d h = ap (ended m) (drop_more ts k d h)
 -- ---- files
 
 -- what is left of a list, as a slice to its end
-pub rest_here : (xs : List Item) (n : ℕ) → take (length xs - n) (drop n xs) ≡ drop n xs
+pub rest_here : {X : Type 0} (xs : List X) (n : ℕ) → take (length xs - n) (drop n xs) ≡ drop n xs
 rest_here xs n = take_all (length xs - n) (drop n xs) (omega (arith, length-drop n xs))
 
 pub layout_end : (d : Drafted) (xs : List Item) (k : ℕ) → length xs ≤ k → pushed d (layout (drop k xs)) ≡ d

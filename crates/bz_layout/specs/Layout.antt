@@ -1,8 +1,10 @@
 -- The layout: what is in a node, as pieces. One definition; the text and the tree are two readings of it.
 use Rattle.std.specs.Prelude.{ℕ, Bool, true, false, not, ◌&&◌, ◌||◌, List, [], ◌∷◌, ◌++◌, ◌+◌, length, nat_le, nat_eq, if◌then◌else◌, replicate, map, Option, Some, None}
+use Rattle.std.specs.List.{list_any}
 use Rattle.bz_grammar.specs.declared.kind.Kind.{Kind}
 use Rattle.bz_grammar.specs.declared.kind.Kind.TheVariants as k
-use Rattle.bz_value.specs.declared.value.Expr.{Expr, Token, Form'}
+use Rattle.bz_rule.specs.Values.{has_kind}
+use Rattle.bz_value.specs.declared.value.Expr.{Expr}
 use Rattle.bz_items.specs.Characters.{Bytes, comma, line_feed, space}
 use Rattle.bz_value.specs.Empty.{is_empty, is_none}
 use Rattle.bz_value.specs.Frames.{Frame, row, sequence, frame}
@@ -47,22 +49,17 @@ abbrev pub is_tuple : Kind → Bool
 is_tuple k.Tuple = true
 is_tuple _ = false
 
-abbrev pub is_named_or_star : Kind → Bool
-is_named_or_star k.Named = true
-is_named_or_star k.Star = true
-is_named_or_star _ = false
-
 abbrev pub is_named_argument : Expr → Bool
-is_named_argument (Token t) = false
-is_named_argument (Form' kind s parts s' items end split open_break comments) = is_named_or_star kind
+is_named_argument x = has_kind k.Named x || has_kind k.Star x
+
+abbrev pub has_comment : Expr → Bool
+has_comment x = not (is_empty (comments_of x).before && is_none (comments_of x).suffix)
 
 abbrev pub has_comments : List Expr → Bool
-has_comments [] = false
-has_comments (x ∷ xs) = not (is_empty (comments_of x).before && is_none (comments_of x).suffix) || has_comments xs
+has_comments xs = list_any has_comment xs
 
 abbrev pub has_named : List Expr → Bool
-has_named [] = false
-has_named (x ∷ xs) = is_named_argument x || has_named xs
+has_named xs = list_any is_named_argument xs
 
 -- A sequence is broken where an item has comments, there are end comments, it is a list or dict of two or more items,
 -- it is a call of two or more items of which one is Named or Star, or it is split and has an item.

@@ -39,14 +39,18 @@ is_colon_spaced k.Entry = true
 is_colon_spaced k.Lambda = true
 is_colon_spaced _ = false
 
+-- the marks that have no space at either side
+abbrev pub is_tight : Kind → List ℕ → Bool
+is_tight kind t = (lone (s.this c.Mark t) || is_dot_terminal (s.this c.Mark t)) || is_prefix_mark kind t
+
 -- One space is around operators, `=`, augmented forms and keywords, after a comma, and after the colon of an Entry and of a Lambda.
 abbrev pub space_after : Kind → Terminal → Bool
-space_after kind (s.this c.Mark t) = bytes_eq t (codes ",") || ((bytes_eq t (codes ":") && is_colon_spaced kind) || not (lone (s.this c.Mark t) || (is_dot_terminal (s.this c.Mark t) || is_prefix_mark kind t)))
+space_after kind (s.this c.Mark t) = bytes_eq t (codes ",") || ((bytes_eq t (codes ":") && is_colon_spaced kind) || not (is_tight kind t))
 space_after kind (s.this c.Keyword t) = not (bytes_eq t (codes "load"))
 space_after kind _ = false
 
 abbrev pub space_before : Kind → Terminal → Bool
-space_before kind (s.this c.Mark t) = not (lone (s.this c.Mark t) || (is_dot_terminal (s.this c.Mark t) || is_prefix_mark kind t))
+space_before kind (s.this c.Mark t) = not (is_tight kind t)
 space_before kind (s.this c.Keyword t) = true
 space_before kind _ = false
 

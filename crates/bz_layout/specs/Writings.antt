@@ -6,7 +6,6 @@ use Rattle.bz_value.specs.declared.value.Expr.{Expr}
 use Rattle.bz_value.specs.declared.value.Form.{Form}
 use Rattle.bz_items.specs.Characters.{Bytes, comma, space}
 use Rattle.bz_value.specs.Proper.{comments_of}
-use Rattle.bz_layout.specs.declared.brackets.Brackets.{Brackets}
 use Rattle.bz_layout.specs.Layout.{rowed, joined, stacked, new_line_at, margin_lines, suffix_text, is_broken, is_tuple}
 use Rattle.bz_layout.specs.Written.{piece_text, text_of}
 
@@ -44,7 +43,3 @@ abbrev pub body_text : Form → ℕ → ℕ → Bytes
 body_text f m closer =
     if is_broken f.kind f.seq.split f.seq.items f.seq.end then stacked_text m closer f.seq.end f.seq.items
     else joined_text m closer (is_tuple f.kind && nat_eq (length f.seq.items) 1) f.seq.items
-
--- what is before a sequence, its brackets, and what is in them
-abbrev pub sequence_text : Brackets → Form → ℕ → Bytes
-sequence_text brackets f m = head_text m f.parts ++ (brackets.opener ∷ body_text f m brackets.closer)

@@ -3,6 +3,7 @@ use Rattle.std.specs.Prelude.{ℕ, Bool, true, false, ◌&&◌, ◌||◌, List, 
 use Rattle.std.specs.List.{flat_map}
 use Rattle.bz_grammar.specs.declared.kind.Kind.{Kind}
 use Rattle.bz_grammar.specs.declared.kind.Kind.TheVariants as k
+use Rattle.bz_rule.specs.Values.{has_kind}
 use Rattle.bz_value.specs.declared.value.Expr.{Expr, Token, Form', Row_of-Expr, end_of-Expr, more_of-Expr}
 use Rattle.bz_value.specs.declared.value.Item.{Item}
 use Rattle.bz_value.specs.declared.value.Item.TheVariants as i
@@ -34,25 +35,12 @@ abbrev pub item_text : Item → Bytes
 item_text (i.Block lines) = comment_lines lines
 item_text (i.Stmt x) = comment_lines (comments_of x).before ++ (text_of x 0 ++ (suffix_text (comments_of x).suffix ++ line_feed ∷ []))
 
-abbrev pub is_load_kind : Kind → Bool
-is_load_kind k.Load = true
-is_load_kind _ = false
-
-abbrev pub is_assign_kind : Kind → Bool
-is_assign_kind k.Assign = true
-is_assign_kind _ = false
-
-abbrev pub is_load : Expr → Bool
-is_load (Token t) = false
-is_load (Form' kind s parts s' items end split open_break comments) = is_load_kind kind
-
-abbrev pub is_assign : Expr → Bool
-is_assign (Token t) = false
-is_assign (Form' kind s parts s' items end split open_break comments) = is_assign_kind kind
+abbrev pub are_both : Kind → Expr → Expr → Bool
+are_both kind x y = has_kind kind x && has_kind kind y
 
 -- One blank line between two items; none where both are Loads or both are Assigns and the later has no comment above.
 abbrev pub gap_between : Item → Item → Bytes
-gap_between (i.Stmt x) (i.Stmt y) = if ((is_load x && is_load y) || (is_assign x && is_assign y)) && is_empty (comments_of y).before then [] else (line_feed ∷ [])
+gap_between (i.Stmt x) (i.Stmt y) = if (are_both k.Load x y || are_both k.Assign x y) && is_empty (comments_of y).before then [] else (line_feed ∷ [])
 gap_between _ _ = line_feed ∷ []
 
 -- the items from here on, after an item

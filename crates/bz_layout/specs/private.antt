@@ -1,5 +1,4 @@
 -- What the contracts of private functions cite, and no contract of a public call reaches: nobody has to trust it.
-pub mod Brackets
 pub mod Reached
 pub mod Spines
 pub mod Windows

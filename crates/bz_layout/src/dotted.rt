@@ -28,20 +28,10 @@ fn are_tokens(parts: &[Expr]) -> bool
 }
 
 /// Whether a form is of names joined by dots.
-pub fn is_dot(form: &Form) -> bool
+fn is_dot(form: &Form) -> bool
     ensures { IsTrue result → form.now.kind ≡ kinds.Dot }
 {
     matches!(form.kind, Kind::Dot)
-}
-
-/// The form of names joined by dots that the expression is, where it is one.
-fn dot_in(part: &Expr) -> Option<&Form>
-    ensures { IfSome result (λ front. (part.now ≡ e.Form front.now) × (front.now.kind ≡ kinds.Dot)) }
-{
-    match part {
-        Expr::Form(front) if is_dot(front) => Some(front),
-        _ => None,
-    }
 }
 
 /// The form that a row begins with, where it is of names joined by dots and tokens alone follow.
@@ -52,8 +42,10 @@ fn front_of(form: &Form) -> Option<&Form>
     let [first, tokens @ ..] = form.parts.as_slice() else {
         return None;
     };
-    let front = dot_in(first)?;
-    if !are_tokens(tokens) {
+    let Expr::Form(front) = first else {
+        return None;
+    };
+    if !is_dot(front) || !are_tokens(tokens) {
         return None;
     }
     Some(front)

@@ -6,7 +6,7 @@ ghost use Rattle.bz_layout.specs.Drafts.{drafted, pushed};
 ghost use Rattle.bz_layout.specs.Layout.{new_line_at, margin_lines, suffix_text, ended};
 ghost use Rattle.bz_layout.specs.Written.{comment_lines};
 
-use crate::gaps::{deeper_margin, push_after, push_comments, push_margin};
+use crate::gaps::{deeper_margin, push_comments, push_margin};
 use bz_items::{Memory, Text};
 use std::marker::Model;
 
@@ -113,11 +113,15 @@ impl Draft {
     }
 
     /// Appends a suffix after two spaces. The error: a growth was refused.
-    #[tactic(auto, using(crate::proofs::Pushing::appended))]
+    #[tactic(auto, using(crate::proofs::Pushing::pushed_none, crate::proofs::Pushing::pushed_twice))]
     pub fn push_after(&mut self, suffix: Option<&Text>) -> Result<(), Memory>
         ensures { OnOk result (self.new ≡ pushed self.old (suffix_text (option_copied suffix.entry))) }
     {
-        push_after(&mut self.text, suffix)
+        if let Some(text) = suffix {
+            self.push_bytes(b"  ")?;
+            self.push_bytes(text.as_slice())?;
+        }
+        Ok(())
     }
 
     /// Appends comment lines, each with its newline. The error: a growth was refused.

@@ -1,8 +1,6 @@
-//! Gaps: lines at a margin, suffixes and comments.
+//! Gaps: margins and comments.
 ghost use Rattle.std.specs.Prelude.{◌≡◌, ◌++◌, ◌+◌, replicate, OnOk, IfOk};
-ghost use Rattle.std.specs.Option.{option_copied};
 ghost use Rattle.bz_items.specs.Characters.{space};
-ghost use Rattle.bz_layout.specs.Layout.{suffix_text};
 ghost use Rattle.bz_layout.specs.Written.{comment_lines};
 
 use bz_items::{Memory, Text};
@@ -21,17 +19,6 @@ pub fn push_margin(out: &mut Vec<u8>, margin: usize) -> Result<(), Memory>
 {
     let end = out.len().checked_add(margin).ok_or(AllocError)?;
     out.resize(end, b' ')?;
-    Ok(())
-}
-
-/// Appends a suffix after two spaces. The error: a growth was refused.
-pub fn push_after(out: &mut Vec<u8>, suffix: Option<&Text>) -> Result<(), Memory>
-    ensures { OnOk result (out.new.items ≡ out.old.items ++ suffix_text (option_copied suffix.entry)) }
-{
-    if let Some(text) = suffix {
-        out.extend_from_slice(b"  ")?;
-        out.extend_from_slice(text.as_slice())?;
-    }
     Ok(())
 }
 

@@ -1,7 +1,6 @@
 //! The layout of a file value, as text, and where it differs from that of another, window by window.
 #![tactic(auto)]
 
-mod brackets;
 mod breaks;
 mod changed;
 mod depth;

@@ -26,30 +26,22 @@ pub fn past<'a>(items: &'a [Item], window: &Window) -> &'a [Item]
     following
 }
 
-/// How many lines the items have that came.
+/// How many lines there were, if each item that was taken out had one; none where no list has as many.
 #[tactic(auto, using(crate::proofs::LineWindows::within_next))]
-fn come_lines(items: &[Item], windows: &[Window]) -> usize
+fn old_lines(items: &[Item], windows: &[Window]) -> Option<usize>
     requires { AreWithin windows.now items.now }
-    ensures { result ≡ counts.line_count_in (counts.come_items windows.now items.now) }
-{
-    let mut count = 0;
-    let mut rest = items;
-    for window in windows {
-        count += count_lines(come_of(rest, window));
-        rest = past(rest, window);
-    }
-    count
-}
-
-/// How many items were taken out; none where no list has as many.
-fn gone_items(windows: &[Window]) -> Option<usize>
-    ensures { IfSome result (λ count. count ≡ counts.gone_count windows.now) }
+    ensures { IfSome result (λ count. count ≡ counts.old_lines windows.now items.now) }
 {
     let mut count: usize = 0;
+    let mut rest = items;
     for window in windows {
-        count = count.checked_add(window.gone)?;
+        let (stay, _others) = rest.split_at(window.from);
+        count = count
+            .checked_add(count_lines(stay))?
+            .checked_add(window.gone)?;
+        rest = past(rest, window);
     }
-    Some(count)
+    count.checked_add(count_lines(rest))
 }
 
 /// How many items are before the end of the last window.
@@ -64,23 +56,6 @@ fn come_end(items: &[Item], windows: &[Window]) -> usize
         rest = past(rest, window);
     }
     items.len() - rest.len()
-}
-
-/// Whether each item that was taken out had a line, if the tree had this many lines.
-fn are_all_lines(items: &[Item], windows: &[Window], lines: usize) -> bool
-    requires { AreWithin windows.now items.now }
-    ensures { IsTrue result → counts.line_count_in (counts.come_items windows.now items.now) + lines ≡ counts.gone_count windows.now + counts.line_count_in items.now }
-{
-    let Some(gone) = gone_items(windows) else {
-        return false;
-    };
-    let Some(new) = gone.checked_add(count_lines(items)) else {
-        return false;
-    };
-    let Some(old) = come_lines(items, windows).checked_add(lines) else {
-        return false;
-    };
-    old == new
 }
 
 /// From where on the first window has other items.
@@ -123,8 +98,8 @@ pub fn counted<'a>(
     ensures over { (before : List Item) → counts.line_count_in before ≡ lines → AreOver windows.now before items.now
         → counts.AreLinesOver one.now before items.now → counts.AreLinesOver result.now before items.now }
 {
-    if are_all_lines(items, windows, lines) {
-        return windows;
+    match old_lines(items, windows) {
+        Some(count) if count == lines => windows,
+        _ => one,
     }
-    one
 }

@@ -1,6 +1,5 @@
 //! What is between two parts of a row.
-ghost use Rattle.std.specs.Prelude.{◌≡◌, ◌<◌, ◌+◌, ◌++◌, ◌∷◌, [], ℕ, codes, drop, false, length, IfOk, IsTrue, OnOk};
-ghost use Rattle.bz_grammar.specs.Shapes.{equals, has_token};
+ghost use Rattle.std.specs.Prelude.{◌≡◌, ◌++◌, ◌∷◌, [], ℕ, codes, false, IfOk, IsTrue, OnOk};
 ghost use Rattle.bz_items.specs.Characters.{Bytes};
 ghost use Rattle.bz_value.specs.Proper.{has_break};
 ghost use Rattle.bz_layout.specs.Drafts.{pushed};
@@ -8,31 +7,18 @@ ghost use Rattle.bz_layout.specs.Layout as layout;
 ghost use Rattle.bz_layout.specs.Spaces.{is_prefix_mark};
 ghost use Rattle.bz_layout.specs.Written.{text_of};
 ghost use Rattle.bz_layout.specs.Writings.{row_text};
-ghost use Rattle.bz_value.specs.Roots.{root};
 
 use crate::draft::Draft;
 use crate::gaps::deeper_margin;
-use crate::is_spaced;
-use crate::spaces::is_lone;
-use bz_grammar::{Class, Kind};
+use crate::spaces::{has_mark, is_lone, is_spaced};
+use bz_grammar::Kind;
 use bz_items::Memory;
 use bz_value::{Expr, Form};
-
-/// The expressions after the one at this place.
-pub fn others(exprs: &[Expr], at: usize) -> &[Expr]
-    requires { at < length exprs.now }
-    ensures { result.now ≡ drop (at + 1) exprs.now }
-{
-    &exprs[at + 1..]
-}
 
 fn has_break(expr: &Expr) -> bool
     ensures { result ≡ has_break expr.now }
 {
-    match expr {
-        Expr::Token(token) => token.line_break,
-        Expr::Form(_) => false,
-    }
+    matches!(expr, Expr::Token(token) if token.line_break)
 }
 
 /// Whether a row of the kind is of a name, a sign and a value.
@@ -40,16 +26,6 @@ fn is_assigning(kind: Kind) -> bool
     ensures { IsTrue result → (mark : Bytes) → is_prefix_mark kind mark ≡ false }
 {
     matches!(kind, Kind::Named | Kind::Assign)
-}
-
-fn is_equals(expr: &Expr) -> bool
-    ensures { result ≡ has_token equals (root expr.now) }
-{
-    match expr {
-        Expr::Token(token) => matches!(token.class, Class::Mark)
-            && matches!(token.text.as_slice(), b"="),
-        Expr::Form(_) => false,
-    }
 }
 
 /// Whether these parts are a name, the sign `=` and a value on its line, as those of most rows are.
@@ -61,7 +37,7 @@ pub fn is_assignment(form: &Form, name: &Expr, sign: &Expr, value: &Expr) -> boo
     if form.open_break || has_break(name) || has_break(sign) {
         return false;
     }
-    if !is_assigning(form.kind) || !is_equals(sign) {
+    if !is_assigning(form.kind) || !has_mark(b"=", sign) {
         return false;
     }
     !is_lone(value)

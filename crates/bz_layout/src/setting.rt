@@ -1,4 +1,4 @@
-ghost use Rattle.std.specs.Prelude.{◌≡◌, ◌<◌, ◌≤◌, ◌++◌, IfOk, IfSome, IsTrue, OnOk, false, length};
+ghost use Rattle.std.specs.Prelude.{◌≡◌, ◌<◌, ◌≤◌, ◌++◌, IfOk, IfSome, IsTrue, false, length};
 ghost use Rattle.bz_grammar.specs.Spell.{depth_of, limit, depth_limit};
 ghost use Rattle.bz_layout.specs.Appended.{gap_below};
 ghost use Rattle.bz_layout.specs.LaidOut.{laid_out};
@@ -6,10 +6,10 @@ ghost use Rattle.bz_layout.specs.Written.{layout};
 
 use crate::draft::Draft;
 use crate::limits::are_items_within;
-use crate::spaces::push_between;
+use crate::spaces::blank_before;
 use crate::texts::push_items;
 use bz_grammar::{DEPTH_LIMIT, LENGTH_LIMIT};
-use bz_items::{Memory, Text};
+use bz_items::Text;
 use bz_value::{File, Item};
 use std::alloc::{AllocError, Global};
 use std::mem;
@@ -49,12 +49,13 @@ fn is_shallow(items: &[Item]) -> bool
     are_items_within(items, DEPTH_LIMIT as usize - 1)
 }
 
-fn push_below(out: &mut Vec<u8>, above: &Option<Item>, items: &[Item]) -> Result<(), Memory>
-    ensures { OnOk result (out.new.items ≡ out.old.items ++ gap_below above.now items.now) }
+/// What is between an item, where there is one, and those below.
+fn blank_below(above: &Option<Item>, items: &[Item]) -> &'static [u8]
+    ensures { result.now ≡ gap_below above.now items.now }
 {
     match above {
-        None => Ok(()),
-        Some(item) => push_between(out, item, items),
+        None => b"",
+        Some(item) => blank_before(item, items),
     }
 }
 
@@ -69,7 +70,7 @@ pub fn append_file(out: &mut Vec<u8>, above: &Option<Item>, file: &File) -> Opti
     if !is_shallow(items) {
         return None;
     }
-    push_below(out, above, items).ok()?;
+    out.extend_from_slice(blank_below(above, items)).ok()?;
     let alloc = *out.allocator();
     let mut draft = Draft::new(mem::replace(out, Vec::new(alloc)), LENGTH_LIMIT);
     push_items(&mut draft, items).ok()?;

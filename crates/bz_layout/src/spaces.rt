@@ -1,5 +1,5 @@
 //! The single spaces between the parts of a row, and the blank lines between items.
-ghost use Rattle.std.specs.Prelude.{◌≡◌, ◌||◌, ◌++◌, ◌∷◌, [], OnOk, if◌then◌else◌};
+ghost use Rattle.std.specs.Prelude.{◌≡◌, ◌∷◌, [], if◌then◌else◌};
 ghost use Rattle.bz_items.specs.Characters.{line_feed};
 ghost use Rattle.bz_grammar.specs.Shapes as shapes;
 ghost use Rattle.bz_value.specs.Roots.{root};
@@ -7,8 +7,8 @@ ghost use Rattle.bz_layout.specs.LaidOut.{before_next};
 ghost use Rattle.bz_layout.specs.Spaces as spaces;
 ghost use Rattle.bz_layout.specs.Written as written;
 
+use crate::breaks::is_of_kind;
 use bz_grammar::{Class, Kind};
-use bz_items::Memory;
 use bz_value::{Expr, Item};
 
 /// Whether the mark is a bracket, a comma or a colon.
@@ -16,12 +16,6 @@ fn is_lone_mark(mark: &[u8]) -> bool
     ensures { result ≡ spaces.lone (shapes.this Class.Mark mark.now) }
 {
     matches!(mark, b"(" | b")" | b"[" | b"]" | b"{" | b"}" | b"," | b":")
-}
-
-fn is_dot_mark(mark: &[u8]) -> bool
-    ensures { result ≡ spaces.is_dot_terminal (shapes.this Class.Mark mark.now) }
-{
-    matches!(mark, b".")
 }
 
 /// Whether the mark in a row of the kind is right before its operand.
@@ -42,18 +36,11 @@ fn is_colon_spaced(kind: Kind) -> bool
     matches!(kind, Kind::Entry | Kind::Lambda)
 }
 
-/// Whether one of three tests passes.
-fn is_any(first: bool, second: bool, third: bool) -> bool
-    ensures { result ≡ (first || (second || third)) }
-{
-    first || second || third
-}
-
 /// Whether the mark of a row of the kind has no space at either side.
 fn is_tight(kind: Kind, mark: &[u8]) -> bool
-    ensures { result ≡ (spaces.lone (shapes.this Class.Mark mark.now) || (spaces.is_dot_terminal (shapes.this Class.Mark mark.now) || spaces.is_prefix_mark kind mark.now)) }
+    ensures { result ≡ spaces.is_tight kind mark.now }
 {
-    is_any(is_lone_mark(mark), is_dot_mark(mark), is_prefix(kind, mark))
+    is_lone_mark(mark) || matches!(mark, b".") || is_prefix(kind, mark)
 }
 
 /// Whether a space is after the expression.
@@ -93,11 +80,7 @@ fn has_space_before(kind: Kind, expr: &Expr) -> bool
 pub fn is_lone(expr: &Expr) -> bool
     ensures { result ≡ spaces.is_lone (root expr.now) }
 {
-    match expr {
-        Expr::Token(token) => matches!(token.class, Class::Mark)
-            && is_lone_mark(token.text.as_slice()),
-        Expr::Form(_) => false,
-    }
+    matches!(expr, Expr::Token(token) if token.class == Class::Mark && is_lone_mark(token.text.as_slice()))
 }
 
 /// Whether the expression is no token of its row: a node, or a name, a number or a string.
@@ -113,20 +96,14 @@ fn is_value(expr: &Expr) -> bool
 fn is_number(expr: &Expr) -> bool
     ensures { result ≡ spaces.is_number_leaf (root expr.now) }
 {
-    match expr {
-        Expr::Token(token) => matches!(token.class, Class::Number),
-        Expr::Form(_) => false,
-    }
+    matches!(expr, Expr::Token(token) if matches!(token.class, Class::Number))
 }
 
-fn is_dot(expr: &Expr) -> bool
-    ensures { result ≡ shapes.has_token shapes.dot (root expr.now) }
+/// Whether the expression is this mark.
+pub fn has_mark(mark: &[u8], expr: &Expr) -> bool
+    ensures { result ≡ shapes.has_token (shapes.one_mark mark.now) (root expr.now) }
 {
-    match expr {
-        Expr::Token(token) => matches!(token.class, Class::Mark)
-            && matches!(token.text.as_slice(), b"."),
-        Expr::Form(_) => false,
-    }
+    matches!(expr, Expr::Token(token) if token.class == Class::Mark && token.text.as_slice() == mark)
 }
 
 /// Whether one space is between two neighbours in a row of the kind.
@@ -137,25 +114,14 @@ pub fn is_spaced(kind: Kind, left: &Expr, right: &Expr) -> bool
         || has_space_before(kind, right)
         || is_value(left) && is_value(right)
         // `1.` is a number
-        || is_number(left) && is_dot(right)
+        || is_number(left) && has_mark(b".", right)
 }
 
-fn is_load(expr: &Expr) -> bool
-    ensures { result ≡ written.is_load expr.now }
+/// Whether both expressions are forms of this kind.
+fn are_both(kind: Kind, above: &Expr, below: &Expr) -> bool
+    ensures { result ≡ written.are_both kind above.now below.now }
 {
-    match expr {
-        Expr::Token(_) => false,
-        Expr::Form(form) => matches!(form.kind, Kind::Load),
-    }
-}
-
-fn is_assign(expr: &Expr) -> bool
-    ensures { result ≡ written.is_assign expr.now }
-{
-    match expr {
-        Expr::Token(_) => false,
-        Expr::Form(form) => matches!(form.kind, Kind::Assign),
-    }
+    is_of_kind(kind, above) && is_of_kind(kind, below)
 }
 
 /// Whether a statement is right below another, with no blank line between.
@@ -165,26 +131,16 @@ pub fn is_close(above: &Expr, below: &Expr) -> bool
     if !below.comments().before().is_empty() {
         return false;
     }
-    is_load(above) && is_load(below) || is_assign(above) && is_assign(below)
+    are_both(Kind::Load, above, below) || are_both(Kind::Assign, above, below)
 }
 
-/// Whether a blank line is between an item and those that follow.
-pub fn is_apart(item: &Item, others: &[Item]) -> bool
-    ensures { (if result then (line_feed ∷ []) else []) ≡ before_next item.now others.now }
+/// What is between an item and those that follow: a blank line, or nothing.
+pub fn blank_before(item: &Item, others: &[Item]) -> &'static [u8]
+    ensures { result.now ≡ before_next item.now others.now }
 {
     match (item, others) {
-        (_, []) => false,
-        (Item::Stmt(above), [Item::Stmt(below), ..]) => !is_close(above, below),
-        _ => true,
+        (_, []) => b"",
+        (Item::Stmt(above), [Item::Stmt(below), ..]) if is_close(above, below) => b"",
+        _ => b"\n",
     }
-}
-
-/// Appends what is between an item and those that follow.
-pub fn push_between(gap: &mut Vec<u8>, item: &Item, others: &[Item]) -> Result<(), Memory>
-    ensures { OnOk result (gap.new.items ≡ gap.old.items ++ before_next item.now others.now) }
-{
-    if is_apart(item, others) {
-        gap.push(b'\n')?;
-    }
-    Ok(())
 }

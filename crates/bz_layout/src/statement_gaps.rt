@@ -1,19 +1,12 @@
-//! How many lines items have, and the gap before one of them.
-ghost use Rattle.std.specs.Prelude.{◌≡◌, ◌-◌, ◌+◌, ◌^◌, ◌<◌, ◌≤◌, [], drop, length, IfOk};
-ghost use Rattle.bz_layout.specs.LaidOut.{left_gap};
+//! How many lines items have, and the gap that they leave to what follows.
+ghost use Rattle.std.specs.Prelude.{◌≡◌, ◌+◌, ◌++◌, ◌^◌, ◌<◌, ◌≤◌, length, OnOk};
+ghost use Rattle.bz_layout.specs.LaidOut.{before_next, left_gap};
 ghost use Rattle.bz_layout.specs.private.Windows as windows;
 
 use crate::gaps::push_comments;
-use crate::spaces::push_between;
+use crate::spaces::blank_before;
 use bz_items::Memory;
 use bz_value::Item;
-use std::alloc::Global;
-
-fn is_statement(item: &Item) -> bool
-    ensures { result ≡ windows.is_statement_item item.now }
-{
-    matches!(item, Item::Stmt(_))
-}
 
 /// The place of the line after an item, where its own is to be at this place.
 pub fn place_after(place: usize, item: &Item) -> usize
@@ -38,46 +31,26 @@ pub fn count_lines(items: &[Item]) -> usize
     count
 }
 
-/// From which item on the gap before a place is made: from the last statement before it, or else from the first item of all. What
-/// is above that item leaves nothing in it.
-fn last_statement(items: &[Item], from: usize) -> usize
-    requires { from ≤ length items.now }
-    ensures within { result ≤ from }
-    ensures gap { windows.statement_gap [] (from - result) (drop result items.now) ≡ windows.statement_gap [] from items.now }
+/// Makes of the gap before an item the one before what follows. The error: a growth was refused.
+pub fn leave_gap(gap: &mut Vec<u8>, item: &Item, others: &[Item]) -> Result<(), Memory>
+    ensures { OnOk result (gap.new.items ≡ left_gap gap.old.items item.now ++ before_next item.now others.now) }
 {
-    let mut at = from;
-    while at > 0 {
-        at -= 1;
-        if is_statement(&items[at]) {
-            return at;
-        }
-    }
-    0
-}
-
-/// The gap that an item leaves to what follows, where its line is not laid out.
-fn pass_over(item: &Item, gap: Vec<u8>) -> Result<Vec<u8>, Memory>
-    ensures { IfOk result (λ left. left.items ≡ left_gap gap.items item.now) }
-{
-    let mut gap = gap;
     match item {
-        Item::Block(texts) => push_comments(&mut gap, texts.as_slice())?,
+        Item::Block(texts) => push_comments(gap, texts.as_slice())?,
         Item::Stmt(_) => gap.clear(),
     }
-    Ok(gap)
+    gap.extend_from_slice(blank_before(item, others))?;
+    Ok(())
 }
 
-/// The gap before the item at a place, or before the end.
-pub fn gap_above(alloc: Global, items: &[Item], from: usize) -> Result<Vec<u8>, Memory>
-    requires { from ≤ length items.now }
-    ensures { IfOk result (λ gap. gap.items ≡ windows.statement_gap [] from items.now) }
+/// Makes of the gap before the first of the items the one before what follows this many. The error: a growth was refused.
+pub fn pass_over(gap: &mut Vec<u8>, items: &[Item], count: usize) -> Result<(), Memory>
+    requires { count ≤ length items.now }
+    ensures { OnOk result (gap.new.items ≡ windows.statement_gap gap.old.items count items.now) }
 {
-    let mut gap = Vec::new(alloc);
-    for at in last_statement(items, from)..from {
-        let item = &items[at];
+    for at in 0..count {
         let (_passed, others) = items.split_at(at + 1);
-        gap = pass_over(item, gap)?;
-        push_between(&mut gap, item, others)?;
+        leave_gap(gap, &items[at], others)?;
     }
-    Ok(gap)
+    Ok(())
 }

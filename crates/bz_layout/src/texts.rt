@@ -1,19 +1,18 @@
 //! The layout of an expression and of an item, as text.
-ghost use Rattle.std.specs.Prelude.{◌≡◌, OnOk, IfOk};
+ghost use Rattle.std.specs.Prelude.{◌≡◌, OnOk, IfOk, MatchOption};
 ghost use Rattle.bz_layout.specs.Drafts.{pushed};
-ghost use Rattle.bz_layout.specs.LaidOut.{before_next};
 ghost use Rattle.bz_value.specs.declared.value.Expr.TheVariants as e;
 ghost use Rattle.bz_value.specs.declared.value.Item.TheVariants as i;
+ghost use Rattle.bz_value.specs.Frames.{frame, row, sequence};
 ghost use Rattle.bz_layout.specs.Written as written;
-ghost use Rattle.bz_layout.specs.Writings.{row_text, head_text, comma_text, joined_text, stacked_item_text, stacked_text, body_text, sequence_text};
+ghost use Rattle.bz_layout.specs.Writings.{row_text, head_text, comma_text, joined_text, stacked_item_text, stacked_text, body_text};
 
-use crate::brackets::{Brackets, brackets_of_kind};
 use crate::breaks::is_broken;
-use crate::dotted::{is_dot, push_dotted};
+use crate::dotted::push_dotted;
 use crate::draft::Draft;
 use crate::gaps::deeper_margin;
-use crate::row_gaps::{is_assignment, margin_after, others, push_row_gap};
-use crate::spaces::is_apart;
+use crate::row_gaps::{is_assignment, margin_after, push_row_gap};
+use crate::spaces::blank_before;
 use bz_grammar::Kind;
 use bz_items::{Memory, Text};
 use bz_value::{Expr, Form, Item};
@@ -34,36 +33,34 @@ pub fn push_expr(out: &mut Draft, expr: &Expr, margin: usize) -> Result<(), Memo
     }
 }
 
-#[cycle(push)]
-#[tactic(auto, using(crate::proofs::Writing::row_form, crate::proofs::Writing::sequence_form))]
-fn push_form(out: &mut Draft, form: &Form, margin: usize) -> Result<(), Memory>
-    ensures { OnOk result (out.new ≡ pushed out.old (written.text_of (e.Form form.now) margin)) }
+/// The brackets of the nodes of a kind; `None` where they are rows.
+fn brackets_of(kind: Kind) -> Option<(u8, u8)>
+    ensures { MatchOption result (frame kind ≡ row) (λ brackets. frame kind ≡ sequence brackets.0 brackets.1) }
 {
-    match brackets_of_kind(form.kind) {
-        None => push_row(out, form, margin),
-        Some(brackets) => push_sequence(out, form, margin, brackets),
+    match kind {
+        Kind::Call | Kind::Load | Kind::Tuple => Some((b'(', b')')),
+        Kind::List => Some((b'[', b']')),
+        Kind::Dict => Some((b'{', b'}')),
+        _ => None,
     }
 }
 
-/// Appends what is before a sequence, its brackets, and what is in them.
 #[cycle(push)]
-#[tactic(auto, using(crate::proofs::Pushing::pushed_twice))]
-fn push_sequence(
-    out: &mut Draft,
-    form: &Form,
-    margin: usize,
-    brackets: Brackets,
-) -> Result<(), Memory>
-    ensures { OnOk result (out.new ≡ pushed out.old (sequence_text brackets form.now margin)) }
+#[tactic(auto, using(crate::proofs::Pushing::pushed_twice, crate::proofs::Writing::row_form, crate::proofs::Writing::sequence_form))]
+fn push_form(out: &mut Draft, form: &Form, margin: usize) -> Result<(), Memory>
+    ensures { OnOk result (out.new ≡ pushed out.old (written.text_of (e.Form form.now) margin)) }
 {
+    let Some((opener, closer)) = brackets_of(form.kind) else {
+        return push_row(out, form, margin);
+    };
     push_head(out, form.parts.as_slice(), margin)?;
-    out.push(brackets.opener)?;
-    push_body(out, form, margin, brackets.closer)
+    out.push(opener)?;
+    push_body(out, form, margin, closer)
 }
 
 /// Appends the row of the parts of a form at a margin. The error: a growth was refused.
 #[cycle(push)]
-#[tactic(auto, using(crate::proofs::Pushing::pushed_twice, crate::proofs::Writing::row_next, crate::proofs::Writing::row_end))]
+#[tactic(auto, using(crate::proofs::Pushing::pushed_twice, crate::proofs::Writing::row_next, crate::proofs::Writing::row_end, crate::proofs::Writing::rest_here))]
 pub fn push_row(out: &mut Draft, form: &Form, margin: usize) -> Result<(), Memory>
     ensures { OnOk result (out.new ≡ pushed out.old (row_text form.now.kind form.now.open_break margin margin form.now.parts)) }
 {
@@ -75,13 +72,13 @@ pub fn push_row(out: &mut Draft, form: &Form, margin: usize) -> Result<(), Memor
         out.push_bytes(b" = ")?;
         return push_expr(out, value, margin);
     }
-    if is_dot(form) && push_dotted(out, form, margin)? {
+    if push_dotted(out, form, margin)? {
         return Ok(());
     }
     let mut inner = margin;
     for (i, part) in row.iter().enumerate() {
         push_expr(out, part, inner)?;
-        push_row_gap(out, form, margin, part, others(row, i))?;
+        push_row_gap(out, form, margin, part, &row[i + 1..])?;
         inner = margin_after(form, margin, part)?;
     }
     Ok(())
@@ -128,7 +125,7 @@ fn push_comma(out: &mut Draft, others: &[Expr], one: bool) -> Result<(), Memory>
 
 /// Appends items joined by a comma and a space, and the closing bracket; after a lone item a comma where it is to have one.
 #[cycle(push)]
-#[tactic(auto, using(crate::proofs::Pushing::pushed_twice, crate::proofs::Writing::joined_next))]
+#[tactic(auto, using(crate::proofs::Pushing::pushed_twice, crate::proofs::Writing::joined_next, crate::proofs::Writing::rest_here))]
 fn push_joined(
     out: &mut Draft,
     items: &[Expr],
@@ -141,7 +138,7 @@ fn push_joined(
     let mut one = one;
     for (i, item) in items.iter().enumerate() {
         push_expr(out, item, margin)?;
-        push_comma(out, others(items, i), one)?;
+        push_comma(out, &items[i + 1..], one)?;
         one = false;
     }
     out.push(closer)?;
@@ -224,17 +221,6 @@ pub fn item_text(alloc: Global, item: &Item) -> Result<Text, Memory>
     Ok(Text::from_vec(out.into_bytes().ok_or(AllocError)?))
 }
 
-/// Appends what is between an item and those that follow.
-#[tactic(auto, using(crate::proofs::Pushing::pushed_none))]
-fn push_between(out: &mut Draft, item: &Item, others: &[Item]) -> Result<(), Memory>
-    ensures { OnOk result (out.new ≡ pushed out.old (before_next item.now others.now)) }
-{
-    if is_apart(item, others) {
-        out.push(b'\n')?;
-    }
-    Ok(())
-}
-
 /// Appends the layout of items. The error: a growth was refused.
 #[tactic(auto, using(crate::proofs::Pushing::pushed_twice, crate::proofs::Writing::layout_next, crate::proofs::Writing::layout_end, crate::proofs::Writing::rest_here))]
 pub fn push_items(out: &mut Draft, items: &[Item]) -> Result<(), Memory>
@@ -242,7 +228,7 @@ pub fn push_items(out: &mut Draft, items: &[Item]) -> Result<(), Memory>
 {
     for (i, item) in items.iter().enumerate() {
         push_item(out, item)?;
-        push_between(out, item, &items[i + 1..])?;
+        out.push_bytes(blank_before(item, &items[i + 1..]))?;
     }
     Ok(())
 }

@@ -6,7 +6,7 @@ ghost use Rattle.bz_grammar.specs.declared.tree.Part.{Part};
 ghost use Rattle.bz_layout.specs.Drafts.{pushed};
 ghost use Rattle.bz_layout.specs.LaidOut.{left_gap, before_next, lines_from};
 ghost use Rattle.bz_layout.specs.Written as written;
-ghost use Rattle.bz_layout.specs.private.Reached.{AreReached, HasGap, HasLine, HasNext, IsAt, IsPut, own_text};
+ghost use Rattle.bz_layout.specs.private.Reached.{AreReached, HasGap, HasLine, HasNext, IsAt, IsPut, Passes, own_text};
 ghost use Rattle.bz_layout.specs.private.Windows.{AreLinesOver};
 ghost use Rattle.bz_value.specs.Proper.{IsProper};
 ghost use Rattle.bz_value.specs.Windows.{AreWithin};
@@ -15,8 +15,8 @@ ghost use Rattle.bz_value.specs.declared.value.Item.TheVariants as i;
 
 use crate::draft::Draft;
 use crate::gaps::push_comments;
-use crate::spaces::push_between;
-use crate::statement_gaps::{count_lines, gap_above, place_after};
+use crate::line_windows::past;
+use crate::statement_gaps::{count_lines, leave_gap, pass_over, place_after};
 use crate::texts::push_statement;
 use bz_grammar::{LENGTH_LIMIT, Part, first_of};
 use bz_items::{Items, Memory, Text};
@@ -116,27 +116,17 @@ fn has_line(alloc: Global, parts: &[Part], gap: &[u8], item: &Item) -> Result<bo
     Ok(has_gap(parts, &above))
 }
 
-/// Appends the line of a statement, after its gap.
-#[tactic(auto, using(crate::proofs::Pushing::pushed_twice))]
-fn put_statement(window: &mut OpenWindow, expr: &Expr) -> Result<(), Memory>
-    ensures text { OnOk result (window.new.text ≡ pushed window.old.text (window.old.gap.items ++ written.item_text (i.Stmt expr.now))) }
-    ensures gap { OnOk result (window.new.gap.items ≡ []) }
-{
-    window.text.push_bytes(&window.gap)?;
-    push_statement(&mut window.text, expr)?;
-    window.gap.clear();
-    Ok(())
-}
-
-/// Appends the line of an item, if it has one.
-#[tactic(auto, using(crate::proofs::Pushing::pushed_none))]
-fn put_own(window: &mut OpenWindow, item: &Item) -> Result<(), Memory>
-    ensures text { OnOk result (window.new.text ≡ pushed window.old.text (own_text window.old.gap.items item.now)) }
-    ensures gap { OnOk result (window.new.gap.items ≡ left_gap window.old.gap.items item.now) }
+/// Appends the line of an item, if it has one: a statement, after its gap.
+#[tactic(auto, using(crate::proofs::Pushing::pushed_none, crate::proofs::Pushing::pushed_twice))]
+fn put_line(text: &mut Draft, gap: &[u8], item: &Item) -> Result<(), Memory>
+    ensures { OnOk result (text.new ≡ pushed text.old (own_text gap.now item.now)) }
 {
     match item {
-        Item::Block(texts) => push_comments(&mut window.gap, texts.as_slice()),
-        Item::Stmt(expr) => put_statement(window, expr),
+        Item::Block(_) => Ok(()),
+        Item::Stmt(expr) => {
+            text.push_bytes(gap)?;
+            push_statement(text, expr)
+        }
     }
 }
 
@@ -146,65 +136,45 @@ fn put_item(window: &mut OpenWindow, item: &Item, others: &[Item]) -> Result<(),
     ensures gap { OnOk result (window.new.gap.items ≡ left_gap window.old.gap.items item.now ++ before_next item.now others.now) }
     ensures opened { OnOk result (window.new.is_open ≡ true) }
 {
-    put_own(window, item)?;
-    push_between(&mut window.gap, item, others)?;
+    put_line(&mut window.text, &window.gap, item)?;
+    leave_gap(&mut window.gap, item, others)?;
     window.is_open = true;
     Ok(())
 }
 
-/// Appends the lines of the items from one place to another, which came.
-fn put_items(writer: &mut Writer, items: &[Item], from: usize, end: usize) -> Result<(), Memory>
-    requires { (from ≤ end) × (end ≤ length items.now) }
-    ensures { OnOk result ((parts all : List Part) (before : List Item) → AreReached parts all writer.old before (drop from items.now)
-        → AreReached parts all writer.new before (drop end items.now)) }
+/// Appends the lines of the first of the items, which came.
+fn put_items(writer: &mut Writer, items: &[Item], count: usize) -> Result<(), Memory>
+    requires { count ≤ length items.now }
+    ensures { OnOk result ((parts all : List Part) (before : List Item) → AreReached parts all writer.old before items.now
+        → AreReached parts all writer.new before (drop count items.now)) }
 {
-    for at in from..end {
+    for at in 0..count {
         let (_passed, others) = items.split_at(at + 1);
         put_item(&mut writer.window, &items[at], others)?;
     }
     Ok(())
 }
 
-/// Appends the line of an item that stays, in the place of the one that it had.
-fn put_again(
-    writer: &mut Writer,
-    parts: &[Part],
-    item: &Item,
-    others: &[Item],
-) -> Result<(), Memory>
-    ensures { OnOk result ((all : List Part) (before : List Item) → AreReached parts.now all writer.old (item.now ∷ before) (item.now ∷ others.now)
-        → AreReached parts.now all writer.new before others.now) }
-{
-    put_item(&mut writer.window, item, others)?;
-    writer.part = place_past(parts, writer.part, place_after(0, item));
-    Ok(())
-}
-
-/// Passes over items that stay, from one place to another, up to the first whose line stays as well: its place, or the end.
-fn stay(
-    writer: &mut Writer,
-    parts: &[Part],
-    items: &[Item],
-    from: usize,
-    end: usize,
-) -> Result<usize, Memory>
-    requires { (from ≤ end) × (end ≤ length items.now) }
-    ensures within { IfOk result (λ at. (from ≤ at) × (at ≤ end)) }
-    ensures reached { IfOk result (λ at. (all : List Part) (before : List Item) → end - from ≤ length before → take (end - from) before ≡ take (end - from) (drop from items.now)
-        → AreReached parts.now all writer.old before (drop from items.now) → AreReached parts.now all writer.new (drop (at - from) before) (drop at items.now)) }
-    ensures same { IfOk result (λ at. at < end → HasNext writer.new.window.gap.items (drop at items.now) (drop writer.new.part parts.now)) }
+/// Passes over the first of the items, which stay, up to the first whose line stays as well: its place, or how many they are. The line of
+/// each is put in the place of the one that it had.
+fn stay(writer: &mut Writer, parts: &[Part], items: &[Item], count: usize) -> Result<usize, Memory>
+    requires { count ≤ length items.now }
+    ensures within { IfOk result (λ at. at ≤ count) }
+    ensures reached { IfOk result (λ at. Passes parts.now count at items.now writer.old writer.new) }
+    ensures same { IfOk result (λ at. at < count → HasNext writer.new.window.gap.items (drop at items.now) (drop writer.new.part parts.now)) }
 {
     let alloc = writer.made.alloc();
-    for at in from..end {
+    for at in 0..count {
         let (_passed, others) = items.split_at(at + 1);
         let item = &items[at];
         let (_before, left) = cut_parts(parts, writer.part);
         if has_line(alloc, left, &writer.window.gap, item)? {
             return Ok(at);
         }
-        put_again(writer, parts, item, others)?;
+        put_item(&mut writer.window, item, others)?;
+        writer.part = place_past(parts, writer.part, place_after(0, item));
     }
-    Ok(end)
+    Ok(count)
 }
 
 /// Ends the open window, if anything is changed in it. No: the texts are longer than a text may be.
@@ -240,52 +210,31 @@ fn close(writer: &mut Writer) -> Result<bool, Memory>
     Ok(true)
 }
 
-/// Passes over the lines of items that stay, from one place to another, where no window is open.
-fn skip(
-    writer: &mut Writer,
-    parts: &[Part],
-    items: &[Item],
-    from: usize,
-    end: usize,
-) -> Result<(), Memory>
-    requires { (from < end) × (end ≤ length items.now) }
-    ensures { OnOk result ((all : List Part) (before : List Item) → end - from ≤ length before → take (end - from) before ≡ take (end - from) (drop from items.now)
-        → writer.old.window.is_open ≡ false → HasNext writer.old.window.gap.items (drop from items.now) (drop writer.old.part parts.now)
-        → AreReached parts.now all writer.old before (drop from items.now) → AreReached parts.now all writer.new (drop (end - from) before) (drop end items.now)) }
-{
-    let alloc = writer.made.alloc();
-    let (_front, rest) = items.split_at(from);
-    let (lines, _following) = rest.split_at(end - from);
-    let part = place_past(parts, writer.part, count_lines(lines));
-    writer.window.gap = gap_above(alloc, items, end)?;
-    writer.base = part;
-    writer.part = part;
-    Ok(())
-}
-
-/// Passes over items that stay, from one place to another: their lines are put again up to the first that stays as well, which ends the
-/// open window. No: the texts are longer than a text may be.
+/// Passes over the first of the items, which stay: their lines are put again up to the first that stays as well, which ends the open
+/// window. No: the texts are longer than a text may be.
 fn advance(
     writer: &mut Writer,
     parts: &[Part],
     items: &[Item],
-    from: usize,
-    end: usize,
+    count: usize,
 ) -> Result<bool, Memory>
-    requires { (from ≤ end) × (end ≤ length items.now) }
-    ensures fits { IfOk result (λ fits. IsTrue fits → (all : List Part) (before : List Item) → end - from ≤ length before → take (end - from) before ≡ take (end - from) (drop from items.now)
-        → AreReached parts.now all writer.old before (drop from items.now) → AreReached parts.now all writer.new (drop (end - from) before) (drop end items.now)) }
-    ensures long { IfOk result (λ fits. fits ≡ false → (all : List Part) (before : List Item) → end - from ≤ length before → take (end - from) before ≡ take (end - from) (drop from items.now)
-        → AreReached parts.now all writer.old before (drop from items.now) → limit < length (flat_map spell_part all)) }
+    requires { count ≤ length items.now }
+    ensures fits { IfOk result (λ fits. IsTrue fits → Passes parts.now count count items.now writer.old writer.new) }
+    ensures long { IfOk result (λ fits. fits ≡ false → (all : List Part) (before : List Item) → count ≤ length before → take count before ≡ take count items.now
+        → AreReached parts.now all writer.old before items.now → limit < length (flat_map spell_part all)) }
 {
-    let at = stay(writer, parts, items, from, end)?;
-    if at == end {
+    let at = stay(writer, parts, items, count)?;
+    if at == count {
         return Ok(true);
     }
     if !close(writer)? {
         return Ok(false);
     }
-    skip(writer, parts, items, at, end)?;
+    let (_put, others) = items.split_at(at);
+    let (lines, _following) = others.split_at(count - at);
+    writer.part = place_past(parts, writer.part, count_lines(lines));
+    writer.base = writer.part;
+    pass_over(&mut writer.window.gap, others, count - at)?;
     Ok(true)
 }
 
@@ -303,16 +252,6 @@ fn put_end(writer: &mut Writer, parts: &[Part]) -> Result<(), Memory>
     Ok(())
 }
 
-/// Makes the last window, after all items. No: the texts are longer than a text may be.
-fn finish(writer: &mut Writer, parts: &[Part]) -> Result<bool, Memory>
-    ensures put { IfOk result (λ fits. IsTrue fits → (all : List Part) → AreReached parts.now all writer.old [] [] → IsPut parts.now all writer.new.made writer.new.bytes writer.new.done) }
-    ensures long { IfOk result (λ fits. fits ≡ false → (all : List Part) → AreReached parts.now all writer.old [] [] → limit < length (flat_map spell_part all)) }
-{
-    put_end(writer, parts)?;
-    let fits = close(writer)?;
-    Ok(fits)
-}
-
 /// Goes over all windows of items, which count the lines that gave way, and makes those of the text. No: the texts are longer than a
 /// text may be.
 pub fn go_over(
@@ -327,21 +266,21 @@ pub fn go_over(
     ensures long { IfOk result (λ fits. fits ≡ false → (all : List Part) (before : List Item) → AreLinesOver windows.now before items.now
         → AreReached parts.now all writer.old before items.now → limit < length (flat_map spell_part all)) }
 {
-    let mut at = 0;
+    let mut rest = items;
     for window in windows {
-        let from = at + window.from;
-        let end = from + window.come;
-        if !advance(writer, parts, items, at, from)? {
+        if !advance(writer, parts, rest, window.from)? {
             return Ok(false);
         }
         writer.window.is_open = true;
         writer.part = place_past(parts, writer.part, window.gone);
-        put_items(writer, items, from, end)?;
-        at = end;
+        let (_stay, others) = rest.split_at(window.from);
+        put_items(writer, others, window.come)?;
+        rest = past(rest, window);
     }
-    if !advance(writer, parts, items, at, items.len())? {
+    if !advance(writer, parts, rest, rest.len())? {
         return Ok(false);
     }
-    let fits = finish(writer, parts)?;
+    put_end(writer, parts)?;
+    let fits = close(writer)?;
     Ok(fits)
 }

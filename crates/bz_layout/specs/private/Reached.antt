@@ -88,6 +88,12 @@ pub record AreReached (parts all : List Part) (w : Writer) (before items : List 
   pub proper : AllByRecursion IsProperItem items
   pub lines : IsAt parts all w (lines_from above before) (lines_from w.window.gap.items items)
 
+-- the writer passes over this many of the items, which stay as they are among those of the tree, of which `count` do
+abbrev pub Passes : List Part → ℕ → ℕ → List Item → Writer → Writer → Type 0
+Passes parts count at items old new =
+    (all : List Part) (before : List Item) → count ≤ length before → take count before ≡ take count items → AreReached parts all old before items
+    → AreReached parts all new (drop at before) (drop at items)
+
 -- all windows are made: with the lines that they spell in their places the parts are what they are to be
 pub record IsPut (parts all : List Part) (made : List TextWindow) (bytes done : ℕ) : Type 0 where
   pub windows : AreMade parts made bytes done

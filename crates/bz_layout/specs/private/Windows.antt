@@ -6,10 +6,6 @@ use Rattle.bz_items.specs.Characters.{Bytes}
 use Rattle.bz_layout.specs.LaidOut.{left_gap, before_next}
 use Rattle.bz_value.specs.declared.windows.Window.{Window}
 
-abbrev pub is_statement_item : Item → Bool
-is_statement_item (i.Block texts) = false
-is_statement_item (i.Stmt x) = true
-
 -- how many lines items have: one for each statement
 abbrev pub line_count_in : List Item → ℕ
 line_count_in [] = 0
@@ -37,10 +33,10 @@ abbrev pub first_from : List Window → ℕ
 first_from [] = 0
 first_from (w ∷ ws) = w.from
 
--- how many items were taken out
-abbrev pub gone_count : List Window → ℕ
-gone_count [] = 0
-gone_count (w ∷ ws) = w.gone + gone_count ws
+-- how many lines there were, if each item that was taken out had one
+abbrev pub old_lines : List Window → List Item → ℕ
+old_lines [] items = line_count_in items
+old_lines (w ∷ ws) items = line_count_in (take w.from items) + w.gone + old_lines ws (drop (w.from + w.come) items)
 
 -- how many items are before the end of the last window
 abbrev pub come_end : List Window → ℕ

@@ -1,4 +1,5 @@
-use Rattle.std.proofs.Common.{◌<◌, arith}
+use Rattle.std.proofs.Common.{◌<◌, ◌-◌, refl, take, arith, ap, ◌∙◌}
+use Rattle.bz_layout.specs.private.Windows.{line_count_in}
 use Rattle.bz_layout.proofs.Staying.{advanced}
 use Rattle.bz_layout.proofs.writer.advance.Goals as goal
 
@@ -8,7 +9,8 @@ returns-then-not-branch-clause-long c = λ no_ all before many same r.
 
 pub returns-clause-fits : goal.returns-clause-fits
 returns-clause-fits c = λ yes_ all before many same r.
-    let until : c.in_ok-at.at < c.args.end = omega (arith, c.in_ok-at.ensures.within.1, c.if-at-end.false) in
-    advanced c.args.parts.now all c.stay.new.writer c.close.new.writer c.skip.new.writer before c.args.items.now c.args.from c.in_ok-at.at c.args.end c.in_ok-at.ensures.within.0 until many same
-    (λ left rest at. c.in_ok-close.ensures.closed c.if-not-branch.false c.args.parts.now all left rest at) c.in_ok-close.ensures.gap c.in_ok-close.ensures.part (c.in_ok-at.ensures.same until)
-    (λ xs a b has reached. c.in_ok-skip.ensures all xs a b (c.in_ok-close.ensures.shut c.if-not-branch.false) has reached) (c.in_ok-at.ensures.reached all before many same r)
+    let until : c.in_ok-at.at < c.args.count = omega (arith, c.in_ok-at.ensures.within, c.if-at-count.false) in
+    advanced c.stay.new.writer c.close.new.writer _ c.args.items.now c.split_at.result.1.now c.in_ok-at.at c.args.count c.count_lines.result _ until c.requires c.split_at.ensures.back
+    (λ left rest at. c.in_ok-close.ensures.closed c.if-not-branch.false c.args.parts.now all left rest at) (c.in_ok-close.ensures.shut c.if-not-branch.false) c.in_ok-close.ensures.gap c.in_ok-close.ensures.part
+    (c.in_ok-at.ensures.same until) refl refl c.in_ok-pass_over.ensures (c.count_lines.ensures ∙ ap line_count_in c.split_at-2.ensures.front) c.place_past-writer.ensures before many same
+    (c.in_ok-at.ensures.reached all before many same r)

@@ -1,4 +1,4 @@
-use Rattle.std.proofs.Common.{List, ◌≤◌, length, drop}
+use Rattle.std.proofs.Common.{List, drop}
 use Rattle.bz_grammar.specs.declared.tree.Part.{Part}
 use Rattle.bz_layout.specs.private.Reached.{AreReached}
 use Rattle.bz_layout.specs.private.Windows.{AreLinesOver}
@@ -9,6 +9,5 @@ use Rattle.bz_layout.proofs.writer.go_over.Given as goal
 
 abbrev pub invariant-loop-window : goal.invariant-loop-window
 invariant-loop-window l =
-    (l.at ≤ length l.items)
-    × AreWithin (drop l.window-index l.windows) (drop l.at l.items)
-    × ((all : List Part) (before : List Item) → AreLinesOver l.windows before l.items → AreReached l.parts all l.fn.writer before l.items → IsOver l.parts all (drop l.window-index l.windows) l.writer (drop l.at l.items))
+    AreWithin (drop l.window-index l.windows) l.rest
+    × ((all : List Part) (before : List Item) → AreLinesOver l.windows before l.items → AreReached l.parts all l.fn.writer before l.items → IsOver l.parts all (drop l.window-index l.windows) l.writer l.rest)

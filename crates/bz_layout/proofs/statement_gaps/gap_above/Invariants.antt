@@ -1,7 +1,0 @@
-use Rattle.std.proofs.Common.{◌≡◌, ◌-◌, [], drop}
-use Rattle.bz_layout.specs.private.Windows.{statement_gap}
-use Rattle.bz_layout.proofs.statement_gaps.gap_above.Given as goal
-
--- what is left of the items in front makes of the gap so far the one that all of them leave
-abbrev pub invariant-loop-at : goal.invariant-loop-at
-invariant-loop-at l = statement_gap l.gap.items (l.from - l.at) (drop l.at l.items) ≡ statement_gap [] l.from l.items
