@@ -17,83 +17,89 @@ use Rattle.bz_layout.specs.Drafts.{Drafted, pushed}
 use Rattle.bz_layout.specs.Layout.{gap_after, margin_after}
 use Rattle.bz_layout.specs.Written.{text_of}
 use Rattle.bz_layout.specs.Writings.{row_text}
-use Rattle.bz_layout.specs.private.Spines.{is_lone_token, row_written, tokens_after, past_front_of, past_front, after_all}
+use Rattle.bz_layout.specs.private.Spines.{is_lone_token, row_written, past_first, past_front}
 use Rattle.bz_layout.proofs.Pushing.{pushed_end, pushed_none, pushed_twice}
-use Rattle.bz_layout.proofs.Writing.{row_first, row_form}
+use Rattle.bz_layout.proofs.Writing.{row_first, row_form, three_pushed}
 
 token_text : (x : Expr) (m : ℕ) → is_lone_token x ≡ true → text_of x m ≡ v.text_of x
 token_text (Token t) m h = refl
 token_text (Form' kind s parts s' items end split open_break comments) m h = absurd cc
 
 pub row_tokens : (kind : Kind) (open_break : Bool) (m n : ℕ) (x : Expr) (xs : List Expr) → list_all is_lone_token xs ≡ true →
-    row_text kind open_break m n (x ∷ xs) ≡ text_of x n ++ tokens_after kind open_break m x xs
+    row_text kind open_break m n (x ∷ xs) ≡ text_of x n ++ past_first kind open_break m (x ∷ xs)
 row_tokens kind open_break m n x [] h = row_first kind open_break m n x []
 row_tokens kind open_break m n x (y ∷ ys) h =
     let w = and_parts (is_lone_token y) (list_all is_lone_token ys) h in
     row_first kind open_break m n x (y ∷ ys) ∙
     ap (λ t. text_of x n ++ (gap_after kind open_break m x (y ∷ ys) ++ t))
-    (row_tokens kind open_break m (margin_after open_break m x) y ys w.1 ∙ ap (λ t. t ++ tokens_after kind open_break m y ys) (token_text y (margin_after open_break m x) w.0))
+    (row_tokens kind open_break m (margin_after open_break m x) y ys w.1 ∙ ap (λ t. t ++ past_first kind open_break m (y ∷ ys)) (token_text y (margin_after open_break m x) w.0))
 
 all_left : (ys : List Expr) (i : ℕ) → length (drop i ys) ≤ length ys - i
 all_left ys i = omega (arith, length-drop i ys)
 
--- a row that begins with a form, as a list that is taken apart
-front_parts : (form front : Form) (xs : List Expr) (d : Expr) → xs ≡ form.parts → 1 ≤ length xs → get_or xs 0 d ≡ e.Form front → form.parts ≡ e.Form front ∷ drop 1 xs
-front_parts form front [] d same l is = absurd (omega (arith, l))
-front_parts form front (y ∷ ys) d same l is = sym same ∙ ap (λ x. x ∷ ys) is
+-- a row by its first part, as a list that is taken apart
+first_and_rest : (form : Form) (xs : List Expr) (d x : Expr) → xs ≡ form.parts → 1 ≤ length xs → get_or xs 0 d ≡ x → form.parts ≡ x ∷ drop 1 xs
+first_and_rest form [] d x same l is = absurd (omega (arith, l))
+first_and_rest form (y ∷ ys) d x same l is = sym same ∙ ap (λ z. z ∷ ys) is
 
 pub front_row : (form front : Form) (xs : List Expr) (d : Expr) → xs ≡ form.parts → 1 ≤ length xs → get_or xs 0 d ≡ e.Form front → front.kind ≡ k.Dot →
     true ≡ list_all is_lone_token (take (length xs - 1) (drop 1 xs)) → (m : ℕ) → row_written m form ≡ row_written m front ++ past_front m form
 front_row form front xs d same l is dot all m =
     let tokens : List Expr = drop 1 xs in
-    let parts : form.parts ≡ e.Form front ∷ tokens = front_parts form front xs d same l is in
+    let parts : form.parts ≡ e.Form front ∷ tokens = first_and_rest form xs d (e.Form front) same l is in
     ap (row_text form.kind form.open_break m m) parts ∙
     (row_tokens form.kind form.open_break m m (e.Form front) tokens (sym (all ∙ ap (list_all is_lone_token) (take_all (length xs - 1) tokens (all_left xs 1)))) ∙
-    (ap (λ t. t ++ tokens_after form.kind form.open_break m (e.Form front) tokens) (row_form front m (ap frame dot)) ∙
-    ap (λ ys. row_written m front ++ past_front_of form.kind form.open_break m ys) (sym parts)))
+    (ap (λ t. t ++ past_first form.kind form.open_break m (e.Form front ∷ tokens)) (row_form front m (ap frame dot)) ∙
+    ap (λ ys. row_written m front ++ past_first form.kind form.open_break m ys) (sym parts)))
 
 pub front_is_less : (form front : Form) (xs : List Expr) (d : Expr) → xs ≡ form.parts → 1 ≤ length xs → get_or xs 0 d ≡ e.Form front → fronts (e.Form front) < fronts (e.Form form)
 front_is_less form front xs d same l is =
-    let all : fronts (e.Form form) ≡ suc (fronts (e.Form front)) = fronts_Form form ∙ ap (λ ys. suc (fronts_among ys)) (front_parts form front xs d same l is) in
+    let all : fronts (e.Form form) ≡ suc (fronts (e.Form front)) = fronts_Form form ∙ ap (λ ys. suc (fronts_among ys)) (first_and_rest form xs d (e.Form front) same l is) in
     omega (arith, all)
 
 -- a row of tokens
-pub leaves_row : (form : Form) (x : Expr) (xs : List Expr) (m : ℕ) → form.parts ≡ x ∷ xs → list_all is_lone_token form.parts ≡ true → row_written m form ≡ v.text_of x ++ past_front m form
-leaves_row form x xs m parts all =
-    let w = and_parts (is_lone_token x) (list_all is_lone_token xs) (ap (list_all is_lone_token) (sym parts) ∙ all) in
+pub leaves_row : (form : Form) (xs : List Expr) (x : Expr) → xs ≡ form.parts → 1 ≤ length xs → x ≡ get_or xs 0 x → list_all is_lone_token xs ≡ true → (m : ℕ) → row_written m form ≡ v.text_of x ++ past_front m form
+leaves_row form xs x same l is all m =
+    let parts : form.parts ≡ x ∷ drop 1 xs = first_and_rest form xs x x same l (sym is) in
+    let w = and_parts (is_lone_token x) (list_all is_lone_token (drop 1 xs)) (ap (list_all is_lone_token) (sym parts ∙ sym same) ∙ all) in
     ap (row_text form.kind form.open_break m m) parts ∙
-    (row_tokens form.kind form.open_break m m x xs w.1 ∙
-    (ap (λ t. t ++ tokens_after form.kind form.open_break m x xs) (token_text x m w.0) ∙ ap (λ ys. v.text_of x ++ past_front_of form.kind form.open_break m ys) (sym parts)))
-
-pub none_after : (d : Drafted) (form : Form) (m : ℕ) → length form.parts < 1 → d ≡ pushed d (past_front m form)
-none_after d form m l = none d form.kind form.open_break m form.parts l
-  where
-    none : (d : Drafted) (kind : Kind) (open_break : Bool) (m : ℕ) (xs : List Expr) → length xs < 1 → d ≡ pushed d (past_front_of kind open_break m xs)
-    none d kind open_break m [] l = sym (pushed_none d)
-    none d kind open_break m (x ∷ xs) l = absurd (omega (arith, l))
+    (row_tokens form.kind form.open_break m m x (drop 1 xs) w.1 ∙
+    (ap (λ t. t ++ past_first form.kind form.open_break m (x ∷ drop 1 xs)) (token_text x m w.0) ∙ ap (λ ys. v.text_of x ++ past_first form.kind form.open_break m ys) (sym parts)))
 
 -- ---- the loops
 
-tokens_next : (kind : Kind) (open_break : Bool) (m : ℕ) (x : Expr) (ys : List Expr) (i : ℕ) (d : Expr) → i < length ys →
-    tokens_after kind open_break m x (drop i ys) ≡ gap_after kind open_break m x (drop i ys) ++ (v.text_of (get_or ys i d) ++ tokens_after kind open_break m (get_or ys i d) (drop (i + 1) ys))
-tokens_next kind open_break m x ys i d h =
-    ap (tokens_after kind open_break m x) (drop_more ys i d h) ∙
-    ap (λ zs. gap_after kind open_break m x zs ++ (v.text_of (get_or ys i d) ++ tokens_after kind open_break m (get_or ys i d) (drop (i + 1) ys))) (sym (drop_more ys i d h))
+-- what is left before the place of a token: the part before it, and all from there
+past_next : (kind : Kind) (open_break : Bool) (m : ℕ) (xs : List Expr) (i : ℕ) (x y : Expr) → 1 ≤ i → i < length xs →
+    past_first kind open_break m (drop (i - 1) xs) ≡ gap_after kind open_break m (get_or xs (i - 1) x) (drop i xs) ++ (v.text_of (get_or xs i y) ++ past_first kind open_break m (drop i xs))
+past_next kind open_break m xs i x y one l =
+    let from : drop i xs ≡ get_or xs i y ∷ drop (i + 1) xs = drop_more xs i y l in
+    let first : Expr = get_or xs (i - 1) x in
+    ap (past_first kind open_break m) (drop_more xs (i - 1) x (omega (arith, one, l)) ∙ ((let at : i - 1 + 1 ≡ i = omega (arith, one) in ap (λ n. first ∷ drop n xs) at) ∙ ap (λ ys. first ∷ ys) from)) ∙
+    ap (λ ys. gap_after kind open_break m first ys ++ (v.text_of (get_or xs i y) ++ past_first kind open_break m ys)) (sym from)
 
-pub tokens_turn : (d before_gap after_gap after_text : Drafted) (kind : Kind) (open_break : Bool) (m : ℕ) (x y : Expr) (text : Bytes) (ys left : List Expr) (i : ℕ) →
-    pushed before_gap (tokens_after kind open_break m x (drop i ys)) ≡ d → i < length ys → left ≡ take (length ys - i) (drop i ys) → y ≡ get_or ys i y → text ≡ v.text_of y →
-    after_gap ≡ pushed before_gap (gap_after kind open_break m x left) → after_text ≡ pushed after_gap text →
-    pushed after_text (tokens_after kind open_break m y (drop (i + 1) ys)) ≡ d
-tokens_turn d before_gap after_gap after_text kind open_break m x y text ys left i so_far l left_is is is_text gap pushed_text =
-    let rest : Bytes = tokens_after kind open_break m y (drop (i + 1) ys) in
-    ap (λ t. pushed t rest) (pushed_text ∙ (ap (pushed after_gap) is_text ∙ ap (λ t. pushed t (v.text_of y)) (gap ∙ ap (λ zs. pushed before_gap (gap_after kind open_break m x zs)) (left_is ∙ take_all (length ys - i) (drop i ys) (all_left ys i))))) ∙
-    (ap (λ t. pushed t rest) (pushed_twice before_gap (gap_after kind open_break m x (drop i ys)) (v.text_of y)) ∙
-    (pushed_twice before_gap (gap_after kind open_break m x (drop i ys) ++ v.text_of y) rest ∙
-    (ap (pushed before_gap) (append_assoc (gap_after kind open_break m x (drop i ys)) (v.text_of y) rest ∙
-    (ap (λ z. gap_after kind open_break m x (drop i ys) ++ (v.text_of z ++ tokens_after kind open_break m z (drop (i + 1) ys))) is ∙ sym (tokens_next kind open_break m x ys i y l))) ∙ so_far)))
+pub past_turn : (d before_gap after_gap after_text : Drafted) (kind : Kind) (open_break : Bool) (m : ℕ) (x y : Expr) (text : Bytes) (xs left : List Expr) (i : ℕ) →
+    pushed before_gap (past_first kind open_break m (drop (i - 1) xs)) ≡ d → 1 ≤ i → i < length xs → left ≡ take (length xs - i) (drop i xs) → x ≡ get_or xs (i - 1) x → y ≡ get_or xs i y → text ≡ v.text_of y →
+    after_gap ≡ pushed before_gap (gap_after kind open_break m x left) → after_text ≡ pushed after_gap text → pushed after_text (past_first kind open_break m (drop (i + 1 - 1) xs)) ≡ d
+past_turn d before_gap after_gap after_text kind open_break m x y text xs left i so_far one l left_is is_x is_y is_text gap pushed_text =
+    let rest : Bytes = past_first kind open_break m (drop i xs) in
+    let gap_is : gap_after kind open_break m x left ≡ gap_after kind open_break m (get_or xs (i - 1) x) (drop i xs) =
+    ap (λ z. gap_after kind open_break m z left) is_x ∙ ap (gap_after kind open_break m (get_or xs (i - 1) x)) (left_is ∙ take_all (length xs - i) (drop i xs) (all_left xs i)) in
+    (let same : i + 1 - 1 ≡ i = omega arith in ap (λ n. pushed after_text (past_first kind open_break m (drop n xs))) same) ∙
+    (three_pushed before_gap after_gap after_text _ _ rest (past_first kind open_break m (drop (i - 1) xs)) (gap ∙ ap (pushed before_gap) gap_is) (pushed_text ∙ ap (pushed after_gap) (is_text ∙ ap v.text_of is_y))
+    (past_next kind open_break m xs i x y one l) ∙ so_far)
 
-pub tokens_end : (d : Drafted) (kind : Kind) (open_break : Bool) (m : ℕ) (x : Expr) (ys : List Expr) (i : ℕ) → length ys ≤ i → pushed d (tokens_after kind open_break m x (drop i ys)) ≡ d
-tokens_end d kind open_break m x ys i l = pushed_end (tokens_after kind open_break m x) d ys i refl l
+one_left : (kind : Kind) (open_break : Bool) (m : ℕ) (xs : List Expr) → length xs ≤ 1 → past_first kind open_break m xs ≡ []
+one_left kind open_break m [] l = refl
+one_left kind open_break m (x ∷ []) l = refl
+one_left kind open_break m (x ∷ y ∷ xs) l = absurd (omega (arith, l))
+
+pub past_end : (d : Drafted) (kind : Kind) (open_break : Bool) (m : ℕ) (xs : List Expr) (i : ℕ) → length xs ≤ i → pushed d (past_first kind open_break m (drop (i - 1) xs)) ≡ d
+past_end d kind open_break m xs i l = ap (pushed d) (one_left kind open_break m (drop (i - 1) xs) (omega (arith, length-drop (i - 1) xs, l))) ∙ pushed_none d
+
+-- what follows the innermost of forms, the outermost first
+abbrev pub after_all : ℕ → List Form → Bytes
+after_all m [] = []
+after_all m (form ∷ forms) = after_all m forms ++ past_front m form
 
 after_pushed : (m : ℕ) (forms : List Form) (form : Form) → after_all m (forms ++ form ∷ []) ≡ past_front m form ++ after_all m forms
 after_pushed m [] form = sym (append-nil (past_front m form))

@@ -61,9 +61,11 @@ three_of (x ∷ y ∷ []) a b d l e f g = absurd cc
 three_of (x ∷ y ∷ z ∷ []) a b d l e f g = ap (λ w. w ∷ y ∷ z ∷ []) (sym e) ∙ (ap (λ w. a ∷ w ∷ z ∷ []) (sym f) ∙ ap (λ w. a ∷ b ∷ w ∷ []) (sym g))
 three_of (x ∷ y ∷ z ∷ w ∷ xs) a b d l e f g = absurd (omega (arith, l))
 
+pub two_pushed : (out one two : Drafted) (x y all : Bytes) → one ≡ pushed out x → two ≡ pushed one y → all ≡ x ++ y → two ≡ pushed out all
+two_pushed out one two x y all first second is = second ∙ (ap (λ d. pushed d y) first ∙ (pushed_twice out x y ∙ ap (pushed out) (sym is)))
+
 pub three_pushed : (out one two : Drafted) (x y z all : Bytes) → one ≡ pushed out x → two ≡ pushed one y → all ≡ x ++ (y ++ z) → pushed two z ≡ pushed out all
-three_pushed out one two x y z all first second is =
-    ap (λ d. pushed d z) (second ∙ ap (λ d. pushed d y) first) ∙ (pushed_twice (pushed out x) y z ∙ (pushed_twice out x (y ++ z) ∙ ap (pushed out) (sym is)))
+three_pushed out one two x y z all first second is = two_pushed out one (pushed two z) x (y ++ z) all first (ap (λ d. pushed d z) second ∙ pushed_twice one y z) is
 
 -- ---- sequences
 

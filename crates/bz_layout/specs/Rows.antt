@@ -12,39 +12,38 @@ use Rattle.bz_value.specs.Comments.{HostComments, no_comments}
 use Rattle.bz_items.specs.Characters.{Bytes}
 use Rattle.bz_layout.specs.Written.{layout}
 
--- ---- expressions without comments
+-- ---- expressions
 
-abbrev token : Class → Bytes → Expr
-token class text = e.Token (record { class = class; text = text; line_break = false; comments = no_comments })
+-- whether a line ends after it, its comments
+abbrev leaf : Bool → HostComments → Class → Bytes → Expr
+leaf line_break comments class text = e.Token (record { class = class; text = text; line_break = line_break; comments = comments })
 
 abbrev name : Bytes → Expr
-name text = token c.Name text
+name text = leaf false no_comments c.Name text
 
 abbrev string : Bytes → Expr
-string text = token c.String text
+string text = leaf false no_comments c.String text
 
 abbrev number : Bytes → Expr
-number text = token c.Number text
+number text = leaf false no_comments c.Number text
 
 abbrev mark : Bytes → Expr
-mark text = token c.Mark text
+mark text = leaf false no_comments c.Mark text
 
 abbrev keyword : Bytes → Expr
-keyword text = token c.Keyword text
+keyword text = leaf false no_comments c.Keyword text
 
--- a token of an operator at the end of its line
-abbrev breaking : Class → Bytes → Expr
-breaking class text = e.Token (record { class = class; text = text; line_break = true; comments = no_comments })
-
-abbrev row_with : HostComments → Kind → Bool → List Expr → Expr
-row_with comments kind open_break parts = e.Form (record { kind = kind; parts = parts; seq = record { items = []; end = []; split = false }; open_break = open_break; comments = comments })
+-- its comments, whether it is split and open, its parts, items and end comments
+abbrev form : HostComments → Kind → Bool → Bool → List Expr → List Expr → List Bytes → Expr
+form comments kind split open_break parts items end =
+    e.Form (record { kind = kind; parts = parts; seq = record { items = items; end = end; split = split }; open_break = open_break; comments = comments })
 
 abbrev row : Kind → List Expr → Expr
-row kind parts = row_with no_comments kind false parts
+row kind parts = form no_comments kind false false parts [] []
 
 -- a sequence: kind, whether it is split, what is before its bracket, items
 abbrev sequence : Kind → Bool → List Expr → List Expr → Expr
-sequence kind split parts items = e.Form (record { kind = kind; parts = parts; seq = record { items = items; end = []; split = split }; open_break = false; comments = no_comments })
+sequence kind split parts items = form no_comments kind split false parts items []
 
 abbrev list : List Expr → Expr
 list items = sequence k.List false [] items
@@ -52,72 +51,56 @@ list items = sequence k.List false [] items
 abbrev call : Bytes → List Expr → Expr
 call function arguments = sequence k.Call false (name function ∷ []) arguments
 
--- NAME = VALUE
+abbrev above : List Bytes → HostComments
+above before = record { before = before; suffix = None }
+
+abbrev after : Bytes → HostComments
+after suffix = record { before = []; suffix = Some suffix }
+
+-- LEFT = VALUE
+abbrev equated : Expr → Expr → List Expr
+equated left value = left ∷ mark (codes "=") ∷ value ∷ []
+
 abbrev argument : Bytes → Expr → Expr
-argument left value = row k.Named (name left ∷ mark (codes "=") ∷ value ∷ [])
+argument left value = row k.Named (equated (name left) value)
 
 -- KEY: VALUE
-abbrev entry : Expr → Expr → Expr
-entry key value = row k.Entry (key ∷ mark (codes ":") ∷ value ∷ [])
+abbrev entry : Bytes → Expr → Expr
+entry key value = row k.Entry (string key ∷ mark (codes ":") ∷ value ∷ [])
 
 abbrev paren : Expr → Expr
 paren x = row k.Paren (mark (codes "(") ∷ x ∷ mark (codes ")") ∷ [])
 
--- ---- statements
-
--- a call under comments
-abbrev statement : List Bytes → Bytes → List Expr → Item
-statement before function arguments = i.Stmt (row_with (record { before = before; suffix = None }) k.Bare false (call function arguments ∷ []))
-
--- LEFT = VALUE
-abbrev assign : Expr → Expr → Item
-assign left value = i.Stmt (row k.Assign (left ∷ mark (codes "=") ∷ value ∷ []))
-
-abbrev load : List Bytes → Bytes → List Expr → Item
-load before file names = i.Stmt (e.Form (record {
-  kind = k.Load;
-  parts = keyword (codes "load") ∷ [];
-  seq = record { items = string file ∷ names; end = []; split = false };
-  open_break = false;
-  comments = record { before = before; suffix = None };
-}))
-
--- ---- values with comments
-
--- cc_library(name = "a", deps = [":b"]) with a comment above its name, one above ":b" and one below it
-abbrev commented : Item
-commented = statement [] (codes "cc_library") (row_with (record { before = codes "# n" ∷ []; suffix = None }) k.Named false (name (codes "name") ∷ mark (codes "=") ∷ string (codes "\"a\"") ∷ []) ∷ argument (codes "deps") (e.Form (record {
-  kind = k.List;
-  parts = [];
-  seq = record {
-    items = e.Token (record { class = c.String; text = codes "\":b\""; line_break = false; comments = record { before = codes "# why" ∷ []; suffix = None } }) ∷ [];
-    end = codes "# end" ∷ [];
-    split = false;
-  };
-  open_break = false;
-  comments = no_comments;
-})) ∷ [])
-
--- ["b"] with a suffix after its item
-abbrev suffixed : Expr
-suffixed = list (e.Token (record { class = c.String; text = codes "\"b\""; line_break = false; comments = record { before = []; suffix = Some (codes "# x") } }) ∷ [])
-
-abbrev suffixed_statement : Item
-suffixed_statement = i.Stmt (row_with (record { before = []; suffix = Some (codes "# c") }) k.Assign false (name (codes "b") ∷ mark (codes "=") ∷ number (codes "2") ∷ []))
-
--- for x in y
-abbrev clause : Expr
-clause = row k.For (keyword (codes "for") ∷ name (codes "x") ∷ keyword (codes "in") ∷ name (codes "y") ∷ [])
-
 -- [x for x in y], open or not
 abbrev comprehension : Bool → Expr
-comprehension open_break = row_with no_comments k.ListComp open_break (mark (codes "[") ∷ name (codes "x") ∷ clause ∷ mark (codes "]") ∷ [])
+comprehension open_break =
+    form no_comments k.ListComp false open_break
+    (mark (codes "[") ∷ name (codes "x") ∷ row k.For (keyword (codes "for") ∷ name (codes "x") ∷ keyword (codes "in") ∷ name (codes "y") ∷ []) ∷ mark (codes "]") ∷ []) [] []
 
 abbrev a : Expr
 a = name (codes "a")
 
 abbrev b : Expr
 b = name (codes "b")
+
+-- ---- statements
+
+-- a call under comments
+abbrev statement : List Bytes → Bytes → List Expr → Item
+statement before function arguments = i.Stmt (form (above before) k.Bare false false (call function arguments ∷ []) [] [])
+
+abbrev assign : Expr → Expr → Item
+assign left value = i.Stmt (row k.Assign (equated left value))
+
+abbrev load : List Bytes → Bytes → List Expr → Item
+load before file names = i.Stmt (form (above before) k.Load false false (keyword (codes "load") ∷ []) (string file ∷ names) [])
+
+-- cc_library(name = "a", deps = [":b"]) with a comment above its name, one above ":b" and one below it
+abbrev commented : Item
+commented =
+    statement [] (codes "cc_library")
+    (form (above (codes "# n" ∷ [])) k.Named false false (equated (name (codes "name")) (string (codes "\"a\""))) [] []
+    ∷ argument (codes "deps") (form no_comments k.List false false [] (leaf false (above (codes "# why" ∷ [])) c.String (codes "\":b\"") ∷ []) (codes "# end" ∷ [])) ∷ [])
 
 -- ---- rows
 
@@ -136,7 +119,7 @@ Calls =
     -- a list of one that is split is broken, an empty one never
     × (layout (statement [] (codes "f") (argument (codes "b") (sequence k.List true [] (string (codes "\"y\"") ∷ [])) ∷ argument (codes "c") (sequence k.List true [] []) ∷ []) ∷ []) ≡ codes "f(\n    b = [\n        \"y\",\n    ],\n    c = [],\n)\n")
     -- a sum of a list and a call in a call
-    × (layout (statement [] (codes "x") (argument (codes "srcs") (call (codes "glob") (list (string (codes "\"b\"") ∷ string (codes "\"a\"") ∷ []) ∷ [])) ∷ argument (codes "deps") (row k.Sum (list (string (codes "\"c\"") ∷ []) ∷ mark (codes "+") ∷ call (codes "select") (sequence k.Dict false [] (entry (string (codes "\"k\"")) (list (string (codes "\"d\"") ∷ [])) ∷ []) ∷ []) ∷ [])) ∷ []) ∷ []) ≡ codes "x(\n    srcs = glob([\n        \"b\",\n        \"a\",\n    ]),\n    deps = [\"c\"] + select({\"k\": [\"d\"]}),\n)\n")
+    × (layout (statement [] (codes "x") (argument (codes "srcs") (call (codes "glob") (list (string (codes "\"b\"") ∷ string (codes "\"a\"") ∷ []) ∷ [])) ∷ argument (codes "deps") (row k.Sum (list (string (codes "\"c\"") ∷ []) ∷ mark (codes "+") ∷ call (codes "select") (sequence k.Dict false [] (entry (codes "\"k\"") (list (string (codes "\"d\"") ∷ [])) ∷ []) ∷ []) ∷ [])) ∷ []) ∷ []) ≡ codes "x(\n    srcs = glob([\n        \"b\",\n        \"a\",\n    ]),\n    deps = [\"c\"] + select({\"k\": [\"d\"]}),\n)\n")
 
 -- comments and blank lines
 abbrev Comments : Type 0
@@ -146,7 +129,7 @@ Comments =
     -- comments above items, and below the last one
     × (layout (commented ∷ []) ≡ codes "cc_library(\n    # n\n    name = \"a\",\n    deps = [\n        # why\n        \":b\",\n        # end\n    ],\n)\n")
     -- a suffix is after the comma of its item, and after its statement
-    × (layout (assign a suffixed ∷ suffixed_statement ∷ []) ≡ codes "a = [\n    \"b\",  # x\n]\nb = 2  # c\n")
+    × (layout (assign a (list (leaf false (after (codes "# x")) c.String (codes "\"b\"") ∷ [])) ∷ i.Stmt (form (after (codes "# c")) k.Assign false false (equated b (number (codes "2"))) [] []) ∷ []) ≡ codes "a = [\n    \"b\",  # x\n]\nb = 2  # c\n")
     -- no blank line between two loads, but one before a comment
     × (layout (load [] (codes "\"B\"") (string (codes "\"b\"") ∷ []) ∷ load [] (codes "\"A\"") (argument (codes "c") (string (codes "\"d\"")) ∷ []) ∷ load (codes "# k" ∷ []) (codes "\"C\"") (string (codes "\"c\"") ∷ []) ∷ []) ≡ codes "load(\"B\", \"b\")\nload(\"A\", c = \"d\")\n\n# k\nload(\"C\", \"c\")\n")
 
@@ -173,16 +156,16 @@ Breaks =
     × (layout (assign a (sequence k.Tuple false [] []) ∷ []) ≡ codes "a = ()\n")
     × (layout (assign a (sequence k.Tuple false [] (a ∷ b ∷ [])) ∷ []) ≡ codes "a = (a, b)\n")
     -- a dict of one entry, and of two
-    × (layout (assign a (sequence k.Dict false [] (entry (string (codes "\"k\"")) b ∷ [])) ∷ []) ≡ codes "a = {\"k\": b}\n")
-    × (layout (assign a (sequence k.Dict false [] (entry (string (codes "\"k\"")) b ∷ entry (string (codes "\"l\"")) a ∷ [])) ∷ []) ≡ codes "a = {\n    \"k\": b,\n    \"l\": a,\n}\n")
+    × (layout (assign a (sequence k.Dict false [] (entry (codes "\"k\"") b ∷ [])) ∷ []) ≡ codes "a = {\"k\": b}\n")
+    × (layout (assign a (sequence k.Dict false [] (entry (codes "\"k\"") b ∷ entry (codes "\"l\"") a ∷ [])) ∷ []) ≡ codes "a = {\n    \"k\": b,\n    \"l\": a,\n}\n")
     -- a comprehension on one line, and open: each part on a line of its own
     × (layout (assign a (comprehension false) ∷ []) ≡ codes "a = [x for x in y]\n")
     × (layout (assign a (comprehension true) ∷ []) ≡ codes "a = [\n    x\n    for x in y\n]\n")
     -- the operand after a break operator begins a new line 4 further; of `not in` the break is after `in`
-    × (layout (assign a (paren (row k.Sum (a ∷ breaking c.Mark (codes "+") ∷ b ∷ mark (codes "+") ∷ a ∷ []))) ∷ []) ≡ codes "a = (a +\n    b + a)\n")
-    × (layout (assign a (paren (row k.Compare (a ∷ keyword (codes "not") ∷ breaking c.Keyword (codes "in") ∷ b ∷ []))) ∷ []) ≡ codes "a = (a not in\n    b)\n")
+    × (layout (assign a (paren (row k.Sum (a ∷ leaf true no_comments c.Mark (codes "+") ∷ b ∷ mark (codes "+") ∷ a ∷ []))) ∷ []) ≡ codes "a = (a +\n    b + a)\n")
+    × (layout (assign a (paren (row k.Compare (a ∷ keyword (codes "not") ∷ leaf true no_comments c.Keyword (codes "in") ∷ b ∷ []))) ∷ []) ≡ codes "a = (a not in\n    b)\n")
     -- what begins a new line after a break has its margin
-    × (layout (assign a (paren (row k.Sum (a ∷ breaking c.Mark (codes "+") ∷ list (a ∷ b ∷ []) ∷ []))) ∷ []) ≡ codes "a = (a +\n    [\n        a,\n        b,\n    ])\n")
+    × (layout (assign a (paren (row k.Sum (a ∷ leaf true no_comments c.Mark (codes "+") ∷ list (a ∷ b ∷ []) ∷ []))) ∷ []) ≡ codes "a = (a +\n    [\n        a,\n        b,\n    ])\n")
 
 abbrev pub WorkedRows : Type 0
 WorkedRows = Calls × Comments × Tokens × Breaks

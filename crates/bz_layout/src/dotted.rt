@@ -6,7 +6,7 @@ ghost use Rattle.bz_grammar.specs.declared.kind.Kind.TheVariants as kinds;
 ghost use Rattle.bz_value.specs.declared.value.Expr.TheVariants as e;
 ghost use Rattle.bz_rule.specs.private.Named.{fronts};
 ghost use Rattle.bz_layout.specs.Drafts.{pushed};
-ghost use Rattle.bz_layout.specs.private.Spines.{past_front, is_lone_token, row_written, tokens_after};
+ghost use Rattle.bz_layout.specs.private.Spines.{past_front, is_lone_token, row_written};
 
 use crate::draft::Draft;
 use crate::row_gaps::push_row_gap;
@@ -51,35 +51,17 @@ fn front_of(form: &Form) -> Option<&Form>
     Some(front)
 }
 
-/// Appends tokens that follow a part of a row, each after its gap.
-#[tactic(auto, using(crate::proofs::JoinedNames::tokens_end))]
-fn push_tokens(
-    out: &mut Draft,
-    form: &Form,
-    margin: usize,
-    first: &Expr,
-    tokens: &[Expr],
-) -> Result<(), Memory>
-    ensures { OnOk result (out.new ≡ pushed out.old (tokens_after form.now.kind form.now.open_break margin first.now tokens.now)) }
-{
-    let mut before = first;
-    for (i, token) in tokens.iter().enumerate() {
-        push_row_gap(out, form, margin, before, &tokens[i..])?;
-        out.push_bytes(text_of(token))?;
-        before = token;
-    }
-    Ok(())
-}
-
-/// Appends what follows the first part of a row, where that is tokens.
-#[tactic(auto, using(crate::proofs::JoinedNames::none_after))]
+/// Appends what follows the first part of a row, where that is tokens, each after its gap.
+#[tactic(auto, using(crate::proofs::JoinedNames::past_end))]
 fn push_past_front(out: &mut Draft, form: &Form, margin: usize) -> Result<(), Memory>
     ensures { OnOk result (out.new ≡ pushed out.old (past_front margin form.now)) }
 {
-    match form.parts.as_slice() {
-        [first, tokens @ ..] => push_tokens(out, form, margin, first, tokens),
-        [] => Ok(()),
+    let row = form.parts.as_slice();
+    for at in 1..row.len() {
+        push_row_gap(out, form, margin, &row[at - 1], &row[at..])?;
+        out.push_bytes(text_of(&row[at]))?;
     }
+    Ok(())
 }
 
 /// Appends a row of tokens, and says whether it is one; else nothing is appended.

@@ -15,20 +15,10 @@ is_lone_token (Form' kind s parts s' items end split open_break comments) = fals
 abbrev pub row_written : ℕ → Form → Bytes
 row_written m form = row_text form.kind form.open_break m m form.parts
 
--- tokens after a part of a row: kind, flag, margin of the row
-abbrev pub tokens_after : Kind → Bool → ℕ → Expr → List Expr → Bytes
-tokens_after kind open_break m x [] = []
-tokens_after kind open_break m x (y ∷ ys) = gap_after kind open_break m x (y ∷ ys) ++ (text_of y ++ tokens_after kind open_break m y ys)
-
--- what follows the first part of a row
-abbrev pub past_front_of : Kind → Bool → ℕ → List Expr → Bytes
-past_front_of kind open_break m [] = []
-past_front_of kind open_break m (x ∷ xs) = tokens_after kind open_break m x xs
+-- what follows the first part of a row, where that is tokens: kind, flag, margin of the row
+abbrev pub past_first : Kind → Bool → ℕ → List Expr → Bytes
+past_first kind open_break m (x ∷ y ∷ ys) = gap_after kind open_break m x (y ∷ ys) ++ (text_of y ++ past_first kind open_break m (y ∷ ys))
+past_first kind open_break m _ = []
 
 abbrev pub past_front : ℕ → Form → Bytes
-past_front m form = past_front_of form.kind form.open_break m form.parts
-
--- what follows the innermost of forms, the outermost first
-abbrev pub after_all : ℕ → List Form → Bytes
-after_all m [] = []
-after_all m (form ∷ forms) = after_all m forms ++ past_front m form
+past_front m form = past_first form.kind form.open_break m form.parts

@@ -2,7 +2,8 @@ use Rattle.std.proofs.Common.{◌≡◌, ◌++◌, length, map}
 use Rattle.bz_value.specs.declared.value.Expr.TheVariants as e
 use Rattle.bz_rule.specs.private.Named.{fronts}
 use Rattle.bz_layout.specs.Drafts.{pushed}
-use Rattle.bz_layout.specs.private.Spines.{row_written, after_all}
+use Rattle.bz_layout.specs.private.Spines.{row_written}
+use Rattle.bz_layout.proofs.JoinedNames.{after_all}
 use Rattle.bz_layout.proofs.dotted.push_dotted.Given as goal
 
 -- the row of all forms is that of the one that is reached and what follows it in those that it is in
