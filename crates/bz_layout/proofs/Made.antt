@@ -12,7 +12,7 @@ use Rattle.bz_value.specs.Proper.{roots}
 use Rattle.bz_value.specs.Roots.{root}
 use Rattle.bz_layout.specs.Layout.{laid, firsts}
 use Rattle.bz_layout.specs.Written.{text_of, texts_of, piece_text}
-use Rattle.bz_layout.specs.LaidOut.{part_of, parts_of, parts_in, layouts, piece_part}
+use Rattle.bz_layout.specs.LaidOut.{part_of, parts_of, layouts, piece_part}
 use Rattle.bz_layout.specs.Writings.{writings}
 
 abbrev parts_after : Expr → (m : Count) × Row_of-Expr m
@@ -67,7 +67,8 @@ parts_values m r = ap firsts (laid_out_row m r) ∙ values_of part_of (items-the
 
 -- ---- forms
 
-pub part_Form : (f : Form) (gap : Bytes) (m : ℕ) → part_of (e.Form f) gap m ≡ p.Node (record { kind = f.kind; parts = parts_in f gap m })
+pub part_Form : (f : Form) (gap : Bytes) (m : ℕ) → part_of (e.Form f) gap m ≡
+    p.Node (record { kind = f.kind; parts = map piece_part (laid f.kind f.seq.split f.open_break gap m (layouts f.parts) (layouts f.seq.items) f.seq.end) })
 part_Form f gap m =
     two
     (λ h i. p.Node (record { kind = f.kind; parts = map piece_part (laid f.kind f.seq.split f.open_break gap m h i f.seq.end) }))

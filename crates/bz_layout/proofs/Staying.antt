@@ -26,8 +26,8 @@ use Rattle.bz_layout.specs.Written.{comment_lines}
 use Rattle.bz_layout.specs.declared.writer.OpenWindow.{OpenWindow}
 use Rattle.bz_layout.specs.declared.writer.TextWindow.{TextWindow}
 use Rattle.bz_layout.specs.declared.writer.Writer.{Writer}
-use Rattle.bz_layout.specs.private.Reached.{Reached, AreReached, IsAt, HasGap, HasLine, HasNext, Passes, own_text}
-use Rattle.bz_layout.specs.private.Windows.{line_count_in, place_after, statement_gap, AreLinesOver}
+use Rattle.bz_layout.specs.private.Reached.{Reached, AreReached, IsAt, HasGap, HasNext, Passes, own_text}
+use Rattle.bz_layout.specs.private.Windows.{line_count_in, statement_gap, AreLinesOver}
 use Rattle.bz_value.specs.declared.windows.Window.{Window}
 use Rattle.bz_layout.proofs.LegalParts.{Begin, begin_with, laid_out_good}
 use Rattle.bz_layout.proofs.Pushing.{pushed_none}
@@ -35,10 +35,6 @@ use Rattle.bz_layout.proofs.Reaching.{put_line, take_lines, skip_lines, opened, 
 use Rattle.bz_layout.proofs.Readable.{readable}
 use Rattle.bz_layout.proofs.Spelled.{spell_line}
 use Rattle.bz_layout.proofs.Windows.{front_lines, lines_cut, front_same, length_front}
-
-one_count : (y : Item) → line_count_in (y ∷ []) ≡ place_after 0 y
-one_count (i.Block texts) = refl
-one_count (i.Stmt x) = refl
 
 -- what is left of both begins with the same item
 same_first : (n k : ℕ) (xs ys : List Item) (y : Item) → k < n → n ≤ length xs → take n xs ≡ take n ys → y ≡ get_or ys k y → drop k xs ≡ y ∷ drop (k + 1) xs
@@ -99,12 +95,12 @@ module _ {parts all : List Part} where
   -- a turn of the loop over them: the line of an item gives way, and is put again
   pub stay_turn : (w : Writer) (v : OpenWindow) (xs items others : List Item) (count at lines part : ℕ) (y : Item) → at < count → count ≤ length items → y ≡ get_or items at y → others ≡ drop (at + 1) items →
       v.text ≡ pushed w.window.text (own_text w.window.gap.items y) → v.gap.items ≡ left_gap w.window.gap.items y ++ before_next y others → v.is_open ≡ true →
-      lines ≡ place_after 0 y → (w.part + lines ≤ length parts → part ≡ w.part + lines) → count ≤ length xs → take count xs ≡ take count items →
+      lines ≡ line_count_in (y ∷ []) → (w.part + lines ≤ length parts → part ≡ w.part + lines) → count ≤ length xs → take count xs ≡ take count items →
       AreReached parts all w (drop at xs) (drop at items) → AreReached parts all (record w { window = v; part = part }) (drop (at + 1) xs) (drop (at + 1) items)
   stay_turn w v xs items others count at lines part y h l is rest text gap shown own past many same r =
       let old : drop at xs ≡ y ∷ drop (at + 1) xs = same_first count at xs items y h many same is in
       came_turn (record w { window = record (w.window) { is_open = true }; part = part }) v (drop (at + 1) xs) items others at y (omega (arith, h, l)) is rest text gap shown
-      (took w (y ∷ drop (at + 1) xs) (drop at items) 1 lines part (omega arith) (one_count y ∙ sym own) past (subst (λ zs. AreReached parts all w zs (drop at items)) old r))
+      (took w (y ∷ drop (at + 1) xs) (drop at items) 1 lines part (omega arith) (sym own) past (subst (λ zs. AreReached parts all w zs (drop at items)) old r))
 
 -- ---- a line that stays, and those after it
 
@@ -121,7 +117,7 @@ line_begins gap x rest h =
     begin_with above (line_part gap x ∷ rest) (subst (Begin above) (sym (leaves_Node node)) (begin_with above node.parts ((laid_out_good Begins x (line_expr Begins x h.1)).stands.starts above 0)))
 
 -- a statement with the gap that its line has in the tree has this line
-same_line : (gap above : Bytes) (x : Expr) (xs : List Item) → IsProperItem (i.Stmt x) → HasLine gap (i.Stmt x) (lines_from above (i.Stmt x ∷ xs)) → line_part gap x ≡ line_part above x
+same_line : (gap above : Bytes) (x : Expr) (xs : List Item) → IsProperItem (i.Stmt x) → HasNext gap (i.Stmt x ∷ []) (lines_from above (i.Stmt x ∷ xs)) → line_part gap x ≡ line_part above x
 same_line gap above x xs h has =
     let same : gap ++ comment_lines (comments_of x).before ≡ above ++ comment_lines (comments_of x).before = has_gap_at _ _ _ (line_begins above x (lines_from (before_next (i.Stmt x) xs) xs) h) has in
     ap (λ t. p.Node (record {
@@ -137,14 +133,14 @@ proper_drop (suc n) (x ∷ xs) h = proper_drop n xs h.1
 module _ {parts all : List Part} where
   lines_skipped : (w : Writer) (v : OpenWindow) (xs ys : List Item) (x : Expr) (n part : ℕ) → w.window.is_open ≡ false → v.text ≡ w.window.text → v.is_open ≡ w.window.is_open →
       n < length (i.Stmt x ∷ xs) → n < length (i.Stmt x ∷ ys) → take (suc n) (i.Stmt x ∷ xs) ≡ take (suc n) (i.Stmt x ∷ ys) →
-      HasLine w.window.gap.items (i.Stmt x) (drop w.part parts) → v.gap.items ≡ statement_gap w.window.gap.items (suc n) (i.Stmt x ∷ ys) →
+      HasNext w.window.gap.items (i.Stmt x ∷ []) (drop w.part parts) → v.gap.items ≡ statement_gap w.window.gap.items (suc n) (i.Stmt x ∷ ys) →
       (w.part + line_count_in (take (suc n) (i.Stmt x ∷ ys)) ≤ length parts → part ≡ w.part + line_count_in (take (suc n) (i.Stmt x ∷ ys))) → AreReached parts all w (i.Stmt x ∷ xs) (i.Stmt x ∷ ys) →
       AreReached parts all (record w { window = v; base = part; part = part }) (drop n xs) (drop n ys)
   lines_skipped w v xs ys x n part shut text still g h same has gap past r =
       let here : Bytes = w.window.gap.items in
       let old : Bytes = statement_gap r.above (suc n) (i.Stmt x ∷ xs) in
       let kept : List Part = front_lines here (suc n) (i.Stmt x ∷ ys) in
-      let line : line_part here x ≡ line_part r.above x = same_line here r.above x xs r.proper.0 (subst (λ (ps : List Part). HasLine here (i.Stmt x) ps) r.lines.left_is has) in
+      let line : line_part here x ≡ line_part r.above x = same_line here r.above x xs r.proper.0 (subst (λ (ps : List Part). HasNext here (i.Stmt x ∷ []) ps) r.lines.left_is has) in
       let first : front_lines r.above (suc n) (i.Stmt x ∷ xs) ≡ kept =
       front_same r.above (suc n) (i.Stmt x ∷ xs) (i.Stmt x ∷ ys) (omega (arith, g)) (omega (arith, h)) same ∙ ap (λ z. z ∷ front_lines (before_next (i.Stmt x) ys) n ys) (sym line) in
       let left : lines_from r.above (i.Stmt x ∷ xs) ≡ kept ++ lines_from old (drop n xs) = lines_cut r.above (suc n) (i.Stmt x ∷ xs) (omega (arith, g)) ∙ ap (λ ps. ps ++ lines_from old (drop n xs)) first in

@@ -6,8 +6,8 @@ use Rattle.bz_value.specs.declared.value.Item.{Item}
 use Rattle.bz_value.specs.declared.value.Item.TheVariants as i
 use Rattle.bz_items.specs.Characters.{Bytes}
 use Rattle.bz_layout.specs.Written.{gap_between, comment_lines}
-use Rattle.bz_layout.specs.LaidOut.{own_lines, left_gap, before_next, lines_from}
-use Rattle.bz_layout.specs.private.Windows.{line_count_in, statement_gap, place_after}
+use Rattle.bz_layout.specs.LaidOut.{line_part, left_gap, before_next, lines_from}
+use Rattle.bz_layout.specs.private.Windows.{line_count_in, statement_gap}
 
 -- ---- a window of a list
 
@@ -21,6 +21,11 @@ module _ {X : Type 0} (size : List X → ℕ) (joined : ℕ → ℕ → ℕ) (ap
       (ap size (sym (take-append-drop n (drop from xs))) ∙ (append (take n (drop from xs)) (drop n (drop from xs)) ∙ ap (λ ys. joined (size (take n (drop from xs))) (size ys)) (drop-drop n from xs))))
 
 -- ---- the lines in front of a place
+
+-- an item's own line
+abbrev own_lines : Bytes → Item → List Part
+own_lines gap (i.Block texts) = []
+own_lines gap (i.Stmt x) = line_part gap x ∷ []
 
 abbrev pub front_lines : Bytes → ℕ → List Item → List Part
 front_lines gap zero items = []
@@ -64,12 +69,16 @@ length_lines gap [] = refl
 length_lines gap (i.Block texts ∷ xs) = length_lines ((gap ++ comment_lines texts) ++ before_next (i.Block texts) xs) xs
 length_lines gap (i.Stmt x ∷ xs) = ap suc (length_lines (before_next (i.Stmt x) xs) xs)
 
-counted_first : (count : ℕ) (x : Item) (xs : List Item) → count + line_count_in (x ∷ xs) ≡ place_after count x + line_count_in xs
-counted_first count (i.Block texts) xs = refl
-counted_first count (i.Stmt x) xs = omega arith
+counted_first : (x : Item) (xs : List Item) → line_count_in (x ∷ xs) ≡ line_count_in (x ∷ []) + line_count_in xs
+counted_first (i.Block texts) xs = omega arith
+counted_first (i.Stmt x) xs = omega arith
 
-pub counted_next : (count : ℕ) (xs : List Item) (k : ℕ) (d : Item) → k < length xs → count + line_count_in (drop k xs) ≡ place_after count (get_or xs k d) + line_count_in (drop (k + 1) xs)
-counted_next count xs k d h = ap (λ ys. count + line_count_in ys) (drop_more xs k d h) ∙ counted_first count (get_or xs k d) (drop (k + 1) xs)
+pub at_most_one : (x : Item) → line_count_in (x ∷ []) ≤ 1
+at_most_one (i.Block texts) = omega arith
+at_most_one (i.Stmt x) = omega arith
+
+pub counted_next : (xs : List Item) (k : ℕ) (d : Item) → k < length xs → line_count_in (drop k xs) ≡ line_count_in (get_or xs k d ∷ []) + line_count_in (drop (k + 1) xs)
+counted_next xs k d h = ap line_count_in (drop_more xs k d h) ∙ counted_first (get_or xs k d) (drop (k + 1) xs)
 
 -- ---- the gap before a place
 

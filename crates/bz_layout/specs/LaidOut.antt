@@ -32,10 +32,6 @@ abbrev mutual
 abbrev pub layouts : List Expr → List (Expr × (Bytes → ℕ → Part))
 layouts xs = map (λ x. (x, part_of x)) xs
 
--- the parts of a form after a gap, at a margin
-abbrev pub parts_in : Form → Bytes → ℕ → List Part
-parts_in f gap m = map piece_part (laid f.kind f.seq.split f.open_break gap m (layouts f.parts) (layouts f.seq.items) f.seq.end)
-
 -- what is in the sequence of a form, after its opening bracket
 abbrev pub laid_out_body : Form → ℕ → ℕ → List (Piece (Bytes → ℕ → Part))
 laid_out_body f m closer =
@@ -54,11 +50,7 @@ abbrev pub before_next : Item → List Item → Bytes
 before_next item [] = []
 before_next item (next ∷ items) = gap_between item next
 
--- an item's own line, and the gap that it leaves to what follows
-abbrev pub own_lines : Bytes → Item → List Part
-own_lines gap (i.Block texts) = []
-own_lines gap (i.Stmt x) = line_part gap x ∷ []
-
+-- the gap that an item leaves to what follows
 abbrev pub left_gap : Bytes → Item → Bytes
 left_gap gap (i.Block texts) = gap ++ comment_lines texts
 left_gap gap (i.Stmt x) = []

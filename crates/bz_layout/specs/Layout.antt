@@ -3,6 +3,7 @@ use Rattle.std.specs.Prelude.{ℕ, Bool, true, false, not, ◌&&◌, ◌||◌, L
 use Rattle.std.specs.List.{list_any}
 use Rattle.bz_grammar.specs.declared.kind.Kind.{Kind}
 use Rattle.bz_grammar.specs.declared.kind.Kind.TheVariants as k
+use Rattle.bz_grammar.specs.Shapes.{is_kind}
 use Rattle.bz_rule.specs.Values.{has_kind}
 use Rattle.bz_value.specs.declared.value.Expr.{Expr}
 use Rattle.bz_items.specs.Characters.{Bytes, comma, line_feed, space}
@@ -37,17 +38,13 @@ suffix_text (Some text) = space ∷ space ∷ text
 
 -- a sequence of two or more items is broken in a list or a dict
 abbrev pub is_listed : Kind → Bool
-is_listed k.List = true
-is_listed k.Dict = true
-is_listed _ = false
+is_listed kind = is_kind kind k.List || is_kind kind k.Dict
 
 abbrev pub is_call : Kind → Bool
-is_call k.Call = true
-is_call _ = false
+is_call kind = is_kind kind k.Call
 
 abbrev pub is_tuple : Kind → Bool
-is_tuple k.Tuple = true
-is_tuple _ = false
+is_tuple kind = is_kind kind k.Tuple
 
 abbrev pub is_named_argument : Expr → Bool
 is_named_argument x = has_kind k.Named x || has_kind k.Star x

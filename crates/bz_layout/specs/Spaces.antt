@@ -35,9 +35,7 @@ is_prefix_mark _ t = false
 
 -- the kinds whose colon has a space after it
 abbrev pub is_colon_spaced : Kind → Bool
-is_colon_spaced k.Entry = true
-is_colon_spaced k.Lambda = true
-is_colon_spaced _ = false
+is_colon_spaced kind = s.is_kind kind k.Entry || s.is_kind kind k.Lambda
 
 -- the marks that have no space at either side
 abbrev pub is_tight : Kind → List ℕ → Bool
@@ -57,14 +55,10 @@ space_before kind _ = false
 -- ---- parts
 
 abbrev pub is_word : Class → Bool
-is_word c.Name = true
-is_word c.Number = true
-is_word c.String = true
-is_word _ = false
+is_word class = s.is_class class c.Name || (s.is_class class c.Number || s.is_class class c.String)
 
 abbrev pub is_number : Class → Bool
-is_number c.Number = true
-is_number _ = false
+is_number class = s.is_class class c.Number
 
 -- a node, or a leaf that is a name, a number or a string
 abbrev pub is_value : Part → Bool

@@ -1,5 +1,5 @@
 //! How many lines items have, and the gap that they leave to what follows.
-ghost use Rattle.std.specs.Prelude.{◌≡◌, ◌+◌, ◌++◌, ◌^◌, ◌<◌, ◌≤◌, length, OnOk};
+ghost use Rattle.std.specs.Prelude.{◌≡◌, ◌++◌, ◌∷◌, ◌≤◌, [], length, OnOk};
 ghost use Rattle.bz_layout.specs.LaidOut.{before_next, left_gap};
 ghost use Rattle.bz_layout.specs.private.Windows as windows;
 
@@ -8,25 +8,24 @@ use crate::spaces::blank_before;
 use bz_items::Memory;
 use bz_value::Item;
 
-/// The place of the line after an item, where its own is to be at this place.
-pub fn place_after(place: usize, item: &Item) -> usize
-    requires { place + 1 < 2 ^ 64 }
-    ensures { result ≡ windows.place_after place item.now }
+/// How many lines an item has: a statement one.
+pub fn item_lines(item: &Item) -> usize
+    ensures { result ≡ windows.line_count_in (item.now ∷ []) }
 {
     match item {
-        Item::Block(_) => place,
-        Item::Stmt(_) => place + 1,
+        Item::Block(_) => 0,
+        Item::Stmt(_) => 1,
     }
 }
 
 /// How many lines the items have, the end not counted.
-#[tactic(auto, using(crate::proofs::Windows::counted_next))]
+#[tactic(auto, using(crate::proofs::Windows::counted_next, crate::proofs::Windows::at_most_one))]
 pub fn count_lines(items: &[Item]) -> usize
     ensures { result ≡ windows.line_count_in items.now }
 {
     let mut count = 0;
     for item in items {
-        count = place_after(count, item);
+        count += item_lines(item);
     }
     count
 }

@@ -6,7 +6,7 @@ ghost use Rattle.bz_grammar.specs.declared.tree.Part.{Part};
 ghost use Rattle.bz_layout.specs.Drafts.{pushed};
 ghost use Rattle.bz_layout.specs.LaidOut.{left_gap, before_next, lines_from};
 ghost use Rattle.bz_layout.specs.Written as written;
-ghost use Rattle.bz_layout.specs.private.Reached.{AreReached, HasGap, HasLine, HasNext, IsAt, IsPut, Passes, own_text};
+ghost use Rattle.bz_layout.specs.private.Reached.{AreReached, HasGap, HasNext, IsAt, IsPut, Passes, own_text};
 ghost use Rattle.bz_layout.specs.private.Windows.{AreLinesOver};
 ghost use Rattle.bz_value.specs.Proper.{IsProper};
 ghost use Rattle.bz_value.specs.Windows.{AreWithin};
@@ -16,7 +16,7 @@ ghost use Rattle.bz_value.specs.declared.value.Item.TheVariants as i;
 use crate::draft::Draft;
 use crate::gaps::push_comments;
 use crate::line_windows::past;
-use crate::statement_gaps::{count_lines, leave_gap, pass_over, place_after};
+use crate::statement_gaps::{count_lines, leave_gap, item_lines, pass_over};
 use crate::texts::push_statement;
 use bz_grammar::{LENGTH_LIMIT, Part, first_of};
 use bz_items::{Items, Memory, Text};
@@ -106,7 +106,7 @@ fn has_gap(parts: &[Part], gap: &[u8]) -> bool
 
 /// Whether the item is a statement, and this gap with its comments is before the first of the parts.
 fn has_line(alloc: Global, parts: &[Part], gap: &[u8], item: &Item) -> Result<bool, Memory>
-    ensures { IfOk result (λ same. IsTrue same → HasLine gap.now item.now parts.now) }
+    ensures { IfOk result (λ same. IsTrue same → HasNext gap.now (item.now ∷ []) parts.now) }
 {
     let Item::Stmt(expr) = item else {
         return Ok(false);
@@ -172,7 +172,7 @@ fn stay(writer: &mut Writer, parts: &[Part], items: &[Item], count: usize) -> Re
             return Ok(at);
         }
         put_item(&mut writer.window, item, others)?;
-        writer.part = place_past(parts, writer.part, place_after(0, item));
+        writer.part = place_past(parts, writer.part, item_lines(item));
     }
     Ok(count)
 }

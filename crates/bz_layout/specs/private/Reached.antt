@@ -47,15 +47,10 @@ abbrev pub HasGap : Option Leaf → Bytes → Type 0
 HasGap None gap = ⊥
 HasGap (Some leaf) gap = leaf.gap ≡ gap
 
--- the item is a statement, and this gap with its comments is that of the first of these parts
-abbrev pub HasLine : Bytes → Item → List Part → Type 0
-HasLine gap (i.Block texts) parts = ⊥
-HasLine gap (i.Stmt x) parts = HasGap (slice_get (flat_map leaves_part parts) 0) (gap ++ comment_lines (comments_of x).before)
-
--- the same of the first of these items
+-- the first of these items is a statement, and this gap with its comments is that of the first of these parts
 abbrev pub HasNext : Bytes → List Item → List Part → Type 0
-HasNext gap [] parts = ⊥
-HasNext gap (item ∷ items) parts = HasLine gap item parts
+HasNext gap (i.Stmt x ∷ items) parts = HasGap (slice_get (flat_map leaves_part parts) 0) (gap ++ comment_lines (comments_of x).before)
+HasNext gap _ parts = ⊥
 
 -- the windows that are made, over these parts
 pub record AreMade (parts : List Part) (made : List TextWindow) (bytes done : ℕ) : Type 0 where

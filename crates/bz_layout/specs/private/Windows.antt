@@ -18,11 +18,6 @@ statement_gap gap zero items = gap
 statement_gap gap (suc n) [] = gap
 statement_gap gap (suc n) (item ∷ items) = statement_gap (left_gap gap item ++ before_next item items) n items
 
--- the place of the line after an item, where its own is to be at this place
-abbrev pub place_after : ℕ → Item → ℕ
-place_after place (i.Block texts) = place
-place_after place (i.Stmt x) = place + 1
-
 -- the items that came
 abbrev pub come_items : List Window → List Item → List Item
 come_items [] items = []
