@@ -7,7 +7,7 @@ use Rattle.bz_value.specs.declared.value.Item.{Item}
 use Rattle.bz_value.specs.declared.value.Item.TheVariants as i
 use Rattle.bz_value.specs.declared.windows.Window.{Window}
 use Rattle.bz_value.specs.Windows.{AreOver, AreWithin}
-use Rattle.bz_layout.specs.private.Windows.{line_count_in, come_items, old_lines, come_end, first_from, AreLinesOver}
+use Rattle.bz_layout.specs.private.Windows.{line_count_in, come_items, old_lines, come_end, AreLinesOver}
 use Rattle.bz_layout.proofs.Windows.{cut_window}
 use Rattle.bz_layout.specs.Depths.{depth_items}
 use Rattle.bz_layout.specs.LaidOut.{laid_out}
@@ -37,16 +37,6 @@ module _ (size : List Item → ℕ) (joined : ℕ → ℕ → ℕ) (append : (xs
   come_first ws k d xs h =
       ap (λ vs. size (come_items vs xs)) (drop_more ws k d h) ∙
       append (take (get_or ws k d).come (drop (get_or ws k d).from xs)) (come_items (drop (k + 1) ws) (drop ((get_or ws k d).from + (get_or ws k d).come) xs))
-
--- a turn of the loop that counts the lines that there were
-pub old_turn : (ws : List Window) (k : ℕ) (d : Window) (xs past stay : List Item) (count here all : ℕ) → k < length ws → AreWithin (drop k ws) xs → stay ≡ take (get_or ws k d).from xs →
-    past ≡ drop ((get_or ws k d).from + (get_or ws k d).come) xs → here ≡ line_count_in stay → count + old_lines (drop k ws) xs ≡ all →
-    AreWithin (drop (k + 1) ws) past × (count + here + (get_or ws k d).gone + old_lines (drop (k + 1) ws) past ≡ all)
-old_turn ws k d xs past stay count here all h w is_stay is_past is_here e =
-    let first : old_lines (drop k ws) xs ≡ old_lines (get_or ws k d ∷ drop (k + 1) ws) xs = ap (λ vs. old_lines vs xs) (drop_more ws k d h) in
-    let own : here ≡ line_count_in (take (get_or ws k d).from xs) = is_here ∙ ap line_count_in is_stay in
-    let rest : old_lines (drop (k + 1) ws) past ≡ old_lines (drop (k + 1) ws) (drop ((get_or ws k d).from + (get_or ws k d).come) xs) = ap (old_lines (drop (k + 1) ws)) is_past in
-    (subst (λ ys. AreWithin (drop (k + 1) ws) ys) (sym is_past) (within_next ws k d xs h w).1, omega (arith, first, own, rest, e))
 
 -- a window: what stays before it, what it has, and what follows
 count_window : (from n : ℕ) (xs : List Item) → line_count_in xs ≡ line_count_in (take from xs) + (line_count_in (take n (drop from xs)) + line_count_in (drop (from + n) xs))
@@ -98,18 +88,10 @@ gone_past from n so xs e h =
     omega (arith, all, past)
 
 -- one window from the first to the last of them
-pub one_over : (ws : List Window) (xs ys : List Item) (from end lines gone come : ℕ) → from ≡ first_from ws → end ≡ come_end ws → line_count_in xs ≡ lines →
+pub one_over : (ws : List Window) (xs ys : List Item) (d : Window) (from end lines gone come : ℕ) → 1 ≤ length ws → from ≡ (get_or ws 0 d).from → end ≡ come_end ws → line_count_in xs ≡ lines →
     gone ≡ lines - line_count_in (take from ys) - line_count_in (drop end ys) → come ≡ end - from → AreOver ws xs ys → AreLinesOver (record { from = from; gone = gone; come = come } ∷ []) xs ys
-one_over [] xs ys from end lines gone come f e l g c h =
-    let none : from ≡ 0 = f in
-    let stop : end ≡ 0 = e in
-    let here : line_count_in (take from ys) ≡ line_count_in (take 0 ys) = ap (λ n. line_count_in (take n ys)) none in
-    let past : line_count_in (drop end ys) ≡ line_count_in ys = ap (λ n. line_count_in (drop n ys)) stop in
-    let same : line_count_in xs ≡ line_count_in ys = ap line_count_in h in
-    let zero_gone : 0 ≡ gone = omega (arith, here, past, same, l, g) in
-    let zero_come : come ≡ 0 = omega (arith, c, none, stop) in
-    (0, omega (arith, none), omega (arith, none, zero_come), ap (take from) (sym h), zero_gone, rw (none, zero_come) h)
-one_over (w ∷ ws) xs ys from end lines gone come f e l g c h =
+one_over [] xs ys d from end lines gone come some f e l g c h = absurd (omega (arith, some))
+one_over (w ∷ ws) xs ys d from end lines gone come some f e l g c h =
     let past = past_all (w ∷ ws) xs ys h in
     let so : ℕ = gone_end (w ∷ ws) in
     let first : from ≡ w.from = f in

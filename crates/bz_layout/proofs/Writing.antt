@@ -20,7 +20,7 @@ use Rattle.bz_value.specs.Roots.{root}
 use Rattle.bz_layout.specs.Layout.{Piece, new_line_at, margin_lines, ended, suffix_text, stacked, joined, rowed, headed, laid_in, is_broken, is_tuple, gap_after, margin_after, firsts}
 use Rattle.bz_layout.specs.Written.{piece_text, text_of, item_text, layout}
 use Rattle.bz_layout.specs.LaidOut.{before_next}
-use Rattle.bz_layout.specs.Writings.{writings, row_text, head_text, comma_text, joined_text, stacked_item_text, stacked_text, body_text}
+use Rattle.bz_layout.specs.Writings.{writings, row_text, comma_text, joined_text, stacked_text, body_text}
 use Rattle.bz_layout.specs.Drafts.{Drafted, pushed}
 use Rattle.bz_layout.proofs.Made.{text_Form, values_of}
 use Rattle.bz_layout.proofs.Pushing.{pushed_end, pushed_twice}
@@ -79,6 +79,9 @@ pub joined_next : (m closer : ℕ) (one : Bool) (xs : List Expr) (k : ℕ) (d : 
 joined_next m closer one xs k d h = ap (λ ys. joined_text m closer one ys) (drop_more xs k d h) ∙ joined_first m closer one (get_or xs k d) (drop (k + 1) xs)
 
 -- what is before a bracket
+abbrev pub head_text : ℕ → List Expr → Bytes
+head_text m xs = flat_map (λ x. text_of x m) xs
+
 pub head_next : (m : ℕ) (xs : List Expr) (k : ℕ) (d : Expr) → k < length xs → head_text m (drop k xs) ≡ text_of (get_or xs k d) m ++ head_text m (drop (k + 1) xs)
 head_next m xs k d h = ap (head_text m) (drop_more xs k d h)
 
@@ -95,23 +98,17 @@ suffix_first m suffix closer end [] = after_first (suffix_text suffix) (ended m 
 suffix_first m suffix closer end (x ∷ xs) =
     after_first (suffix_text suffix) (new_line_at (m + 4) ++ margin_lines (m + 4) (comments_of x).before) (text_of x (m + 4)) (comma ∷ written (stacked m (comments_of x).suffix closer end (writings xs)))
 
-stacked_first : (m closer : ℕ) (end : List Bytes) (x : Expr) (xs : List Expr) → stacked_text m closer end (x ∷ xs) ≡ stacked_item_text m x ++ stacked_text m closer end xs
-stacked_first m closer end x xs =
+pub stacked_next : (m closer : ℕ) (end : List Bytes) (xs : List Expr) (k : ℕ) (d : Expr) → k < length xs →
+    stacked_text m closer end (drop k xs) ≡ new_line_at (m + 4) ++ (margin_lines (m + 4) (comments_of (get_or xs k d)).before ++ (text_of (get_or xs k d) (m + 4) ++ ((comma ∷ []) ++ (suffix_text (comments_of (get_or xs k d)).suffix ++ stacked_text m closer end (drop (k + 1) xs)))))
+stacked_next m closer end xs k d h =
+    let x : Expr = get_or xs k d in
     let start : Bytes = new_line_at (m + 4) in
     let comments : Bytes = margin_lines (m + 4) (comments_of x).before in
     let text : Bytes = text_of x (m + 4) in
-    let suffix : Bytes = suffix_text (comments_of x).suffix in
-    let rest : Bytes = stacked_text m closer end xs in
-    ap (λ t. ((start ++ comments) ++ text) ++ (comma ∷ t)) (suffix_first m (comments_of x).suffix closer end xs) ∙
-    (append_assoc (start ++ comments) text (comma ∷ (suffix ++ rest)) ∙
-    (append_assoc start comments (text ++ (comma ∷ (suffix ++ rest))) ∙
-    sym
-    (append_assoc start (comments ++ (text ++ (comma ∷ suffix))) rest ∙
-    ap (λ t. start ++ t) (append_assoc comments (text ++ (comma ∷ suffix)) rest ∙ ap (λ t. comments ++ t) (append_assoc text (comma ∷ suffix) rest)))))
-
-pub stacked_next : (m closer : ℕ) (end : List Bytes) (xs : List Expr) (k : ℕ) (d : Expr) → k < length xs →
-    stacked_text m closer end (drop k xs) ≡ stacked_item_text m (get_or xs k d) ++ stacked_text m closer end (drop (k + 1) xs)
-stacked_next m closer end xs k d h = ap (stacked_text m closer end) (drop_more xs k d h) ∙ stacked_first m closer end (get_or xs k d) (drop (k + 1) xs)
+    let rest : Bytes = comma ∷ (suffix_text (comments_of x).suffix ++ stacked_text m closer end (drop (k + 1) xs)) in
+    ap (stacked_text m closer end) (drop_more xs k d h) ∙
+    (ap (λ t. ((start ++ comments) ++ text) ++ (comma ∷ t)) (suffix_first m (comments_of x).suffix closer end (drop (k + 1) xs)) ∙
+    (append_assoc (start ++ comments) text rest ∙ append_assoc start comments (text ++ rest)))
 
 pub stacked_end : (m closer : ℕ) (end : List Bytes) (xs : List Expr) (k : ℕ) → length xs ≤ k → stacked_text m closer end (drop k xs) ≡ ended m end ++ (closer ∷ [])
 stacked_end m closer end xs k l = ap (stacked_text m closer end) (drop_all k xs l) ∙ append_assoc (ended m end) (closer ∷ []) []

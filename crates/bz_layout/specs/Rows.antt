@@ -104,9 +104,8 @@ commented =
 
 -- ---- rows
 
--- files, calls and lists
-abbrev Calls : Type 0
-Calls =
+abbrev pub WorkedRows : Type 0
+WorkedRows =
     (layout [] ≡ [])
     -- a comment right above, one space around `=`
     × (layout (statement (codes "# keep" ∷ []) (codes "cc_binary") (argument (codes "name") (string (codes "\"y\"")) ∷ []) ∷ []) ≡ codes "# keep\ncc_binary(name = \"y\")\n")
@@ -120,24 +119,16 @@ Calls =
     × (layout (statement [] (codes "f") (argument (codes "b") (sequence k.List true [] (string (codes "\"y\"") ∷ [])) ∷ argument (codes "c") (sequence k.List true [] []) ∷ []) ∷ []) ≡ codes "f(\n    b = [\n        \"y\",\n    ],\n    c = [],\n)\n")
     -- a sum of a list and a call in a call
     × (layout (statement [] (codes "x") (argument (codes "srcs") (call (codes "glob") (list (string (codes "\"b\"") ∷ string (codes "\"a\"") ∷ []) ∷ [])) ∷ argument (codes "deps") (row k.Sum (list (string (codes "\"c\"") ∷ []) ∷ mark (codes "+") ∷ call (codes "select") (sequence k.Dict false [] (entry (codes "\"k\"") (list (string (codes "\"d\"") ∷ [])) ∷ []) ∷ []) ∷ [])) ∷ []) ∷ []) ≡ codes "x(\n    srcs = glob([\n        \"b\",\n        \"a\",\n    ]),\n    deps = [\"c\"] + select({\"k\": [\"d\"]}),\n)\n")
-
--- comments and blank lines
-abbrev Comments : Type 0
-Comments =
     -- a blank line between two items, a Block at the end
-    (layout (i.Block (codes "# a" ∷ codes "# b" ∷ []) ∷ statement [] (codes "f") [] ∷ statement [] (codes "g") [] ∷ i.Block (codes "# c" ∷ []) ∷ []) ≡ codes "# a\n# b\n\nf()\n\ng()\n\n# c\n")
+    × (layout (i.Block (codes "# a" ∷ codes "# b" ∷ []) ∷ statement [] (codes "f") [] ∷ statement [] (codes "g") [] ∷ i.Block (codes "# c" ∷ []) ∷ []) ≡ codes "# a\n# b\n\nf()\n\ng()\n\n# c\n")
     -- comments above items, and below the last one
     × (layout (commented ∷ []) ≡ codes "cc_library(\n    # n\n    name = \"a\",\n    deps = [\n        # why\n        \":b\",\n        # end\n    ],\n)\n")
     -- a suffix is after the comma of its item, and after its statement
     × (layout (assign a (list (leaf false (after (codes "# x")) c.String (codes "\"b\"") ∷ [])) ∷ i.Stmt (form (after (codes "# c")) k.Assign false false (equated b (number (codes "2"))) [] []) ∷ []) ≡ codes "a = [\n    \"b\",  # x\n]\nb = 2  # c\n")
     -- no blank line between two loads, but one before a comment
     × (layout (load [] (codes "\"B\"") (string (codes "\"b\"") ∷ []) ∷ load [] (codes "\"A\"") (argument (codes "c") (string (codes "\"d\"")) ∷ []) ∷ load (codes "# k" ∷ []) (codes "\"C\"") (string (codes "\"c\"") ∷ []) ∷ []) ≡ codes "load(\"B\", \"b\")\nload(\"A\", c = \"d\")\n\n# k\nload(\"C\", \"c\")\n")
-
--- rows of tokens
-abbrev Tokens : Type 0
-Tokens =
     -- a space between a number and a dot; none around a dot elsewhere
-    (layout (assign (name (codes "x")) (row k.Dot (number (codes "1") ∷ mark (codes ".") ∷ name (codes "real") ∷ [])) ∷ []) ≡ codes "x = 1 .real\n")
+    × (layout (assign (name (codes "x")) (row k.Dot (number (codes "1") ∷ mark (codes ".") ∷ name (codes "real") ∷ [])) ∷ []) ≡ codes "x = 1 .real\n")
     × (layout (assign a (row k.Dot (b ∷ mark (codes ".") ∷ name (codes "real") ∷ [])) ∷ []) ≡ codes "a = b.real\n")
     -- a row with a comma
     × (layout (assign (row k.Row (a ∷ mark (codes ",") ∷ b ∷ [])) (name (codes "c")) ∷ []) ≡ codes "a, b = c\n")
@@ -147,12 +138,8 @@ Tokens =
     × (layout (assign a (row k.Product (row k.Unary (mark (codes "-") ∷ b ∷ []) ∷ mark (codes "*") ∷ number (codes "2") ∷ [])) ∷ []) ≡ codes "a = -b * 2\n")
     -- keywords between spaces
     × (layout (assign a (row k.Cond (b ∷ keyword (codes "if") ∷ row k.Not (keyword (codes "not") ∷ a ∷ []) ∷ keyword (codes "else") ∷ row k.Compare (a ∷ keyword (codes "not") ∷ keyword (codes "in") ∷ b ∷ []) ∷ [])) ∷ []) ≡ codes "a = b if not a else a not in b\n")
-
--- brackets and breaks
-abbrev Breaks : Type 0
-Breaks =
     -- a tuple of one keeps its comma, an empty one has none
-    (layout (assign a (sequence k.Tuple false [] (b ∷ [])) ∷ []) ≡ codes "a = (b,)\n")
+    × (layout (assign a (sequence k.Tuple false [] (b ∷ [])) ∷ []) ≡ codes "a = (b,)\n")
     × (layout (assign a (sequence k.Tuple false [] []) ∷ []) ≡ codes "a = ()\n")
     × (layout (assign a (sequence k.Tuple false [] (a ∷ b ∷ [])) ∷ []) ≡ codes "a = (a, b)\n")
     -- a dict of one entry, and of two
@@ -166,6 +153,3 @@ Breaks =
     × (layout (assign a (paren (row k.Compare (a ∷ keyword (codes "not") ∷ leaf true no_comments c.Keyword (codes "in") ∷ b ∷ []))) ∷ []) ≡ codes "a = (a not in\n    b)\n")
     -- what begins a new line after a break has its margin
     × (layout (assign a (paren (row k.Sum (a ∷ leaf true no_comments c.Mark (codes "+") ∷ list (a ∷ b ∷ []) ∷ []))) ∷ []) ≡ codes "a = (a +\n    [\n        a,\n        b,\n    ])\n")
-
-abbrev pub WorkedRows : Type 0
-WorkedRows = Calls × Comments × Tokens × Breaks

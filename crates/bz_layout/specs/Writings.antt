@@ -17,10 +17,6 @@ writings xs = map (λ x. (x, text_of x)) xs
 abbrev pub row_text : Kind → Bool → ℕ → ℕ → List Expr → Bytes
 row_text kind open_break m n xs = flat_map piece_text (rowed kind open_break m [] n (writings xs))
 
--- what is before the bracket of a sequence
-abbrev pub head_text : ℕ → List Expr → Bytes
-head_text m xs = flat_map (λ x. text_of x m) xs
-
 -- between an item on one line and those that follow: a lone item may have a comma
 abbrev pub comma_text : Bool → List Expr → Bytes
 comma_text one [] = if one then (comma ∷ []) else []
@@ -29,10 +25,6 @@ comma_text one (x ∷ xs) = comma ∷ space ∷ []
 -- items on one line, and the closing bracket
 abbrev pub joined_text : ℕ → ℕ → Bool → List Expr → Bytes
 joined_text m closer one xs = flat_map piece_text (joined m [] closer one (writings xs))
-
--- an item on lines of its own: its comments above it, a comma, its suffix
-abbrev pub stacked_item_text : ℕ → Expr → Bytes
-stacked_item_text m x = new_line_at (m + 4) ++ (margin_lines (m + 4) (comments_of x).before ++ (text_of x (m + 4) ++ (comma ∷ suffix_text (comments_of x).suffix)))
 
 -- items on lines of their own, end comments, and the closing bracket
 abbrev pub stacked_text : ℕ → ℕ → List Bytes → List Expr → Bytes

@@ -58,23 +58,20 @@ fn come_end(items: &[Item], windows: &[Window]) -> usize
     items.len() - rest.len()
 }
 
-/// From where on the first window has other items.
-fn first_from(windows: &[Window]) -> usize
-    ensures { result ≡ counts.first_from windows.now }
-{
-    match windows {
-        [] => 0,
-        [first, ..] => first.from,
-    }
-}
-
 /// All windows as one, which counts lines, if the tree had this many.
 pub fn all_as_one(items: &[Item], windows: &[Window], lines: usize) -> Window
     requires { AreWithin windows.now items.now }
     ensures within { result.from + result.come ≤ length items.now }
     ensures over { (before : List Item) → counts.line_count_in before ≡ lines → AreOver windows.now before items.now → counts.AreLinesOver (result ∷ []) before items.now }
 {
-    let from = first_from(windows);
+    let [first, ..] = windows else {
+        return Window {
+            from: 0,
+            gone: 0,
+            come: 0,
+        };
+    };
+    let from = first.from;
     let end = come_end(items, windows);
     let (front, _rest) = items.split_at(from);
     let (_until, following) = items.split_at(end);

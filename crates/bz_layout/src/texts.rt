@@ -1,11 +1,12 @@
 //! The layout of an expression and of an item, as text.
-ghost use Rattle.std.specs.Prelude.{◌≡◌, OnOk, IfOk, MatchOption};
+ghost use Rattle.std.specs.Prelude.{◌≡◌, ◌&&◌, length, nat_eq, OnOk, IfOk, MatchOption};
 ghost use Rattle.bz_layout.specs.Drafts.{pushed};
+ghost use Rattle.bz_layout.specs.Layout.{is_tuple};
 ghost use Rattle.bz_value.specs.declared.value.Expr.TheVariants as e;
 ghost use Rattle.bz_value.specs.declared.value.Item.TheVariants as i;
 ghost use Rattle.bz_value.specs.Frames.{frame, row, sequence};
 ghost use Rattle.bz_layout.specs.Written as written;
-ghost use Rattle.bz_layout.specs.Writings.{row_text, head_text, comma_text, joined_text, stacked_item_text, stacked_text, body_text};
+ghost use Rattle.bz_layout.specs.Writings.{row_text, comma_text, joined_text, stacked_text, body_text};
 
 use crate::breaks::is_broken;
 use crate::dotted::push_dotted;
@@ -46,14 +47,17 @@ fn brackets_of(kind: Kind) -> Option<(u8, u8)>
 }
 
 #[cycle(push)]
-#[tactic(auto, using(crate::proofs::Pushing::pushed_twice, crate::proofs::Writing::row_form, crate::proofs::Writing::sequence_form))]
+#[tactic(auto, using(crate::proofs::Pushing::pushed_twice, crate::proofs::Writing::row_form, crate::proofs::Writing::sequence_form, crate::proofs::Writing::head_next, crate::proofs::Writing::head_end))]
 fn push_form(out: &mut Draft, form: &Form, margin: usize) -> Result<(), Memory>
     ensures { OnOk result (out.new ≡ pushed out.old (written.text_of (e.Form form.now) margin)) }
 {
     let Some((opener, closer)) = brackets_of(form.kind) else {
         return push_row(out, form, margin);
     };
-    push_head(out, form.parts.as_slice(), margin)?;
+    let head = form.parts.as_slice();
+    for expr in head {
+        push_expr(out, expr, margin)?;
+    }
     out.push(opener)?;
     push_body(out, form, margin, closer)
 }
@@ -84,30 +88,16 @@ pub fn push_row(out: &mut Draft, form: &Form, margin: usize) -> Result<(), Memor
     Ok(())
 }
 
-/// Appends what is before the opening bracket of a sequence.
-#[cycle(push)]
-#[tactic(auto, using(crate::proofs::Pushing::pushed_twice, crate::proofs::Writing::head_next, crate::proofs::Writing::head_end))]
-fn push_head(out: &mut Draft, head: &[Expr], margin: usize) -> Result<(), Memory>
-    ensures { OnOk result (out.new ≡ pushed out.old (head_text margin head.now)) }
-{
-    for expr in head {
-        push_expr(out, expr, margin)?;
-    }
-    Ok(())
-}
-
 /// Appends what is in the sequence of a form at a margin, and this closing bracket. The error: a growth was
 /// refused.
 #[cycle(push)]
 pub fn push_body(out: &mut Draft, form: &Form, margin: usize, closer: u8) -> Result<(), Memory>
     ensures { OnOk result (out.new ≡ pushed out.old (body_text form.now margin closer)) }
 {
-    let items = form.seq.items.as_slice();
     if is_broken(form) {
-        return push_stacked(out, items, form.seq.end.as_slice(), margin, closer);
+        return push_stacked(out, form, margin, closer);
     }
-    let one = matches!(form.kind, Kind::Tuple) && items.len() == 1;
-    push_joined(out, items, margin, closer, one)
+    push_joined(out, form, margin, closer)
 }
 
 /// Appends what is between an item on one line and the others that follow: a lone item may have a comma.
@@ -123,19 +113,14 @@ fn push_comma(out: &mut Draft, others: &[Expr], one: bool) -> Result<(), Memory>
     Ok(())
 }
 
-/// Appends items joined by a comma and a space, and the closing bracket; after a lone item a comma where it is to have one.
+/// Appends items joined by a comma and a space, and the closing bracket; a tuple of one ends with a comma.
 #[cycle(push)]
 #[tactic(auto, using(crate::proofs::Pushing::pushed_twice, crate::proofs::Writing::joined_next, crate::proofs::Writing::rest_here))]
-fn push_joined(
-    out: &mut Draft,
-    items: &[Expr],
-    margin: usize,
-    closer: u8,
-    one: bool,
-) -> Result<(), Memory>
-    ensures { OnOk result (out.new ≡ pushed out.old (joined_text margin closer one items.now)) }
+fn push_joined(out: &mut Draft, form: &Form, margin: usize, closer: u8) -> Result<(), Memory>
+    ensures { OnOk result (out.new ≡ pushed out.old (joined_text margin closer (is_tuple form.now.kind && nat_eq (length form.now.seq.items) 1) form.now.seq.items)) }
 {
-    let mut one = one;
+    let items = form.seq.items.as_slice();
+    let mut one = matches!(form.kind, Kind::Tuple) && items.len() == 1;
     for (i, item) in items.iter().enumerate() {
         push_expr(out, item, margin)?;
         push_comma(out, &items[i + 1..], one)?;
@@ -145,37 +130,23 @@ fn push_joined(
     Ok(())
 }
 
-/// Appends an item on lines of its own in a sequence at a margin: its comments above it, a comma, its suffix.
-#[cycle(push)]
-#[tactic(auto, using(crate::proofs::Pushing::pushed_twice))]
-fn push_stacked_item(out: &mut Draft, item: &Expr, margin: usize) -> Result<(), Memory>
-    ensures { OnOk result (out.new ≡ pushed out.old (stacked_item_text margin item.now)) }
-{
-    let comments = item.comments();
-    let inner = deeper_margin(margin)?;
-    out.push_new_line(inner)?;
-    out.push_above(comments.before(), inner)?;
-    push_expr(out, item, inner)?;
-    out.push(b',')?;
-    out.push_after(comments.suffix())
-}
-
-/// Appends items on lines of their own, end comments, and the closing bracket.
+/// Appends items on lines of their own, each with its comments above it, a comma and its suffix, end comments, and the closing bracket.
 #[cycle(push)]
 #[tactic(auto, using(crate::proofs::Pushing::pushed_twice, crate::proofs::Writing::stacked_next, crate::proofs::Writing::stacked_end))]
-fn push_stacked(
-    out: &mut Draft,
-    items: &[Expr],
-    end: &[Text],
-    margin: usize,
-    closer: u8,
-) -> Result<(), Memory>
-    ensures { OnOk result (out.new ≡ pushed out.old (stacked_text margin closer end.now items.now)) }
+fn push_stacked(out: &mut Draft, form: &Form, margin: usize, closer: u8) -> Result<(), Memory>
+    ensures { OnOk result (out.new ≡ pushed out.old (stacked_text margin closer form.now.seq.end form.now.seq.items)) }
 {
+    let inner = deeper_margin(margin)?;
+    let items = form.seq.items.as_slice();
     for item in items {
-        push_stacked_item(out, item, margin)?;
+        let comments = item.comments();
+        out.push_new_line(inner)?;
+        out.push_above(comments.before(), inner)?;
+        push_expr(out, item, inner)?;
+        out.push(b',')?;
+        out.push_after(comments.suffix())?;
     }
-    out.push_ended(end, margin)?;
+    out.push_ended(form.seq.end.as_slice(), margin)?;
     out.push(closer)?;
     Ok(())
 }

@@ -16,7 +16,7 @@ ghost use Rattle.bz_value.specs.declared.value.Item.TheVariants as i;
 use crate::draft::Draft;
 use crate::gaps::push_comments;
 use crate::line_windows::past;
-use crate::statement_gaps::{count_lines, leave_gap, item_lines, pass_over};
+use crate::statement_gaps::{count_lines, item_lines, leave_gap, pass_over};
 use crate::texts::push_statement;
 use bz_grammar::{LENGTH_LIMIT, Part, first_of};
 use bz_items::{Items, Memory, Text};

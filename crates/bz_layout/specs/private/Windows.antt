@@ -23,11 +23,6 @@ abbrev pub come_items : List Window → List Item → List Item
 come_items [] items = []
 come_items (w ∷ ws) items = take w.come (drop w.from items) ++ come_items ws (drop (w.from + w.come) items)
 
--- where the first window begins
-abbrev pub first_from : List Window → ℕ
-first_from [] = 0
-first_from (w ∷ ws) = w.from
-
 -- how many lines there were, if each item that was taken out had one
 abbrev pub old_lines : List Window → List Item → ℕ
 old_lines [] items = line_count_in items
