@@ -8,7 +8,6 @@ ghost use Rattle.bz_layout.specs.LaidOut.{laid_out, lines_from};
 ghost use Rattle.bz_layout.specs.Windows.{AreTextsOf, IsLayoutOf};
 ghost use Rattle.bz_layout.specs.Written.{layout};
 ghost use Rattle.bz_layout.specs.private.Reached.{IsPut, gone_length};
-ghost use Rattle.bz_value.specs.Proper.{IsProper};
 ghost use Rattle.bz_value.specs.Windows.{AreOver, AreWithin};
 ghost use Rattle.bz_value.specs.declared.value.Item.{Item};
 
@@ -45,18 +44,20 @@ fn length_gone(parts: &[Part], windows: &[TextWindow]) -> usize
     total
 }
 
-/// The text windows, where parts are the lines of items of which these came in the place of others; none where the texts are longer
-/// than a text may be.
+/// The text windows, where the tree is the layout of items of which those of the file came in the place of others; none where the texts
+/// are longer than a text may be.
 fn written(
     alloc: Global,
-    items: &[Item],
+    file: &File,
     windows: &[Window],
-    parts: &[Part],
+    tree: &Tree,
 ) -> Result<Option<Writer>, Memory>
-    requires { AreWithin windows.now items.now }
-    ensures { IfOk result (λ made. (before : List Item) → IsProper items.now → lines_from [] before ≡ parts.now → AreOver windows.now before items.now
-        → MatchOption made (limit < length (flat_map spell_part (lines_from [] items.now))) (λ writer. IsPut parts.now (lines_from [] items.now) writer.made writer.bytes writer.done)) }
+    requires { AreWithin windows.now file.now }
+    ensures { IfOk result (λ made. (before : List Item) → IsLayoutOf before tree.now → AreOver windows.now before file.now
+        → MatchOption made (limit < length (layout file.now)) (λ writer. IsPut tree.now.parts (lines_from [] file.now) writer.made writer.bytes writer.done)) }
 {
+    let items = file.items.as_slice();
+    let parts = tree.root.parts.as_slice();
     let lines = parts.len().saturating_sub(1);
     let one = [all_as_one(items, windows, lines)];
     let counted = counted(items, windows, &one, lines);
@@ -91,11 +92,10 @@ pub fn text_windows(
         → (length (layout file.now) ≤ limit) × (depth_limit < depth_of (laid_out file.now)) }
 {
     let items = file.items.as_slice();
-    let parts = tree.root.parts.as_slice();
-    let Some(writer) = written(alloc, items, windows, parts)? else {
+    let Some(writer) = written(alloc, file, windows, tree)? else {
         return Err(SetFault::TooLarge);
     };
-    let gone = length_gone(parts, writer.made.as_slice());
+    let gone = length_gone(tree.root.parts.as_slice(), writer.made.as_slice());
     let length = old_length.saturating_sub(gone).saturating_add(writer.bytes);
     if length > LENGTH_LIMIT {
         return Err(SetFault::TooLarge);

@@ -139,12 +139,11 @@ fn push_stacked(out: &mut Draft, form: &Form, margin: usize, closer: u8) -> Resu
     let inner = deeper_margin(margin)?;
     let items = form.seq.items.as_slice();
     for item in items {
-        let comments = item.comments();
         out.push_new_line(inner)?;
-        out.push_above(comments.before(), inner)?;
+        out.push_above(item.comments().before(), inner)?;
         push_expr(out, item, inner)?;
         out.push(b',')?;
-        out.push_after(comments.suffix())?;
+        out.push_after(item.comments().suffix())?;
     }
     out.push_ended(form.seq.end.as_slice(), margin)?;
     out.push(closer)?;

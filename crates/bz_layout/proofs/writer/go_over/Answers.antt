@@ -1,8 +1,12 @@
-use Rattle.std.proofs.Common.{◌+◌, get_or, take, drop, length, refl, sym, arith, ap}
+use Rattle.std.proofs.Common.{◌+◌, List, get_or, take, drop, length, refl, sym, arith, ap}
 use Rattle.bz_layout.proofs.LineWindows.{within_next}
 use Rattle.bz_layout.proofs.Reaching.{finished}
 use Rattle.bz_layout.proofs.Staying.{over_next, over_none, over_turn, over_end}
 use Rattle.bz_value.specs.declared.windows.Window.{Window}
+use Rattle.bz_grammar.specs.declared.tree.Part.{Part}
+use Rattle.bz_value.specs.declared.value.Item.{Item}
+use Rattle.bz_layout.specs.private.Reached.{AreReached, IsAt}
+use Rattle.bz_layout.specs.private.Windows.{AreLinesOver}
 use Rattle.bz_layout.proofs.writer.go_over.Goals as goal
 
 abbrev none : Window
@@ -29,18 +33,18 @@ returns-then-not-branch-2-clause-long c = λ no_ all before over r.
     let here = over_none c.loop-window.writer c.args.windows.now c.loop-window.window-index c.loop-window.rest.now (omega (arith, c.loop-window-test.false)) (c.loop-window.invariant.1 all before over r) in
     c.in_ok-advance-2.ensures.long c.if-not-branch-2.true all here.0 (omega (arith, ap length here.1)) (ap (take (length c.loop-window.rest.now)) here.1) here.2
 
+-- the end is put after the last window
+at_end : (c : goal.In_ok-fits) (all : List Part) (before : List Item) → AreLinesOver c.args.windows.now before c.args.items.now → AreReached c.args.parts.now all c.args.writer.now before c.args.items.now →
+    (left : List Part) × IsAt c.args.parts.now all c.put_end.new.writer left left
+at_end c all before over r =
+    c.in_ok-put_end.ensures all
+    (over_end c.loop-window.writer c.advance-2.new.writer c.loop-window.rest.now _ refl
+    (over_none c.loop-window.writer c.args.windows.now c.loop-window.window-index c.loop-window.rest.now (omega (arith, c.loop-window-test.false)) (c.loop-window.invariant.1 all before over r))
+    (c.in_ok-advance-2.ensures.fits c.if-not-branch-2.false))
+
 pub returns-clause-put : goal.returns-clause-put
 returns-clause-put c = λ yes_ all before over r.
-    let end = c.in_ok-put_end.ensures all
-    (over_end c.loop-window.writer c.advance-2.new.writer c.loop-window.rest.now _ refl
-    (over_none c.loop-window.writer c.args.windows.now c.loop-window.window-index c.loop-window.rest.now (omega (arith, c.loop-window-test.false)) (c.loop-window.invariant.1 all before over r))
-    (c.in_ok-advance-2.ensures.fits c.if-not-branch-2.false)) in
-    finished (c.in_ok-fits.ensures.shut yes_) refl (c.in_ok-fits.ensures.closed yes_ c.args.parts.now all end.0 end.0 end.1)
+    let end = at_end c all before over r in finished (c.in_ok-fits.ensures.shut yes_) refl (c.in_ok-fits.ensures.closed yes_ c.args.parts.now all end.0 end.0 end.1)
 
 pub returns-clause-long : goal.returns-clause-long
-returns-clause-long c = λ no_ all before over r.
-    let end = c.in_ok-put_end.ensures all
-    (over_end c.loop-window.writer c.advance-2.new.writer c.loop-window.rest.now _ refl
-    (over_none c.loop-window.writer c.args.windows.now c.loop-window.window-index c.loop-window.rest.now (omega (arith, c.loop-window-test.false)) (c.loop-window.invariant.1 all before over r))
-    (c.in_ok-advance-2.ensures.fits c.if-not-branch-2.false)) in
-    c.in_ok-fits.ensures.long no_ c.args.parts.now all end.0 end.0 end.1
+returns-clause-long c = λ no_ all before over r. let end = at_end c all before over r in c.in_ok-fits.ensures.long no_ c.args.parts.now all end.0 end.0 end.1
