@@ -1,9 +1,8 @@
 -- Items after others.
-use Rattle.std.proofs.Common.{ℕ, zero, suc, ◌≤◌, ◌≡◌, List, [], ◌∷◌, ◌++◌, sym, ap, ◌∙◌, append_assoc, append-nil, arith}
+use Rattle.std.proofs.Common.{suc, ◌≡◌, List, [], ◌∷◌, ◌++◌, sym, ap, ◌∙◌, append_assoc, append-nil, arith}
 use Rattle.bz_items.specs.Characters.{Bytes}
 use Rattle.bz_grammar.specs.Spell.{depth_of}
 use Rattle.bz_value.specs.declared.value.Item.{Item}
-use Rattle.bz_value.specs.declared.value.Item.TheVariants as i
 use Rattle.bz_layout.specs.Appended.{LayoutsJoin, DepthsJoin}
 use Rattle.bz_layout.specs.Depths.{depth_items}
 use Rattle.bz_layout.specs.LaidOut.{laid_out}

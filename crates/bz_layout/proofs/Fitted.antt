@@ -1,5 +1,5 @@
 -- Shapes see no gaps: what the layout makes of a form has the shape of its kind where the roots of its parts have it.
-use Rattle.std.proofs.Common.{◌≡◌, ◌||◌, ◌&&◌, ◌+◌, ℕ, suc, Bool, true, false, not, List, [], ◌∷◌, ◌++◌, inl, inr, if◌then◌else◌, length, refl, sym, ap, ◌∙◌, subst, map}
+use Rattle.std.proofs.Common.{◌≡◌, ◌||◌, ◌&&◌, ◌+◌, ℕ, Bool, true, false, not, List, [], ◌∷◌, ◌++◌, inl, inr, if◌then◌else◌, length, refl, sym, ap, ◌∙◌, subst, map}
 use Rattle.std.specs.Prelude.{nat_eq, Option, None}
 use Rattle.std.specs.List.{AllByRecursion}
 use Rattle.bz_token.specs.declared.class.Class.{Class}

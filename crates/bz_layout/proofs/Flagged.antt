@@ -1,5 +1,5 @@
 -- Settling the flags changes neither the layout nor its tree.
-use Rattle.std.proofs.Common.{ℕ, suc, Bool, true, false, not, ◌&&◌, ◌||◌, ◌≡◌, List, [], ◌∷◌, ◌++◌, ◌+◌, if◌then◌else◌, refl, ap, ◌∙◌, map, sym}
+use Rattle.std.proofs.Common.{ℕ, Bool, true, false, not, ◌&&◌, ◌||◌, ◌≡◌, List, [], ◌∷◌, ◌++◌, ◌+◌, if◌then◌else◌, refl, ap, ◌∙◌, map, sym}
 use Rattle.std.specs.Prelude.{Option, None, nat_eq, nat_le, length}
 use Rattle.std.specs.List.{flat_map}
 use mathlib.Core.Path.{fun_ext}

@@ -1,9 +1,8 @@
 -- The gaps that the layout makes say what they were made of.
-use Rattle.std.proofs.Common.{◌≡◌, ◌≢◌, ℕ, zero, suc, true, false, List, [], ◌∷◌, ◌++◌, ◌+◌, refl, sym, ap, ◌∙◌, subst, append-nil, arith}
+use Rattle.std.proofs.Common.{◌≡◌, ℕ, zero, suc, true, false, List, [], ◌∷◌, ◌++◌, ◌+◌, refl, sym, ap, ◌∙◌, append-nil, arith}
 use Rattle.std.specs.Prelude.{Option, None, Some, replicate}
 use Rattle.std.specs.List.{AllByRecursion}
 use Rattle.std.proofs.lemmas.Bool.{ne_eqb}
-use Rattle.std.proofs.lemmas.List.Elements.{recursion_from_All}
 use Rattle.bz_lex.specs.Gaps.{IsOneLine}
 use Rattle.bz_items.specs.Characters.{Bytes, line_feed, number_sign, space}
 use Rattle.bz_value.specs.Gaps.{GapLine, LineRest, trimmed, lines_from, lines_of, rest_of_line, comments_in}

@@ -16,15 +16,14 @@ use Rattle.bz_grammar.specs.declared.kind.Kind.TheVariants as k
 use Rattle.bz_grammar.specs.declared.tree.Node.{Node}
 use Rattle.bz_grammar.specs.declared.tree.Part.{Part, Row_of-Part, end_of-Part, more_of-Part, Node'}
 use Rattle.bz_grammar.specs.declared.tree.Part.TheVariants as p
-use Rattle.bz_grammar.specs.Spell.{spell_node, leaves_part, leaves_row, depth_of, depth_limit}
+use Rattle.bz_grammar.specs.Spell.{leaves_part, leaves_row, depth_of, depth_limit}
 use Rattle.bz_grammar.specs.Shapes as s
 use Rattle.bz_grammar.specs.Shapes.{Fits, shape, has_nonterminal, nonterminal_has_kind}
 use Rattle.bz_grammar.specs.Legal.{IsNonterminal, LegalPart, Legal}
 use Rattle.bz_grammar.specs.Spots.{Spot, Begins, Along, after_node, after_part, AtLeaves, AtRow, AtParts, Stands, TokenStands, AreTokens, Within, GapStands, BzlGapStands}
-use Rattle.bz_grammar.proofs.Nested.{row_of, items_of_row}
 use Rattle.bz_grammar.proofs.Spells.{leaves_Node}
 use Rattle.bz_grammar.proofs.Trees.{of_shapes}
-use Rattle.bz_grammar.proofs.Balance.{no_such, row_of_parts}
+use Rattle.bz_grammar.proofs.Balance.{no_such}
 use Rattle.bz_items.specs.Characters.{Bytes, line_feed}
 use Rattle.bz_value.specs.declared.value.Expr.{Expr, Token, Form'}
 use Rattle.bz_value.specs.declared.value.Item.{Item}
@@ -36,7 +35,7 @@ use Rattle.bz_value.proofs.LegalBy.{as_build, wider_part}
 use Rattle.bz_value.proofs.Wider.{lines_wider, line_expr}
 use Rattle.bz_value.proofs.GapComments.{all_joined}
 use Rattle.bz_layout.specs.Layout.{suffix_text}
-use Rattle.bz_layout.specs.Written.{comment_lines, gap_between, layout}
+use Rattle.bz_layout.specs.Written.{comment_lines, gap_between}
 use Rattle.bz_layout.specs.LaidOut.{part_of, line_part, before_next, lines_from, laid_out}
 use Rattle.bz_layout.specs.Laws.{LayoutIsAccepted}
 use Rattle.bz_layout.proofs.Touching.{Airy, Toks, IsLex, FollowsAs, ends_plain, tokens, AiryRow}

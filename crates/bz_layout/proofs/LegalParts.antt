@@ -12,14 +12,14 @@ use Rattle.bz_grammar.specs.declared.tree.Part.TheVariants as p
 use Rattle.bz_grammar.specs.Shapes.{Shape, Fits, shape}
 use Rattle.bz_grammar.specs.Legal.{IsNonterminal}
 use Rattle.bz_grammar.specs.Spell.{leaves_part}
-use Rattle.bz_grammar.specs.Spots.{Spot, Within}
+use Rattle.bz_grammar.specs.Spots.{Spot}
 use Rattle.bz_grammar.proofs.Nested.{row_of, items_of_row}
 use Rattle.bz_grammar.proofs.Spells.{leaves_Node}
 use Rattle.bz_value.specs.declared.value.Expr.{Expr, Token, Form', Row_of-Expr, end_of-Expr, more_of-Expr}
 use Rattle.bz_items.specs.Characters.{Bytes, comma, space}
-use Rattle.bz_value.specs.Frames.{Frame, row, sequence, frame, is_binary}
+use Rattle.bz_value.specs.Frames.{Frame, row, sequence, frame}
 use Rattle.bz_value.specs.LineShapes.{line_shape}
-use Rattle.bz_value.specs.Proper.{comments_of, after_expr, roots, IsEmptyRow, in_frame, ProperBy, ProperRowBy, ProperHeadBy, ProperItemsBy}
+use Rattle.bz_value.specs.Proper.{comments_of, roots, in_frame, ProperBy}
 use Rattle.bz_value.specs.Roots.{row_in}
 use Rattle.bz_value.proofs.LegalBy.{LegalBy, node_legal}
 use Rattle.bz_value.proofs.Wider.{IsWider, wider_expr, lines_wider}
@@ -32,7 +32,7 @@ use Rattle.bz_layout.proofs.Elements.{items_values, some_part}
 use Rattle.bz_layout.proofs.Joined.{HasSequences, line_sequences, build_sequences, head_fits}
 use Rattle.bz_layout.proofs.Fitted.{root_same, Child, rooted, roots_of_row, AreRooted, Pieces, laid_fits}
 use Rattle.bz_layout.proofs.Rows.{root_spaced, IsAfter, AreAfter, laid_apart}
-use Rattle.bz_layout.proofs.Spots.{AsRow, AsSequence, no_line, EachProper, both_each}
+use Rattle.bz_layout.proofs.Spots.{no_line, EachProper, both_each}
 
 -- ---- a node by its list of parts
 

@@ -1,6 +1,6 @@
 -- Windows of items: how many lines give way to them, and how deep the layout is.
 use Rattle.std.proofs.Common.{ℕ, zero, suc, ◌≡◌, ◌<◌, ◌≤◌, ◌-◌, List, [], ◌∷◌, ◌++◌, ◌+◌, length, get_or, take, drop, refl, sym, ap, ◌∙◌, subst, arith, length-drop, max, false, true, true≢false}
-use Rattle.std.proofs.lemmas.List.{drop-drop, drop_more, take-append-drop}
+use Rattle.std.proofs.lemmas.List.{drop-drop, drop_more}
 use Rattle.std.specs.Prelude.{◌↔◌, IsTrue, Bool}
 use Rattle.bz_grammar.specs.Spell.{depth_of, depth_limit}
 use Rattle.bz_value.specs.declared.value.Item.{Item}

@@ -1,27 +1,19 @@
 -- A row that has no bracket of its own, and in which no line ends, goes on as its first part does.
-use Rattle.std.proofs.Common.{◌≡◌, Bool, true, false, not, ◌||◌, List, [], ◌∷◌, ◌++◌, inl, inr, None, refl, sym, ap, ◌∙◌}
-use Rattle.std.proofs.lemmas.Bool.{and_parts, or_cases, or_parts, not-true}
-use Rattle.std.proofs.lemmas.Slice.Eq.{bytes_eq-Decides}
-use Rattle.bz_token.specs.declared.class.Class.{Class}
-use Rattle.bz_token.specs.declared.class.Class.TheVariants as c
-use Rattle.bz_lex.specs.declared.leaf.Leaf.{Leaf}
-use Rattle.bz_lex.specs.Places.{is_opening, is_closing}
+use Rattle.std.proofs.Common.{◌≡◌, Bool, true, false, List, [], ◌∷◌, ◌++◌, None, refl, sym, ap, ◌∙◌}
 use Rattle.bz_grammar.specs.declared.kind.Kind.{Kind}
 use Rattle.bz_grammar.specs.declared.kind.Kind.TheVariants as k
 use Rattle.bz_grammar.specs.declared.tree.Part.{Part}
 use Rattle.bz_grammar.specs.declared.tree.Part.TheVariants as p
-use Rattle.bz_grammar.specs.Shapes as s
-use Rattle.bz_grammar.specs.Shapes.{Terminal, Shape, Fits, is_one_of, is_terminal, leaves_at}
+use Rattle.bz_grammar.specs.Shapes.{Shape, Fits}
 use Rattle.bz_grammar.specs.Legal.{IsNonterminal}
-use Rattle.bz_grammar.specs.Spots.{Spot, Begins, Within, Along, onward, plain, role, following_token, after_node}
-use Rattle.bz_grammar.proofs.Balance.{same_class, no_such}
+use Rattle.bz_grammar.specs.Spots.{Spot, Begins, Within, Along, onward, following_token, after_node}
+use Rattle.bz_grammar.proofs.Balance.{no_such}
 use Rattle.bz_value.specs.declared.value.Expr.{Expr, Token, Form'}
-use Rattle.bz_items.specs.Characters.{Bytes}
 use Rattle.bz_value.specs.Proper.{after_expr}
 use Rattle.bz_value.specs.Roots.{root}
 use Rattle.bz_value.specs.Empty.{is_empty}
-use Rattle.bz_layout.proofs.Neighbours.{Element, T, S, Is, passes, Links, links, all_in}
-use Rattle.bz_layout.proofs.Elements.{any_last, in_line_class, value_of}
+use Rattle.bz_layout.proofs.Neighbours.{Element, T, S, Is, passes, Links, links}
+use Rattle.bz_layout.proofs.Elements.{any_last, value_of}
 use Rattle.bz_layout.proofs.Fitted.{Child, rooted}
 use Rattle.bz_layout.proofs.Margins.{is_begins}
 use Rattle.bz_layout.proofs.Standing.{RowLaysOut, after_row}

@@ -30,7 +30,7 @@ use Rattle.bz_value.specs.Empty.{is_empty}
 use Rattle.bz_layout.specs.LaidOut.{piece_part, part_of, parts_of}
 use Rattle.bz_layout.proofs.Elements.{AreValues, items_values, Opened, comprehension}
 use Rattle.bz_layout.proofs.Joined.{AtMostOne, head_fits}
-use Rattle.bz_layout.proofs.Fitted.{Child, rooted, roots_of_row, Pieces}
+use Rattle.bz_layout.proofs.Fitted.{Child, Pieces}
 use Rattle.bz_layout.proofs.Margins.{FitsAt, gap_stands, gap_coded, coded_byte, inner_nothing, inner_space, item_gap, closer_gap, is_begins, none_fits, after_fits}
 use Rattle.bz_layout.proofs.Spots.{lexeme_in_line, AsRow, AsSequence, goes_on, value_within, RowBreaks, row_breaks}
 

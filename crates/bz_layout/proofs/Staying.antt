@@ -1,6 +1,6 @@
 -- What each item does to the windows that are made: those that came, and those that stay.
 use Rattle.std.proofs.Common.{ℕ, zero, suc, true, false, ◌≡◌, ◌<◌, ◌≤◌, ◌-◌, List, [], ◌∷◌, ◌++◌, ◌+◌, length, get_or, take, drop, refl, sym, ap, ◌∙◌, subst, arith, flat_map, append-nil, length-append, length-drop}
-use Rattle.std.proofs.lemmas.List.{drop_more, drop_all, drop-drop, drop-take, drop_at, get_or-take, get_or-drop}
+use Rattle.std.proofs.lemmas.List.{drop_more, drop_all, drop-drop, drop-take, drop_at, get_or-take}
 use Rattle.std.specs.Prelude.{slice_get}
 use Rattle.std.specs.List.{AllByRecursion}
 use Rattle.std.proofs.lemmas.List.Elements.{recursion_from_All}
@@ -24,7 +24,6 @@ use Rattle.bz_layout.specs.Layout.{suffix_text}
 use Rattle.bz_layout.specs.LaidOut.{part_of, line_part, left_gap, before_next, lines_from}
 use Rattle.bz_layout.specs.Written.{comment_lines}
 use Rattle.bz_layout.specs.declared.writer.OpenWindow.{OpenWindow}
-use Rattle.bz_layout.specs.declared.writer.TextWindow.{TextWindow}
 use Rattle.bz_layout.specs.declared.writer.Writer.{Writer}
 use Rattle.bz_layout.specs.private.Reached.{Reached, AreReached, IsAt, HasGap, HasNext, Passes, own_text}
 use Rattle.bz_layout.specs.private.Windows.{line_count_in, statement_gap, AreLinesOver}

@@ -15,20 +15,20 @@ use Rattle.bz_lex.proofs.Lists.{spell_leaves-append}
 use Rattle.bz_grammar.specs.declared.kind.Kind.{Kind}
 use Rattle.bz_grammar.specs.declared.tree.Part.{Part, Row_of-Part, end_of-Part, more_of-Part, Node', items-the_row-Part}
 use Rattle.bz_grammar.specs.declared.tree.Part.TheVariants as p
-use Rattle.bz_grammar.specs.Spell.{leaves_part, leaves_row, depth_part}
+use Rattle.bz_grammar.specs.Spell.{leaves_part, depth_part}
 use Rattle.bz_grammar.specs.Shapes as s
 use Rattle.bz_grammar.specs.Shapes.{Nonterminal, Terminal, Shape, Fits, has_token, is_one_of, is_terminal}
 use Rattle.bz_grammar.specs.Legal.{IsNonterminal}
 use Rattle.bz_grammar.specs.Reading.{starts, starts_with}
 use Rattle.bz_grammar.proofs.Levels.{begins}
-use Rattle.bz_grammar.proofs.Balance.{no_such, leaves_rows, same_class}
+use Rattle.bz_grammar.proofs.Balance.{no_such, leaves_rows}
 use Rattle.bz_value.specs.LineShapes.{line_shape}
 use Rattle.bz_value.proofs.LegalBy.{LegalBy, each_legal, as_bzl}
 use Rattle.bz_hosts.proofs.SeenParts.{all_parted}
 use Rattle.bz_hosts.proofs.InnerParts.{inner_kind}
 use Rattle.bz_layout.specs.Spaces.{brackets_and_separators, lone, is_dot_terminal, apart, is_number, is_number_leaf, from_table}
 use Rattle.bz_layout.proofs.Neighbours.{Element, T, S, Is, Pair, Final, Links, passes, links, all_in, fronts, prefixed, well_text, named, spaced, is_primary, safe, neighbours, is_primary_kind, finals, all_pass, well, no_number, one_leaf}
-use Rattle.bz_layout.proofs.Stops.{is_stop, stop_before, dot_before, lone_before, front_before, dot_before_name, is_mark_class, begins_well}
+use Rattle.bz_layout.proofs.Stops.{is_stop, stop_before, dot_before, lone_before, front_before, dot_before_name, begins_well}
 use Rattle.bz_layout.proofs.Elements.{spaced_apart}
 
 -- ---- what a leaf is that is one of these terminals: a mark of a table, a text with which a token may go on, a name, no number

@@ -1,9 +1,8 @@
 -- The steps of the loops that write rows and sequences as text, and the text of a form by its frame.
-use Rattle.std.proofs.Common.{ℕ, suc, Bool, true, false, ◌&&◌, ◌≡◌, ◌<◌, ◌≤◌, List, [], ◌∷◌, ◌++◌, ◌+◌, if◌then◌else◌, length, get_or, take, drop, ◌-◌, refl, sym, ap, ◌∙◌, append_assoc, arith, not, append-nil}
-use Rattle.std.specs.Prelude.{Option, None, Some, nat_eq, codes}
+use Rattle.std.proofs.Common.{ℕ, Bool, true, false, ◌&&◌, ◌≡◌, ◌<◌, ◌≤◌, List, [], ◌∷◌, ◌++◌, ◌+◌, if◌then◌else◌, length, get_or, take, drop, ◌-◌, refl, sym, ap, ◌∙◌, append_assoc, arith, not, append-nil}
+use Rattle.std.specs.Prelude.{Option, None, nat_eq, codes}
 use Rattle.std.specs.List.{flat_map}
 use Rattle.std.proofs.lemmas.List.{drop_all, drop_more, take_all, length-drop, length-map}
-use Rattle.std.proofs.lemmas.Option.{same_Some}
 use Rattle.std.proofs.lemmas.Bool.{both_ways, or_left, or_right}
 use Rattle.std.specs.Cmp.Derive.{both_true}
 use Rattle.bz_token.specs.declared.class.Class.TheVariants as c
@@ -13,11 +12,11 @@ use Rattle.bz_items.specs.Characters.{Bytes, comma}
 use Rattle.bz_value.specs.declared.value.Form.{Form}
 use Rattle.bz_value.specs.declared.value.Expr.{Expr, Token, Form'}
 use Rattle.bz_value.specs.declared.value.Expr.TheVariants as e
-use Rattle.bz_value.specs.Frames.{Frame, row, sequence, frame}
+use Rattle.bz_value.specs.Frames.{row, sequence, frame}
 use Rattle.bz_value.specs.Proper.{comments_of, has_break}
 use Rattle.bz_value.specs.declared.value.Item.{Item}
 use Rattle.bz_value.specs.Roots.{root}
-use Rattle.bz_layout.specs.Layout.{Piece, new_line_at, margin_lines, ended, suffix_text, stacked, joined, rowed, headed, laid_in, is_broken, is_tuple, gap_after, margin_after, firsts}
+use Rattle.bz_layout.specs.Layout.{Piece, new_line_at, margin_lines, ended, suffix_text, stacked, joined, rowed, headed, laid_in, is_broken, is_tuple, gap_after, margin_after}
 use Rattle.bz_layout.specs.Written.{piece_text, text_of, item_text, layout}
 use Rattle.bz_layout.specs.LaidOut.{before_next}
 use Rattle.bz_layout.specs.Writings.{writings, row_text, comma_text, joined_text, stacked_text, body_text}

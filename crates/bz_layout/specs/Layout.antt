@@ -1,5 +1,5 @@
 -- The layout: what is in a node, as pieces. One definition; the text and the tree are two readings of it.
-use Rattle.std.specs.Prelude.{ℕ, Bool, true, false, not, ◌&&◌, ◌||◌, List, [], ◌∷◌, ◌++◌, ◌+◌, length, nat_le, nat_eq, if◌then◌else◌, replicate, map, Option, Some, None}
+use Rattle.std.specs.Prelude.{ℕ, Bool, false, not, ◌&&◌, ◌||◌, List, [], ◌∷◌, ◌++◌, ◌+◌, length, nat_le, nat_eq, if◌then◌else◌, replicate, map, Option, Some, None}
 use Rattle.std.specs.List.{list_any}
 use Rattle.bz_grammar.specs.declared.kind.Kind.{Kind}
 use Rattle.bz_grammar.specs.declared.kind.Kind.TheVariants as k

@@ -1,12 +1,11 @@
 -- The texts of what is in a form, as the functions that write them state them.
-use Rattle.std.specs.Prelude.{ℕ, Bool, ◌&&◌, List, [], ◌∷◌, ◌++◌, ◌+◌, None, length, nat_eq, map, if◌then◌else◌}
+use Rattle.std.specs.Prelude.{ℕ, Bool, ◌&&◌, List, [], ◌∷◌, None, length, nat_eq, map, if◌then◌else◌}
 use Rattle.std.specs.List.{flat_map}
 use Rattle.bz_grammar.specs.declared.kind.Kind.{Kind}
 use Rattle.bz_value.specs.declared.value.Expr.{Expr}
 use Rattle.bz_value.specs.declared.value.Form.{Form}
 use Rattle.bz_items.specs.Characters.{Bytes, comma, space}
-use Rattle.bz_value.specs.Proper.{comments_of}
-use Rattle.bz_layout.specs.Layout.{rowed, joined, stacked, new_line_at, margin_lines, suffix_text, is_broken, is_tuple}
+use Rattle.bz_layout.specs.Layout.{rowed, joined, stacked, is_broken, is_tuple}
 use Rattle.bz_layout.specs.Written.{piece_text, text_of}
 
 -- each expression with its reading as a text

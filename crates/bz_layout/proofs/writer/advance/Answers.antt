@@ -1,4 +1,4 @@
-use Rattle.std.proofs.Common.{◌<◌, ◌-◌, refl, take, arith, ap, ◌∙◌}
+use Rattle.std.proofs.Common.{◌<◌, refl, arith, ap, ◌∙◌}
 use Rattle.bz_layout.specs.private.Windows.{line_count_in}
 use Rattle.bz_layout.proofs.Staying.{advanced}
 use Rattle.bz_layout.proofs.writer.advance.Goals as goal
