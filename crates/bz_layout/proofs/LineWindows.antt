@@ -30,14 +30,6 @@ pub within_next : (ws : List Window) (k : ℕ) (d : Window) (xs : List Item) →
     ((get_or ws k d).from + (get_or ws k d).come ≤ length xs) × AreWithin (drop (k + 1) ws) (drop ((get_or ws k d).from + (get_or ws k d).come) xs)
 within_next ws k d xs h w = subst (λ vs. AreWithin vs xs) (drop_more ws k d h) w
 
--- what came first, and the rest of it
-module _ (size : List Item → ℕ) (joined : ℕ → ℕ → ℕ) (append : (xs ys : List Item) → size (xs ++ ys) ≡ joined (size xs) (size ys)) where
-  pub come_first : (ws : List Window) (k : ℕ) (d : Window) (xs : List Item) → k < length ws →
-      size (come_items (drop k ws) xs) ≡ joined (size (take (get_or ws k d).come (drop (get_or ws k d).from xs))) (size (come_items (drop (k + 1) ws) (drop ((get_or ws k d).from + (get_or ws k d).come) xs)))
-  come_first ws k d xs h =
-      ap (λ vs. size (come_items vs xs)) (drop_more ws k d h) ∙
-      append (take (get_or ws k d).come (drop (get_or ws k d).from xs)) (come_items (drop (k + 1) ws) (drop ((get_or ws k d).from + (get_or ws k d).come) xs))
-
 -- a window: what stays before it, what it has, and what follows
 count_window : (from n : ℕ) (xs : List Item) → line_count_in xs ≡ line_count_in (take from xs) + (line_count_in (take n (drop from xs)) + line_count_in (drop (from + n) xs))
 count_window from n xs = cut_window line_count_in (λ a b. a + b) count_append from n xs
@@ -131,7 +123,9 @@ pub depth_turn : (ws : List Window) (k : ℕ) (d : Window) (xs come past : List 
     come ≡ take (get_or ws k d).come (drop (get_or ws k d).from xs) → past ≡ drop ((get_or ws k d).from + (get_or ws k d).come) xs →
     AreWithin (drop (k + 1) ws) past × (depth_items (come_items (drop k ws) xs) ≡ max (depth_items come) (depth_items (come_items (drop (k + 1) ws) past)))
 depth_turn ws k d xs come past h w is_come is_past =
-    rw (is_come, is_past) ((within_next ws k d xs h w).1, come_first depth_items max depth_append ws k d xs h)
+    rw (is_come, is_past) ((within_next ws k d xs h w).1,
+    ap (λ vs. depth_items (come_items vs xs)) (drop_more ws k d h) ∙
+    depth_append (take (get_or ws k d).come (drop (get_or ws k d).from xs)) (come_items (drop (k + 1) ws) (drop ((get_or ws k d).from + (get_or ws k d).come) xs)))
 
 -- what came is among all
 come_below : (ws : List Window) (xs : List Item) → depth_items (come_items ws xs) ≤ depth_items xs

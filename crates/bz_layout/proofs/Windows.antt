@@ -82,19 +82,11 @@ counted_next xs k d h = ap line_count_in (drop_more xs k d h) ∙ counted_first 
 
 -- ---- the gap before a place
 
-gap_next : (gap : Bytes) (from : ℕ) (xs : List Item) (k : ℕ) (d : Item) → k < from → k < length xs →
+pub gap_next : (gap : Bytes) (from : ℕ) (xs : List Item) (k : ℕ) (d : Item) → k < from → k < length xs →
     statement_gap gap (from - k) (drop k xs) ≡ statement_gap (left_gap gap (get_or xs k d) ++ before_next (get_or xs k d) (drop (k + 1) xs)) (from - (k + 1)) (drop (k + 1) xs)
 gap_next gap from xs k d g h =
     let one : from - k ≡ suc (from - (k + 1)) = omega arith in
     ap (λ ys. statement_gap gap (from - k) ys) (drop_more xs k d h) ∙ ap (λ n. statement_gap gap n (get_or xs k d ∷ drop (k + 1) xs)) one
-
--- a turn of the loop that makes it: an item is passed over, and what is between it and the others comes to the gap
-pub gap_turn : (count : ℕ) (xs : List Item) (k : ℕ) (item : Item) (gap new : Bytes) (others : List Item) (all : Bytes) → k < count → count ≤ length xs → item ≡ get_or xs k item →
-    new ≡ left_gap gap item ++ before_next item others → others ≡ drop (k + 1) xs → statement_gap gap (count - k) (drop k xs) ≡ all → statement_gap new (count - (k + 1)) (drop (k + 1) xs) ≡ all
-gap_turn count xs k item gap new others all g h is left others_are before =
-    let rest : List Item = drop (k + 1) xs in
-    ap (λ t. statement_gap t (count - (k + 1)) rest) (left ∙ ap (λ ys. left_gap gap item ++ before_next item ys) others_are) ∙
-    (ap (λ x. statement_gap (left_gap gap x ++ before_next x rest) (count - (k + 1)) rest) is ∙ (sym (gap_next gap count xs k item g (omega (arith, g, h))) ∙ before))
 
 pub gap_found : (gap : Bytes) (from k : ℕ) (xs : List Item) (all : Bytes) → from ≤ k → statement_gap gap (from - k) xs ≡ all → gap ≡ all
 gap_found gap from k xs all h e =
