@@ -22,8 +22,8 @@ use Rattle.bz_value.specs.LineShapes.{line_shape}
 use Rattle.bz_value.specs.Proper.{in_frame}
 use Rattle.bz_value.specs.Roots.{mark_leaf, each_with_comma, row_in}
 use Rattle.bz_hosts.proofs.InnerParts.{inner_kind}
-use Rattle.bz_layout.specs.Spaces.{is_value, lone, space_after, space_before, is_word, is_spaced_after, is_spaced_before, is_lone, apart}
-use Rattle.bz_layout.proofs.Neighbours.{Element, T, S, Is, passes, Pair, Links, links, all_in, one_leaf, never_lone, spaced}
+use Rattle.bz_layout.specs.Spaces.{is_value, lone, space_after, space_before, is_spaced_after, is_spaced_before, is_lone, apart}
+use Rattle.bz_layout.proofs.Neighbours.{Element, T, S, Is, passes, Pair, Links, links, all_in, one_leaf, never_lone, spaced, is_word}
 
 -- ---- the spaces of the layout: what the elements of a shape require, the parts show
 

@@ -27,6 +27,13 @@ abbrev pub Is : Element → Part → Type 0
 Is (T ts) x = has_token ts x ≡ true
 Is (S a) x = IsNonterminal a x
 
+-- names, numbers and strings
+abbrev pub is_word : Class → Bool
+is_word class = s.is_class class c.Name || (s.is_class class c.Number || s.is_class class c.String)
+
+abbrev pub is_number : Class → Bool
+is_number class = s.is_class class c.Number
+
 module _ (ok : Element → Element → Bool) (last_ok : Element → Bool) where
   abbrev pub after_ok : Option Element → Element → Bool
   after_ok None b = true

@@ -20,7 +20,8 @@ use Rattle.bz_items.specs.Characters.{Bytes, comma, space}
 use Rattle.bz_value.specs.Frames.{Frame, row, sequence, frame}
 use Rattle.bz_value.specs.Proper.{comments_of, has_break, in_frame}
 use Rattle.bz_value.specs.Roots.{root}
-use Rattle.bz_layout.specs.Spaces.{lone, space_after, space_before, is_word, is_value, is_spaced_after, is_spaced_before, is_lone, is_number_leaf, apart, number_dot, is_spaced}
+use Rattle.bz_layout.specs.Spaces.{lone, space_after, space_before, is_value, is_spaced_after, is_spaced_before, is_lone, is_number_leaf, apart, number_dot, is_spaced}
+use Rattle.bz_layout.proofs.Neighbours.{is_word}
 use Rattle.bz_layout.specs.Layout.{mark, new_line_at, margin_lines, ended, suffix_text, is_broken, is_tuple, gap_after, margin_after, firsts, rowed, headed, joined, stacked, laid_in, laid}
 use Rattle.bz_value.specs.Empty.{is_empty}
 use Rattle.bz_layout.specs.LaidOut.{piece_part, part_of}

@@ -17,7 +17,8 @@ use Rattle.bz_value.specs.LineShapes.{line_shape}
 use Rattle.bz_value.specs.Proper.{IsComment, has_break, after_expr, roots, IsEmptyRow, in_frame, ProperBy, ProperRowBy, ProperHeadBy, ProperItemsBy}
 use Rattle.bz_value.specs.Roots.{root, row_in}
 use Rattle.bz_hosts.proofs.InnerParts.{inner_kind}
-use Rattle.bz_layout.specs.Spaces.{is_value, is_word}
+use Rattle.bz_layout.specs.Spaces.{is_value}
+use Rattle.bz_layout.proofs.Neighbours.{is_word}
 use Rattle.bz_layout.specs.Layout.{firsts}
 use Rattle.bz_value.specs.Empty.{is_empty}
 use Rattle.bz_layout.specs.LaidOut.{part_of, parts_of}

@@ -14,8 +14,8 @@ use Rattle.bz_token.specs.private.Machine.{after, and_next}
 use Rattle.bz_token.specs.private.Scanner.{move, ends, keyword_or_name}
 use Rattle.bz_token.proofs.Laws.{state_of, not_quote, is_ended, ended_at, nothing_stops, longest_at, begins}
 pub use Rattle.bz_token.proofs.Laws.{is_stop, stop_before}
-use Rattle.bz_layout.proofs.Neighbours.{fronts, well_text}
-use Rattle.bz_layout.specs.Spaces.{brackets_and_separators, is_number}
+use Rattle.bz_layout.proofs.Neighbours.{fronts, well_text, is_number}
+use Rattle.bz_layout.specs.Spaces.{brackets_and_separators}
 use Rattle.bz_token.proofs.Tables.{one_text, is_none_at}
 
 -- ---- before a dot

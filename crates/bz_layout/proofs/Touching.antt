@@ -26,8 +26,8 @@ use Rattle.bz_value.specs.LineShapes.{line_shape}
 use Rattle.bz_value.proofs.LegalBy.{LegalBy, each_legal, as_bzl}
 use Rattle.bz_hosts.proofs.SeenParts.{all_parted}
 use Rattle.bz_hosts.proofs.InnerParts.{inner_kind}
-use Rattle.bz_layout.specs.Spaces.{brackets_and_separators, lone, is_dot_terminal, apart, is_number, is_number_leaf, from_table}
-use Rattle.bz_layout.proofs.Neighbours.{Element, T, S, Is, Pair, Final, Links, passes, links, all_in, fronts, prefixed, well_text, named, spaced, is_primary, safe, neighbours, is_primary_kind, finals, all_pass, well, no_number, one_leaf}
+use Rattle.bz_layout.specs.Spaces.{brackets_and_separators, lone, is_dot_terminal, apart, is_number_leaf, from_table}
+use Rattle.bz_layout.proofs.Neighbours.{Element, T, S, Is, Pair, Final, Links, passes, links, all_in, fronts, prefixed, well_text, named, spaced, is_primary, safe, neighbours, is_primary_kind, finals, all_pass, well, no_number, one_leaf, is_number}
 use Rattle.bz_layout.proofs.Stops.{is_stop, stop_before, dot_before, lone_before, front_before, dot_before_name, begins_well}
 use Rattle.bz_layout.proofs.Elements.{spaced_apart}
 

@@ -1,5 +1,5 @@
 -- Worked rows: small file values and their layout, byte for byte.
-use Rattle.std.specs.Prelude.{◌≡◌, Bool, true, false, List, [], ◌∷◌, codes, None, Some}
+use Rattle.std.specs.Prelude.{◌≡◌, Bool, true, false, List, [], ◌∷◌, codes, Option, None, Some}
 use Rattle.bz_token.specs.declared.class.Class.{Class}
 use Rattle.bz_token.specs.declared.class.Class.TheVariants as c
 use Rattle.bz_grammar.specs.declared.kind.Kind.{Kind}
@@ -12,11 +12,9 @@ use Rattle.bz_value.specs.Comments.{HostComments, no_comments}
 use Rattle.bz_items.specs.Characters.{Bytes}
 use Rattle.bz_layout.specs.Written.{layout}
 
--- ---- expressions
-
 -- whether a line ends after it, its comments
 abbrev leaf : Bool → HostComments → Class → Bytes → Expr
-leaf line_break comments class text = e.Token (record { class = class; text = text; line_break = line_break; comments = comments })
+leaf line_break own class text = e.Token (record { class = class; text = text; line_break = line_break; comments = own })
 
 abbrev name : Bytes → Expr
 name text = leaf false no_comments c.Name text
@@ -35,8 +33,8 @@ keyword text = leaf false no_comments c.Keyword text
 
 -- its comments, whether it is split and open, its parts, items and end comments
 abbrev form : HostComments → Kind → Bool → Bool → List Expr → List Expr → List Bytes → Expr
-form comments kind split open_break parts items end =
-    e.Form (record { kind = kind; parts = parts; seq = record { items = items; end = end; split = split }; open_break = open_break; comments = comments })
+form own kind split open_break parts items end =
+    e.Form (record { kind = kind; parts = parts; seq = record { items = items; end = end; split = split }; open_break = open_break; comments = own })
 
 abbrev row : Kind → List Expr → Expr
 row kind parts = form no_comments kind false false parts [] []
@@ -51,11 +49,8 @@ list items = sequence k.List false [] items
 abbrev call : Bytes → List Expr → Expr
 call function arguments = sequence k.Call false (name function ∷ []) arguments
 
-abbrev above : List Bytes → HostComments
-above before = record { before = before; suffix = None }
-
-abbrev after : Bytes → HostComments
-after suffix = record { before = []; suffix = Some suffix }
+abbrev comments : List Bytes → Option Bytes → HostComments
+comments before suffix = record { before = before; suffix = suffix }
 
 -- LEFT = VALUE
 abbrev equated : Expr → Expr → List Expr
@@ -83,26 +78,22 @@ a = name (codes "a")
 abbrev b : Expr
 b = name (codes "b")
 
--- ---- statements
-
 -- a call under comments
 abbrev statement : List Bytes → Bytes → List Expr → Item
-statement before function arguments = i.Stmt (form (above before) k.Bare false false (call function arguments ∷ []) [] [])
+statement before function arguments = i.Stmt (form (comments before None) k.Bare false false (call function arguments ∷ []) [] [])
 
 abbrev assign : Expr → Expr → Item
 assign left value = i.Stmt (row k.Assign (equated left value))
 
 abbrev load : List Bytes → Bytes → List Expr → Item
-load before file names = i.Stmt (form (above before) k.Load false false (keyword (codes "load") ∷ []) (string file ∷ names) [])
+load before file names = i.Stmt (form (comments before None) k.Load false false (keyword (codes "load") ∷ []) (string file ∷ names) [])
 
 -- cc_library(name = "a", deps = [":b"]) with a comment above its name, one above ":b" and one below it
 abbrev commented : Item
 commented =
     statement [] (codes "cc_library")
-    (form (above (codes "# n" ∷ [])) k.Named false false (equated (name (codes "name")) (string (codes "\"a\""))) [] []
-    ∷ argument (codes "deps") (form no_comments k.List false false [] (leaf false (above (codes "# why" ∷ [])) c.String (codes "\":b\"") ∷ []) (codes "# end" ∷ [])) ∷ [])
-
--- ---- rows
+    (form (comments (codes "# n" ∷ []) None) k.Named false false (equated (name (codes "name")) (string (codes "\"a\""))) [] []
+    ∷ argument (codes "deps") (form no_comments k.List false false [] (leaf false (comments (codes "# why" ∷ []) None) c.String (codes "\":b\"") ∷ []) (codes "# end" ∷ [])) ∷ [])
 
 abbrev pub WorkedRows : Type 0
 WorkedRows =
@@ -124,7 +115,7 @@ WorkedRows =
     -- comments above items, and below the last one
     × (layout (commented ∷ []) ≡ codes "cc_library(\n    # n\n    name = \"a\",\n    deps = [\n        # why\n        \":b\",\n        # end\n    ],\n)\n")
     -- a suffix is after the comma of its item, and after its statement
-    × (layout (assign a (list (leaf false (after (codes "# x")) c.String (codes "\"b\"") ∷ [])) ∷ i.Stmt (form (after (codes "# c")) k.Assign false false (equated b (number (codes "2"))) [] []) ∷ []) ≡ codes "a = [\n    \"b\",  # x\n]\nb = 2  # c\n")
+    × (layout (assign a (list (leaf false (comments [] (Some (codes "# x"))) c.String (codes "\"b\"") ∷ [])) ∷ i.Stmt (form (comments [] (Some (codes "# c"))) k.Assign false false (equated b (number (codes "2"))) [] []) ∷ []) ≡ codes "a = [\n    \"b\",  # x\n]\nb = 2  # c\n")
     -- no blank line between two loads, but one before a comment
     × (layout (load [] (codes "\"B\"") (string (codes "\"b\"") ∷ []) ∷ load [] (codes "\"A\"") (argument (codes "c") (string (codes "\"d\"")) ∷ []) ∷ load (codes "# k" ∷ []) (codes "\"C\"") (string (codes "\"c\"") ∷ []) ∷ []) ≡ codes "load(\"B\", \"b\")\nload(\"A\", c = \"d\")\n\n# k\nload(\"C\", \"c\")\n")
     -- a space between a number and a dot; none around a dot elsewhere

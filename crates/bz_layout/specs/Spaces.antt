@@ -54,15 +54,9 @@ space_before kind _ = false
 
 -- ---- parts
 
-abbrev pub is_word : Class → Bool
-is_word class = s.is_class class c.Name || (s.is_class class c.Number || s.is_class class c.String)
-
-abbrev pub is_number : Class → Bool
-is_number class = s.is_class class c.Number
-
 -- a node, or a leaf that is a name, a number or a string
 abbrev pub is_value : Part → Bool
-is_value (p.Leaf l) = is_word l.class
+is_value (p.Leaf l) = s.is_class l.class c.Name || (s.is_class l.class c.Number || s.is_class l.class c.String)
 is_value (Node' kind z r) = true
 
 abbrev pub is_spaced_after : Kind → Part → Bool
@@ -78,7 +72,7 @@ is_lone (p.Leaf l) = lone (s.this l.class l.token)
 is_lone (Node' k z r) = false
 
 abbrev pub is_number_leaf : Part → Bool
-is_number_leaf (p.Leaf l) = is_number l.class
+is_number_leaf (p.Leaf l) = s.is_class l.class c.Number
 is_number_leaf (Node' kind z r) = false
 
 -- One space is between two neighbours in a node of a kind: after a token that has one after it, but not before a

@@ -84,6 +84,7 @@ pub fn all_as_one(items: &[Item], windows: &[Window], lines: usize) -> Window
 }
 
 /// The windows, if each item that was taken out had a line, else the one window of all.
+#[tactic(auto, using(crate::proofs::LineWindows::all_lines))]
 pub fn counted<'a>(
     items: &[Item],
     windows: &'a [Window],

@@ -143,6 +143,7 @@ fn put_item(window: &mut OpenWindow, item: &Item, others: &[Item]) -> Result<(),
 }
 
 /// Appends the lines of the first of the items, which came.
+#[tactic(auto, using(crate::proofs::Staying::came_turn))]
 fn put_items(writer: &mut Writer, items: &[Item], count: usize) -> Result<(), Memory>
     requires { count ≤ length items.now }
     ensures { OnOk result ((parts all : List Part) (before : List Item) → AreReached parts all writer.old before items.now

@@ -1,5 +1,5 @@
 -- For private functions only: how far text windows are made, and what is still to come.
-use Rattle.std.specs.Prelude.{ℕ, Bool, false, ◌≡◌, ◌≤◌, ◌+◌, ◌-◌, List, [], ◌∷◌, ◌++◌, length, take, drop, slice_get, Option, None, Some}
+use Rattle.std.specs.Prelude.{ℕ, Bool, false, ◌≡◌, ◌≤◌, ◌+◌, ◌-◌, List, [], ◌∷◌, ◌++◌, length, take, drop, slice_get, Option, MatchOption}
 use Rattle.std.specs.List.{flat_map, AllByRecursion}
 use Rattle.bz_edit.specs.Windows.{AreThere, window_parts}
 use Rattle.bz_edit.specs.declared.part_windows.PartWindow.{PartWindow}
@@ -44,8 +44,7 @@ own_text gap (i.Stmt x) = gap ++ item_text (i.Stmt x)
 
 -- the gap of a leaf that is there is this one
 abbrev pub HasGap : Option Leaf → Bytes → Type 0
-HasGap None gap = ⊥
-HasGap (Some leaf) gap = leaf.gap ≡ gap
+HasGap found gap = MatchOption found ⊥ (λ leaf. leaf.gap ≡ gap)
 
 -- the first of these items is a statement, and this gap with its comments is that of the first of these parts
 abbrev pub HasNext : Bytes → List Item → List Part → Type 0
