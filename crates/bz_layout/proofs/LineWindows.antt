@@ -123,9 +123,11 @@ pub depth_turn : (ws : List Window) (k : ℕ) (d : Window) (xs come past : List 
     come ≡ take (get_or ws k d).come (drop (get_or ws k d).from xs) → past ≡ drop ((get_or ws k d).from + (get_or ws k d).come) xs →
     AreWithin (drop (k + 1) ws) past × (depth_items (come_items (drop k ws) xs) ≡ max (depth_items come) (depth_items (come_items (drop (k + 1) ws) past)))
 depth_turn ws k d xs come past h w is_come is_past =
-    rw (is_come, is_past) ((within_next ws k d xs h w).1,
-    ap (λ vs. depth_items (come_items vs xs)) (drop_more ws k d h) ∙
-    depth_append (take (get_or ws k d).come (drop (get_or ws k d).from xs)) (come_items (drop (k + 1) ws) (drop ((get_or ws k d).from + (get_or ws k d).come) xs)))
+    rw (is_come, is_past) (
+      (within_next ws k d xs h w).1,
+      ap (λ vs. depth_items (come_items vs xs)) (drop_more ws k d h) ∙
+          depth_append (take (get_or ws k d).come (drop (get_or ws k d).from xs)) (come_items (drop (k + 1) ws) (drop ((get_or ws k d).from + (get_or ws k d).come) xs)),
+    )
 
 -- what came is among all
 come_below : (ws : List Window) (xs : List Item) → depth_items (come_items ws xs) ≤ depth_items xs

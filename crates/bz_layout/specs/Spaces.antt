@@ -1,6 +1,5 @@
 -- The single spaces of the layout, given by a part and the one after it: their kinds, or their tokens.
 use Rattle.std.specs.Prelude.{ℕ, Bool, true, false, not, ◌&&◌, ◌||◌, List, [], ◌∷◌, codes, bytes_eq}
-use Rattle.bz_token.specs.declared.class.Class.{Class}
 use Rattle.bz_token.specs.declared.class.Class.TheVariants as c
 use Rattle.bz_token.specs.Lexemes.{in_table}
 use Rattle.bz_grammar.specs.declared.kind.Kind.{Kind}

@@ -35,6 +35,7 @@ fn is_dot(form: &Form) -> bool
 }
 
 /// The form that a row begins with, where it is of names joined by dots and tokens alone follow.
+#[tactic(auto, using(crate::proofs::JoinedNames::front_row, crate::proofs::JoinedNames::front_is_less))]
 fn front_of(form: &Form) -> Option<&Form>
     ensures row { IfSome result (λ front. (margin : ℕ) → row_written margin form.now ≡ row_written margin front.now ++ past_front margin form.now) }
     ensures less { IfSome result (λ front. fronts (e.Form front.now) < fronts (e.Form form.now)) }

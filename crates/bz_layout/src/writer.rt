@@ -61,6 +61,7 @@ pub struct Writer {
 }
 
 /// A writer at the beginning of a tree.
+#[tactic(auto, using(crate::proofs::Staying::begun))]
 pub fn new_writer(alloc: Global) -> Writer
     ensures { (before items : List Item) → IsProper items → AreReached (lines_from [] before) (lines_from [] items) result before items }
 {
@@ -240,6 +241,7 @@ fn advance(
 }
 
 /// The end of the file, which is put again where its gap is another.
+#[tactic(auto, using(crate::proofs::Staying::end_same, crate::proofs::Staying::end_put))]
 fn put_end(writer: &mut Writer, parts: &[Part]) -> Result<(), Memory>
     ensures { OnOk result ((all : List Part) → AreReached parts.now all writer.old [] [] → (left : List Part) × IsAt parts.now all writer.new left left) }
 {
