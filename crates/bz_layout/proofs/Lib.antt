@@ -16,7 +16,6 @@ pub mod LinesBack
 pub mod Loops
 pub mod Made
 pub mod Margins
-pub mod MarkSpaces
 pub mod Measured
 pub mod Neighbours
 pub mod PlainRows

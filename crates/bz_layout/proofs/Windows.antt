@@ -87,8 +87,3 @@ pub gap_next : (gap : Bytes) (from : ℕ) (xs : List Item) (k : ℕ) (d : Item) 
 gap_next gap from xs k d g h =
     let one : from - k ≡ suc (from - (k + 1)) = omega arith in
     ap (λ ys. statement_gap gap (from - k) ys) (drop_more xs k d h) ∙ ap (λ n. statement_gap gap n (get_or xs k d ∷ drop (k + 1) xs)) one
-
-pub gap_found : (gap : Bytes) (from k : ℕ) (xs : List Item) (all : Bytes) → from ≤ k → statement_gap gap (from - k) xs ≡ all → gap ≡ all
-gap_found gap from k xs all h e =
-    let none : 0 ≡ from - k = omega arith in
-    ap (λ n. statement_gap gap n xs) none ∙ e

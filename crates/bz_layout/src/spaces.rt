@@ -29,18 +29,22 @@ fn is_prefix(kind: Kind, mark: &[u8]) -> bool
     }
 }
 
-/// Whether the colon in a row of the kind has a space after it.
-fn is_colon_spaced(kind: Kind) -> bool
-    ensures { result ≡ spaces.is_colon_spaced kind }
-{
-    matches!(kind, Kind::Entry | Kind::Lambda)
-}
-
 /// Whether the mark of a row of the kind has no space at either side.
 fn is_tight(kind: Kind, mark: &[u8]) -> bool
     ensures { result ≡ spaces.is_tight kind mark.now }
 {
     is_lone_mark(mark) || matches!(mark, b".") || is_prefix(kind, mark)
+}
+
+/// Whether a space is after the mark in a row of the kind.
+fn is_mark_spaced(kind: Kind, mark: &[u8]) -> bool
+    ensures { result ≡ spaces.space_after kind (shapes.this Class.Mark mark.now) }
+{
+    match mark {
+        b"," => true,
+        b":" => matches!(kind, Kind::Entry | Kind::Lambda),
+        _ => !is_tight(kind, mark),
+    }
 }
 
 /// Whether a space is after the expression.
@@ -52,11 +56,7 @@ fn has_space_after(kind: Kind, expr: &Expr) -> bool
     };
     let text = token.text.as_slice();
     match token.class {
-        Class::Mark => {
-            matches!(text, b",")
-                || matches!(text, b":") && is_colon_spaced(kind)
-                || !is_tight(kind, text)
-        }
+        Class::Mark => is_mark_spaced(kind, text),
         Class::Keyword => !matches!(text, b"load"),
         _ => false,
     }

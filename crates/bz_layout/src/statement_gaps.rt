@@ -43,7 +43,7 @@ pub fn leave_gap(gap: &mut Vec<u8>, item: &Item, others: &[Item]) -> Result<(), 
 }
 
 /// Makes of the gap before the first of the items the one before what follows this many. The error: a growth was refused.
-#[tactic(auto, using(crate::proofs::Windows::gap_next, crate::proofs::Windows::gap_found))]
+#[tactic(auto, using(crate::proofs::Windows::gap_next))]
 pub fn pass_over(gap: &mut Vec<u8>, items: &[Item], count: usize) -> Result<(), Memory>
     requires { count ≤ length items.now }
     ensures { OnOk result (gap.new.items ≡ windows.statement_gap gap.old.items count items.now) }
