@@ -59,11 +59,13 @@ module _ {A : Type 0} (seen : Expr → A) (outside : IsOutside seen) where
       by_test (λ y. seen y ≡ seen x) (has_kind k.Load x) (with_items (on_rest (sort_by symbol_precedes) (items_of x)) x) x
       (outside.items (on_rest (sort_by symbol_precedes) (items_of x)) x) refl
 
+  pub passes_stay : Stays after_passes
+  passes_stay x =
+      symbols_stay (arguments_in (lists_in (labels_in (quotes_in x))))
+      ∙ (arguments_stay (lists_in (labels_in (quotes_in x))) ∙ (lists_stay (labels_in (quotes_in x)) ∙ (labels_stay (quotes_in x) ∙ outside.strings x)))
+
   pub taken_stays : Stays (taken after_passes)
-  taken_stays x =
-      by_test (λ y. seen y ≡ seen x) (any_marked leave_alone (above x)) x (after_passes x) refl
-      (symbols_stay (arguments_in (lists_in (labels_in (quotes_in x))))
-      ∙ (arguments_stay (lists_in (labels_in (quotes_in x))) ∙ (lists_stay (labels_in (quotes_in x)) ∙ (labels_stay (quotes_in x) ∙ outside.strings x))))
+  taken_stays x = by_test (λ y. seen y ≡ seen x) (any_marked leave_alone (above x)) x (after_passes x) refl (passes_stay x)
 
 -- ---- passes in turn
 

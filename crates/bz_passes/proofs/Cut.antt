@@ -1,11 +1,18 @@
 -- Runs: what no item passes cuts a list, and each piece is sorted by itself.
 use Rattle.std.proofs.Common.{ℕ, ◌+◌, ◌-◌, ◌<◌, ◌≤◌, Bool, true, false, ◌&&◌, List, [], ◌∷◌, ◌++◌, ◌≡◌, refl, sym, ap, ap₂, ◌∙◌, subst, inl, inr, if◌then◌else◌, arith, length, take, drop, get_or, slice_range, append_assoc, drop-drop, drop_at, length-append, length-take-le, take-append-drop, take_at}
+use borrow.Rule.Slice.PartMut.{put_mid}
 use Rattle.std.proofs.lemmas.List.{drop_more}
 use Rattle.std.proofs.lemmas.List.Edits.{length-between}
 use Rattle.std.specs.List.{AllByRecursion}
 use Rattle.std.proofs.lemmas.Bool.{cases_Bool, and_right, and_left}
 use Rattle.bz_passes.specs.Orders.{insert_by, sort_by}
 use Rattle.bz_passes.proofs.Sorting.{compared, sort_all, sort_length}
+
+-- what a slice of a list became, in the list
+pub put_there : {X : Type 0} (from at : ℕ) (items ys new : List X) → from ≤ at → ys ≡ new → put_mid from (at - from) items ys ≡ take from items ++ new ++ drop at items
+put_there from at items ys new a e =
+    let stop : from + (at - from) ≡ at = omega (arith, a) in
+    ap₂ (λ zs z. take from items ++ (zs ++ z)) e (drop-drop (at - from) from items ∙ ap (λ k. drop k items) stop) ∙ sym (append_assoc (take from items) new (drop at items))
 
 module _ {X : Type 0} (lt : X → X → Bool) (bar : X) (before : (x : X) → lt bar x ≡ false) (following : (x : X) → lt x bar ≡ false) where
   insert_bar : (ys : List X) → insert_by lt bar ys ≡ bar ∷ ys
@@ -44,10 +51,10 @@ module _ {X : Type 0} (p : X → Bool) (lt : X → X → Bool) where
   none_yet items at = let none : 0 ≡ at - at = omega arith in subst (λ n. AllByRecursion (λ y. p y ≡ true) (take n (drop at items))) none tt
 
   -- the item after a run ends it, and the run was sorted
-  pub run_out : (items new whole : List X) (from at : ℕ) (x : X) → from ≤ at → at < length items → x ≡ get_or items at x → p x ≡ false
-      → new ≡ take from items ++ sort_by (compared p lt) (slice_range items from at) ++ drop at items
-      → take from items ++ sort_by (compared p lt) (drop from items) ≡ whole → take (at + 1) new ++ sort_by (compared p lt) (drop (at + 1) new) ≡ whole
-  run_out items new whole from at x a b is f n h =
+  pub run_out : (items ys whole : List X) (from at : ℕ) (x : X) → from ≤ at → at < length items → x ≡ get_or items at x → p x ≡ false
+      → ys ≡ sort_by (compared p lt) (slice_range items from at) → take from items ++ sort_by (compared p lt) (drop from items) ≡ whole
+      → take (at + 1) (put_mid from (at - from) items ys) ++ sort_by (compared p lt) (drop (at + 1) (put_mid from (at - from) items ys)) ≡ whole
+  run_out items ys whole from at x a b is f n h =
       let run : List X = slice_range items from at in
       let left : List X = drop (at + 1) items in
       let sorted : List X = sort_by (compared p lt) run in
@@ -59,8 +66,8 @@ module _ {X : Type 0} (p : X → Bool) (lt : X → X → Bool) where
       let before : length (take from items) ≡ from = length-take-le from items (omega (arith, a, b)) in
       let many : length front ≡ at + 1 =
       omega (arith, sum, before, length-append (take from items ++ sorted) (x ∷ []), length-append (take from items) sorted, sort_length (compared p lt) run, length-between items from at (omega (arith, b))) in
-      let parts : new ≡ front ++ left =
-      n ∙ (ap (λ z. take from items ++ sorted ++ z) rest ∙ sym (append_assoc (take from items ++ sorted) (x ∷ []) left)) in
+      let parts : put_mid from (at - from) items ys ≡ front ++ left =
+      put_there from at items ys sorted a n ∙ (ap (λ z. take from items ++ sorted ++ z) rest ∙ sym (append_assoc (take from items ++ sorted) (x ∷ []) left)) in
       ap (λ z. take (at + 1) z ++ sort_by (compared p lt) (drop (at + 1) z)) parts
       ∙ (ap₂ (λ z zs. z ++ sort_by (compared p lt) zs) (take_at front left (at + 1) many) (drop_at front left (at + 1) many)
       ∙ (append_assoc (take from items ++ sorted) (x ∷ []) (sort_by (compared p lt) left)

@@ -1,6 +1,6 @@
 -- One turn of a loop that changes each item of a list in its place: those before are changed, the others are as they were.
-use Rattle.std.proofs.Common.{ℕ, ◌≡◌, ◌<◌, ◌≤◌, ◌+◌, List, [], ◌∷◌, ◌++◌, length, get_or, take, drop, set, map, sym, ap, ◌∙◌, arith, append_assoc, length-set, drop-set-lt, get_or-set_other}
-use Rattle.std.proofs.lemmas.List.{drop_more, take_more_set}
+use Rattle.std.proofs.Common.{ℕ, ◌≡◌, ◌<◌, ◌≤◌, ◌+◌, List, [], ◌∷◌, ◌++◌, length, get_or, take, drop, set, map, sym, ap, ap₂, ◌∙◌, arith, append_assoc, append-nil, length-set, drop-set-lt, get_or-set_other}
+use Rattle.std.proofs.lemmas.List.{drop_all, drop_more, take_all, take_more_set}
 
 module _ {A : Type 0} (f : A → A) where
   -- before the turn and after it, the list is changed to the same
@@ -12,6 +12,10 @@ module _ {A : Type 0} (f : A → A) where
       ∙ (append_assoc (take k items) (y ∷ []) (map f (drop (k + 1) items))
       ∙ (ap (λ z. take k items ++ z ∷ map f (drop (k + 1) items)) is
       ∙ ap (λ rest. take k items ++ map f rest) (sym (drop_more items k d h)))))
+
+  -- after the last turn
+  pub all_turned : (items target : List A) (k : ℕ) → length items ≤ k → take k items ++ map f (drop k items) ≡ target → items ≡ target
+  all_turned items target k h e = sym (append-nil items) ∙ (ap₂ (λ front rest. front ++ map f rest) (sym (take_all k items h)) (sym (drop_all k items h)) ∙ e)
 
   pub each_turn : (items whole target : List A) (k : ℕ) (d y : A) → k < length whole → y ≡ f (get_or items k d) →
       ((length items ≡ length whole) × ((j : ℕ) (e : A) → k ≤ j → get_or items j e ≡ get_or whole j e)) × (take k items ++ map f (drop k items) ≡ target) →

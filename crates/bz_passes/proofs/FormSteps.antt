@@ -1,5 +1,5 @@
 -- What the definitions make of a form, said of its lists.
-use Rattle.std.proofs.Common.{suc, ◌≡◌, Bool, List, [], map, ap, sym, ◌∙◌, refl, if◌then◌else◌}
+use Rattle.std.proofs.Common.{suc, ◌≡◌, Bool, true, false, List, [], map, ap, sym, ◌∙◌, refl, if◌then◌else◌}
 use Rattle.bz_grammar.specs.declared.kind.Kind.{Kind}
 use Rattle.bz_grammar.specs.declared.kind.Kind.TheVariants as k
 use Rattle.bz_grammar.specs.Shapes.{is_kind}
@@ -10,7 +10,7 @@ use Rattle.bz_value.specs.Frames.{Frame, row, sequence, frame, has_brackets}
 use Rattle.bz_items.specs.Characters.{Bytes}
 use Rattle.bz_layout.specs.Flags.{settled_split, with_flags}
 use Rattle.bz_layout.specs.Layout.{is_broken}
-use Rattle.bz_rule.specs.Values.{with_parts, with_items, on_row, on_items}
+use Rattle.bz_rule.specs.Values.{with_parts, with_items, on_row, on_items, on_lists}
 use Rattle.bz_rule.specs.private.Named.{fronts, fronts_among}
 use Rattle.bz_rule.proofs.Forms.{fronts_Form}
 use Rattle.bz_passes.specs.Passes.{quotes_in}
@@ -30,6 +30,15 @@ pub sequence_Form : (kind : Kind) (change : List Expr → List Expr) (f : Form) 
 sequence_Form kind change f =
     ap (λ (x : Expr). if is_kind f.kind kind then x else e.Form f)
     (ap (λ xs. with_items (change xs) (e.Form f)) (items_are f) ∙ ap (λ parts. in_form f parts (change f.seq.items) f.seq.split) (parts_are f))
+
+by_both : {X : Type 0} (b : Bool) (x y z w v : X) → x ≡ (if b then y else w) → z ≡ v → (if b then x else z) ≡ (if b then y else v)
+by_both true x y z w v here there = here
+by_both false x y z w v here there = there
+
+pub lists_by_kind : (change : List Expr → List Expr) (f : Form) → on_lists change (e.Form f)
+    ≡ (if is_kind f.kind k.Sum then in_form f (map (on_items k.List change) f.parts) f.seq.items f.seq.split
+    else (if is_kind f.kind k.List then in_form f f.parts (change f.seq.items) f.seq.split else e.Form f))
+lists_by_kind change f = by_both (is_kind f.kind k.Sum) _ _ _ (e.Form f) _ (row_Form k.Sum (map (on_items k.List change)) f) (sequence_Form k.List change f)
 
 -- ---- flags of a form, by its kind
 

@@ -22,6 +22,28 @@ module _ {X : Type 0} where
   pub same_after : (x y : X) (xs ys : List X) → x ∷ xs ≡ y ∷ ys → xs ≡ ys
   same_after x y xs ys e = cc
 
+  -- ---- changes one after the other
+  pub maps_composed : (f g h : X → X) → ((x : X) → g (f x) ≡ h x) → (xs : List X) → map g (map f xs) ≡ map h xs
+  maps_composed f g h p [] = refl
+  maps_composed f g h p (x ∷ xs) = both (λ z zs. z ∷ zs) (p x) (maps_composed f g h p xs)
+
+  pub first_composed : (f g h : X → X) → ((x : X) → g (f x) ≡ h x) → (xs : List X) → on_first g (on_first f xs) ≡ on_first h xs
+  first_composed f g h p [] = refl
+  first_composed f g h p (x ∷ xs) = ap (λ z. z ∷ xs) (p x)
+
+  pub third_composed : (f g h : X → X) → ((x : X) → g (f x) ≡ h x) → (xs : List X) → on_third g (on_third f xs) ≡ on_third h xs
+  third_composed f g h p [] = refl
+  third_composed f g h p (x ∷ []) = refl
+  third_composed f g h p (x ∷ y ∷ []) = refl
+  third_composed f g h p (x ∷ y ∷ z ∷ zs) = ap (λ w. x ∷ y ∷ w ∷ zs) (p z)
+
+  pub test_composed : (t : X → Bool) (f g p q v w : X → X) → ((x : X) → t (f x) ≡ t x) → ((x : X) → t (g x) ≡ t x) → ((x : X) → p (f x) ≡ v x) → ((x : X) → q (g x) ≡ w x)
+      → (x : X) → (λ (y : X). if t y then p y else q y) (if t x then f x else g x) ≡ (if t x then v x else w x)
+  test_composed t f g p q v w tf tg first other x = elim (cases_Bool (t x)) [
+    | inl is ↦ rw (is, tf x, is) (first x)
+    | inr not ↦ rw (not, tg x, not) (other x)
+  ]
+
   -- ---- lists
   pub all_joined : (P : X → Type 0) (xs ys : List X) → AllByRecursion P xs → AllByRecursion P ys → AllByRecursion P (xs ++ ys)
   all_joined P [] ys h i = i
@@ -34,10 +56,6 @@ module _ {X : Type 0} where
   pub map_settles : (p : X → X) → Settles p → Settles (map p)
   map_settles p h [] = refl
   map_settles p h (x ∷ xs) = both (λ z zs. z ∷ zs) (h x) (map_settles p h xs)
-
-  pub first_keeps : (f p : X → X) → Keeps f p → Keeps (on_first f) (on_first p)
-  first_keeps f p h [] e = refl
-  first_keeps f p h (x ∷ xs) e = ap (λ z. z ∷ xs) (h x (same_first (p x) x xs xs e))
 
   pub first_settles : (p : X → X) → Settles p → Settles (on_first p)
   first_settles p h [] = refl
@@ -63,10 +81,6 @@ module _ {X : Type 0} where
   map_keeps_after q g h [] e = refl
   map_keeps_after q g h (x ∷ xs) e = ap (λ z. q x ∷ z) (h xs (same_after x x (g xs) xs e))
 
-  pub after_keeps : (g p : List X → List X) → Keeps g p → Keeps (on_rest g) (on_rest p)
-  after_keeps g p h [] e = refl
-  after_keeps g p h (x ∷ xs) e = ap (λ z. x ∷ z) (h xs (same_after x x (p xs) xs e))
-
   -- the third is the first after two
   third_at : (f : X → X) (xs : List X) → on_third f xs ≡ on_rest (on_rest (on_first f)) xs
   third_at f [] = refl
@@ -76,10 +90,6 @@ module _ {X : Type 0} where
 
   pub third_is : (f : X → X) → on_rest (on_rest (on_first f)) ≡ on_third f
   third_is f = fun_ext (λ xs. sym (third_at f xs))
-
-  pub third_keeps : (f p : X → X) → Keeps f p → Keeps (on_third f) (on_third p)
-  third_keeps f p h =
-      subst (λ g. Keeps g (on_third p)) (third_is f) (subst (Keeps (on_rest (on_rest (on_first f)))) (third_is p) (after_keeps _ _ (after_keeps _ _ (first_keeps f p h))))
 
   pub third_settles : (p : X → X) → Settles p → Settles (on_third p)
   third_settles p h = subst Settles (third_is p) (after_settles _ (after_settles _ (first_settles p h)))
@@ -91,12 +101,6 @@ module _ {X : Type 0} where
   map_keeps_third q p h = subst (Keeps (map q)) (third_is p) (map_keeps_after q _ (map_keeps_after q _ (map_keeps_first q p h)))
 
   -- ---- by a test
-  pub test_keeps : (t : X → Bool) (f g p r : X → X) → ((x : X) → t (f x) ≡ t x) → ((x : X) → t (g x) ≡ t x) → Keeps f p → Keeps g r → Keeps (λ x. if t x then f x else g x) (λ x. if t x then p x else r x)
-  test_keeps t f g p r a b u v x e = elim (cases_Bool (t x)) [
-    | inl w ↦ let e' = rw w at e in rw (w, a x, w) (u x e')
-    | inr w ↦ let e' = rw w at e in rw (w, b x, w) (v x e')
-  ]
-
   pub test_settles : (t : X → Bool) (p r : X → X) → ((x : X) → t (p x) ≡ t x) → ((x : X) → t (r x) ≡ t x) → Settles p → Settles r → Settles (λ x. if t x then p x else r x)
   test_settles t p r a b u v x = elim (cases_Bool (t x)) [
     | inl w ↦ rw (w, a x, w) (u x)

@@ -1,5 +1,6 @@
 -- Changes at one place of the nodes of one kind.
-use Rattle.std.proofs.Common.{true, false, List, ◌≡◌, refl, sym, ap, ◌∙◌, map, if◌then◌else◌}
+use Rattle.std.proofs.Common.{true, false, List, ◌≡◌, refl, sym, ap, ◌∙◌, map, inl, inr, if◌then◌else◌}
+use Rattle.std.proofs.lemmas.Bool.{cases_Bool}
 use Rattle.bz_grammar.specs.declared.kind.Kind.{Kind}
 use Rattle.bz_value.specs.declared.value.Expr.{Expr}
 use Rattle.bz_value.specs.Comments.{HostComments}
@@ -30,6 +31,16 @@ module _ (place : Place) where
       at_kind kind g (place.put ys x) (place.same_kind kind ys x ∙ h)
       ∙ (ap (λ zs. place.put (g zs) (place.put ys x)) (place.filled kind ys x h) ∙ place.twice (g ys) ys x)
 
+  -- two changes of which the first is not seen by the second
+  pub within_composed : (kind : Kind) (c d whole : Expr → List Expr → List Expr) → ((x : Expr) → has_kind kind x ≡ true → d (place.put (c x (place.get x)) x) ≡ d x)
+      → ((x : Expr) (ys : List Expr) → d x (c x ys) ≡ whole x ys) → (x : Expr) → within kind d (within kind c x) ≡ within kind whole x
+  within_composed kind c d whole steady h x = elim (cases_Bool (has_kind kind x)) [
+    | inl t ↦ ap (within kind d) (at_kind kind (c x) x t)
+        ∙ (ap (λ g. on_kind kind g (place.put (c x (place.get x)) x)) (steady x t)
+        ∙ (at_again kind (d x) (c x (place.get x)) x t ∙ (ap (λ ys. place.put ys x) (h x (place.get x)) ∙ sym (at_kind kind (whole x) x t))))
+    | inr f ↦ ap (within kind d) (at_other kind (c x) x f) ∙ (at_other kind (d x) x f ∙ sym (at_other kind (whole x) x f))
+  ]
+
   left : (kind : Kind) (g : List Expr → List Expr) (x : Expr) → has_kind kind x ≡ true → on_kind kind g x ≡ x → g (place.get x) ≡ place.get x
   left kind g x h e = sym (place.filled kind (g (place.get x)) x h) ∙ ap place.get (sym (at_kind kind g x h) ∙ e)
 
@@ -45,9 +56,6 @@ module _ (place : Place) where
   stays_within kind c d steady x there =
       by_case (λ y. within kind d y ≡ y) (has_kind kind x) (place.put (c x (place.get x)) x) x
       (λ t. ap (λ g. on_kind kind g (place.put (c x (place.get x)) x)) (steady x t) ∙ (at_again kind (d x) (c x (place.get x)) x t ∙ ap (λ ys. place.put ys x) (there t)))
-
-  pub within_keeps : (kind : Kind) (c d : Expr → List Expr → List Expr) → ((x : Expr) → has_kind kind x ≡ true → d (place.put (c x (place.get x)) x) ≡ d x) → ((x : Expr) → Keeps (c x) (d x)) → Keeps (within kind c) (within kind d)
-  within_keeps kind c d steady h x e = stays_within kind c d steady x (λ t. h x (place.get x) (left kind (d x) x t e)) (λ f. e)
 
   pub within_settles : (kind : Kind) (d : Expr → List Expr → List Expr) → ((x : Expr) → has_kind kind x ≡ true → d (place.put (d x (place.get x)) x) ≡ d x) → ((x : Expr) → Settles (d x)) → Settles (within kind d)
   within_settles kind d steady h x = stays_within kind d d steady x (λ t. h x (place.get x)) (at_other kind (d x) x)

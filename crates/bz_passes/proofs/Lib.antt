@@ -1,10 +1,8 @@
 pub mod TextSteps
 pub mod FormSteps
-pub mod WalkSteps
 pub mod EachChanged
 pub mod Keeping
 pub mod Sorting
-pub mod Following
 pub mod Parts
 pub mod Passing
 pub mod Levels
@@ -16,6 +14,7 @@ pub mod Strung
 pub mod Inner
 pub mod RuleKinds
 pub mod Places
+pub mod OneWalk
 pub mod Settling
 pub mod Pieces
 pub mod Joining

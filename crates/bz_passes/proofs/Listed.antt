@@ -1,12 +1,10 @@
 -- The items of one list, sorted: sorted again they stay; what is kept of them; flags are not seen.
-use Rattle.std.proofs.Common.{ℕ, suc, ◌+◌, ◌-◌, ◌<◌, Bool, true, false, not, ◌&&◌, ◌||◌, List, [], ◌∷◌, ◌++◌, ◌≡◌, refl, sym, ap, subst, ◌∙◌, length, take, drop, get_or, map, inl, inr, arith, drop_at, take_at, length-append, length-drop, length-take-le, take-append-drop}
+use Rattle.std.proofs.Common.{ℕ, suc, ◌+◌, ◌-◌, ◌<◌, Bool, true, false, not, ◌&&◌, ◌||◌, List, [], ◌∷◌, ◌++◌, ◌≡◌, refl, sym, ap, subst, ◌∙◌, length, take, drop, get_or, map, if◌then◌else◌, inl, inr, arith, drop_at, take_at, length-append, length-drop, length-take-le, take-append-drop}
 use Rattle.std.proofs.lemmas.Bool.{cases_Bool, and_right, false_from_ne_true, true_from_ne_false, true≢false}
 use Rattle.std.proofs.lemmas.Slice.Eq.{bytes_eq-Decides}
-use Rattle.std.specs.List.{list_any, list_all, AllByRecursion, AllAdjacentBelow, IsAllAdjacentAnswer, slice_rotate_right}
-use Rattle.std.specs.Fn.{Called, ComputesOnPairs}
-use Rattle.std.proofs.lemmas.List.Sorted.{answers_always}
-use denote.Ref.{Bor}
-use denote.Param.Members.{Mut}
+use Rattle.std.proofs.Math.Path.{fun_ext}
+use Rattle.std.specs.Bool.{beq}
+use Rattle.std.specs.List.{filter, list_any, list_all, AllByRecursion, slice_rotate_right}
 use Rattle.std.specs.Ordering.{is_lt}
 use Rattle.bz_label.specs.Keys.{key_order}
 use Rattle.std.specs.Cmp.{IsStrictWeakOrder}
@@ -123,19 +121,7 @@ sorted_fine (x ∷ xs) =
 precedes_texts : IsStrictWeakOrder (λ (s t : Bytes). is_lt (key_order (between s) (between t)))
 precedes_texts = ranks_by key_total between
 
-one_after : (k : ℕ) → suc k + 1 ≡ suc (k + 1)
-one_after k = omega arith
-
-climbs : (xs : List Expr) → AllAdjacentBelow (λ x y. true ≡ precedes x y) xs (length xs) → Climbs xs
-climbs [] h = tt
-climbs (x ∷ []) h = tt
-climbs (x ∷ y ∷ ys) h = (
-  sym (h 0 x (omega arith)),
-  climbs (y ∷ ys) (λ k d l.
-      subst (λ i. true ≡ precedes (get_or (y ∷ ys) k d) (get_or (x ∷ y ∷ ys) i d)) (one_after k) (h (suc k) d (omega arith))),
-)
-
-climbs_rises : (xs : List Expr) → Climbs xs → Rises precedes xs
+climbs_rises : (xs : List Expr) → Climbs precedes xs → Rises precedes xs
 climbs_rises [] c = tt
 climbs_rises (x ∷ []) c = (tt, tt)
 climbs_rises (x ∷ y ∷ ys) c =
@@ -143,7 +129,7 @@ climbs_rises (x ∷ y ∷ ys) c =
     let first : precedes y x ≡ false = item_ranks.one_way x y c.0 in
     ((first, after_too precedes item_ranks y x ys first rest.0), rest)
 
-climbs_ordered : (xs : List Expr) → Climbs xs → Ordered precedes xs
+climbs_ordered : (xs : List Expr) → Climbs precedes xs → Ordered precedes xs
 climbs_ordered xs c = ordered xs (climbs_rises xs c)
 
 -- these texts come before the item
@@ -169,44 +155,34 @@ is_new (t ∷ ts) x a = rw (other_text t x a.0) (is_new ts x a.1)
 kept_new : (earlier : List Bytes) (x : Expr) → Below earlier x → is_repeated earlier x ≡ false
 kept_new earlier x a = ap (λ b. has_no_comment x && b) (is_new earlier x a) ∙ and_right (has_no_comment x) false refl
 
-climbs_clean : (earlier : List Bytes) (x : Expr) (xs : List Expr) → Below earlier x → Climbs (x ∷ xs) → Clean earlier (x ∷ xs)
+climbs_clean : (earlier : List Bytes) (x : Expr) (xs : List Expr) → Below earlier x → Climbs precedes (x ∷ xs) → Clean earlier (x ∷ xs)
 climbs_clean earlier x [] a c = (kept_new earlier x a, tt)
 climbs_clean earlier x (y ∷ ys) a c = (kept_new earlier x a, climbs_clean (text_of x ∷ earlier) y ys (c.0, still_below earlier x y a c.0) c.1)
 
-climbs_fine : (xs : List Expr) → Climbs xs → Fine xs
+climbs_fine : (xs : List Expr) → Climbs precedes xs → Fine xs
 climbs_fine [] c = record { rising = tt; clean = tt }
 climbs_fine (x ∷ xs) c = record { rising = climbs_rises (x ∷ xs) c; clean = climbs_clean [] x xs tt c }
 
-answered : (xs : List Expr) (r : Bool) → IsAllAdjacentAnswer (λ x y b. b ≡ precedes x y) xs r → r ≡ true → Climbs xs
-answered xs true h e = climbs xs h
-answered xs false h e = absurd (true≢false (sym e))
-
-pub rising_climbs : {F : Type 0} {g : Mut F (Bor Expr × (Bor Expr × Unit {0})) Bool} {f : F} (xs : List Expr) (r : Bool)
-    → ((e : Expr → Expr → Bool) → ComputesOnPairs g e f → IsAllAdjacentAnswer (λ x y b. b ≡ e x y) xs r)
-    → ((h : F) (a : Bor Expr × (Bor Expr × Unit {0})) (b : Bool) (h' : F) → Called g h a b h' → b ≡ precedes a.0.now a.1.0.now)
-    → r ≡ true → Climbs xs
-rising_climbs {F} {g} {f} xs r s k e = answered xs r (s precedes (answers_always g (λ a b. b ≡ precedes a.0.now a.1.0.now) f k)) e
-
 -- a list that rises stays, whether it is taken or not
-pub rising_settled : (outside : List Bytes) (b : Bool) (xs : List Expr) → Climbs xs → settled_list outside b xs ≡ xs
+pub rising_settled : (outside : List Bytes) (b : Bool) (xs : List Expr) → Climbs precedes xs → settled_list outside b xs ≡ xs
 rising_settled outside b xs c = by_test (λ ys. ys ≡ xs) (is_taken outside b xs) (sorted xs) xs (fine_stays xs (climbs_fine xs c)) refl
 
 -- ---- a list that rises once its last item is moved to another place
 
-climbs_over : (x y : Expr) (ys : List Expr) → Climbs (x ∷ y ∷ ys) → Climbs (x ∷ ys)
+climbs_over : (x y : Expr) (ys : List Expr) → Climbs precedes (x ∷ y ∷ ys) → Climbs precedes (x ∷ ys)
 climbs_over x y [] c = tt
 climbs_over x y (z ∷ zs) c = (still_before (text_of x) y z c.0 c.1.0, c.1.1)
 
-climbs_rest : (x : Expr) (xs : List Expr) → Climbs (x ∷ xs) → Climbs xs
+climbs_rest : (x : Expr) (xs : List Expr) → Climbs precedes (x ∷ xs) → Climbs precedes xs
 climbs_rest x [] c = tt
 climbs_rest x (y ∷ ys) c = c.1
 
-last_raised : (later : List Expr) (x : Expr) → Climbs (x ∷ later) → sort_by precedes (later ++ x ∷ []) ≡ x ∷ later
+last_raised : (later : List Expr) (x : Expr) → Climbs precedes (x ∷ later) → sort_by precedes (later ++ x ∷ []) ≡ x ∷ later
 last_raised [] x c = refl
 last_raised (y ∷ ys) x c =
     ap (insert_by precedes y) (last_raised ys x (climbs_over x y ys c)) ∙ rw c.0 (ap (λ zs. x ∷ zs) (insert_starts precedes y ys (climbs_ordered (y ∷ ys) c.1).0))
 
-front_raised : (front later : List Expr) (x : Expr) → Climbs (front ++ x ∷ later) → sort_by precedes (front ++ (later ++ x ∷ [])) ≡ front ++ x ∷ later
+front_raised : (front later : List Expr) (x : Expr) → Climbs precedes (front ++ x ∷ later) → sort_by precedes (front ++ (later ++ x ∷ [])) ≡ front ++ x ∷ later
 front_raised [] later x c = last_raised later x c
 front_raised (y ∷ front) later x c =
     ap (insert_by precedes y) (front_raised front later x (climbs_rest y (front ++ x ∷ later) c)) ∙ insert_starts precedes y (front ++ x ∷ later) (climbs_ordered (y ∷ front ++ x ∷ later) c).0
@@ -226,13 +202,13 @@ rotated later x =
     both (λ a b. a ++ b) (drop_at later (x ∷ []) (length (later ++ x ∷ []) - 1) size) (take_at later (x ∷ []) (length (later ++ x ∷ []) - 1) size)
 
 -- the last item of those from a place on goes first
-raised_apart : (front later : List Expr) (x : Expr) (old new : List Expr) → old ≡ front ++ (later ++ x ∷ []) → new ≡ front ++ slice_rotate_right (later ++ x ∷ []) 1 → Climbs new → new ≡ in_order old
+raised_apart : (front later : List Expr) (x : Expr) (old new : List Expr) → old ≡ front ++ (later ++ x ∷ []) → new ≡ front ++ slice_rotate_right (later ++ x ∷ []) 1 → Climbs precedes new → new ≡ in_order old
 raised_apart front later x old new own is c =
     let made : new ≡ front ++ x ∷ later = is ∙ ap (λ zs. front ++ zs) (rotated later x) in
-    let put : sort_by precedes old ≡ new = ap (sort_by precedes) own ∙ (front_raised front later x (subst Climbs made c) ∙ sym made) in
+    let put : sort_by precedes old ≡ new = ap (sort_by precedes) own ∙ (front_raised front later x (subst (Climbs precedes) made c) ∙ sym made) in
     sym (ap (without_repeats []) put ∙ clean_stays [] new (climbs_fine new c).clean)
 
-raised_there : (front back new old : List Expr) → 0 < length back → old ≡ front ++ back → new ≡ front ++ slice_rotate_right back 1 → Climbs new → new ≡ in_order old
+raised_there : (front back new old : List Expr) → 0 < length back → old ≡ front ++ back → new ≡ front ++ slice_rotate_right back 1 → Climbs precedes new → new ≡ in_order old
 raised_there front [] new old some own is c = absurd (omega (arith, some))
 raised_there front (y ∷ ys) new old some own is c =
     let apart : Apart (y ∷ ys) = last_apart y ys in
@@ -252,7 +228,7 @@ last_back at old mid new h is back =
     let later : drop at mid ≡ rest = ap (λ xs. drop at xs) is ∙ drop_at (take at old) rest at size in
     back ∙ (both (λ a b. a ++ (drop 1 b ++ take 1 b)) front later ∙ (ap (λ xs. take at old ++ xs) (rotated_back (drop at old) (omega (arith, h, length-drop at old))) ∙ take-append-drop at old))
 
-pub last_moved : (at : ℕ) (old new : List Expr) → at < length old → new ≡ take at old ++ slice_rotate_right (drop at old) 1 → Climbs new → new ≡ in_order old
+pub last_moved : (at : ℕ) (old new : List Expr) → at < length old → new ≡ take at old ++ slice_rotate_right (drop at old) 1 → Climbs precedes new → new ≡ in_order old
 last_moved at old new h is c = raised_there (take at old) (drop at old) new old (omega (arith, h, length-drop at old)) (sym (take-append-drop at old)) is c
 
 -- a list that neither the table names nor a comment may mark stays
@@ -261,31 +237,23 @@ untaken_stays outside b xs unnamed none bare =
     let untaken : is_taken outside b xs ≡ false = rw (unnamed, none, bare) (and_right (list_all (has_class c.String) xs) false refl) in
     rw untaken refl
 
--- ---- where no comment moves
+-- ---- comments that move
 
-own_above : (x : Expr) → with_above (above x) x ≡ x
-own_above (Token t) = refl
-own_above (Form' kind s parts s' items end split open_break comments) = refl
+as_true : (b : Bool) → beq true b ≡ b
+as_true true = refl
+as_true false = refl
 
-marked_by_none : (xs : List Expr) → marked_by [] xs ≡ xs
-marked_by_none [] = refl
-marked_by_none (x ∷ xs) = ap (λ y. y ∷ xs) (own_above x)
+as_false : (b : Bool) → beq false b ≡ not b
+as_false true = refl
+as_false false = refl
+
+pub marks_split : (marked : Bool) (comments : List Bytes) → filter (λ c. beq marked (is_marked keep_sorted c)) comments ≡ (if marked then keep_marks comments else other_comments comments)
+marks_split true comments = ap (λ p. filter p comments) (fun_ext (λ c. as_true (is_marked keep_sorted c)))
+marks_split false comments = ap (λ p. filter p comments) (fun_ext (λ c. as_false (is_marked keep_sorted c)))
 
 pub unpassed_in_order : (xs : List Expr) → is_passed xs ≡ false → sorted xs ≡ in_order xs
 unpassed_in_order [] h = refl
 unpassed_in_order (x ∷ xs) h = rw h refl
-
-bare_first : (xs : List Expr) → above_first xs ≡ [] → sorted xs ≡ in_order xs
-bare_first [] h = refl
-bare_first (x ∷ xs) h = elim (cases_Bool (list_any (λ y. precedes y x) xs)) [
-  | inl t ↦ rw t (ap (λ a. marked_by (keep_marks a) (in_order (with_above (other_comments a) x ∷ xs))) h
-      ∙ (marked_by_none (in_order (with_above [] x ∷ xs)) ∙ ap (λ y. in_order (y ∷ xs)) (ap (λ a. with_above a x) (sym h) ∙ own_above x)))
-  | inr f ↦ rw f refl
-]
-
-pub bare_in_order : (comments : List Bytes) (xs : List Expr) → comments ≡ above_first xs → length comments < 1 → sorted xs ≡ in_order xs
-bare_in_order [] xs e h = bare_first xs (sym e)
-bare_in_order (text ∷ texts) xs e h = absurd (omega arith)
 
 pub list_settles : (outside : List Bytes) (b : Bool) → Settles (settled_list outside b)
 list_settles outside b xs = elim (cases_Bool (is_taken outside b xs)) [

@@ -1,5 +1,5 @@
 -- Pieces of a file that no load is sorted across are tidied apart, and windows of a tidy file by themselves.
-use Rattle.std.proofs.Common.{◌||◌, ℕ, zero, suc, ◌+◌, ◌≤◌, Bool, true, false, ◌&&◌, inl, inr, List, [], ◌∷◌, ◌++◌, ◌≡◌, length, take, drop, refl, sym, ap, ◌∙◌, subst, arith}
+use Rattle.std.proofs.Common.{◌||◌, ℕ, zero, suc, ◌+◌, ◌≤◌, Bool, true, false, ◌&&◌, inl, inr, List, [], ◌∷◌, ◌++◌, ◌≡◌, length, take, drop, refl, sym, ap, ◌∙◌, subst, arith, map}
 use Rattle.std.proofs.Common.{append_assoc, append-nil, drop_at, length-append, length-drop, length-take-le, take-append-drop, take_at}
 use Rattle.std.proofs.Math.Seq.{take-add}
 use Rattle.std.proofs.lemmas.Bool.{cases_Bool, or_parts}
@@ -18,33 +18,23 @@ use Rattle.bz_passes.specs.Changes.{after_passes}
 use Rattle.bz_passes.specs.Joined.{TidiedAlone, begins_with_load, item_tidied}
 use Rattle.bz_passes.specs.Passes.{is_run_load, load_precedes, loads, path_precedes, on_statement, on_taken, taken, tidied}
 use Rattle.bz_passes.specs.private.Borders.{AreSetApart, AreTidied, any_touched, ends_with_load, tidied_over, touches}
-use Rattle.bz_passes.proofs.Composed.{above_outside, five_composed, kind_outside, taken_stays}
+use Rattle.bz_passes.proofs.Composed.{above_outside, kind_outside, taken_stays}
 use Rattle.bz_passes.proofs.Cut.{cut_at}
 use Rattle.bz_passes.proofs.Keeping.{both}
 use Rattle.bz_passes.proofs.ProperPasses.{tidied_proper}
-use Rattle.bz_passes.proofs.Settling.{IsFixed, tidied_fixed, statements_fixed, load_one_way, same_loose, unseen_load}
-use Rattle.bz_passes.proofs.Sorting.{Starts, Ordered, ordered_stays, sort_length, sort_ordered, sort_map}
+use Rattle.bz_passes.proofs.Settling.{by_items, each, each_settled, load_one_way, same_loose}
+use Rattle.bz_passes.proofs.Sorting.{Starts, Ordered, ordered_stays, sort_length, sort_ordered}
 
 -- ---- tidying by items
-
--- each item by itself
-abbrev pub each : List Item → List Item
-each items = flags (on_taken after_passes items)
-
-pub by_items : (items : List Item) → tidied items ≡ loads (each items)
-by_items items = ap (λ z. flags (loads z)) (five_composed items) ∙ sym (sort_map load_precedes item_with_flags unseen_load (on_taken after_passes items))
 
 pub tidied_alone : TidiedAlone
 tidied_alone item = by_items (item ∷ [])
 
 pub each_between : (front : List Item) (x : Item) (rest : List Item) → each (front ++ x ∷ rest) ≡ each front ++ item_tidied x ∷ each rest
-each_between front x rest =
-    ap flags (map-append (on_statement (taken after_passes)) front (x ∷ rest)) ∙ map-append item_with_flags (on_taken after_passes front) (on_taken after_passes (x ∷ rest))
+each_between front x rest = map-append item_tidied front (x ∷ rest)
 
 tidied_length : (items : List Item) → length (tidied items) ≡ length items
-tidied_length items =
-    ap length (by_items items)
-    ∙ (sort_length load_precedes (each items) ∙ (length-map (on_taken after_passes items) item_with_flags ∙ length-map items (on_statement (taken after_passes))))
+tidied_length items = ap length (by_items items) ∙ (sort_length load_precedes (each items) ∙ length-map items item_tidied)
 
 -- ---- an item that is not sorted cuts
 
@@ -121,10 +111,10 @@ pub record IsTidy (items : List Item) : Type 0 where
 
 pub tidy_is : (items : List Item) → tidied items ≡ items → IsTidy items
 tidy_is items t =
-    let fixed : IsFixed items = subst IsFixed t (tidied_fixed items) in
+    let own : loads (each items) ≡ items = sym (by_items items) ∙ t in
     record {
-      each_stays = ap flags (sym (five_composed items) ∙ statements_fixed items fixed) ∙ fixed.by_flags;
-      ordered = subst InOrder fixed.by_loads (sort_ordered load_precedes load_one_way items);
+      each_stays = subst (λ z. each z ≡ z) own (each_settled items);
+      ordered = subst InOrder own (sort_ordered load_precedes load_one_way (each items));
     }
 
 is_tidied : (items : List Item) → IsTidy items → tidied items ≡ items
@@ -132,13 +122,13 @@ is_tidied items t = by_items items ∙ (ap loads t.each_stays ∙ ordered_stays 
 
 pub front_stays : (n : ℕ) (items : List Item) → IsTidy items → IsTidy (take n items)
 front_stays n items t = record {
-  each_stays = ap flags (sym (take-map (on_statement (taken after_passes)) n items)) ∙ (sym (take-map item_with_flags n (on_taken after_passes items)) ∙ ap (take n) t.each_stays);
+  each_stays = sym (take-map item_tidied n items) ∙ ap (take n) t.each_stays;
   ordered = ordered_take n items t.ordered;
 }
 
 pub back_stays : (n : ℕ) (items : List Item) → IsTidy items → IsTidy (drop n items)
 back_stays n items t = record {
-  each_stays = ap flags (sym (drop-map (on_statement (taken after_passes)) n items)) ∙ (sym (drop-map item_with_flags n (on_taken after_passes items)) ∙ ap (drop n) t.each_stays);
+  each_stays = sym (drop-map item_tidied n items) ∙ ap (drop n) t.each_stays;
   ordered = ordered_drop n items t.ordered;
 }
 

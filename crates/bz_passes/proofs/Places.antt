@@ -9,9 +9,9 @@ use Rattle.bz_items.specs.Characters.{Bytes}
 use Rattle.bz_layout.specs.Flags.{with_flags}
 use Rattle.bz_rule.specs.Values.{has_kind, parts_of, items_of, with_items, with_parts, above, on_items, on_row, on_first, on_third, first_text, on_lists}
 use Rattle.bz_passes.specs.Passes.{rule_kind, of_rule, on_call, on_rule_arguments, on_attribute, quotes_in}
-use Rattle.bz_passes.proofs.Keeping.{Keeps, Settles, both, map_keeps, map_settles, first_keeps, first_settles, first_keeps_map, map_keeps_first, third_keeps, third_settles, third_keeps_map, map_keeps_third, test_keeps, test_settles, keeps_tested, tested_keeps}
+use Rattle.bz_passes.proofs.Keeping.{Keeps, Settles, both, first_composed, maps_composed, test_composed, third_composed, map_keeps, map_settles, first_settles, first_keeps_map, map_keeps_first, third_settles, third_keeps_map, map_keeps_third, test_settles, keeps_tested, tested_keeps}
 use Rattle.bz_passes.proofs.Parts.{the_parts, the_items, kind_flags, text_flags, above_flags, parts_flags, parts_filled, parts_with_items}
-use Rattle.bz_passes.proofs.Levels.{kind_within, above_put, within_keeps, within_settles, within_quoted, flags_within}
+use Rattle.bz_passes.proofs.Levels.{kind_within, above_put, within_composed, within_settles, within_quoted, flags_within}
 use Rattle.bz_passes.proofs.RuleKinds.{same_kind}
 
 -- ---- two kinds
@@ -24,10 +24,6 @@ differ a b d (Form' own s parts s' items end split open_break comments) h = ap (
 
 abbrev called : (Bytes → List Expr → List Expr) → Expr → List Expr → List Expr
 called g x = of_rule g (rule_kind (parts_of x))
-
-of_keeps : (g p : Bytes → List Expr → List Expr) → ((kind : Bytes) → Keeps (g kind) (p kind)) → (o : Option Bytes) → Keeps (of_rule g o) (of_rule p o)
-of_keeps g p h None xs e = refl
-of_keeps g p h (Some kind) xs e = h kind xs e
 
 of_settles : (p : Bytes → List Expr → List Expr) → ((kind : Bytes) → Settles (p kind)) → (o : Option Bytes) → Settles (of_rule p o)
 of_settles p h None xs = refl
@@ -44,9 +40,6 @@ map_keeps_of q p h (Some kind) xs e = h kind xs e
 same_call : (p : Bytes → List Expr → List Expr) (ys : List Expr) (x : Expr) → called p (with_items ys x) ≡ called p x
 same_call p ys x = ap (λ zs. of_rule p (rule_kind zs)) (parts_with_items ys x)
 
-call_keeps : (g p : Bytes → List Expr → List Expr) → ((kind : Bytes) → Keeps (g kind) (p kind)) → Keeps (on_call g) (on_call p)
-call_keeps g p h = within_keeps the_items k.Call (called g) (called p) (λ x t. same_call p (called g x (items_of x)) x) (λ x. of_keeps g p h (rule_kind (parts_of x)))
-
 call_settles : (p : Bytes → List Expr → List Expr) → ((kind : Bytes) → Settles (p kind)) → Settles (on_call p)
 call_settles p h = within_settles the_items k.Call (called p) (λ x t. same_call p (called p x (items_of x)) x) (λ x. of_settles p h (rule_kind (parts_of x)))
 
@@ -56,9 +49,6 @@ call_quoted g h = within_quoted the_items k.Call (called g) (λ x. of_keeps_map 
 call_flags : (p : Bytes → List Expr → List Expr) → ((kind : Bytes) → Keeps (map with_flags) (p kind)) → Keeps with_flags (on_call p)
 call_flags p h = flags_within the_items k.Call (called p) (λ x. ap (of_rule p) (ap rule_kind (parts_flags x) ∙ same_kind (parts_of x))) (λ x. map_keeps_of with_flags p h (rule_kind (parts_of x)))
 
-pub rule_keeps : (g p : Bytes → List Expr → List Expr) → ((kind : Bytes) → Keeps (g kind) (p kind)) → Keeps (on_rule_arguments g) (on_rule_arguments p)
-rule_keeps g p h = within_keeps the_parts k.Bare (λ x. on_first (on_call g)) (λ x. on_first (on_call p)) (λ x t. refl) (λ x. first_keeps (on_call g) (on_call p) (call_keeps g p h))
-
 pub rule_settles : (p : Bytes → List Expr → List Expr) → ((kind : Bytes) → Settles (p kind)) → Settles (on_rule_arguments p)
 rule_settles p h = within_settles the_parts k.Bare (λ x. on_first (on_call p)) (λ x t. refl) (λ x. first_settles (on_call p) (call_settles p h))
 
@@ -67,6 +57,15 @@ rule_quoted g h = within_quoted the_parts k.Bare (λ x. on_first (on_call g)) (�
 
 pub rule_flags : (p : Bytes → List Expr → List Expr) → ((kind : Bytes) → Keeps (map with_flags) (p kind)) → Keeps with_flags (on_rule_arguments p)
 rule_flags p h = flags_within the_parts k.Bare (λ x. on_first (on_call p)) (λ x. refl) (λ x. map_keeps_first with_flags (on_call p) (call_flags p h))
+
+of_composed : (c d e : Bytes → List Expr → List Expr) → ((kind : Bytes) (xs : List Expr) → d kind (c kind xs) ≡ e kind xs) → (o : Option Bytes) (xs : List Expr) → of_rule d o (of_rule c o xs) ≡ of_rule e o xs
+of_composed c d e h None xs = refl
+of_composed c d e h (Some kind) xs = h kind xs
+
+pub rule_composed : (c d e : Bytes → List Expr → List Expr) → ((kind : Bytes) (xs : List Expr) → d kind (c kind xs) ≡ e kind xs) → (x : Expr) → on_rule_arguments d (on_rule_arguments c x) ≡ on_rule_arguments e x
+rule_composed c d e h =
+    within_composed the_parts k.Bare (λ x. on_first (on_call c)) (λ x. on_first (on_call d)) (λ x. on_first (on_call e)) (λ x t. refl) (λ x. first_composed (on_call c) (on_call d) (on_call e)
+    (within_composed the_items k.Call (called c) (called d) (called e) (λ y t. same_call d (called c y (items_of y)) y) (λ y. of_composed c d e h (rule_kind (parts_of y)))))
 
 -- ---- in attributes
 
@@ -88,14 +87,14 @@ same_value g p x t =
     (ap first_text (parts_filled k.Named (valued g x (parts_of x)) x t) ∙ first_kept (g (first_text (parts_of x)) (above x)) (parts_of x))
     (above_put the_parts (valued g x (parts_of x)) x)
 
-pub attribute_keeps : (g p : Change) → ((n : Bytes) (a : List Bytes) → Keeps (g n a) (p n a)) → Keeps (on_attribute g) (on_attribute p)
-attribute_keeps g p h = within_keeps the_parts k.Named (valued g) (valued p) (same_value g p) (λ x. third_keeps _ _ (h (first_text (parts_of x)) (above x)))
-
 pub attribute_settles : (p : Change) → ((n : Bytes) (a : List Bytes) → Settles (p n a)) → Settles (on_attribute p)
 attribute_settles p h = within_settles the_parts k.Named (valued p) (same_value p p) (λ x. third_settles _ (h (first_text (parts_of x)) (above x)))
 
 pub attribute_quoted : (g : Change) → ((n : Bytes) (a : List Bytes) → Keeps (g n a) quotes_in) → Keeps (on_attribute g) quotes_in
 attribute_quoted g h = within_quoted the_parts k.Named (valued g) (λ x. third_keeps_map _ quotes_in (h (first_text (parts_of x)) (above x)))
+
+pub attribute_composed : (c d e : Change) → ((n : Bytes) (a : List Bytes) (x : Expr) → d n a (c n a x) ≡ e n a x) → (x : Expr) → on_attribute d (on_attribute c x) ≡ on_attribute e x
+attribute_composed c d e h = within_composed the_parts k.Named (valued c) (valued d) (valued e) (same_value c d) (λ x. third_composed _ _ _ (h (first_text (parts_of x)) (above x)))
 
 pub first_flags : (xs : List Expr) → first_text (map with_flags xs) ≡ first_text xs
 first_flags [] = refl
@@ -109,9 +108,6 @@ attribute_flags p h = flags_within the_parts k.Named (valued p) (λ x. both (λ 
 
 -- ---- in the lists of a value
 
-one_list : (g p : List Expr → List Expr) → Keeps g p → Keeps (on_items k.List g) (on_items k.List p)
-one_list g p h = within_keeps the_items k.List (λ x. g) (λ x. p) (λ x t. refl) (λ x. h)
-
 one_list_settles : (p : List Expr → List Expr) → Settles p → Settles (on_items k.List p)
 one_list_settles p h = within_settles the_items k.List (λ x. p) (λ x t. refl) (λ x. h)
 
@@ -121,12 +117,14 @@ one_list_quoted g h = within_quoted the_items k.List (λ x. g) (λ x. h)
 one_list_flags : (p : List Expr → List Expr) → Keeps (map with_flags) p → Keeps with_flags (on_items k.List p)
 one_list_flags p h = flags_within the_items k.List (λ x. p) (λ x. refl) (λ x. h)
 
-pub lists_keep : (g p : List Expr → List Expr) → Keeps g p → Keeps (on_lists g) (on_lists p)
-lists_keep g p h =
-    test_keeps (has_kind k.Sum) (on_row k.Sum (map (on_items k.List g))) (on_items k.List g) (on_row k.Sum (map (on_items k.List p))) (on_items k.List p)
-    (kind_within the_parts k.Sum k.Sum (map (on_items k.List g))) (kind_within the_items k.List k.Sum g)
-    (within_keeps the_parts k.Sum (λ x. map (on_items k.List g)) (λ x. map (on_items k.List p)) (λ x t. refl) (λ x. map_keeps _ _ (one_list g p h)))
-    (one_list g p h)
+pub lists_composed : (f g : List Expr → List Expr) (x : Expr) → on_lists g (on_lists f x) ≡ on_lists (λ xs. g (f xs)) x
+lists_composed f g =
+    let one : (x : Expr) → on_items k.List g (on_items k.List f x) ≡ on_items k.List (λ xs. g (f xs)) x =
+    within_composed the_items k.List (λ x. f) (λ x. g) (λ x xs. g (f xs)) (λ x t. refl) (λ x xs. refl) in
+    test_composed (has_kind k.Sum) (on_row k.Sum (map (on_items k.List f))) (on_items k.List f) (on_row k.Sum (map (on_items k.List g))) (on_items k.List g)
+    (on_row k.Sum (map (on_items k.List (λ xs. g (f xs))))) (on_items k.List (λ xs. g (f xs)))
+    (kind_within the_parts k.Sum k.Sum (map (on_items k.List f))) (kind_within the_items k.List k.Sum f)
+    (within_composed the_parts k.Sum (λ x. map (on_items k.List f)) (λ x. map (on_items k.List g)) (λ x. map (on_items k.List (λ xs. g (f xs)))) (λ x t. refl) (λ x. maps_composed _ _ _ one)) one
 
 pub lists_settle : (p : List Expr → List Expr) → Settles p → Settles (on_lists p)
 lists_settle p h =

@@ -4,19 +4,18 @@ use Rattle.std.proofs.Common.{append_assoc, append-nil, drop-drop, drop_at, leng
 use Rattle.std.proofs.lemmas.List.{drop-append-le}
 use Rattle.std.proofs.lemmas.List.Elements.{All-append, All-drop, All-take}
 use Rattle.std.specs.List.{AllByRecursion}
-use Rattle.std.specs.Prelude.{IfSome, Option, Some}
 use Rattle.bz_value.specs.declared.value.Item.{Item}
 use Rattle.bz_value.specs.declared.windows.Window.{Window}
 use Rattle.bz_value.specs.Proper.{IsProper, IsProperItem}
-use Rattle.bz_value.specs.Windows.{AreOver}
+use Rattle.bz_value.specs.Windows.{AreOver, AreWithin}
 use Rattle.bz_passes.specs.Joined.{item_tidied}
 use Rattle.bz_passes.specs.Orders.{insert_by, sort_by}
 use Rattle.bz_passes.specs.Passes.{load_precedes, loads, tidied}
-use Rattle.bz_passes.specs.private.Borders.{AreTidied, tidied_over}
+use Rattle.bz_passes.specs.private.Borders.{AreTidied, IsStillToTidy, tidied_over}
 use Rattle.bz_passes.specs.private.Single.{IsMoved, IsPlaceOf, first_precedes, one_at, precedes_last}
-use Rattle.bz_passes.proofs.Keeping.{both, same_first}
-use Rattle.bz_passes.proofs.Pieces.{InOrder, IsTidy, back_stays, by_items, each, each_between, front_stays, ordered_drop, ordered_take, over_still, tidied_alone, tidy_is}
-use Rattle.bz_passes.proofs.Settling.{tidy_stays}
+use Rattle.bz_passes.proofs.Keeping.{both}
+use Rattle.bz_passes.proofs.Pieces.{InOrder, IsTidy, back_stays, each_between, front_stays, ordered_drop, ordered_take, over_still, over_within, tidied_alone, tidy_is}
+use Rattle.bz_passes.proofs.Settling.{by_items, each, item_settles}
 use Rattle.bz_passes.proofs.Sorting.{Starts, insert_starts, ordered_stays}
 
 -- ---- the place of one item among sorted ones
@@ -58,15 +57,10 @@ last_preceded x (y ∷ z ∷ front) last = last_preceded x (z ∷ front) last
 
 -- ---- tidying an item twice
 
-again : (x : Item) → item_tidied (item_tidied x) ≡ item_tidied x
-again x =
-    let alone : tidied (x ∷ []) ≡ item_tidied x ∷ [] = tidied_alone x in
-    same_first (item_tidied (item_tidied x)) (item_tidied x) [] [] (sym (tidied_alone (item_tidied x)) ∙ (ap tidied (sym alone) ∙ (tidy_stays (x ∷ []) ∙ alone)))
-
 twice : (front : List Item) (x : Item) (rest : List Item) → tidied (front ++ item_tidied x ∷ rest) ≡ tidied (front ++ x ∷ rest)
 twice front x rest =
     by_items (front ++ item_tidied x ∷ rest)
-    ∙ (ap loads (each_between front (item_tidied x) rest ∙ (ap (λ z. each front ++ z ∷ each rest) (again x) ∙ sym (each_between front x rest)))
+    ∙ (ap loads (each_between front (item_tidied x) rest ∙ (ap (λ z. each front ++ z ∷ each rest) (item_settles x) ∙ sym (each_between front x rest)))
     ∙ sym (by_items (front ++ x ∷ rest)))
 
 twice_in : (front items : List Item) → tidied (front ++ tidied (take 1 items) ++ drop 1 items) ≡ tidied (front ++ items)
@@ -84,7 +78,7 @@ within_twice from items =
     ∙ (twice_in (take from items) (drop from items) ∙ ap tidied (take-append-drop from items))
 
 -- what is tidied by itself and then with its neighbours
-pub tidied_twice : (windows others : List Window) (from gone : ℕ) (old mid new : List Item) → windows ≡ one_at from gone → mid ≡ tidied_at from old → AreTidied windows others mid new → AreTidied windows others old new
+tidied_twice : (windows others : List Window) (from gone : ℕ) (old mid new : List Item) → windows ≡ one_at from gone → mid ≡ tidied_at from old → AreTidied windows others mid new → AreTidied windows others old new
 tidied_twice windows others from gone old mid new own e t =
     let still : (before : List Item) → AreOver windows before old → AreOver windows before mid =
     λ before over. subst (λ ws. AreOver ws before mid) (sym own)
@@ -94,6 +88,13 @@ tidied_twice windows others from gone old mid new own e t =
       tidy = λ before tidy over. t.tidy before tidy (still before over) ∙ (ap tidied e ∙ within_twice from old);
       over = λ before tidy over. t.over before tidy (still before over);
     }
+
+pub single_left : (windows : List Window) (from gone : ℕ) (old mid : List Item) → windows ≡ one_at from gone → AreWithin windows old → mid ≡ tidied_over windows old → IsStillToTidy windows windows old mid
+single_left windows from gone old mid own within e = record {
+  same = refl;
+  within = subst (AreWithin windows) (sym e) (over_within windows old within);
+  goes = λ new others t. tidied_twice windows others from gone old mid new own (e ∙ ap (λ ws. tidied_over ws old) own) t;
+}
 
 -- ---- an item between items of a tidy file
 
@@ -242,23 +243,17 @@ module _ (from gone to : ℕ) (old new : List Item) (x : Item) (rest : List Item
 abbrev pub Placed : ℕ → ℕ → List Item → Type 0
 Placed from to mid = (item : Item) (rest : List Item) → drop from mid ≡ item ∷ rest → IsPlaceOf item to (take from mid) rest
 
-single_at : (from gone to : ℕ) (old new xs : List Item) → drop from old ≡ xs → from + 1 ≤ length old → to ≤ from → (to ≡ from) ⊎ (gone ≡ 0)
-    → Placed from to (tidied_at from old) → ((to ≡ from) × (new ≡ tidied_at from old)) ⊎ IsMoved from to (tidied_at from old) new
-    → AreTidied (one_at from gone) (one_at to gone) old new
-single_at from gone to old new [] e there bound either placed made =
-    absurd (omega (arith, length-drop from old, ap length e, there))
-single_at from gone to old new (x ∷ rest) e there bound either placed made =
+single_at : (from gone to : ℕ) (old new xs : List Item) → drop from old ≡ xs → from + 1 ≤ length old → to ≤ from → Placed from to (tidied_at from old)
+    → ((to ≡ from) × (new ≡ tidied_at from old)) ⊎ ((gone ≡ 0) × IsMoved from to (tidied_at from old) new) → AreTidied (one_at from gone) (one_at to gone) old new
+single_at from gone to old new [] e there bound placed made = absurd (omega (arith, length-drop from old, ap length e, there))
+single_at from gone to old new (x ∷ rest) e there bound placed made =
+    let either : (to ≡ from) ⊎ (gone ≡ 0) = elim made [ inl h ↦ inl h.0 | inr h ↦ inr h.0 ] in
     is_tidied from gone to old new x rest e bound there either
     (elim made [
       | inl h ↦ moved_nowhere from gone to old new x rest e bound there either h.0 h.1
-      | inr h ↦ moved_from from gone to old new x rest e bound there either (h (item_tidied x) rest (back_is from gone to old new x rest e bound there either))
+      | inr h ↦ moved_from from gone to old new x rest e bound there either (h.1 (item_tidied x) rest (back_is from gone to old new x rest e bound there either))
     ])
     (place_is from gone to old new x rest e bound there either placed)
-
-pub single_in : (from gone to : ℕ) (old new : List Item) → from + 1 ≤ length old → to ≤ from → (to ≡ from) ⊎ (gone ≡ 0)
-    → Placed from to (tidied_at from old) → ((to ≡ from) × (new ≡ tidied_at from old)) ⊎ IsMoved from to (tidied_at from old) new
-    → AreTidied (one_at from gone) (one_at to gone) old new
-single_in from gone to old new = single_at from gone to old new (drop from old) refl
 
 proper_at : (from to : ℕ) (old new xs : List Item) → drop from old ≡ xs → from < length old → IsMoved from to old new → IsProper old → IsProper new
 proper_at from to old new [] e within moved h = absurd (omega (arith, length-drop from old, ap length e, within))
@@ -274,8 +269,11 @@ pub moved_proper : (from to : ℕ) (old new : List Item) → from < length old �
 moved_proper from to old new = proper_at from to old new (drop from old) refl
 
 -- the answer of `tidy_single`, of the windows before and after
-pub single_moved : (windows others : List Window) (found : Option ℕ) (from gone to : ℕ) (old new : List Item) → windows ≡ one_at from gone → IfSome found (λ to. AreTidied (one_at from gone) (one_at to gone) old new)
-    → found ≡ Some to → others ≡ one_at to gone → AreTidied windows others old new
-single_moved windows others found from gone to old new own moved is new_is =
+pub single_done : (windows others : List Window) (from gone to : ℕ) (old mid new : List Item) → windows ≡ one_at from gone → AreWithin windows old → mid ≡ tidied_over windows old → to ≤ from → Placed from to mid
+    → ((to ≡ from) × (new ≡ mid)) ⊎ ((gone ≡ 0) × IsMoved from to mid new) → others ≡ one_at to gone → AreTidied windows others old new
+single_done windows others from gone to old mid new own within e bound placed made moved =
+    let tidied : mid ≡ tidied_at from old = e ∙ ap (λ ws. tidied_over ws old) own in
     subst (λ ws. AreTidied ws others old new) (sym own)
-    (subst (λ ws. AreTidied (one_at from gone) ws old new) (sym new_is) (subst (λ f. IfSome f (λ n. AreTidied (one_at from gone) (one_at n gone) old new)) is moved))
+    (subst (λ ws. AreTidied (one_at from gone) ws old new) (sym moved)
+    (single_at from gone to old new (drop from old) refl (subst (λ ws. AreWithin ws old) own within).0 bound (subst (Placed from to) tidied placed)
+    (subst (λ m. ((to ≡ from) × (new ≡ m)) ⊎ ((gone ≡ 0) × IsMoved from to m new)) tidied made)))

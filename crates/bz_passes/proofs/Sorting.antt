@@ -1,6 +1,6 @@
 -- What stable sorting leaves, keeps and passes on.
-use Rattle.std.proofs.Common.{ℕ, ◌+◌, ◌&&◌, Bool, true, false, List, [], ◌∷◌, ◌≡◌, refl, sym, ap, ◌∙◌, length, map, inl, inr}
-use Rattle.std.proofs.lemmas.Bool.{and_parts, and_right, cases_Bool}
+use Rattle.std.proofs.Common.{ℕ, ◌+◌, ◌&&◌, Bool, true, false, not, List, [], ◌∷◌, ◌≡◌, refl, sym, ap, ◌∙◌, length, map, inl, inr}
+use Rattle.std.proofs.lemmas.Bool.{and_parts, and_right, cases_Bool, not-true}
 use Rattle.std.proofs.lemmas.List.Elements.{All-from_recursion, recursion_from_All}
 use Rattle.std.proofs.lemmas.List.Sorted.{All-permutation, IsPermutation-cons, IsPermutation-middle, IsPermutation-refl, IsPermutation-trans, length_permutation, sum_by-IsPermutation}
 use Rattle.std.proofs.lemmas.List.Sums.{sum_by-cons}
@@ -11,6 +11,7 @@ use Rattle.std.specs.Prelude.{sum_by}
 use Rattle.bz_value.specs.Counted.{total}
 use Rattle.bz_rule.proofs.ProperChanges.{by_case, by_test}
 use Rattle.bz_passes.specs.Orders.{insert_by, sort_by}
+use Rattle.bz_passes.specs.private.Sorted.{Climbs}
 use Rattle.bz_passes.proofs.Keeping.{Keeps, Settles, both, same_first, same_after}
 
 -- ---- items that change places
@@ -65,6 +66,14 @@ module _ {X : Type 0} (lt : X → X → Bool) where
   pub ordered_stays : (xs : List X) → Ordered xs → sort_by lt xs ≡ xs
   ordered_stays [] o = refl
   ordered_stays (x ∷ xs) o = ap (insert_by lt x) (ordered_stays xs o.1) ∙ insert_starts x xs o.0
+
+  ordered_by : (xs : List X) → Climbs (λ x y. not (lt y x)) xs → Ordered xs
+  ordered_by [] c = tt
+  ordered_by (x ∷ []) c = (tt, tt)
+  ordered_by (x ∷ y ∷ ys) c = (not-true (lt y x) c.0, ordered_by (y ∷ ys) c.1)
+
+  pub climbs_stays : (xs : List X) → Climbs (λ x y. not (lt y x)) xs → sort_by lt xs ≡ xs
+  climbs_stays xs c = ordered_stays xs (ordered_by xs c)
 
   module _ (one_way : (x y : X) → lt x y ≡ true → lt y x ≡ false) where
     starts_insert : (z x : X) (ys : List X) → lt x z ≡ false → Starts z ys → Starts z (insert_by lt x ys)

@@ -1,10 +1,10 @@
 -- The sorted list is the one that is in order and stable: so whatever sorts stably gives it.
-use Rattle.std.proofs.Common.{suc, ◌+◌, Bool, true, false, not, List, [], ◌∷◌, ◌≡◌, refl, sym, ap, ◌∙◌, subst, inl, inr, arith, get_or, if◌then◌else◌}
+use Rattle.std.proofs.Common.{suc, ◌+◌, Bool, true, false, not, List, [], ◌∷◌, ◌≡◌, refl, sym, ap, ◌∙◌, subst, inl, inr, arith, get_or, length, if◌then◌else◌}
 use Rattle.std.proofs.lemmas.Bool.{and_parts, cases_Bool, false_from_ne_true, not-true, true≢false}
-use Rattle.std.specs.List.{filter, AllByRecursion}
+use Rattle.std.specs.List.{filter, AllAdjacentBelow, AllByRecursion, IsAllAdjacentAnswer}
 use Rattle.std.specs.List.Sorted.{IsSortedBy, IsStableBy, ties}
 use Rattle.std.specs.Cmp.{IsStrictWeakOrder}
-use Rattle.std.specs.Fn.{Called, ComparesAs}
+use Rattle.std.specs.Fn.{Called, ComparesAs, ComputesOnPairs}
 use Rattle.std.specs.Ordering.{is_lt}
 use Rattle.std.specs.declared.cmp.Ordering.{Ordering}
 use denote.Ref.{Bor}
@@ -12,6 +12,7 @@ use denote.Param.Members.{Mut}
 use Rattle.std.proofs.lemmas.List.Sorted.{answers_always}
 use Rattle.bz_passes.specs.Orders.{insert_by, sort_by}
 use Rattle.bz_passes.specs.Rising.{NoneBefore, Rises}
+use Rattle.bz_passes.specs.private.Sorted.{Climbs}
 use Rattle.bz_rule.proofs.ProperChanges.{by_case}
 use Rattle.bz_rule.proofs.ProperItems.{all_kept}
 use Rattle.bz_passes.proofs.Keeping.{both, same_first, same_after}
@@ -127,3 +128,25 @@ module _ {X : Type 0} (lt : X → X → Bool) (o : IsStrictWeakOrder lt) where
   from_sort_by {F} {g} {f} xs ys s t k =
       let c : ComparesAs g lt f = answers_always g (λ a r. is_lt r ≡ lt a.0.now a.1.0.now) f k in
       the_one xs ys (s lt o c) (t lt o c)
+
+-- from the clause of `is_sorted_by`, whose closure answers as `before`
+module _ {X : Type 0} (before : X → X → Bool) where
+  climbs : (xs : List X) → AllAdjacentBelow (λ x y. true ≡ before x y) xs (length xs) → Climbs before xs
+  climbs [] h = tt
+  climbs (x ∷ []) h = tt
+  climbs (x ∷ y ∷ ys) h = (
+    sym (h 0 x (omega arith)),
+    climbs (y ∷ ys) (λ k d l.
+        let j : suc k + 1 ≡ suc (k + 1) = omega arith in
+        subst (λ i. true ≡ before (get_or (y ∷ ys) k d) (get_or (x ∷ y ∷ ys) i d)) j (h (suc k) d (omega arith))),
+  )
+
+  answered : (xs : List X) (r : Bool) → IsAllAdjacentAnswer (λ x y b. b ≡ before x y) xs r → r ≡ true → Climbs before xs
+  answered xs true h e = climbs xs h
+  answered xs false h e = absurd (true≢false (sym e))
+
+  pub answers_climb : {F : Type 0} {g : Mut F (Bor X × (Bor X × Unit {0})) Bool} {f : F} (xs : List X) (r : Bool)
+      → ((e : X → X → Bool) → ComputesOnPairs g e f → IsAllAdjacentAnswer (λ x y b. b ≡ e x y) xs r)
+      → ((h : F) (a : Bor X × (Bor X × Unit {0})) (b : Bool) (h' : F) → Called g h a b h' → b ≡ before a.0.now a.1.0.now)
+      → r ≡ true → Climbs before xs
+  answers_climb {F} {g} {f} xs r s k e = answered xs r (s before (answers_always g (λ a b. b ≡ before a.0.now a.1.0.now) f k)) e

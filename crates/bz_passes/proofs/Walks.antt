@@ -1,6 +1,7 @@
 -- What a walk over windows has seen so far, and what it has done.
 use Rattle.std.proofs.Common.{◌||◌, ℕ, ◌+◌, ◌-◌, ◌≤◌, ◌<◌, Bool, false, ◌&&◌, List, [], ◌∷◌, ◌++◌, ◌≡◌, length, take, drop, get_or, slice_range, refl, sym, ap, ◌∙◌, subst, arith}
 use Rattle.std.proofs.Common.{append_assoc, drop-drop, drop_at, length-append, length-drop, length-take-le, take_at}
+use borrow.Rule.Slice.PartMut.{put_mid}
 use Rattle.std.proofs.Math.Seq.{take-add}
 use Rattle.std.proofs.lemmas.Bool.{or_from}
 use Rattle.std.proofs.lemmas.List.{drop_more}
@@ -10,6 +11,7 @@ use Rattle.bz_value.specs.Windows.{AreWithin}
 use Rattle.bz_passes.specs.Joined.{begins_with_load}
 use Rattle.bz_passes.specs.Passes.{tidied}
 use Rattle.bz_passes.specs.private.Borders.{any_touched, ends_with_load, tidied_over, touches}
+use Rattle.bz_passes.proofs.Cut.{put_there}
 use Rattle.bz_passes.proofs.Keeping.{both}
 use Rattle.bz_passes.proofs.Pieces.{both_length}
 
@@ -57,7 +59,7 @@ pub record AreOnTheWay (whole : List Item) (left : List Window) (start : ℕ) (i
   pub within : AreWithin left (drop start items)
   pub made : take start items ++ tidied_over left (drop start items) ≡ whole
 
-module _ (whole : List Item) (left : List Window) (w : Window) (start : ℕ) (items new : List Item) (way : AreOnTheWay whole (w ∷ left) start items) where
+module _ (whole : List Item) (left : List Window) (w : Window) (start : ℕ) (items came : List Item) (way : AreOnTheWay whole (w ∷ left) start items) where
   abbrev stop : ℕ
   stop = start + w.from + w.come
 
@@ -73,7 +75,10 @@ module _ (whole : List Item) (left : List Window) (w : Window) (start : ℕ) (it
   abbrev back : List Item
   back = drop (w.from + w.come) rest
 
-  module _ (tidy : new ≡ take (start + w.from) items ++ tidied (slice_range items (start + w.from) stop) ++ drop stop items) where
+  abbrev new : List Item
+  new = put_mid (start + w.from) (stop - (start + w.from)) items came
+
+  module _ (tidy : came ≡ tidied (slice_range items (start + w.from) stop)) where
     slice_is : slice_range items (start + w.from) stop ≡ take w.come (drop w.from rest)
     slice_is = ap (λ n. take n (drop (start + w.from) items)) (omega arith) ∙ ap (take w.come) (sym (drop-drop w.from start items))
 
@@ -82,7 +87,7 @@ module _ (whole : List Item) (left : List Window) (w : Window) (start : ℕ) (it
 
     parts : new ≡ front ++ back
     parts =
-        tidy
+        put_there (start + w.from) stop items came _ (omega arith) tidy
         ∙ (both (λ z zs. z ++ tidied zs ++ drop stop items) (take-add start w.from items) slice_is
         ∙ both (λ z zs. z ++ zs) (append_assoc (take start items) (take w.from rest) middle) back_is)
 

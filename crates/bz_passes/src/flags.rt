@@ -31,27 +31,20 @@ pub fn settle(x: &mut Expr)
         Expr::Token(_) => {}
         Expr::Form(form) => {
             form.seq.split = settled_split(form);
-            settle_parts(form.kind, &mut form.parts);
-            settle_each(&mut form.seq.items);
+            settle_each(form.kind, &mut form.parts);
+            settle_each(form.kind, &mut form.seq.items);
         }
     }
 }
 
-/// The same for the parts of a form of this kind. Names joined by dots that are called are passed over.
+/// The same for parts of a form of this kind. Names joined by dots that are called are passed over.
 #[cycle(settle)]
-fn settle_parts(kind: Kind, parts: &mut Items<Expr>)
-    ensures { parts.new ≡ map with_flags parts.old }
-{
-    if are_called_names(kind, parts.as_slice()) {
-        return;
-    }
-    settle_each(parts);
-}
-
-#[cycle(settle)]
-fn settle_each(exprs: &mut Items<Expr>)
+fn settle_each(kind: Kind, exprs: &mut Items<Expr>)
     ensures { exprs.new ≡ map with_flags exprs.old }
 {
+    if are_called_names(kind, exprs.as_slice()) {
+        return;
+    }
     for x in exprs.as_mut_slice().iter_mut() {
         settle(x);
     }

@@ -10,7 +10,6 @@ mod lists;
 mod loads;
 mod marks;
 mod names;
-mod ordering;
 mod quotes;
 mod repeats;
 mod runs;

@@ -1,19 +1,25 @@
 //! The items of one list: whether they are sorted, and sorting them.
-ghost use Rattle.std.specs.Prelude.{◌≡◌, ◌<◌, ◌++◌, ◌∷◌, ℕ, List, [], drop, false, length, take, IfOk, IfSome, IsTrue, OnOk};
+ghost use Rattle.std.specs.Prelude.{◌≡◌, ◌<◌, ◌++◌, drop, false, length, take, IfOk, IfSome, IsTrue, OnOk, if◌then◌else◌};
 ghost use Rattle.std.specs.List.{list_all, list_any, slice_rotate_right};
+ghost use Rattle.bz_label.specs.Keys.{key_order};
 ghost use Rattle.bz_token.specs.declared.class.Class.TheVariants as classes;
 ghost use Rattle.bz_passes.specs.Lists.{above_first, has_above as has_comment_above, in_order, is_taken as is_taken_in, marked_by, precedes, settled_list, sorted, without_marks};
 ghost use Rattle.bz_passes.specs.Marks.{any_marked as marked_in_any, keep_marks, other_comments};
+ghost use Rattle.bz_passes.specs.Orders.{sort_by};
+ghost use Rattle.bz_passes.specs.Rising.{Rises};
 ghost use Rattle.bz_passes.specs.private.Sorted.{Climbs, is_passed};
-ghost use Rattle.bz_rule.specs.Values.{has_class, on_first, with_above};
+ghost use Rattle.bz_rule.specs.QuoteMarks.{between as between_marks};
+ghost use Rattle.bz_rule.specs.Values.{has_class, on_first, text_of as text_in, with_above};
 
 use crate::marks::{any_marked, is_marked};
-use crate::ordering::{item_order, sort_items};
 use crate::repeats::drop_repeats;
 use bz_items::{Items, Memory, Text};
+use bz_label::bytes::key_cmp;
+use bz_rule::{between, text_of};
 use bz_token::Class;
 use bz_value::{Comments, Expr};
 use std::alloc::Global;
+use std::cmp::Ordering;
 use std::mem;
 
 /// The mark of a list that is sorted.
@@ -22,13 +28,26 @@ const KEEP_SORTED: &[u8] = b"keep sorted";
 /// The mark of a list that stays as it is.
 const DO_NOT_SORT: &[u8] = b"do not sort";
 
+/// Which of two items of a list comes first: by the texts between their quote marks.
+fn item_order(x: &Expr, y: &Expr) -> Ordering
+    ensures { result ≡ key_order (between_marks (text_in x.now)) (between_marks (text_in y.now)) }
+{
+    key_cmp(between(text_of(x)), between(text_of(y)))
+}
+
+/// The items in that order, equal ones in their old order. The error: a growth was refused.
+fn sort_items(items: &mut Vec<Expr>) -> Result<(), Memory>
+    ensures sorted { OnOk result (items.new.items ≡ sort_by precedes items.old.items) }
+    ensures rises { OnOk result (Rises precedes items.new.items) }
+{
+    items.sort_by(|x, y| item_order(x, y))?;
+    Ok(())
+}
+
 fn is_string(x: &Expr) -> bool
     ensures { result ≡ has_class classes.String x.now }
 {
-    match x {
-        Expr::Token(token) => token.class.number() == Class::String.number(),
-        Expr::Form(_) => false,
-    }
+    matches!(x, Expr::Token(token) if token.class.number() == Class::String.number())
 }
 
 fn has_above(x: &Expr) -> bool
@@ -76,36 +95,18 @@ fn is_taken(outside: &[Text], by_table: bool, items: &[Expr]) -> bool
     has_mark(KEEP_SORTED, outside, items) || (by_table && !is_any_commented(items))
 }
 
-/// The comments of a list's first item that say that it is kept sorted, and its others.
-#[derive(Drop)]
-struct Split {
-    marks: Items<Text>,
-    others: Items<Text>,
-}
-
-/// Puts a comment after those of its kind.
-fn push_split(comment: &Text, split: &mut Split) -> Result<(), Memory>
-    ensures marks { (rest : List (List ℕ)) → OnOk result (split.new.marks ++ keep_marks rest ≡ split.old.marks ++ keep_marks (comment.now ∷ rest)) }
-    ensures others { (rest : List (List ℕ)) → OnOk result (split.new.others ++ other_comments rest ≡ split.old.others ++ other_comments (comment.now ∷ rest)) }
+/// Copies of those comments that have the mark of a list that is kept sorted, or of those that don't.
+#[tactic(auto, using(crate::proofs::Listed::marks_split))]
+fn split_marks(alloc: Global, comments: &[Text], marked: bool) -> Result<Items<Text>, Memory>
+    ensures { IfOk result (λ copies. copies ≡ (if marked then keep_marks comments.now else other_comments comments.now)) }
 {
-    if is_marked(KEEP_SORTED, comment.as_slice()) {
-        split.marks.push(comment.copy()?)?;
-        return Ok(());
-    }
-    split.others.push(comment.copy()?)
-}
-
-fn split_marks(alloc: Global, comments: &[Text]) -> Result<Split, Memory>
-    ensures { IfOk result (λ split. (split.marks ≡ keep_marks comments.now) × (split.others ≡ other_comments comments.now)) }
-{
-    let mut split = Split {
-        marks: Items::new(alloc),
-        others: Items::new(alloc),
-    };
+    let mut copies = Items::new(alloc);
     for comment in comments {
-        push_split(comment, &mut split)?;
+        if marked == is_marked(KEEP_SORTED, comment.as_slice()) {
+            copies.push(comment.copy()?)?;
+        }
     }
-    Ok(split)
+    Ok(copies)
 }
 
 fn push_copies(comments: &[Text], following: &mut Items<Text>) -> Result<(), Memory>
@@ -117,20 +118,14 @@ fn push_copies(comments: &[Text], following: &mut Items<Text>) -> Result<(), Mem
     Ok(())
 }
 
-fn copy_suffix(comments: &Comments) -> Result<Option<Text>, Memory>
-    ensures { IfOk result (λ suffix. suffix ≡ comments.now.suffix) }
-{
-    match comments.suffix() {
-        None => Ok(None),
-        Some(text) => Ok(Some(text.copy()?)),
-    }
-}
-
 /// The item with these comments above it in place of its own.
 fn set_above(alloc: Global, before: Items<Text>, x: &mut Expr) -> Result<(), Memory>
     ensures { OnOk result (x.new ≡ with_above before x.old) }
 {
-    let suffix = copy_suffix(x.comments())?;
+    let suffix = match x.comments().suffix() {
+        None => None,
+        Some(text) => Some(text.copy()?),
+    };
     let comments = Comments::new(alloc, before, suffix)?;
     match x {
         Expr::Token(token) => token.comments = comments,
@@ -146,7 +141,8 @@ fn take_marks(alloc: Global, items: &mut [Expr]) -> Result<Items<Text>, Memory>
     match items {
         [] => Ok(Items::new(alloc)),
         [first, ..] => {
-            let Split { marks, others } = split_marks(alloc, first.comments().before())?;
+            let marks = split_marks(alloc, first.comments().before(), true)?;
+            let others = split_marks(alloc, first.comments().before(), false)?;
             set_above(alloc, others, first)?;
             Ok(marks)
         }
@@ -157,22 +153,20 @@ fn take_marks(alloc: Global, items: &mut [Expr]) -> Result<Items<Text>, Memory>
 fn put_marks(alloc: Global, mut marks: Items<Text>, items: &mut [Expr]) -> Result<(), Memory>
     ensures { OnOk result (items.new ≡ marked_by marks items.old) }
 {
-    match items {
-        [] => Ok(()),
-        [first, ..] => {
-            push_copies(first.comments().before(), &mut marks)?;
-            set_above(alloc, marks, first)
-        }
+    if let [first, ..] = items {
+        push_copies(first.comments().before(), &mut marks)?;
+        set_above(alloc, marks, first)?;
     }
+    Ok(())
 }
 
-/// Whether another item of the list comes before its first one.
+/// Whether another item of the list comes before its first one: comments above that one may move then.
 fn is_first_passed(items: &[Expr]) -> bool
     ensures { result ≡ is_passed items.now }
 {
     match items {
         [] => false,
-        [first, rest @ ..] => is_any_before(first, rest),
+        [first, others @ ..] => is_any_before(first, others),
     }
 }
 
@@ -180,18 +174,6 @@ fn is_any_before(x: &Expr, others: &[Expr]) -> bool
     ensures { result ≡ list_any (λ other. precedes other x.now) others.now }
 {
     others.iter().any(|other| item_order(other, x).is_lt())
-}
-
-/// Whether comments above the first item may move when the items are sorted.
-#[tactic(auto, using(crate::proofs::Listed::unpassed_in_order))]
-fn may_marks_move(items: &[Expr]) -> bool
-    ensures moves { IsTrue result → IsTrue (is_passed items.now) }
-    ensures stays { result ≡ false → sorted items.now ≡ in_order items.now }
-{
-    match comments_above(items) {
-        [] => false,
-        [..] => is_first_passed(items),
-    }
 }
 
 /// After how many of the others the last item goes, where these are in order.
@@ -247,10 +229,11 @@ fn put_in_order(alloc: Global, mut items: Vec<Expr>) -> Result<Vec<Expr>, Memory
 }
 
 /// The items of a list that is sorted.
+#[tactic(auto, using(crate::proofs::Listed::unpassed_in_order))]
 fn sort_taken(alloc: Global, mut items: Vec<Expr>) -> Result<Vec<Expr>, Memory>
     ensures { IfOk result (λ taken. taken.items ≡ sorted items.items) }
 {
-    if !may_marks_move(items.as_slice()) {
+    if !is_first_passed(items.as_slice()) {
         return put_in_order(alloc, items);
     }
     let marks = take_marks(alloc, items.as_mut_slice())?;
@@ -261,7 +244,7 @@ fn sort_taken(alloc: Global, mut items: Vec<Expr>) -> Result<Vec<Expr>, Memory>
 
 /// Whether each item comes before the next one: sorted, such a list stays as it is.
 fn are_rising(items: &[Expr]) -> bool
-    ensures { IsTrue result → Climbs items.now }
+    ensures { IsTrue result → Climbs precedes items.now }
 {
     items.is_sorted_by(|x, y| item_order(x, y).is_lt())
 }

@@ -25,28 +25,21 @@ pub(crate) fn quote(alloc: Global, x: &mut Expr) -> Result<(), Memory>
             Ok(())
         }
         Expr::Form(form) => {
-            quote_parts(alloc, form.kind, &mut form.parts)?;
-            quote_each(alloc, &mut form.seq.items)?;
+            quote_each(alloc, form.kind, &mut form.parts)?;
+            quote_each(alloc, form.kind, &mut form.seq.items)?;
             Ok(())
         }
     }
 }
 
-/// The same for the parts of a form of this kind. Names joined by dots that are called are passed over.
+/// The same for parts of a form of this kind. Names joined by dots that are called are passed over.
 #[cycle(quote)]
-fn quote_parts(alloc: Global, kind: Kind, parts: &mut Items<Expr>) -> Result<(), Memory>
-    ensures { OnOk result (parts.new ≡ map quotes_in parts.old) }
-{
-    if are_called_names(kind, parts.as_slice()) {
-        return Ok(());
-    }
-    quote_each(alloc, parts)
-}
-
-#[cycle(quote)]
-fn quote_each(alloc: Global, exprs: &mut Items<Expr>) -> Result<(), Memory>
+fn quote_each(alloc: Global, kind: Kind, exprs: &mut Items<Expr>) -> Result<(), Memory>
     ensures { OnOk result (exprs.new ≡ map quotes_in exprs.old) }
 {
+    if are_called_names(kind, exprs.as_slice()) {
+        return Ok(());
+    }
     for x in exprs.as_mut_slice().iter_mut() {
         quote(alloc, x)?;
     }

@@ -21,19 +21,14 @@ fn has_no_comment(x: &Expr) -> bool
 fn is_tied(kept: &[Expr], x: &Expr) -> bool
     ensures { result ≡ ties_last kept.now x.now }
 {
-    match kept.last() {
-        Some(last) => between(text_of(last)) == between(text_of(x)),
-        None => false,
-    }
+    kept.last()
+        .is_some_and(|last| between(text_of(last)) == between(text_of(x)))
 }
 
 fn has_text_at(kept: &[Expr], text: &[u8], place: usize) -> bool
     ensures { result ≡ is_text_at kept.now text.now place }
 {
-    match kept.get(place) {
-        Some(x) => text == text_of(x),
-        None => false,
-    }
+    kept.get(place).is_some_and(|x| text == text_of(x))
 }
 
 /// Whether the token is at one of these places.

@@ -27,6 +27,13 @@ pub(crate) trait InRuns {
     ghost ranks: { IsStrictWeakOrder (λ (x y : Self). is_lt (order x y)) };
 }
 
+/// Whether the item comes before the other one, where both are compared.
+pub(crate) fn precedes<T: InRuns>(item: &T, other: &T) -> bool
+    ensures { result ≡ (T.compares item.now && T.compares other.now && is_lt (T.order item.now other.now)) }
+{
+    item.is_comparable() && other.is_comparable() && item.compare(other).is_lt()
+}
+
 /// Sorts items that are all compared, equal ones in their old order. The error: a growth was refused.
 fn sort_run<T: InRuns>(alloc: Global, run: &mut [T]) -> Result<(), Memory>
     requires { AllByRecursion (λ x. T.compares x ≡ true) run.old }
@@ -36,34 +43,21 @@ fn sort_run<T: InRuns>(alloc: Global, run: &mut [T]) -> Result<(), Memory>
     Ok(())
 }
 
-/// The same for the items between two places.
-fn sort_part<T: InRuns>(
-    alloc: Global,
-    items: &mut [T],
-    from: usize,
-    to: usize,
-) -> Result<(), Memory>
-    requires order { from ≤ to }
-    requires within { to ≤ length items.old }
-    requires comparable { AllByRecursion (λ x. T.compares x ≡ true) (slice_range items.old from to) }
-    ensures { OnOk result (items.new ≡ take from items.old ++ sort_by (λ x y. T.compares x && T.compares y && is_lt (T.order x y)) (slice_range items.old from to) ++ drop to items.old) }
-{
-    sort_run(alloc, &mut items[from..to])
-}
-
-/// Each unbroken run of comparable items in its order, equal ones in their old order. The error: a growth was refused; some
-/// of the runs are then in their order.
+/// Each unbroken run of comparable items in its order, equal ones in their old order; items that are in order stay. The error: a
+/// growth was refused; some of the runs are then in their order.
 pub(crate) fn sort_runs<T: InRuns>(alloc: Global, items: &mut [T]) -> Result<(), Memory>
     ensures { OnOk result (items.new ≡ sort_by (λ x y. T.compares x && T.compares y && is_lt (T.order x y)) items.old) }
 {
+    if items.is_sorted_by(|x, y| !precedes(y, x)) {
+        return Ok(());
+    }
     let mut from = 0;
     for at in 0..items.len() {
         if items[at].is_comparable() {
             continue;
         }
-        sort_part(alloc, items, from, at)?;
+        sort_run(alloc, &mut items[from..at])?;
         from = at + 1;
     }
-    let end = items.len();
-    sort_part(alloc, items, from, end)
+    sort_run(alloc, &mut items[from..])
 }

@@ -1,8 +1,7 @@
 //! The texts of strings: double quote marks, and labels without a repeated name.
-ghost use Rattle.std.specs.Prelude.{◌≡◌, ◌++◌, ◌≤◌, ◌&&◌, ◌||◌, false, not, take, replicate, IfOk, OnOk};
+ghost use Rattle.std.specs.Prelude.{◌≡◌, ◌++◌, ◌≤◌, ◌&&◌, ◌||◌, not, take, replicate, IfOk, OnOk};
 ghost use Rattle.bz_items.specs.Characters.{backslash, quotation_mark};
-ghost use Rattle.bz_rule.specs.QuoteMarks.{marks_of};
-ghost use Rattle.bz_passes.specs.Strings.{begins_single, has_character, in_double, with_double, shorter_string};
+ghost use Rattle.bz_passes.specs.Strings.{begins_single, has_character, with_double, shorter_string};
 
 use bz_items::{Memory, Text};
 use bz_label::bytes::unrepeated;
@@ -12,10 +11,7 @@ use std::alloc::Global;
 fn begins_single(text: &[u8]) -> bool
     ensures { result ≡ begins_single text.now }
 {
-    match text {
-        [first, ..] => *first == b'\'',
-        [] => false,
-    }
+    matches!(text, [first, ..] if *first == b'\'')
 }
 
 fn has_character(character: u8, text: &[u8]) -> bool
@@ -55,21 +51,14 @@ fn in_marks(alloc: Global, marks: &[u8], text: &[u8]) -> Result<Text, Memory>
     Ok(Text::from_vec(string))
 }
 
-/// The string with double quote marks. The error: memory was refused.
-fn in_double(alloc: Global, text: &[u8]) -> Result<Text, Memory>
-    ensures { IfOk result (λ string. string ≡ in_double (marks_of text.now) text.now) }
-{
-    let count = marks_of(text);
-    in_marks(alloc, double_marks(count), inside(count, text))
-}
-
 /// Gives a string double quote marks in place of single ones, where it has no prefix and holds neither a double mark nor a
 /// backslash; any other text stays, and takes no memory. The error: memory was refused; the text is then as it was.
 pub(crate) fn double_quoted(alloc: Global, text: &mut Text) -> Result<(), Memory>
     ensures { OnOk result (text.new ≡ with_double text.old) }
 {
     if takes_double(text.as_slice()) {
-        *text = in_double(alloc, text.as_slice())?;
+        let count = marks_of(text.as_slice());
+        *text = in_marks(alloc, double_marks(count), inside(count, text.as_slice()))?;
     }
     Ok(())
 }
@@ -84,27 +73,18 @@ fn first_mark(text: &[u8]) -> &[u8]
     }
 }
 
-/// Whether a label would lose a repeated name, were the text a plain string around it.
-#[tactic(auto, using(crate::proofs::TextSteps::kept_inside))]
-fn may_shorten(text: &[u8]) -> bool
-    ensures { result ≡ false → shorter_string text.now ≡ text.now }
-{
-    let label = inside(1, text);
-    let short = unrepeated(label);
-    short != label
-}
-
 /// Takes a repeated name off the label in a plain string; any other text stays, and takes no memory. The error: memory was
 /// refused; the text is then as it was.
+#[tactic(auto, using(crate::proofs::TextSteps::kept_body))]
 pub(crate) fn shortened(alloc: Global, text: &mut Text) -> Result<(), Memory>
     ensures { OnOk result (text.new ≡ shorter_string text.old) }
 {
-    if !may_shorten(text.as_slice()) {
-        return Ok(());
-    }
     let Some(label) = body(text.as_slice()) else {
         return Ok(());
     };
-    *text = in_marks(alloc, first_mark(text.as_slice()), unrepeated(label))?;
+    let short = unrepeated(label);
+    if short != label {
+        *text = in_marks(alloc, first_mark(text.as_slice()), short)?;
+    }
     Ok(())
 }

@@ -1,30 +1,23 @@
 //! The symbols of a load.
 ghost use Rattle.std.specs.Prelude.{◌≡◌, OnOk};
-ghost use Rattle.bz_label.specs.Keys.{bytes_order};
 ghost use Rattle.bz_passes.specs.Orders.{sort_by};
-ghost use Rattle.bz_passes.specs.Passes.{symbol_precedes};
-ghost use Rattle.bz_rule.specs.QuoteMarks.{local_name as name_in_file};
+ghost use Rattle.bz_passes.specs.Passes.{symbol_precedes, symbols_in};
 ghost use Rattle.bz_rule.specs.Values.{on_rest};
 
-use bz_items::{Items, Memory};
+use bz_grammar::Kind;
+use bz_items::Memory;
 use bz_rule::local_name;
 use bz_value::Expr;
 use std::alloc::Global;
-use std::cmp::Ordering;
-
-fn symbol_order(x: &Expr, y: &Expr) -> Ordering
-    ensures { result ≡ bytes_order (name_in_file x.now) (name_in_file y.now) }
-{
-    local_name(x).cmp(local_name(y))
-}
 
 fn sort_all(alloc: Global, symbols: &mut [Expr]) -> Result<(), Memory>
     ensures { OnOk result (symbols.new ≡ sort_by symbol_precedes symbols.old) }
 {
-    symbols.sort_by(alloc, |x, y| symbol_order(x, y))?;
+    symbols.sort_by(alloc, |x, y| local_name(x).cmp(local_name(y)))?;
     Ok(())
 }
 
+/// Sorts the items of a load after its path by local name; equal ones stay in their old order. The error: a growth was refused.
 fn sort_rest(alloc: Global, items: &mut [Expr]) -> Result<(), Memory>
     ensures { OnOk result (items.new ≡ on_rest (sort_by symbol_precedes) items.old) }
 {
@@ -34,12 +27,17 @@ fn sort_rest(alloc: Global, items: &mut [Expr]) -> Result<(), Memory>
     }
 }
 
-/// Sorts the items of a load after its path by local name; equal ones stay in their old order. The error: a growth was
-/// refused; the items are then as before.
-pub(crate) fn sort_symbols(items: &mut Items<Expr>) -> Result<(), Memory>
-    ensures { OnOk result (items.new ≡ on_rest (sort_by symbol_precedes) items.old) }
+/// Sorts the symbols of a load; any other statement stays. The error: a growth was refused; the statement is then as before.
+pub(crate) fn sort_symbols(alloc: Global, x: &mut Expr) -> Result<(), Memory>
+    ensures { OnOk result (x.new ≡ symbols_in x.old) }
 {
-    let alloc = items.alloc();
-    sort_rest(alloc, items.as_mut_slice())?;
-    Ok(())
+    match x {
+        Expr::Token(_) => Ok(()),
+        Expr::Form(form) => {
+            if form.kind == Kind::Load {
+                sort_rest(alloc, form.seq.items.as_mut_slice())?;
+            }
+            Ok(())
+        }
+    }
 }

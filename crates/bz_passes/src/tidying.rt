@@ -1,20 +1,19 @@
 //! The passes in turn.
-ghost use Rattle.std.specs.Prelude.{◌≡◌, IfOk, OnOk, map};
+ghost use Rattle.std.specs.Prelude.{◌≡◌, IfOk, OnOk};
 ghost use Rattle.bz_value.specs.Counted.{times};
 ghost use Rattle.bz_items.specs.Characters.{Bytes};
-ghost use Rattle.bz_layout.specs.Flags.{IsSettled, flags, item_with_flags};
-ghost use Rattle.bz_passes.specs.Passes.{on_statement, on_taken, symbols_in, taken, tidied};
+ghost use Rattle.bz_layout.specs.Flags.{IsSettled};
+ghost use Rattle.bz_passes.specs.Passes.{taken, tidied};
 ghost use Rattle.bz_passes.specs.Programs.{KeepsProgram};
 ghost use Rattle.bz_passes.specs.Changes.{after_passes};
+ghost use Rattle.bz_passes.specs.Joined.{item_tidied};
 
 use crate::flags::settle;
-use crate::labels::shorten_in;
-use crate::loads::sort_loads;
 use crate::marks::any_marked;
 use crate::quotes::quote;
+use crate::runs::sort_runs;
 use crate::symbols::sort_symbols;
-use crate::walk::{RuleChange, change_rule, sort_lists_in};
-use bz_grammar::Kind;
+use crate::walk::change_lists_and_arguments;
 use bz_items::{Items, Memory};
 use bz_value::{Expr, File, Item};
 use std::alloc::Global;
@@ -22,70 +21,29 @@ use std::alloc::Global;
 /// The mark of a statement that stays as it is.
 const LEAVE_ALONE: &[u8] = b"buildifier: leave-alone";
 
-/// Sorts the symbols of a load.
-fn sort_symbols_in(x: &mut Expr) -> Result<(), Memory>
-    ensures { OnOk result (x.new ≡ symbols_in x.old) }
-{
-    match x {
-        Expr::Token(_) => Ok(()),
-        Expr::Form(form) => {
-            if form.kind == Kind::Load {
-                sort_symbols(&mut form.seq.items)?;
-            }
-            Ok(())
-        }
-    }
-}
-
-/// The passes over a statement.
+/// The passes over a statement; one marked `buildifier: leave-alone` stays.
 fn change_statement(alloc: Global, x: &mut Expr) -> Result<(), Memory>
-    ensures { OnOk result (x.new ≡ after_passes x.old) }
+    ensures { OnOk result (x.new ≡ taken after_passes x.old) }
 {
+    if any_marked(LEAVE_ALONE, x.comments().before()) {
+        return Ok(());
+    }
     quote(alloc, x)?;
-    shorten_in(alloc, x)?;
-    sort_lists_in(alloc, x)?;
-    change_rule(alloc, RuleChange::Order, x)?;
-    sort_symbols_in(x)
+    change_lists_and_arguments(alloc, x)?;
+    sort_symbols(alloc, x)
 }
 
-/// The passes over an item: a statement marked `buildifier: leave-alone` and what is no statement stay.
-pub(crate) fn change_item(alloc: Global, item: &mut Item) -> Result<(), Memory>
-    ensures { OnOk result (item.new ≡ on_statement (taken after_passes) item.old) }
+/// The passes over an item: what is no statement stays.
+fn tidy_item(alloc: Global, item: &mut Item) -> Result<(), Memory>
+    ensures { OnOk result (item.new ≡ item_tidied item.old) }
 {
     match item {
         Item::Block(_) => Ok(()),
         Item::Stmt(x) => {
-            if any_marked(LEAVE_ALONE, x.comments().before()) {
-                return Ok(());
-            }
-            change_statement(alloc, x)
+            change_statement(alloc, x)?;
+            settle(x);
+            Ok(())
         }
-    }
-}
-
-fn change_all(alloc: Global, items: &mut [Item]) -> Result<(), Memory>
-    ensures { OnOk result (items.new ≡ on_taken after_passes items.old) }
-{
-    for item in items.iter_mut() {
-        change_item(alloc, item)?;
-    }
-    Ok(())
-}
-
-pub(crate) fn settle_item(item: &mut Item)
-    ensures { item.new ≡ item_with_flags item.old }
-{
-    match item {
-        Item::Block(_) => {}
-        Item::Stmt(x) => settle(x),
-    }
-}
-
-fn settle_all(items: &mut [Item])
-    ensures { items.new ≡ flags items.old }
-{
-    for item in items.iter_mut() {
-        settle_item(item);
     }
 }
 
@@ -93,9 +51,10 @@ fn settle_all(items: &mut [Item])
 pub(crate) fn tidy_items(alloc: Global, items: &mut [Item]) -> Result<(), Memory>
     ensures { OnOk result (items.new ≡ tidied items.old) }
 {
-    change_all(alloc, items)?;
-    sort_loads(alloc, items)?;
-    settle_all(items);
+    for item in items.iter_mut() {
+        tidy_item(alloc, item)?;
+    }
+    sort_runs(alloc, items)?;
     Ok(())
 }
 

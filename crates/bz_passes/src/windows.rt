@@ -1,31 +1,22 @@
 //! Tidying a file in which items came in the place of others of a tidy one.
-ghost use Rattle.std.specs.Prelude.{◌≡◌, ◌≤◌, ◌<◌, ◌+◌, ◌++◌, ◌∷◌, List, None, Ok, false, true, drop, length, slice_range, take, IfOk, IfSome, IsTrue, OnOk};
+ghost use Rattle.std.specs.Prelude.{◌≡◌, ◌≤◌, ◌<◌, ◌+◌, ◌++◌, ◌∷◌, List, Ok, false, true, drop, length, slice_range, take, IfOk, IfSome, IsTrue, OnOk};
 ghost use Rattle.std.specs.List.{AllByRecursion};
 ghost use Rattle.bz_value.specs.Windows.{AreOver, AreWithin};
 ghost use Rattle.bz_value.specs.declared.value.Item.{Item};
 ghost use Rattle.bz_passes.specs.Passes.{load_precedes, tidied as tidied_all};
-ghost use Rattle.bz_passes.specs.private.Borders.{AreTidied, tidied_over};
+ghost use Rattle.bz_passes.specs.private.Borders.{AreTidied, IsStillToTidy, tidied_over};
 ghost use Rattle.bz_passes.specs.private.Single.{IsMoved, IsPlaceOf, first_precedes as precedes_from, one_at, precedes_last as precedes_end};
 
 use crate::borders::set_apart;
-use crate::runs::InRuns;
+use crate::runs::precedes;
 use crate::tidying::tidy_items;
 use bz_items::{Items, Memory};
 use bz_value::{File, Item, Window};
 use std::alloc::Global;
-use std::cmp::Ordering;
 use std::mem;
 
-/// Tidies the items between two places as if they were alone. The error: memory was refused; part of an item may then be lost.
-fn tidy_part(alloc: Global, items: &mut [Item], from: usize, to: usize) -> Result<(), Memory>
-    requires order { from ≤ to }
-    requires within { to ≤ length items.old }
-    ensures { OnOk result (items.new ≡ take from items.old ++ tidied_all (slice_range items.old from to) ++ drop to items.old) }
-{
-    tidy_items(alloc, &mut items[from..to])
-}
-
-/// The same in each window. The other items are not touched.
+/// Tidies what came in each window as if it were alone. The other items are not touched. The error: memory was refused; part of an
+/// item may then be lost.
 fn tidy_each(alloc: Global, windows: &[Window], items: &mut [Item]) -> Result<(), Memory>
     requires { AreWithin windows.now items.old }
     ensures { OnOk result (items.new ≡ tidied_over windows.now items.old) }
@@ -34,7 +25,7 @@ fn tidy_each(alloc: Global, windows: &[Window], items: &mut [Item]) -> Result<()
     for window in windows {
         let from = start + window.from;
         let end = from + window.come;
-        tidy_part(alloc, items, from, end)?;
+        tidy_items(alloc, &mut items[from..end])?;
         start = end;
     }
     Ok(())
@@ -60,13 +51,6 @@ fn tidy_in(alloc: Global, windows: &[Window], file: &mut File) -> Result<(), Mem
     Ok(())
 }
 
-/// Whether the first of these is a load that comes before the second among those that are sorted together.
-fn precedes(item: &Item, other: &Item) -> bool
-    ensures { result ≡ load_precedes item.now other.now }
-{
-    item.is_comparable() && other.is_comparable() && item.compare(other) == Ordering::Less
-}
-
 /// Whether an item comes before the last of others.
 fn precedes_last(item: &Item, others: &[Item]) -> bool
     ensures load { result ≡ precedes_end item.now others.now }
@@ -82,10 +66,7 @@ fn precedes_last(item: &Item, others: &[Item]) -> bool
 fn first_precedes(item: &Item, others: &[Item]) -> bool
     ensures { result ≡ precedes_from item.now others.now }
 {
-    match others.split_first() {
-        Some((first, _)) => precedes(first, item),
-        None => false,
-    }
+    others.first().is_some_and(|first| precedes(first, item))
 }
 
 /// The place among others of an item that is after them: before those at their end that it precedes.
@@ -137,37 +118,6 @@ fn move_back(alloc: Global, file: &mut File, from: usize, to: usize) -> Result<(
     Ok(())
 }
 
-/// Tidies the one item that came in a window by itself, and moves it to its place among the loads before it, which is the answer.
-/// None where that isn't known: then it is tidied and stays. The error: memory was refused; the file has no items then.
-fn tidy_single(
-    alloc: Global,
-    from: usize,
-    gone: usize,
-    file: &mut File,
-) -> Result<Option<usize>, Memory>
-    requires { from + 1 ≤ length file.old }
-    ensures some { IfOk result (λ found. IfSome found (λ to. AreTidied (one_at from gone) (one_at to gone) file.old file.new)) }
-    ensures none { result ≡ Ok None → file.new ≡ tidied_over (one_at from gone) file.old }
-{
-    let window = Window {
-        from,
-        gone,
-        come: 1,
-    };
-    tidy_in(alloc, &[window], file)?;
-    let Some(to) = place_of_single(file, from) else {
-        return Ok(None);
-    };
-    if to == from {
-        return Ok(Some(from));
-    }
-    if gone != 0 {
-        return Ok(None);
-    }
-    move_back(alloc, file, from, to)?;
-    Ok(Some(to))
-}
-
 /// The only window, where one item came in it.
 fn single(windows: &[Window]) -> Option<Window>
     ensures { IfSome result (λ window. (windows.now ≡ one_at window.from window.gone) × (window.come ≡ 1)) }
@@ -176,6 +126,32 @@ fn single(windows: &[Window]) -> Option<Window>
         [window] if window.come == 1 => Some(*window),
         _ => None,
     }
+}
+
+/// Tidies the one item that came in the only window by itself, and moves it to its place among the loads before it, and the window
+/// with it: then the answer is true. Where its place isn't known, it is tidied and stays, and where there are other windows
+/// nothing is done. The error: memory was refused; the file has no items then.
+fn tidy_single(alloc: Global, file: &mut File, windows: &mut Items<Window>) -> Result<bool, Memory>
+    requires { AreWithin windows.old file.old }
+    ensures done { result ≡ Ok true → AreTidied windows.old windows.new file.old file.new }
+    ensures left { result ≡ Ok false → IsStillToTidy windows.old windows.new file.old file.new }
+{
+    let Some(window) = single(windows.as_slice()) else {
+        return Ok(false);
+    };
+    tidy_in(alloc, windows.as_slice(), file)?;
+    let Some(to) = place_of_single(file, window.from) else {
+        return Ok(false);
+    };
+    if to == window.from {
+        return Ok(true);
+    }
+    if window.gone != 0 {
+        return Ok(false);
+    }
+    move_back(alloc, file, window.from, to)?;
+    *windows.at_mut(0) = Window { from: to, ..window };
+    Ok(true)
 }
 
 /// Tidies the items of the windows, which are made such that no load is sorted into or out of them. The error: memory was refused; the
@@ -203,12 +179,7 @@ pub fn tidy_windows(
     ensures tidied { OnOk result ((before : List Item) → tidied_all before ≡ before → AreOver windows.old before file.old → file.new ≡ tidied_all file.old) }
     ensures over { OnOk result ((before : List Item) → tidied_all before ≡ before → AreOver windows.old before file.old → AreOver windows.new before file.new) }
 {
-    let Some(window) = single(windows.as_slice()) else {
-        tidy_apart(alloc, file, windows)?;
-        return Ok(());
-    };
-    if let Some(from) = tidy_single(alloc, window.from, window.gone, file)? {
-        *windows.at_mut(0) = Window { from, ..window };
+    if tidy_single(alloc, file, windows)? {
         return Ok(());
     }
     tidy_apart(alloc, file, windows)?;

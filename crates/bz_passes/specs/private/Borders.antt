@@ -43,3 +43,9 @@ pub record AreTidied (windows others : List Window) (old new : List Item) : Type
   pub within : AreWithin others new
   pub tidy : (before : List Item) → tidied before ≡ before → AreOver windows before old → new ≡ tidied old
   pub over : (before : List Item) → tidied before ≡ before → AreOver windows before old → AreOver others before new
+
+-- What is left to be tidied, in the same windows: however that is done, the file that there was is tidied.
+pub record IsStillToTidy (windows others : List Window) (old mid : List Item) : Type 0 where
+  pub same : others ≡ windows
+  pub within : AreWithin windows mid
+  pub goes : (new : List Item) (vs : List Window) → AreTidied windows vs mid new → AreTidied windows vs old new

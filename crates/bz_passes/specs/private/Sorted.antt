@@ -9,7 +9,7 @@ is_passed [] = false
 is_passed (x ∷ xs) = list_any (λ y. precedes y x) xs
 
 -- each item comes before the next one
-abbrev pub Climbs : List Expr → Type 0
-Climbs [] = Unit {0}
-Climbs (x ∷ []) = Unit {0}
-Climbs (x ∷ y ∷ ys) = (precedes x y ≡ true) × Climbs (y ∷ ys)
+abbrev pub Climbs : {X : Type 0} → (X → X → Bool) → List X → Type 0
+Climbs before [] = Unit {0}
+Climbs before (x ∷ []) = Unit {0}
+Climbs before (x ∷ y ∷ ys) = (before x y ≡ true) × Climbs before (y ∷ ys)

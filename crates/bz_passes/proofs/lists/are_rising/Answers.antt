@@ -1,6 +1,7 @@
 use Rattle.std.proofs.Common.{rules}
-use Rattle.bz_passes.proofs.Listed.{rising_climbs}
+use Rattle.bz_passes.specs.Lists.{precedes}
+use Rattle.bz_passes.proofs.Stable.{answers_climb}
 use Rattle.bz_passes.proofs.lists.are_rising.Goals as goal
 
 pub returns : goal.returns
-returns c = rising_climbs _ _ c.is_sorted_by.ensures.cases (λ h a b h' k. search rules)
+returns c = answers_climb precedes _ _ c.is_sorted_by.ensures.cases (λ h a b h' k. search rules)

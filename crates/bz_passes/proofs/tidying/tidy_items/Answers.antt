@@ -1,8 +1,11 @@
-use Rattle.std.proofs.Common.{ap, sym, ◌∙◌}
-use Rattle.bz_layout.specs.Flags.{flags}
+use Rattle.std.proofs.Common.{◌≡◌, ◌∙◌, ap, arith, map, sym}
+use Rattle.bz_passes.specs.Joined.{item_tidied}
 use Rattle.bz_passes.specs.Passes.{loads}
-use Rattle.bz_passes.proofs.Composed.{five_composed}
+use Rattle.bz_passes.proofs.EachChanged.{all_turned}
+use Rattle.bz_passes.proofs.Settling.{by_items}
 use Rattle.bz_passes.proofs.tidying.tidy_items.Goals as goal
 
 pub returns : goal.returns
-returns c = c.settle_all.ensures ∙ ap flags (c.in_ok-sort_loads.ensures ∙ ap loads (c.in_ok-change_all.ensures ∙ sym (five_composed c.args.items.now)))
+returns c =
+    let each : c.loop-item.items ≡ map item_tidied c.args.items.now = all_turned item_tidied c.loop-item.items _ c.loop-item.item-index (omega arith) c.loop-item.invariant in
+    c.in_ok-sort_runs.ensures ∙ (ap loads each ∙ sym (by_items c.args.items.now))

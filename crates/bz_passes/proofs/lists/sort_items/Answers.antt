@@ -4,7 +4,7 @@ use Rattle.bz_passes.specs.Lists.{precedes}
 use Rattle.bz_passes.specs.Rising.{Rises}
 use Rattle.bz_passes.specs.private.Ranks.{item_ranks}
 use Rattle.bz_passes.proofs.Stable.{from_sort_by, sort_rises}
-use Rattle.bz_passes.proofs.ordering.sort_items.Goals as goal
+use Rattle.bz_passes.proofs.lists.sort_items.Goals as goal
 
 pub returns-clause-sorted : goal.returns-clause-sorted
 returns-clause-sorted c = from_sort_by precedes item_ranks _ _ c.in_ok-sort_by.ensures.sorted c.in_ok-sort_by.ensures.stable (λ h a r h' k. search rules)

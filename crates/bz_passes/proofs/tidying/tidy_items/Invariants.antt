@@ -1,0 +1,6 @@
+use Rattle.std.proofs.Common.{◌≡◌, ◌++◌, map, take, drop}
+use Rattle.bz_passes.specs.Joined.{item_tidied}
+use Rattle.bz_passes.proofs.tidying.tidy_items.Given as goal
+
+abbrev pub invariant-loop-item : goal.invariant-loop-item
+invariant-loop-item l = take l.item-index l.items ++ map item_tidied (drop l.item-index l.items) ≡ map item_tidied l.fn.items
