@@ -1,11 +1,11 @@
 -- Windows joined, and made wider by the loads that reach into them, hold all that they held.
-use Rattle.std.proofs.Common.{◌||◌, ℕ, ◌+◌, ◌-◌, ◌≤◌, false, List, [], ◌∷◌, ◌≡◌, length, take, drop, refl, sym, ap, ◌∙◌, subst, arith, drop-drop, length-drop, take-take}
+use Rattle.std.proofs.Common.{◌||◌, ℕ, zero, suc, true, ◌+◌, ◌-◌, ◌≤◌, false, List, [], ◌∷◌, ◌≡◌, length, take, drop, refl, sym, ap, ◌∙◌, subst, arith, drop-drop, length-drop, length-take-le, take-take}
 use Rattle.std.proofs.lemmas.Bool.{and_left, and_right, or_from}
 use Rattle.bz_value.specs.declared.value.Item.{Item}
 use Rattle.bz_value.specs.declared.windows.Window.{Window}
 use Rattle.bz_value.specs.Windows.{AreOver, AreWithin}
 use Rattle.bz_passes.specs.Joined.{begins_with_load}
-use Rattle.bz_passes.specs.private.Borders.{AreSetApart, ends_with_load, all_joined, touches}
+use Rattle.bz_passes.specs.private.Borders.{AreLoads, AreSetApart, ends_with_load, all_joined, touches}
 
 -- the items after both windows
 both_dropped : (n from more : ℕ) (sum : ℕ) (xs : List Item) → n + (from + more) ≡ sum → drop (from + more) (drop n xs) ≡ drop sum xs
@@ -76,3 +76,21 @@ module _ (w : Window) (start stop : ℕ) (items : List Item) (within : w.from + 
         (ap (λ k. touches k items) ends ∙ and_right (ends_with_load (take stop items)) _ m)) refl;
     over = wide_over;
   }
+
+-- ---- where the loads at the end begin
+
+one_load : (n : ℕ) (items : List Item) → suc n ≤ length items → ends_with_load (take (suc n) items) ≡ true → AreLoads (drop (suc n) items) → AreLoads (drop n items)
+one_load n [] b h a = absurd (omega (arith, b))
+one_load zero (y ∷ ys) b h a = (h, a)
+one_load (suc n) (y ∷ []) b h a = absurd (omega (arith, b))
+one_load (suc n) (y ∷ z ∷ ys) b h a = one_load n (z ∷ ys) (omega (arith, b)) h a
+
+pub load_before : (at : ℕ) (items : List Item) → at ≤ length items → ends_with_load (take at items) ≡ true → AreLoads (drop at items) → AreLoads (drop (at - 1) items)
+load_before zero items b h a = a
+load_before (suc n) items b h a = subst (λ k. AreLoads (drop k items)) (omega arith) (one_load n items b h a)
+
+pub before_all : (from start : ℕ) (items front : List Item) → from ≤ length items → front ≡ take from items → start ≤ length front → ends_with_load (take start front) ≡ false
+    → (start ≤ from) × (ends_with_load (take start items) ≡ false)
+before_all from start items front within is bound n =
+    let below : start ≤ from = omega (arith, bound, ap length is, length-take-le from items within) in
+    (below, ap ends_with_load (sym (ap (take start) is ∙ take-take start from items below)) ∙ n)

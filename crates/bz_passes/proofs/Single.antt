@@ -1,7 +1,8 @@
 -- One item that came in a tidy file, tidied by itself and moved to its place among the loads, makes the whole tidy.
-use Rattle.std.proofs.Common.{ℕ, zero, suc, ◌+◌, ◌-◌, ◌≤◌, ◌<◌, ◌⊎◌, inl, inr, true, false, List, [], ◌∷◌, ◌++◌, ◌≡◌, length, take, drop, refl, sym, ap, ◌∙◌, subst, arith}
+use Rattle.std.proofs.Common.{ℕ, zero, suc, ◌+◌, ◌-◌, ◌≤◌, ◌<◌, ◌⊎◌, ◌&&◌, inl, inr, true, false, get_or, List, [], ◌∷◌, ◌++◌, ◌≡◌, length, take, drop, refl, sym, ap, ◌∙◌, subst, arith}
 use Rattle.std.proofs.Common.{append_assoc, append-nil, drop-drop, drop_at, length-append, length-drop, length-take-le, take-append-drop, take-take, take_at}
-use Rattle.std.proofs.lemmas.List.{drop-append-le}
+use Rattle.std.proofs.lemmas.Bool.{and_left, and_parts, and_right, true_from_ne_false, true≢false}
+use Rattle.std.proofs.lemmas.List.{drop-append-le, drop_more, take_more}
 use Rattle.std.proofs.lemmas.List.Elements.{All-append, All-drop, All-take}
 use Rattle.std.specs.List.{AllByRecursion}
 use Rattle.bz_value.specs.declared.value.Item.{Item}
@@ -10,13 +11,14 @@ use Rattle.bz_value.specs.Proper.{IsProper, IsProperItem}
 use Rattle.bz_value.specs.Windows.{AreOver, AreWithin}
 use Rattle.bz_passes.specs.Joined.{item_tidied}
 use Rattle.bz_passes.specs.Orders.{insert_by, sort_by}
-use Rattle.bz_passes.specs.Passes.{load_precedes, loads, tidied}
-use Rattle.bz_passes.specs.private.Borders.{AreTidied, IsStillToTidy, tidied_over}
-use Rattle.bz_passes.specs.private.Single.{IsMoved, IsPlaceOf, first_precedes, one_at, precedes_last}
+use Rattle.bz_passes.specs.Passes.{is_run_load, load_precedes, loads, path_precedes, tidied}
+use Rattle.bz_passes.specs.private.Ranks.{path_ranks}
+use Rattle.bz_passes.specs.private.Borders.{AreLoads, AreTidied, IsStillToTidy, ends_with_load, tidied_over}
+use Rattle.bz_passes.specs.private.Single.{AreInOrder, IsMoved, IsPlaceOf, first_precedes, one_at, precedes_last}
 use Rattle.bz_passes.proofs.Keeping.{both}
 use Rattle.bz_passes.proofs.Pieces.{InOrder, IsTidy, back_stays, each_between, front_stays, ordered_drop, ordered_take, over_still, over_within, tidied_alone, tidy_is}
 use Rattle.bz_passes.proofs.Settling.{by_items, each, item_settles}
-use Rattle.bz_passes.proofs.Sorting.{Starts, insert_starts, ordered_stays}
+use Rattle.bz_passes.proofs.Sorting.{Starts, climbs_by, insert_starts, ordered_by, ordered_stays}
 
 -- ---- the place of one item among sorted ones
 
@@ -37,23 +39,54 @@ placed x (y ∷ []) later rest o p a s f = ap (insert_by load_precedes y) (place
 placed x (y ∷ z ∷ front) later rest o p a s f =
     ap (insert_by load_precedes y) (placed x (z ∷ front) later rest o.1 p a s f) ∙ insert_starts load_precedes y ((z ∷ front) ++ x ∷ later ++ rest) o.0
 
-abbrev AllLater : Item → List Item → Type 0
+abbrev pub AllLater : Item → List Item → Type 0
 AllLater x others = AllByRecursion (λ y. load_precedes x y ≡ true) others
-
-one_earlier : (x : Item) (n : ℕ) (others : List Item) → suc n ≤ length others → precedes_last x (take (suc n) others) ≡ true → AllLater x (drop (suc n) others) → AllLater x (drop n others)
-one_earlier x n [] b h a = absurd (omega (arith, b))
-one_earlier x zero (y ∷ ys) b h a = (h, a)
-one_earlier x (suc n) (y ∷ []) b h a = absurd (omega (arith, b))
-one_earlier x (suc n) (y ∷ z ∷ ys) b h a = one_earlier x n (z ∷ ys) (omega (arith, b)) h a
-
-pub earlier : (x : Item) (at : ℕ) (others : List Item) → at ≤ length others → precedes_last x (take at others) ≡ true → AllLater x (drop at others) → AllLater x (drop (at - 1) others)
-earlier x zero others b h a = a
-earlier x (suc n) others b h a = subst (λ k. AllLater x (drop k others)) (omega arith) (one_earlier x n others b h a)
 
 pub last_preceded : (x : Item) (front : List Item) (last : Item) → precedes_last x (front ++ last ∷ []) ≡ load_precedes x last
 last_preceded x [] last = refl
 last_preceded x (y ∷ []) last = refl
 last_preceded x (y ∷ z ∷ front) last = last_preceded x (z ∷ front) last
+
+-- a later load follows what the item precedes
+next_later : (x y z : Item) → load_precedes x y ≡ true → load_precedes z y ≡ false → is_run_load z ≡ true → load_precedes x z ≡ true
+next_later x y z h n l =
+    let ahead : ((is_run_load x && is_run_load y) ≡ true) × (path_precedes x y ≡ true) = and_parts (is_run_load x && is_run_load y) (path_precedes x y) h in
+    let own : (is_run_load x ≡ true) × (is_run_load y ≡ true) = and_parts (is_run_load x) (is_run_load y) ahead.0 in
+    let behind : path_precedes z y ≡ false = rw (l, own.1) at n in
+    let first : path_precedes x z ≡ true = true_from_ne_false _ (λ f. true≢false (sym ahead.1 ∙ path_ranks.chain x z y f behind)) in
+    rw (own.0, l, first) refl
+
+later_too : (x y : Item) (ys : List Item) → load_precedes x y ≡ true → InOrder (y ∷ ys) → AreLoads ys → AllLater x ys
+later_too x y [] h o a = tt
+later_too x y (z ∷ zs) h o a = let next : load_precedes x z ≡ true = next_later x y z h o.0 a.0 in (next, later_too x z zs next o.1 a.1)
+
+loads_after : (n : ℕ) (xs : List Item) → AreLoads xs → AreLoads (drop n xs)
+loads_after zero xs a = a
+loads_after (suc n) [] a = tt
+loads_after (suc n) (x ∷ xs) a = loads_after n xs a.1
+
+pub fewer_loads : (low more : ℕ) (others : List Item) → low ≤ more → AreLoads (drop low others) → AreLoads (drop more others)
+fewer_loads low more others b a =
+    let sum : low + (more - low) ≡ more = omega (arith, b) in
+    subst AreLoads (drop-drop (more - low) low others ∙ ap (λ n. drop n others) sum) (loads_after (more - low) (drop low others) a)
+
+pub later_from : (x : Item) (low middle : ℕ) (others : List Item) (d : Item) → low ≤ middle → middle < length others → AreLoads (drop low others) → load_precedes x (get_or others middle d) ≡ true
+    → AreInOrder others → AllLater x (drop middle others)
+later_from x low middle others d at bound a h o =
+    let rest : drop middle others ≡ get_or others middle d ∷ drop (middle + 1) others = drop_more others middle d bound in
+    subst (AllLater x) (sym rest) (
+      h,
+      later_too x (get_or others middle d) (drop (middle + 1) others) h
+          (subst InOrder rest (ordered_drop middle others (ordered_by load_precedes others o))) (fewer_loads low (middle + 1) others (omega (arith, at)) a),
+    )
+
+pub stops_after : (x : Item) (middle : ℕ) (others : List Item) (d : Item) → middle < length others → load_precedes x (get_or others middle d) ≡ false → precedes_last x (take (middle + 1) others) ≡ false
+stops_after x middle others d bound n = ap (precedes_last x) (take_more others middle d bound) ∙ (last_preceded x (take middle others) (get_or others middle d) ∙ n)
+
+pub no_load_stops : (x : Item) (others : List Item) → ends_with_load others ≡ false → precedes_last x others ≡ false
+no_load_stops x [] n = refl
+no_load_stops x (y ∷ []) n = and_left (is_run_load x && is_run_load y) (path_precedes x y) (and_right (is_run_load x) (is_run_load y) n)
+no_load_stops x (y ∷ z ∷ ys) n = no_load_stops x (z ∷ ys) n
 
 -- ---- tidying an item twice
 
@@ -109,7 +142,7 @@ single_tidied before front rest x from stop to t own back o p =
     by_items (front ++ x ∷ rest)
     ∙ (ap loads (each_between front x rest ∙ both (λ z zs. z ++ item_tidied x ∷ zs) front_tidy.each_stays rest_tidy.each_stays)
     ∙ (ap loads (sym whole)
-    ∙ placed (item_tidied x) (take to front) (drop to front) rest (ordered_take to front front_tidy.ordered) o p.later p.stops p.follows))
+    ∙ placed (item_tidied x) (take to front) (drop to front) rest (ordered_take to front front_tidy.ordered) o p.back.later p.back.stops p.follows))
 
 -- ---- the window of a single item
 
@@ -166,9 +199,9 @@ module _ (from gone to : ℕ) (old new : List Item) (x : Item) (rest : List Item
       ∙ (sym (append_assoc front (item_tidied x ∷ []) rest)
       ∙ both (λ z zs. z ++ item_tidied x ∷ zs ++ rest) (sym (ap (λ n. take n front) e ∙ take-take from from old (omega arith))) (sym (none_later e))))
 
-  pub place_is : ((item : Item) (others : List Item) → drop from (tidied_at from old) ≡ item ∷ others → IsPlaceOf item to (take from (tidied_at from old)) others)
-      → IsPlaceOf (item_tidied x) to front rest
-  place_is h = subst (λ z. IsPlaceOf (item_tidied x) to z rest) front_is (h (item_tidied x) rest back_is)
+  pub place_is : ((item : Item) (others : List Item) → drop from (tidied_at from old) ≡ item ∷ others → AreInOrder (take from (tidied_at from old)) → IsPlaceOf item to (take from (tidied_at from old)) others)
+      → AreInOrder front → IsPlaceOf (item_tidied x) to front rest
+  place_is h = subst (λ z. AreInOrder z → IsPlaceOf (item_tidied x) to z rest) front_is (h (item_tidied x) rest back_is)
 
   module _ (moved : Moved) where
     new_length : length new ≡ length old
@@ -232,16 +265,16 @@ module _ (from gone to : ℕ) (old new : List Item) (x : Item) (rest : List Item
         ]),
       )
 
-    pub is_tidied : IsPlaceOf (item_tidied x) to front rest → AreTidied (one_at from gone) (one_at to gone) old new
+    pub is_tidied : (AreInOrder front → IsPlaceOf (item_tidied x) to front rest) → AreTidied (one_at from gone) (one_at to gone) old new
     is_tidied p = record {
       within = (omega (arith, new_length, bound, there), tt);
-      tidy = λ before tidy over. new_tidied before over tidy p;
+      tidy = λ before tidy over. new_tidied before over tidy (p (climbs_by load_precedes front (subst InOrder (sym over.2) (ordered_take from before (tidy_is before tidy).ordered))));
       over = λ before tidy over. new_over before over;
     }
 
 -- whatever item came
 abbrev pub Placed : ℕ → ℕ → List Item → Type 0
-Placed from to mid = (item : Item) (rest : List Item) → drop from mid ≡ item ∷ rest → IsPlaceOf item to (take from mid) rest
+Placed from to mid = (item : Item) (rest : List Item) → drop from mid ≡ item ∷ rest → AreInOrder (take from mid) → IsPlaceOf item to (take from mid) rest
 
 single_at : (from gone to : ℕ) (old new xs : List Item) → drop from old ≡ xs → from + 1 ≤ length old → to ≤ from → Placed from to (tidied_at from old)
     → ((to ≡ from) × (new ≡ tidied_at from old)) ⊎ ((gone ≡ 0) × IsMoved from to (tidied_at from old) new) → AreTidied (one_at from gone) (one_at to gone) old new

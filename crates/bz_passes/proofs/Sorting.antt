@@ -67,10 +67,15 @@ module _ {X : Type 0} (lt : X → X → Bool) where
   ordered_stays [] o = refl
   ordered_stays (x ∷ xs) o = ap (insert_by lt x) (ordered_stays xs o.1) ∙ insert_starts x xs o.0
 
-  ordered_by : (xs : List X) → Climbs (λ x y. not (lt y x)) xs → Ordered xs
+  pub ordered_by : (xs : List X) → Climbs (λ x y. not (lt y x)) xs → Ordered xs
   ordered_by [] c = tt
   ordered_by (x ∷ []) c = (tt, tt)
   ordered_by (x ∷ y ∷ ys) c = (not-true (lt y x) c.0, ordered_by (y ∷ ys) c.1)
+
+  pub climbs_by : (xs : List X) → Ordered xs → Climbs (λ x y. not (lt y x)) xs
+  climbs_by [] o = tt
+  climbs_by (x ∷ []) o = tt
+  climbs_by (x ∷ y ∷ ys) o = (ap not o.0, climbs_by (y ∷ ys) o.1)
 
   pub climbs_stays : (xs : List X) → Climbs (λ x y. not (lt y x)) xs → sort_by lt xs ≡ xs
   climbs_stays xs c = ordered_stays xs (ordered_by xs c)

@@ -2,7 +2,7 @@
 ghost use Rattle.std.specs.Prelude.{◌≡◌, ◌≤◌, ◌<◌, ◌+◌, ◌-◌, ◌∷◌, [], false, drop, length, take, IfOk, IsTrue, OnOk};
 ghost use Rattle.bz_value.specs.Windows.{AreWithin};
 ghost use Rattle.bz_passes.specs.Joined.{begins_with_load as begins_so};
-ghost use Rattle.bz_passes.specs.private.Borders.{AreSetApart, all_joined, any_touched as any_so, ends_with_load as ends_so, touches as touches_so};
+ghost use Rattle.bz_passes.specs.private.Borders.{AreLoads, AreSetApart, all_joined, any_touched as any_so, ends_with_load as ends_so, touches as touches_so};
 
 use crate::runs::InRuns;
 use bz_items::{Items, Memory};
@@ -56,13 +56,13 @@ fn any_touched(items: &[Item], windows: &[Window]) -> bool
     false
 }
 
-/// Where the loads begin that are sorted together and reach up to a place; that place itself where none do.
-fn start_of_run(items: &[Item], at: usize) -> usize
-    requires { at ≤ length items.now }
-    ensures bound { result ≤ at }
+/// Where the loads begin that are sorted together and reach up to the end; the end itself where none do.
+pub(crate) fn start_of_run(items: &[Item]) -> usize
+    ensures bound { result ≤ length items.now }
     ensures whole { ends_so (take result items.now) ≡ false }
+    ensures loads { AreLoads (drop result items.now) }
 {
-    let mut start = at;
+    let mut start = items.len();
     while ends_with_load(items.split_at(start).0) {
         start -= 1;
     }
@@ -106,7 +106,7 @@ fn widened(items: &[Item], window: Window) -> Result<Window, Memory>
     requires { window.from + window.come ≤ length items.now }
     ensures { IfOk result (λ wide. AreSetApart (window ∷ []) (wide ∷ []) items.now) }
 {
-    let start = start_of_run(items, window.from);
+    let start = start_of_run(items.split_at(window.from).0);
     let come = end_of_run(items, window.from + window.come) - start;
     let gone = sum(window.gone, come - window.come)?;
     Ok(Window {

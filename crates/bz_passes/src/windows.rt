@@ -1,13 +1,12 @@
 //! Tidying a file in which items came in the place of others of a tidy one.
 ghost use Rattle.std.specs.Prelude.{◌≡◌, ◌≤◌, ◌<◌, ◌+◌, ◌++◌, ◌∷◌, List, Ok, false, true, drop, length, slice_range, take, IfOk, IfSome, IsTrue, OnOk};
-ghost use Rattle.std.specs.List.{AllByRecursion};
 ghost use Rattle.bz_value.specs.Windows.{AreOver, AreWithin};
 ghost use Rattle.bz_value.specs.declared.value.Item.{Item};
-ghost use Rattle.bz_passes.specs.Passes.{load_precedes, tidied as tidied_all};
+ghost use Rattle.bz_passes.specs.Passes.{tidied as tidied_all};
 ghost use Rattle.bz_passes.specs.private.Borders.{AreTidied, IsStillToTidy, tidied_over};
-ghost use Rattle.bz_passes.specs.private.Single.{IsMoved, IsPlaceOf, first_precedes as precedes_from, one_at, precedes_last as precedes_end};
+ghost use Rattle.bz_passes.specs.private.Single.{AreInOrder, IsMoved, IsPlaceBack, IsPlaceOf, first_precedes as precedes_from, one_at, precedes_last as precedes_end};
 
-use crate::borders::set_apart;
+use crate::borders::{set_apart, start_of_run};
 use crate::runs::precedes;
 use crate::tidying::tidy_items;
 use bz_items::{Items, Memory};
@@ -69,23 +68,32 @@ fn first_precedes(item: &Item, others: &[Item]) -> bool
     others.first().is_some_and(|first| precedes(first, item))
 }
 
-/// The place among others of an item that is after them: before those at their end that it precedes.
+/// The place among others, which are in order, of an item that is after them: before those at their end that it precedes. One look at
+/// each load at the end, and comparisons by halving; where it doesn't precede the last one, no more than that is compared.
 fn place_back(item: &Item, others: &[Item]) -> usize
     ensures bound { result ≤ length others.now }
-    ensures later { AllByRecursion (λ other. load_precedes item.now other ≡ true) (drop result others.now) }
-    ensures stops { precedes_end item.now (take result others.now) ≡ false }
+    ensures place { AreInOrder others.now → IsPlaceBack item.now result others.now }
 {
-    let mut at = others.len();
-    while precedes_last(item, others.split_at(at).0) {
-        at -= 1;
+    let mut high = others.len();
+    if !precedes_last(item, others) {
+        return high;
     }
-    at
+    let mut low = start_of_run(others);
+    while low < high {
+        let middle = low + (high - low) / 2;
+        if precedes(item, &others[middle]) {
+            high = middle;
+        } else {
+            low = middle + 1;
+        }
+    }
+    low
 }
 
 /// The place to which the item at this place is to be moved; none where it isn't known to be one before it.
 fn place_of_single(file: &File, from: usize) -> Option<usize>
     requires { from < length file.now }
-    ensures { IfSome result (λ to. (to ≤ from) × ((item : Item) (rest : List Item) → drop from file.now ≡ item ∷ rest → IsPlaceOf item to (take from file.now) rest)) }
+    ensures { IfSome result (λ to. (to ≤ from) × ((item : Item) (rest : List Item) → drop from file.now ≡ item ∷ rest → AreInOrder (take from file.now) → IsPlaceOf item to (take from file.now) rest)) }
 {
     let (front, rest) = file.items.as_slice().split_at(from);
     let (item, rest) = rest.split_first()?;

@@ -1,5 +1,6 @@
 -- Windows of a file's items that are tidied apart from what is around them.
-use Rattle.std.specs.Prelude.{◌≡◌, ◌+◌, ◌&&◌, ◌||◌, ℕ, Bool, false, List, [], ◌∷◌, ◌++◌, drop, take}
+use Rattle.std.specs.Prelude.{◌≡◌, ◌+◌, ◌&&◌, ◌||◌, ℕ, Bool, true, false, List, [], ◌∷◌, ◌++◌, drop, take}
+use Rattle.std.specs.List.{AllByRecursion}
 use Rattle.bz_value.specs.Windows.{AreOver, AreWithin}
 use Rattle.bz_value.specs.declared.value.Item.{Item}
 use Rattle.bz_value.specs.declared.windows.Window.{Window}
@@ -11,6 +12,9 @@ abbrev pub ends_with_load : List Item → Bool
 ends_with_load [] = false
 ends_with_load (item ∷ []) = is_run_load item
 ends_with_load (item ∷ next ∷ items) = ends_with_load (next ∷ items)
+
+abbrev pub AreLoads : List Item → Type 0
+AreLoads = AllByRecursion (λ item. is_run_load item ≡ true)
 
 -- whether such loads are on both sides of a place
 abbrev pub touches : ℕ → List Item → Bool

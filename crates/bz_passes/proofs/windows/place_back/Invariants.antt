@@ -1,10 +1,17 @@
-use Rattle.std.proofs.Common.{◌≡◌, ◌≤◌, true, drop, length}
-use Rattle.std.specs.List.{AllByRecursion}
-use Rattle.bz_passes.specs.Passes.{load_precedes}
+use Rattle.std.proofs.Common.{◌≡◌, ◌≤◌, ◌-◌, false, drop, length, take}
+use Rattle.bz_passes.specs.private.Borders.{AreLoads}
+use Rattle.bz_passes.specs.private.Single.{AreInOrder, precedes_last}
+use Rattle.bz_passes.proofs.Single.{AllLater}
 use Rattle.bz_passes.proofs.windows.place_back.Given as goal
 
-abbrev pub invariant-loop-at : goal.invariant-loop-at
-invariant-loop-at l = (l.at ≤ length l.others) × AllByRecursion (λ other. load_precedes l.item other ≡ true) (drop l.at l.others)
+abbrev pub invariant-loop-low : goal.invariant-loop-low
+invariant-loop-low l = record {
+  between : l.low ≤ l.high;
+  bound : l.high ≤ length l.others;
+  loads : AreLoads (drop l.low l.others);
+  later : AreInOrder l.others → AllLater l.item (drop l.high l.others);
+  stops : precedes_last l.item (take l.low l.others) ≡ false;
+}
 
-abbrev pub decreases-loop-at : goal.decreases-loop-at
-decreases-loop-at l = l.at
+abbrev pub decreases-loop-low : goal.decreases-loop-low
+decreases-loop-low l = l.high - l.low
