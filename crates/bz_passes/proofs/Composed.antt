@@ -10,7 +10,7 @@ use Rattle.bz_items.specs.Characters.{Bytes}
 use Rattle.bz_rule.proofs.ProperChanges.{by_test}
 use Rattle.bz_rule.specs.Values.{has_kind, above, parts_of, items_of, with_parts, with_items, on_first, on_third, on_rest, on_lists}
 use Rattle.bz_passes.specs.Changes.{after_passes}
-use Rattle.bz_passes.specs.Orders.{sort_by}
+use Rattle.bz_passes.specs.Sorting.{sort_by}
 use Rattle.bz_passes.specs.Marks.{any_marked, leave_alone}
 use Rattle.bz_passes.specs.Lists.{settled_list}
 use Rattle.bz_passes.specs.Passes.{on_statement, taken, on_taken, on_call, on_rule_arguments, on_attribute, on_assigned, on_label_value, on_list_value, quotes_in, quotes, labels_in, labels, lists_in, lists, argument_precedes, arguments_in, arguments, symbol_precedes, symbols_in, symbols}

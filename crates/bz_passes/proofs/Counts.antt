@@ -15,10 +15,9 @@ use Rattle.bz_value.specs.Empty.{is_empty, is_none}
 use Rattle.bz_layout.specs.Flags.{item_with_flags}
 use Rattle.bz_rule.proofs.ProperChanges.{by_case}
 use Rattle.bz_rule.specs.Values.{text_of, above, with_above, with_text}
-use Rattle.bz_passes.specs.Orders.{sort_by}
+use Rattle.bz_passes.specs.Sorting.{sort_by}
 use Rattle.bz_passes.specs.Marks.{is_marked, keep_sorted, keep_marks, other_comments}
-use Rattle.bz_passes.specs.Lists.{is_taken, precedes, has_no_comment, without_repeats, in_order, without_marks, sorted, settled_list}
-use Rattle.bz_passes.specs.MovedMarks.{MovesMarks, with_marks_moved}
+use Rattle.bz_passes.specs.Lists.{is_taken, precedes, has_no_comment, without_repeats, in_order, without_marks, sorted, settled_list, MovesMarks, with_marks_moved}
 use Rattle.bz_passes.specs.Passes.{on_taken, quotes_in, quotes, labels_in, labels, lists_in, lists, argument_precedes, arguments_in, arguments, symbol_precedes, symbols_in, symbols, load_precedes, loads, tidied}
 use Rattle.bz_passes.specs.Strings.{shorter_string, with_double}
 use Rattle.bz_passes.proofs.Keeping.{both}

@@ -5,7 +5,7 @@ use Rattle.std.proofs.lemmas.List.{drop_more}
 use Rattle.std.proofs.lemmas.List.Edits.{length-between}
 use Rattle.std.specs.List.{AllByRecursion}
 use Rattle.std.proofs.lemmas.Bool.{cases_Bool, and_right, and_left}
-use Rattle.bz_passes.specs.Orders.{insert_by, sort_by}
+use Rattle.bz_passes.specs.Sorting.{insert_by, sort_by}
 use Rattle.bz_passes.proofs.Sorting.{compared, sort_all, sort_length}
 
 -- what a slice of a list became, in the list

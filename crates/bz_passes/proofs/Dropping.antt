@@ -18,7 +18,7 @@ use Rattle.bz_rule.specs.Values.{text_of}
 use Rattle.bz_rule.specs.QuoteMarks.{between}
 use Rattle.bz_passes.specs.Lists.{precedes, without_repeats, has_no_comment}
 use Rattle.bz_passes.specs.private.Repeats.{AreKept, sort_key, last_of, ties_last, precedes_last, is_text_at, repeats_at, tied_places}
-use Rattle.bz_passes.specs.Rising.{NoneBefore, Rises}
+use Rattle.bz_passes.specs.Sorting.{NoneBefore, Rises}
 use Rattle.bz_passes.proofs.Keeping.{all_joined}
 
 -- ---- keys of which none comes before the other

@@ -18,13 +18,12 @@ use Rattle.bz_value.specs.declared.value.Expr.{Expr, Token, Form'}
 use Rattle.bz_items.specs.Characters.{Bytes}
 use Rattle.bz_value.specs.Proper.{comments_of}
 use Rattle.bz_rule.specs.Values.{has_class, text_of, above, with_above}
-use Rattle.bz_passes.specs.Orders.{insert_by, sort_by}
+use Rattle.bz_passes.specs.Sorting.{insert_by, sort_by, NoneBefore, Rises}
 use Rattle.bz_rule.specs.QuoteMarks.{between}
 use Rattle.bz_passes.specs.Marks.{is_marked, keep_marks, keep_sorted, other_comments}
 use Rattle.bz_passes.specs.Lists.{above_first, has_above, is_taken, precedes, has_no_comment, without_repeats, in_order, without_marks, marked_by, sorted, settled_list}
-use Rattle.bz_passes.specs.Rising.{NoneBefore, Rises}
 use Rattle.bz_passes.specs.private.Ranks.{item_ranks}
-use Rattle.bz_passes.specs.private.Sorted.{Climbs, is_passed}
+use Rattle.bz_passes.specs.private.Repeats.{Climbs, is_passed}
 use Rattle.bz_passes.proofs.Keeping.{Keeps, Settles, all_joined, both, same_first, same_after}
 use Rattle.bz_rule.proofs.ProperChanges.{by_case, by_test}
 use Rattle.bz_rule.proofs.ProperItems.{all_kept}
@@ -73,6 +72,9 @@ unrepeated_rises earlier (x ∷ xs) h =
     (unrepeated_rises earlier xs h.1) (unrepeated_all (λ z. precedes z x ≡ false) (text_of x ∷ earlier) xs h.0, unrepeated_rises (text_of x ∷ earlier) xs h.1)
 
 -- ---- sorted lists stay
+
+pub sorted_rises : (xs ys : List Expr) → ys ≡ sort_by precedes xs → Rises precedes ys
+sorted_rises xs ys e = subst (λ (zs : List Expr). Rises precedes zs) (sym e) (sort_rises precedes item_ranks xs)
 
 record Fine (xs : List Expr) : Type 0 where
   rising : Rises precedes xs

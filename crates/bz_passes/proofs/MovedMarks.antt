@@ -10,12 +10,10 @@ use Rattle.bz_label.specs.Keys.{key_order}
 use Rattle.bz_value.specs.declared.value.Expr.{Expr}
 use Rattle.bz_items.specs.Characters.{Bytes}
 use Rattle.bz_rule.specs.Values.{text_of, above}
-use Rattle.bz_passes.specs.Orders.{insert_by, sort_by}
+use Rattle.bz_passes.specs.Sorting.{insert_by, sort_by, NoneBefore, Rises}
 use Rattle.bz_rule.specs.QuoteMarks.{between}
 use Rattle.bz_passes.specs.Marks.{keep_marks, other_comments}
-use Rattle.bz_passes.specs.Lists.{precedes, has_no_comment, without_repeats, in_order, without_marks, marked_by, sorted}
-use Rattle.bz_passes.specs.MovedMarks.{MovesMarks}
-use Rattle.bz_passes.specs.Rising.{NoneBefore, Rises}
+use Rattle.bz_passes.specs.Lists.{precedes, has_no_comment, without_repeats, in_order, without_marks, marked_by, sorted, MovesMarks}
 use Rattle.bz_passes.specs.private.Ranks.{item_ranks}
 use Rattle.bz_passes.proofs.Keeping.{both}
 use Rattle.bz_passes.proofs.Sorting.{sort_all, sort_same, insert_starts}

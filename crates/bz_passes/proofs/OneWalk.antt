@@ -8,7 +8,7 @@ use Rattle.bz_items.specs.Characters.{Bytes}
 use Rattle.bz_rule.specs.Rules.{is_text}
 use Rattle.bz_rule.specs.Values.{above, has_kind, on_first, on_lists, on_third}
 use Rattle.bz_passes.specs.Changes.{arguments_changed, attribute_changed, labels_changed, list_changed, lists_and_arguments}
-use Rattle.bz_passes.specs.Orders.{sort_by}
+use Rattle.bz_passes.specs.Sorting.{sort_by}
 use Rattle.bz_passes.specs.Lists.{settled_list}
 use Rattle.bz_passes.specs.Passes.{argument_precedes, arguments_in, labelled, labels_in, lists_in, of_rule, on_assigned, on_attribute, on_call, on_label_value, on_list_value, on_rule_arguments}
 use Rattle.bz_passes.specs.Strings.{shorter_string}

@@ -10,7 +10,7 @@ use Rattle.bz_value.specs.Comments.{no_comments}
 use Rattle.bz_items.specs.Characters.{Bytes}
 use Rattle.bz_rule.specs.Values.{on_rest, items_of, on_items, parts_of, text_of}
 use Rattle.bz_grammar.specs.declared.kind.Kind.TheVariants as k
-use Rattle.bz_passes.specs.Orders.{sort_by}
+use Rattle.bz_passes.specs.Sorting.{sort_by}
 use Rattle.bz_passes.specs.Passes.{argument_precedes, arguments_in, loads, on_labels, on_list_values, on_rule_arguments, on_taken, symbol_precedes, symbols_in}
 use Rattle.bz_passes.specs.Programs.{IsSameString, itself, turned, turned_thrice, KeepsProgram}
 use Rattle.bz_passes.specs.Syntax.{program}

@@ -1,6 +1,5 @@
 -- Reading what was changed: the parts of expressions, by lists.
-use Rattle.std.proofs.Common.{true, List, ◌∷◌, ◌≡◌, refl, sym, ap, ◌∙◌, map}
-use Rattle.std.proofs.Common.{true≢false}
+use Rattle.std.proofs.Common.{true, List, ◌∷◌, ◌≡◌, refl, sym, ap, ◌∙◌, map, true≢false}
 use mathlib.Core.Former.{Count}
 use Rattle.bz_token.specs.declared.class.Class.{Class}
 use Rattle.bz_grammar.specs.declared.kind.Kind.{Kind}

@@ -1,6 +1,5 @@
 -- Pieces of a file that no load is sorted across are tidied apart, and windows of a tidy file by themselves.
-use Rattle.std.proofs.Common.{◌||◌, ℕ, zero, suc, ◌+◌, ◌≤◌, Bool, true, false, ◌&&◌, inl, inr, List, [], ◌∷◌, ◌++◌, ◌≡◌, length, take, drop, refl, sym, ap, ◌∙◌, subst, arith, map}
-use Rattle.std.proofs.Common.{append_assoc, append-nil, drop_at, length-append, length-drop, length-take-le, take-append-drop, take_at}
+use Rattle.std.proofs.Common.{◌||◌, ℕ, zero, suc, ◌+◌, ◌≤◌, Bool, true, false, ◌&&◌, inl, inr, List, [], ◌∷◌, ◌++◌, ◌≡◌, length, take, drop, refl, sym, ap, ◌∙◌, subst, arith, map, append_assoc, append-nil, drop_at, length-append, length-drop, length-take-le, take-append-drop, take_at}
 use Rattle.std.proofs.Math.Seq.{take-add}
 use Rattle.std.proofs.lemmas.Bool.{cases_Bool, or_parts}
 use Rattle.std.proofs.lemmas.List.{drop-map, length-map, map-append, take-map}

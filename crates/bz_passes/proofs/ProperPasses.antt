@@ -16,7 +16,7 @@ use Rattle.bz_items.specs.Characters.{Bytes}
 use Rattle.bz_value.specs.Proper.{AreComments, IsProperItem, IsProper}
 use Rattle.bz_layout.proofs.FlaggedProper.{flags_proper}
 use Rattle.bz_rule.specs.Values.{has_kind, has_class, text_of, parts_of, with_text, above, on_items, on_first, on_third, first_text, on_lists}
-use Rattle.bz_passes.specs.Orders.{sort_by}
+use Rattle.bz_passes.specs.Sorting.{sort_by}
 use Rattle.bz_passes.specs.Strings.{with_double, shorter_string}
 use Rattle.bz_passes.specs.Marks.{any_marked, leave_alone}
 use Rattle.bz_passes.specs.Lists.{settled_list}

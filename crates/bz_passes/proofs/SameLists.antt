@@ -12,7 +12,7 @@ use Rattle.bz_value.specs.declared.value.Expr.{Expr, Token, Form'}
 use Rattle.bz_items.specs.Characters.{Bytes}
 use Rattle.bz_rule.proofs.ProperChanges.{by_case}
 use Rattle.bz_rule.specs.Values.{has_class, text_of, above, with_above}
-use Rattle.bz_passes.specs.Orders.{sort_by}
+use Rattle.bz_passes.specs.Sorting.{sort_by}
 use Rattle.bz_passes.specs.Marks.{keep_marks, other_comments}
 use Rattle.bz_passes.specs.Lists.{is_taken, precedes, has_no_comment, without_repeats, in_order, without_marks, marked_by, sorted, settled_list}
 use Rattle.bz_passes.specs.Programs.{HoldsTheStrings, IsSameList}

@@ -5,10 +5,9 @@ use Rattle.bz_value.specs.declared.value.Expr.{Expr}
 use Rattle.bz_value.specs.declared.value.Item.{Item}
 use Rattle.bz_rule.specs.Values.{has_kind}
 use Rattle.bz_passes.specs.Lists.{settled_list}
-use Rattle.bz_passes.specs.Orders.{sort_by}
+use Rattle.bz_passes.specs.Sorting.{sort_by, IsSorting, IsSortingByRuns}
 use Rattle.bz_passes.specs.Passes.{argument_precedes, arguments, is_run_load, labels, lists, loads, name_precedes, path_precedes, quotes, symbol_precedes, symbols}
 use Rattle.bz_passes.specs.Programs.{TidyingKeepsProgram}
-use Rattle.bz_passes.specs.Sorting.{IsSorting, IsSortingByRuns}
 use Rattle.bz_passes.specs.Strings.{shorter_string, with_double}
 use Rattle.bz_passes.proofs.SameLists.{list_same}
 use Rattle.bz_passes.proofs.SameSyntax.{flags_program}

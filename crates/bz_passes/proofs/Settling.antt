@@ -16,13 +16,12 @@ use Rattle.bz_layout.specs.Flags.{with_flags, item_with_flags, flags}
 use Rattle.bz_rule.specs.Values.{has_kind, text_of, parts_of, items_of, above, with_parts, on_first, on_third, on_rest, first_text, on_lists}
 use Rattle.bz_passes.specs.Changes.{after_passes, arguments_changed, attribute_changed, labels_changed, list_changed, lists_and_arguments}
 use Rattle.bz_passes.specs.Joined.{item_tidied}
-use Rattle.bz_passes.specs.Orders.{sort_by}
-use Rattle.bz_rule.specs.QuoteMarks.{between}
+use Rattle.bz_passes.specs.Sorting.{sort_by}
+use Rattle.bz_rule.specs.QuoteMarks.{between, local_name}
 use Rattle.bz_passes.specs.Marks.{any_marked, leave_alone}
 use Rattle.bz_passes.specs.Lists.{settled_list}
 use Rattle.bz_passes.specs.Passes.{on_statement, taken, on_taken, on_call, on_rule_arguments, on_attribute, on_assigned, quotes_in, labelled, argument_order, argument_precedes, name_precedes, symbol_precedes, symbols_in, path_order, path_of, path_precedes, is_loose_load, is_run_load, load_path, load_precedes, loads, tidied}
 use Rattle.bz_passes.specs.private.Ranks.{name_ranks, path_ranks, symbol_ranks}
-use Rattle.bz_rule.specs.QuoteMarks.{local_name}
 use Rattle.bz_passes.proofs.Keeping.{Keeps, Settles, both, map_keeps, map_settles, third_settles, third_keeps_map, map_keeps_third, after_settles, after_keeps_map, map_keeps_after, test_settles, keeps_tested, tested_keeps}
 use Rattle.bz_passes.proofs.Sorting.{compared_one_way, sort_settles, sort_keeps, sort_map, map_keeps_sort}
 use Rattle.bz_passes.proofs.Parts.{the_parts, the_items, kind_flags, class_flags, text_flags, comments_flags, above_flags, under_flags, under_quoted, items_flags}

@@ -1,6 +1,5 @@
 -- One item that came in a tidy file, tidied by itself and moved to its place among the loads, makes the whole tidy.
-use Rattle.std.proofs.Common.{ℕ, zero, suc, ◌+◌, ◌-◌, ◌≤◌, ◌<◌, ◌⊎◌, ◌&&◌, inl, inr, true, false, get_or, List, [], ◌∷◌, ◌++◌, ◌≡◌, length, take, drop, refl, sym, ap, ◌∙◌, subst, arith}
-use Rattle.std.proofs.Common.{append_assoc, append-nil, drop-drop, drop_at, length-append, length-drop, length-take-le, take-append-drop, take-take, take_at}
+use Rattle.std.proofs.Common.{ℕ, zero, suc, ◌+◌, ◌-◌, ◌≤◌, ◌<◌, ◌⊎◌, ◌&&◌, inl, inr, true, false, get_or, List, [], ◌∷◌, ◌++◌, ◌≡◌, length, take, drop, refl, sym, ap, ◌∙◌, subst, arith, append_assoc, append-nil, drop-drop, drop_at, length-append, length-drop, length-take-le, take-append-drop, take-take, take_at}
 use Rattle.std.proofs.lemmas.Bool.{and_left, and_parts, and_right, true_from_ne_false, true≢false}
 use Rattle.std.proofs.lemmas.List.{drop-append-le, drop_more, take_more}
 use Rattle.std.proofs.lemmas.List.Elements.{All-append, All-drop, All-take}
@@ -10,11 +9,10 @@ use Rattle.bz_value.specs.declared.windows.Window.{Window}
 use Rattle.bz_value.specs.Proper.{IsProper, IsProperItem}
 use Rattle.bz_value.specs.Windows.{AreOver, AreWithin}
 use Rattle.bz_passes.specs.Joined.{item_tidied}
-use Rattle.bz_passes.specs.Orders.{insert_by, sort_by}
+use Rattle.bz_passes.specs.Sorting.{insert_by, sort_by}
 use Rattle.bz_passes.specs.Passes.{is_run_load, load_precedes, loads, path_precedes, tidied}
 use Rattle.bz_passes.specs.private.Ranks.{path_ranks}
-use Rattle.bz_passes.specs.private.Borders.{AreLoads, AreTidied, IsStillToTidy, ends_with_load, tidied_over}
-use Rattle.bz_passes.specs.private.Single.{AreInOrder, IsMoved, IsPlaceOf, first_precedes, one_at, precedes_last}
+use Rattle.bz_passes.specs.private.Borders.{AreLoads, AreTidied, IsStillToTidy, ends_with_load, tidied_over, AreInOrder, IsMoved, IsPlaceOf, first_precedes, one_at, precedes_last}
 use Rattle.bz_passes.proofs.Keeping.{both}
 use Rattle.bz_passes.proofs.Pieces.{InOrder, IsTidy, back_stays, each_between, front_stays, ordered_drop, ordered_take, over_still, over_within, tidied_alone, tidy_is}
 use Rattle.bz_passes.proofs.Settling.{by_items, each, item_settles}

@@ -10,8 +10,8 @@ use Rattle.std.specs.List.Sorted.{IsPermutation}
 use Rattle.std.specs.Prelude.{sum_by}
 use Rattle.bz_value.specs.Counted.{total}
 use Rattle.bz_rule.proofs.ProperChanges.{by_case, by_test}
-use Rattle.bz_passes.specs.Orders.{insert_by, sort_by}
-use Rattle.bz_passes.specs.private.Sorted.{Climbs}
+use Rattle.bz_passes.specs.Sorting.{insert_by, sort_by}
+use Rattle.bz_passes.specs.private.Repeats.{Climbs}
 use Rattle.bz_passes.proofs.Keeping.{Keeps, Settles, both, same_first, same_after}
 
 -- ---- items that change places

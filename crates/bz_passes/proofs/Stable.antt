@@ -10,9 +10,8 @@ use Rattle.std.specs.declared.cmp.Ordering.{Ordering}
 use denote.Ref.{Bor}
 use denote.Param.Members.{Mut}
 use Rattle.std.proofs.lemmas.List.Sorted.{answers_always}
-use Rattle.bz_passes.specs.Orders.{insert_by, sort_by}
-use Rattle.bz_passes.specs.Rising.{NoneBefore, Rises}
-use Rattle.bz_passes.specs.private.Sorted.{Climbs}
+use Rattle.bz_passes.specs.Sorting.{insert_by, sort_by, NoneBefore, Rises}
+use Rattle.bz_passes.specs.private.Repeats.{Climbs}
 use Rattle.bz_rule.proofs.ProperChanges.{by_case}
 use Rattle.bz_rule.proofs.ProperItems.{all_kept}
 use Rattle.bz_passes.proofs.Keeping.{both, same_first, same_after}

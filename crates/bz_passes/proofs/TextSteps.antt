@@ -1,9 +1,9 @@
 -- A plain string whose label repeats no name stays.
-use Rattle.std.proofs.Common.{◌≡◌, Some, ◌++◌, true, take, sym, ap, ◌∙◌}
+use Rattle.std.proofs.Common.{ℕ, zero, suc, ◌≤◌, List, [], ◌∷◌, arith, refl, replicate, ◌≡◌, Some, ◌++◌, true, take, sym, ap, ◌∙◌}
 use Rattle.std.specs.Str.{bytes_eq}
 use Rattle.std.proofs.lemmas.Slice.Eq.{bytes_eq-Decides}
 use Rattle.std.specs.Option.{option_map_or}
-use Rattle.bz_items.specs.Characters.{Bytes}
+use Rattle.bz_items.specs.Characters.{Bytes, quotation_mark}
 use Rattle.bz_label.specs.Shorter.{unrepeated}
 use Rattle.bz_rule.specs.Rules.{body}
 use Rattle.bz_passes.specs.Strings.{shorter_string}
@@ -18,3 +18,10 @@ pub kept_body : (text label short : Bytes) → Some label ≡ body text → shor
 kept_body text label short b u e =
     ap (λ found. option_map_or (λ label. take 1 text ++ (unrepeated label ++ take 1 text)) found text) (sym b)
     ∙ (ap (λ (inside : Bytes). take 1 text ++ (inside ++ take 1 text)) (sym u ∙ (bytes_eq-Decides short label).0 e) ∙ marked_body text label b)
+
+pub marks_taken : (count : ℕ) → count ≤ 3 → take count (34 ∷ 34 ∷ 34 ∷ []) ≡ replicate count quotation_mark
+marks_taken zero h = refl
+marks_taken (suc zero) h = refl
+marks_taken (suc (suc zero)) h = refl
+marks_taken (suc (suc (suc zero))) h = refl
+marks_taken (suc (suc (suc (suc n)))) h = absurd (omega (arith, h))

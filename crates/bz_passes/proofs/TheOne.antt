@@ -7,10 +7,9 @@ use Rattle.bz_grammar.specs.declared.kind.Kind.TheVariants as k
 use Rattle.bz_rule.specs.Values.{has_kind}
 use Rattle.bz_passes.specs.Laws.{SortingIsTheOne}
 use Rattle.bz_passes.specs.Lists.{precedes}
-use Rattle.bz_passes.specs.Orders.{sort_by}
+use Rattle.bz_passes.specs.Sorting.{sort_by, IsSorting, IsSortingByRuns, one_run, next_run, GivesTheOne}
 use Rattle.bz_passes.specs.Passes.{is_run_load, name_precedes, path_precedes, symbol_precedes}
 use Rattle.bz_passes.specs.private.Ranks.{item_ranks, name_ranks, path_ranks, symbol_ranks}
-use Rattle.bz_passes.specs.Sorting.{IsSorting, IsSortingByRuns, one_run, next_run, GivesTheOne}
 use Rattle.bz_passes.proofs.Cut.{cut_at, run_sorted}
 use Rattle.bz_passes.proofs.Keeping.{all_joined}
 use Rattle.bz_passes.proofs.Sorting.{compared, sort_same}

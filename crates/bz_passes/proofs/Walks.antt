@@ -1,6 +1,5 @@
 -- What a walk over windows has seen so far, and what it has done.
-use Rattle.std.proofs.Common.{◌||◌, ℕ, ◌+◌, ◌-◌, ◌≤◌, ◌<◌, Bool, false, ◌&&◌, List, [], ◌∷◌, ◌++◌, ◌≡◌, length, take, drop, get_or, slice_range, refl, sym, ap, ◌∙◌, subst, arith}
-use Rattle.std.proofs.Common.{append_assoc, drop-drop, drop_at, length-append, length-drop, length-take-le, take_at}
+use Rattle.std.proofs.Common.{◌||◌, ℕ, ◌+◌, ◌-◌, ◌≤◌, ◌<◌, Bool, false, ◌&&◌, List, [], ◌∷◌, ◌++◌, ◌≡◌, length, take, drop, get_or, slice_range, refl, sym, ap, ◌∙◌, subst, arith, append_assoc, drop-drop, drop_at, length-append, length-drop, length-take-le, take_at}
 use borrow.Rule.Slice.PartMut.{put_mid}
 use Rattle.std.proofs.Math.Seq.{take-add}
 use Rattle.std.proofs.lemmas.Bool.{or_from}

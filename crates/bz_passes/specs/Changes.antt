@@ -5,7 +5,7 @@ use Rattle.bz_label.specs.Tables.{is_label_attribute, is_sorted}
 use Rattle.bz_value.specs.declared.value.Expr.{Expr}
 use Rattle.bz_items.specs.Characters.{Bytes}
 use Rattle.bz_rule.specs.Values.{has_kind, on_lists}
-use Rattle.bz_passes.specs.Orders.{sort_by}
+use Rattle.bz_passes.specs.Sorting.{sort_by}
 use Rattle.bz_passes.specs.Lists.{settled_list}
 use Rattle.bz_passes.specs.Passes.{argument_precedes, arguments_in, labelled, labels_in, lists_in, on_assigned, on_attribute, on_rule_arguments, quotes_in, symbols_in}
 

@@ -11,9 +11,8 @@ use Rattle.bz_rule.specs.Values.{has_kind}
 use Rattle.bz_layout.specs.Flags.{IsSettled, with_flags}
 use Rattle.bz_layout.specs.Layout.{is_broken}
 use Rattle.bz_passes.specs.Lists.{precedes}
-use Rattle.bz_passes.specs.Orders.{sort_by}
+use Rattle.bz_passes.specs.Sorting.{sort_by, GivesTheOne, IsSorting, IsSortingByRuns}
 use Rattle.bz_passes.specs.Passes.{argument_precedes, is_run_load, loads, name_precedes, path_precedes, symbol_precedes, tidied}
-use Rattle.bz_passes.specs.Sorting.{GivesTheOne, IsSorting, IsSortingByRuns}
 
 -- What is tidy stays as it is.
 abbrev pub TidyStays : Type 0

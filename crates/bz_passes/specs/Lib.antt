@@ -3,11 +3,8 @@ pub mod Joined
 pub mod Laws
 pub mod Lists
 pub mod Marks
-pub mod MovedMarks
-pub mod Orders
 pub mod Passes
 pub mod Programs
-pub mod Rising
 pub mod Rows
 pub mod Sorting
 pub mod Strings

@@ -1,5 +1,5 @@
 -- The items of one list: whether they are sorted, and how.
-use Rattle.std.specs.Prelude.{Bool, not, ◌&&◌, ◌||◌, List, [], ◌∷◌, ◌++◌, bytes_eq, if◌then◌else◌}
+use Rattle.std.specs.Prelude.{Bool, not, ◌&&◌, ◌||◌, List, [], ◌∷◌, ◌++◌, bytes_eq, if◌then◌else◌, ◌≡◌, true}
 use Rattle.std.specs.List.{list_any, list_all}
 use Rattle.std.specs.Ordering.{is_lt}
 use Rattle.bz_token.specs.declared.class.Class.TheVariants as c
@@ -9,7 +9,7 @@ use Rattle.bz_items.specs.Characters.{Bytes}
 use Rattle.bz_value.specs.Proper.{comments_of}
 use Rattle.bz_value.specs.Empty.{is_empty, is_none}
 use Rattle.bz_rule.specs.Values.{has_class, text_of, above, with_above}
-use Rattle.bz_passes.specs.Orders.{sort_by}
+use Rattle.bz_passes.specs.Sorting.{sort_by}
 use Rattle.bz_rule.specs.QuoteMarks.{between}
 use Rattle.bz_passes.specs.Marks.{any_marked, keep_sorted, do_not_sort, keep_marks, other_comments}
 
@@ -64,3 +64,24 @@ sorted (x ∷ xs) =
 
 abbrev pub settled_list : List Bytes → Bool → List Expr → List Expr
 settled_list outside by_table xs = if is_taken outside by_table xs then sorted xs else xs
+
+-- ---- where the `keep sorted` comments of a list go, said once more: it is as if the list were sorted and lost its repeats first, and
+-- the comments moved then
+
+-- The old first item after a front. With no front it stays as it is; else the first of the front takes its `keep sorted`
+-- comments, ahead of its own.
+abbrev pub with_marks_moved : List Expr → Expr → List Expr → List Expr
+with_marks_moved [] x rest = x ∷ rest
+with_marks_moved (y ∷ front) x rest = with_above (keep_marks (above x) ++ above y) y ∷ (front ++ without_marks x ∷ rest)
+
+-- Sorted and without repeats, a list has its old first item after a front of items that come before it: it is never dropped
+-- as a repeat. `sorted` is that list, its comments moved.
+pub record MovesMarks (x : Expr) (xs : List Expr) : Type 0 where
+  pub front : List Expr
+  pub rest : List Expr
+  pub placed : in_order (x ∷ xs) ≡ front ++ x ∷ rest
+  pub before : list_all (λ y. precedes y x) front ≡ true
+  pub moved : sorted (x ∷ xs) ≡ with_marks_moved front x rest
+
+abbrev pub MarksMove : Type 0
+MarksMove = (x : Expr) (xs : List Expr) → MovesMarks x xs

@@ -16,7 +16,7 @@ use Rattle.bz_rule.specs.Rules.{dotted_name}
 use Rattle.bz_value.specs.Empty.{is_empty}
 use Rattle.bz_layout.specs.Flags.{flags}
 use Rattle.bz_rule.specs.Values.{has_kind, has_class, text_of, parts_of, items_of, with_text, above, on_row, on_items, on_first, on_third, on_rest, first_text, on_lists}
-use Rattle.bz_passes.specs.Orders.{sort_by}
+use Rattle.bz_passes.specs.Sorting.{sort_by}
 use Rattle.bz_passes.specs.Strings.{with_double, shorter_string}
 use Rattle.bz_rule.specs.QuoteMarks.{between, local_name}
 use Rattle.bz_passes.specs.Marks.{any_marked, leave_alone}

@@ -1,6 +1,4 @@
 -- What the contracts of private functions cite, and no contract of a public call reaches: nobody has to trust it.
 pub mod Borders
 pub mod Ranks
-pub mod Single
 pub mod Repeats
-pub mod Sorted

@@ -14,10 +14,7 @@ pub fn begins_with_load(items: &[Item]) -> bool
     ensures load { result ≡ begins_so items.now }
     ensures some { IsTrue result → 0 < length items.now }
 {
-    match items.split_first() {
-        Some((first, _)) => first.is_comparable(),
-        None => false,
-    }
+    items.first().is_some_and(|first| first.is_comparable())
 }
 
 /// Whether the last item is one.

@@ -1,7 +1,7 @@
 //! Facts about the definitions, for readers: the functions do nothing.
 ghost use Rattle.bz_passes.specs.Joined.{TidiedAlone, TidiedApart};
 ghost use Rattle.bz_passes.specs.Laws.{FlagsSettle, ProperStays, SortingIsTheOne, TidySettles, TidyStays, TidyingKeepsComments};
-ghost use Rattle.bz_passes.specs.MovedMarks.{MarksMove};
+ghost use Rattle.bz_passes.specs.Lists.{MarksMove};
 ghost use Rattle.bz_passes.specs.Programs.{KeptProgramsKeepTokens, TidyingKeepsProgram};
 ghost use Rattle.bz_passes.specs.Rows.{WorkedPasses, WorkedPrograms};
 
@@ -65,12 +65,14 @@ pub fn tidied_alone()
 {}
 
 /// Tidying a proper file value gives a proper file value.
+#[tactic(auto, using(crate::proofs::ProperPasses::tidied_proper))]
 pub fn proper_stays()
     ensures { ProperStays }
 {}
 
 /// Tidying keeps the program of a file value: no more is changed than the marks of quotes, labels that mean the same, repeats in
 /// lists that are sorted, and the order of the items of these, of named arguments, of the symbols of a load and of loads.
+#[tactic(auto, using(crate::proofs::SameProgram::program_stays))]
 pub fn program_stays()
     ensures { TidyingKeepsProgram }
 {}

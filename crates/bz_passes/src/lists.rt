@@ -5,9 +5,8 @@ ghost use Rattle.bz_label.specs.Keys.{key_order};
 ghost use Rattle.bz_token.specs.declared.class.Class.TheVariants as classes;
 ghost use Rattle.bz_passes.specs.Lists.{above_first, has_above as has_comment_above, in_order, is_taken as is_taken_in, marked_by, precedes, settled_list, sorted, without_marks};
 ghost use Rattle.bz_passes.specs.Marks.{any_marked as marked_in_any, keep_marks, other_comments};
-ghost use Rattle.bz_passes.specs.Orders.{sort_by};
-ghost use Rattle.bz_passes.specs.Rising.{Rises};
-ghost use Rattle.bz_passes.specs.private.Sorted.{Climbs, is_passed};
+ghost use Rattle.bz_passes.specs.Sorting.{sort_by};
+ghost use Rattle.bz_passes.specs.private.Repeats.{Climbs, is_passed};
 ghost use Rattle.bz_rule.specs.QuoteMarks.{between as between_marks};
 ghost use Rattle.bz_rule.specs.Values.{has_class, on_first, text_of as text_in, with_above};
 
@@ -37,8 +36,7 @@ fn item_order(x: &Expr, y: &Expr) -> Ordering
 
 /// The items in that order, equal ones in their old order. The error: a growth was refused.
 fn sort_items(items: &mut Vec<Expr>) -> Result<(), Memory>
-    ensures sorted { OnOk result (items.new.items ≡ sort_by precedes items.old.items) }
-    ensures rises { OnOk result (Rises precedes items.new.items) }
+    ensures { OnOk result (items.new.items ≡ sort_by precedes items.old.items) }
 {
     items.sort_by(|x, y| item_order(x, y))?;
     Ok(())
@@ -218,6 +216,7 @@ fn raise_last(items: &mut [Expr]) -> bool
 }
 
 /// The items in their order, without repeats.
+#[tactic(auto, using(crate::proofs::Listed::sorted_rises))]
 fn put_in_order(alloc: Global, mut items: Vec<Expr>) -> Result<Vec<Expr>, Memory>
     ensures { IfOk result (λ ordered. ordered.items ≡ in_order items.items) }
 {

@@ -13,10 +13,7 @@ fn is_plain(x: &Expr) -> bool
     ensures quotes { IsTrue result → quotes_in x.now ≡ x.now }
     ensures flags { IsTrue result → with_flags x.now ≡ x.now }
 {
-    match x {
-        Expr::Token(token) => token.class.number() != Class::String.number(),
-        Expr::Form(_) => false,
-    }
+    matches!(x, Expr::Token(token) if token.class.number() != Class::String.number())
 }
 
 /// The first of three parts, where the other two stay.

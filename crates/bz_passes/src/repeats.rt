@@ -3,7 +3,7 @@ ghost use Rattle.std.specs.Prelude.{◌≡◌, [], ◌∷◌, IfOk, OnOk, List};
 ghost use Rattle.bz_value.specs.declared.value.Expr.{Expr as Value};
 ghost use Rattle.bz_passes.specs.Lists.{has_no_comment as is_bare, precedes, without_repeats};
 ghost use Rattle.bz_passes.specs.private.Repeats.{AreKept, is_text_at, repeats_at, tied_places, ties_last};
-ghost use Rattle.bz_passes.specs.Rising.{Rises};
+ghost use Rattle.bz_passes.specs.Sorting.{Rises};
 
 use bz_items::Memory;
 use bz_rule::{between, text_of};

@@ -4,7 +4,7 @@ ghost use Rattle.std.specs.Cmp.{IsStrictWeakOrder};
 ghost use Rattle.std.specs.List.{AllByRecursion};
 ghost use Rattle.std.specs.Ordering.{is_lt};
 ghost use Rattle.std.specs.declared.cmp.Ordering.{Ordering as Answer};
-ghost use Rattle.bz_passes.specs.Orders.{sort_by};
+ghost use Rattle.bz_passes.specs.Sorting.{sort_by};
 
 use bz_items::Memory;
 use std::alloc::Global;

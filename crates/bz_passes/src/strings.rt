@@ -28,16 +28,12 @@ fn takes_double(text: &[u8]) -> bool
     begins_single(text) && !(has_character(b'"', text) || has_character(b'\\', text))
 }
 
+#[tactic(auto, using(crate::proofs::TextSteps::marks_taken))]
 fn double_marks(count: usize) -> &'static [u8]
     requires { count ≤ 3 }
     ensures { result.now ≡ replicate count quotation_mark }
 {
-    match count {
-        0 => b"",
-        1 => b"\"",
-        2 => b"\"\"",
-        _ => b"\"\"\"",
-    }
+    &b"\"\"\""[..count]
 }
 
 /// A text between equal marks. The error: memory was refused.

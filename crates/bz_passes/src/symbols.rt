@@ -1,6 +1,6 @@
 //! The symbols of a load.
 ghost use Rattle.std.specs.Prelude.{◌≡◌, OnOk};
-ghost use Rattle.bz_passes.specs.Orders.{sort_by};
+ghost use Rattle.bz_passes.specs.Sorting.{sort_by};
 ghost use Rattle.bz_passes.specs.Passes.{symbol_precedes, symbols_in};
 ghost use Rattle.bz_rule.specs.Values.{on_rest};
 

@@ -3,8 +3,7 @@ ghost use Rattle.std.specs.Prelude.{◌≡◌, ◌≤◌, ◌<◌, ◌+◌, ◌+
 ghost use Rattle.bz_value.specs.Windows.{AreOver, AreWithin};
 ghost use Rattle.bz_value.specs.declared.value.Item.{Item};
 ghost use Rattle.bz_passes.specs.Passes.{tidied as tidied_all};
-ghost use Rattle.bz_passes.specs.private.Borders.{AreTidied, IsStillToTidy, tidied_over};
-ghost use Rattle.bz_passes.specs.private.Single.{AreInOrder, IsMoved, IsPlaceBack, IsPlaceOf, first_precedes as precedes_from, one_at, precedes_last as precedes_end};
+ghost use Rattle.bz_passes.specs.private.Borders.{AreTidied, IsStillToTidy, tidied_over, AreInOrder, IsMoved, IsPlaceBack, IsPlaceOf, first_precedes as precedes_from, one_at, precedes_last as precedes_end};
 
 use crate::borders::{set_apart, start_of_run};
 use crate::runs::precedes;

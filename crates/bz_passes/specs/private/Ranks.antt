@@ -8,8 +8,7 @@ use Rattle.bz_label.specs.Tables.{priority_of}
 use Rattle.bz_value.specs.declared.value.Expr.{Expr}
 use Rattle.bz_passes.specs.Lists.{precedes}
 use Rattle.bz_passes.specs.Passes.{argument_name, load_path, name_precedes, path_precedes, symbol_precedes}
-use Rattle.bz_rule.specs.QuoteMarks.{local_name}
-use Rattle.bz_rule.specs.QuoteMarks.{between}
+use Rattle.bz_rule.specs.QuoteMarks.{local_name, between}
 use Rattle.bz_rule.specs.Values.{text_of}
 
 pub item_ranks : IsStrictWeakOrder precedes

@@ -1,5 +1,5 @@
--- Dropping the repeats of a list in order, by looking at no more than the items that tie with the last one kept.
-use Rattle.std.specs.Prelude.{◌≡◌, ℕ, ◌-◌, ◌<◌, Bool, false, ◌&&◌, List, [], ◌++◌, Option, length, slice_get, bytes_eq, if◌then◌else◌}
+-- Lists that rise, and dropping the repeats of a list in order by looking at no more than the items that tie with the last one kept.
+use Rattle.std.specs.Prelude.{◌≡◌, ℕ, ◌-◌, ◌<◌, Bool, false, ◌&&◌, List, [], ◌++◌, Option, length, slice_get, bytes_eq, if◌then◌else◌, true, ◌∷◌}
 use Rattle.std.specs.List.{AllByRecursion, list_any}
 use Rattle.std.specs.Option.{option_map_or}
 use Rattle.bz_value.specs.declared.value.Expr.{Expr}
@@ -7,7 +7,17 @@ use Rattle.bz_items.specs.Characters.{Bytes}
 use Rattle.bz_rule.specs.Values.{text_of}
 use Rattle.bz_rule.specs.QuoteMarks.{between}
 use Rattle.bz_passes.specs.Lists.{precedes, without_repeats}
-use Rattle.bz_passes.specs.Rising.{Rises}
+use Rattle.bz_passes.specs.Sorting.{Rises}
+
+abbrev pub is_passed : List Expr → Bool
+is_passed [] = false
+is_passed (x ∷ xs) = list_any (λ y. precedes y x) xs
+
+-- each item comes before the next one
+abbrev pub Climbs : {X : Type 0} → (X → X → Bool) → List X → Type 0
+Climbs before [] = Unit {0}
+Climbs before (x ∷ []) = Unit {0}
+Climbs before (x ∷ y ∷ ys) = (before x y ≡ true) × Climbs before (y ∷ ys)
 
 -- what an item is sorted by
 abbrev pub sort_key : Expr → Bytes

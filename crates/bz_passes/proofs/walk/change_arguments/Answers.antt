@@ -1,6 +1,6 @@
 use Rattle.std.proofs.Common.{◌≡◌, ◌∙◌, ap, arith, map}
 use Rattle.bz_passes.specs.Changes.{arguments_changed, attribute_changed}
-use Rattle.bz_passes.specs.Orders.{sort_by}
+use Rattle.bz_passes.specs.Sorting.{sort_by}
 use Rattle.bz_passes.specs.Passes.{argument_precedes, on_attribute}
 use Rattle.bz_passes.proofs.EachChanged.{all_turned}
 use Rattle.bz_passes.proofs.walk.change_arguments.Goals as goal

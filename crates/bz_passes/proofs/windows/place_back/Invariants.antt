@@ -1,6 +1,5 @@
 use Rattle.std.proofs.Common.{◌≡◌, ◌≤◌, ◌-◌, false, drop, length, take}
-use Rattle.bz_passes.specs.private.Borders.{AreLoads}
-use Rattle.bz_passes.specs.private.Single.{AreInOrder, precedes_last}
+use Rattle.bz_passes.specs.private.Borders.{AreLoads, AreInOrder, precedes_last}
 use Rattle.bz_passes.proofs.Single.{AllLater}
 use Rattle.bz_passes.proofs.windows.place_back.Given as goal
 

@@ -1,5 +1,5 @@
 use Rattle.std.proofs.Common.{ap, sym, ◌∙◌}
-use Rattle.bz_passes.specs.private.Single.{precedes_last}
+use Rattle.bz_passes.specs.private.Borders.{precedes_last}
 use Rattle.bz_passes.proofs.Single.{last_preceded}
 use Rattle.bz_passes.proofs.windows.precedes_last.Goals as goal
 

@@ -1,6 +1,5 @@
 use Rattle.std.proofs.Common.{[], ◌∷◌, ◌∙◌, ap, inl, inr, refl, set, sym}
-use Rattle.bz_passes.specs.private.Borders.{tidied_over}
-use Rattle.bz_passes.specs.private.Single.{one_at}
+use Rattle.bz_passes.specs.private.Borders.{tidied_over, one_at}
 use Rattle.bz_passes.proofs.Single.{single_done, single_left}
 use Rattle.bz_passes.proofs.windows.tidy_single.Goals as goal
 
