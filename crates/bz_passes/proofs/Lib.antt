@@ -4,7 +4,6 @@ pub mod EachChanged
 pub mod Keeping
 pub mod Sorting
 pub mod Parts
-pub mod Passing
 pub mod Levels
 pub mod Composed
 pub mod Weights

@@ -1,5 +1,5 @@
 -- The items of one list, sorted: sorted again they stay; what is kept of them; flags are not seen.
-use Rattle.std.proofs.Common.{ℕ, suc, ◌+◌, ◌-◌, ◌<◌, Bool, true, false, not, ◌&&◌, ◌||◌, List, [], ◌∷◌, ◌++◌, ◌≡◌, refl, sym, ap, subst, ◌∙◌, length, take, drop, get_or, map, if◌then◌else◌, inl, inr, arith, drop_at, take_at, length-append, length-drop, length-take-le, take-append-drop}
+use Rattle.std.proofs.Common.{ℕ, ◌-◌, ◌<◌, Bool, true, false, not, ◌&&◌, ◌||◌, List, [], ◌∷◌, ◌++◌, ◌≡◌, refl, sym, ap, subst, ◌∙◌, length, take, drop, map, if◌then◌else◌, inl, inr, arith, drop_at, take_at, length-append, length-drop, length-take-le, take-append-drop}
 use Rattle.std.proofs.lemmas.Bool.{cases_Bool, and_right, false_from_ne_true, true_from_ne_false, true≢false}
 use Rattle.std.proofs.lemmas.Slice.Eq.{bytes_eq-Decides}
 use Rattle.std.proofs.Math.Path.{fun_ext}

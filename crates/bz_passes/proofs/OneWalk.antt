@@ -7,10 +7,11 @@ use Rattle.bz_value.specs.declared.value.Expr.{Expr}
 use Rattle.bz_items.specs.Characters.{Bytes}
 use Rattle.bz_rule.specs.Rules.{is_text}
 use Rattle.bz_rule.specs.Values.{above, has_kind, on_first, on_lists, on_third}
-use Rattle.bz_passes.specs.Changes.{arguments_changed, attribute_changed, labels_changed, list_changed, lists_and_arguments}
+use Rattle.bz_passes.specs.Changes.{after_passes, arguments_changed, attribute_changed, labels_changed, list_changed, lists_and_arguments}
 use Rattle.bz_passes.specs.Sorting.{sort_by}
 use Rattle.bz_passes.specs.Lists.{settled_list}
-use Rattle.bz_passes.specs.Passes.{argument_precedes, arguments_in, labelled, labels_in, lists_in, of_rule, on_assigned, on_attribute, on_call, on_label_value, on_list_value, on_rule_arguments}
+use Rattle.bz_passes.specs.Passes.{argument_precedes, arguments_in, labelled, labels_in, lists_in, of_rule, on_assigned, on_attribute, on_call, on_label_value, on_list_value, on_rule_arguments, quotes_in, symbols_in, taken}
+use Rattle.bz_passes.specs.Marks.{any_marked, leave_alone}
 use Rattle.bz_passes.specs.Strings.{shorter_string}
 use Rattle.bz_passes.proofs.Composed.{kind_outside, labels_stay}
 use Rattle.bz_passes.proofs.Keeping.{maps_composed}
@@ -55,6 +56,9 @@ one_walk x = elim (cases_Bool (has_kind k.Assign x)) [
       ap arguments_in (listed ∙ rule_composed (λ kind. shorter_labels) sorted_lists (λ kind. map (on_attribute (attribute_changed kind))) values_composed x)
       ∙ (rule_composed (λ kind. map (on_attribute (attribute_changed kind))) (λ kind. sort_by argument_precedes) arguments_changed (λ kind xs. refl) x ∙ sym whole)
 ]
+
+pub passes_taken : (x : Expr) → any_marked leave_alone (above x) ≡ false → taken after_passes x ≡ symbols_in (lists_and_arguments (quotes_in x))
+passes_taken x n = rw n (ap symbols_in (one_walk (quotes_in x)))
 
 -- the tables of attributes know genrule alone
 pub of_same_kind : (found : Option Bytes) (kind : Bytes) (xs : List Expr) → is_some found ≡ true → bytes_eq kind (codes "genrule") ≡ is_text (codes "genrule") found → arguments_changed kind xs ≡ of_rule arguments_changed found xs

@@ -1,5 +1,5 @@
 -- Pieces of a file that no load is sorted across are tidied apart, and windows of a tidy file by themselves.
-use Rattle.std.proofs.Common.{◌||◌, ℕ, zero, suc, ◌+◌, ◌≤◌, Bool, true, false, ◌&&◌, inl, inr, List, [], ◌∷◌, ◌++◌, ◌≡◌, length, take, drop, refl, sym, ap, ◌∙◌, subst, arith, map, append_assoc, append-nil, drop_at, length-append, length-drop, length-take-le, take-append-drop, take_at}
+use Rattle.std.proofs.Common.{◌||◌, ℕ, zero, suc, ◌+◌, ◌≤◌, Bool, true, false, ◌&&◌, inl, inr, List, [], ◌∷◌, ◌++◌, ◌≡◌, length, take, drop, refl, sym, ap, ◌∙◌, subst, arith, append_assoc, append-nil, drop_at, length-append, length-drop, length-take-le, take-append-drop, take_at}
 use Rattle.std.proofs.Math.Seq.{take-add}
 use Rattle.std.proofs.lemmas.Bool.{cases_Bool, or_parts}
 use Rattle.std.proofs.lemmas.List.{drop-map, length-map, map-append, take-map}
@@ -11,11 +11,10 @@ use Rattle.bz_value.specs.declared.value.Item.TheVariants as i
 use Rattle.bz_value.specs.declared.windows.Window.{Window}
 use Rattle.bz_value.specs.Proper.{IsProper, IsProperItem}
 use Rattle.bz_value.specs.Windows.{AreOver, AreWithin}
-use Rattle.bz_layout.specs.Flags.{flags, item_with_flags}
 use Rattle.bz_rule.specs.Values.{above, has_kind}
 use Rattle.bz_passes.specs.Changes.{after_passes}
 use Rattle.bz_passes.specs.Joined.{TidiedAlone, begins_with_load, item_tidied}
-use Rattle.bz_passes.specs.Passes.{is_run_load, load_precedes, loads, path_precedes, on_statement, on_taken, taken, tidied}
+use Rattle.bz_passes.specs.Passes.{is_run_load, load_precedes, loads, path_precedes, taken, tidied}
 use Rattle.bz_passes.specs.private.Borders.{AreSetApart, AreTidied, any_touched, ends_with_load, tidied_over, touches}
 use Rattle.bz_passes.proofs.Composed.{above_outside, kind_outside, taken_stays}
 use Rattle.bz_passes.proofs.Cut.{cut_at}

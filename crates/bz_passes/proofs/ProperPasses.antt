@@ -68,9 +68,6 @@ mutual
   each_quoted_stays m end_of-Expr = none
   each_quoted_stays m (more_of-Expr x rest) = both x (quotes_in x) _ _ (quoted_stays x) (each_quoted_stays _ rest)
 
-pub quotes_proper : (items : List Item) → IsProper items → IsProper (quotes items)
-quotes_proper = taken_proper quotes_in quoted_stays
-
 -- ---- labels
 
 labelled_stays : Stays labelled
@@ -79,9 +76,6 @@ labelled_stays x = where_true (has_class c.String x) x (with_text (shorter_strin
 labelled_value_stays : (name : Bytes) (outside : List Bytes) → Stays (on_label_value shorter_string name outside)
 labelled_value_stays name outside x =
     where_true (is_label_attribute name) x (on_lists (map labelled) x) (λ is. lists_stay (map labelled) (items_stay k.List (map labelled) (each_mapped labelled labelled_stays)) x)
-
-pub labels_proper : (items : List Item) → IsProper items → IsProper (labels items)
-labels_proper = taken_proper labels_in (values_stay (λ kind. on_label_value shorter_string) (λ kind. labelled_value_stays))
 
 -- ---- lists
 
@@ -94,36 +88,21 @@ lists_in_stays x =
     (row_stays k.Assign (on_third (on_lists (settled_list (above x) false))) (third_stays (on_lists (settled_list (above x) false)) (settled_stays (above x) false)) x)
     (values_stay (on_list_value settled_list) (λ kind name outside. settled_stays outside (is_sorted kind name)) x)
 
-pub lists_proper : (items : List Item) → IsProper items → IsProper (lists items)
-lists_proper = taken_proper lists_in lists_in_stays
-
 -- ---- arguments
 
 arguments_kept : (o : Option Bytes) → Keeps s.argument (of_rule (λ kind. sort_by argument_precedes) o)
 arguments_kept None xs h = h
 arguments_kept (Some kind) xs h = sort_all argument_precedes (IsItem s.argument) xs h
 
-pub arguments_proper : (items : List Item) → IsProper items → IsProper (arguments items)
-arguments_proper = taken_proper arguments_in (rule_stays (λ kind. sort_by argument_precedes) (λ o. call_in_place (of_rule (λ kind. sort_by argument_precedes) o) (arguments_kept o)))
-
--- ---- symbols
-
-pub symbols_proper : (items : List Item) → IsProper items → IsProper (symbols items)
-symbols_proper = taken_proper symbols_in (load_in_place (sort_by symbol_precedes) (sort_all symbol_precedes (IsItem s.loaded)))
-
--- ---- loads
-
-pub loads_proper : (items : List Item) → IsProper items → IsProper (loads items)
-loads_proper items h = All-from_recursion IsProperItem (loads items) (sort_all load_precedes IsProperItem items (recursion_from_All IsProperItem items h))
-
 -- ---- all in turn
 
 pub tidied_proper : (items : List Item) → IsProper items → IsProper (tidied items)
 tidied_proper items h =
-    flags_proper (loads (symbols (arguments (lists (labels (quotes items))))))
-    (loads_proper (symbols (arguments (lists (labels (quotes items)))))
-    (symbols_proper (arguments (lists (labels (quotes items))))
-    (arguments_proper (lists (labels (quotes items)))
-    (lists_proper (labels (quotes items))
-    (labels_proper (quotes items)
-    (quotes_proper items h))))))
+    let named : List Item = arguments (lists (labels (quotes items))) in
+    let all : IsProper (symbols named) =
+    taken_proper symbols_in (load_in_place (sort_by symbol_precedes) (sort_all symbol_precedes (IsItem s.loaded))) named
+    (taken_proper arguments_in (rule_stays (λ kind. sort_by argument_precedes) (λ o. call_in_place (of_rule (λ kind. sort_by argument_precedes) o) (arguments_kept o))) (lists (labels (quotes items)))
+    (taken_proper lists_in lists_in_stays (labels (quotes items))
+    (taken_proper labels_in (values_stay (λ kind. on_label_value shorter_string) (λ kind. labelled_value_stays)) (quotes items)
+    (taken_proper quotes_in quoted_stays items h)))) in
+    flags_proper (loads (symbols named)) (All-from_recursion IsProperItem (loads (symbols named)) (sort_all load_precedes IsProperItem (symbols named) (recursion_from_All IsProperItem (symbols named) all)))

@@ -1,5 +1,5 @@
 -- A string with double quote marks, and one with a shorter label, are strings again, and texts of characters.
-use Rattle.std.proofs.Common.{ℕ, zero, suc, get_or, ◌+◌, ◌-◌, ◌<◌, Bool, true, false, not, ◌||◌, [], ◌∷◌, ◌++◌, ◌≡◌, refl, sym, ap, ◌∙◌, subst, inl, inr, length, take, arith, length-append, append_assoc, append-nil, true≢false}
+use Rattle.std.proofs.Common.{ℕ, zero, suc, get_or, ◌<◌, Bool, true, false, ◌||◌, [], ◌∷◌, ◌++◌, ◌≡◌, refl, sym, ap, ◌∙◌, subst, inl, inr, length, take, arith, length-append, append_assoc, append-nil, true≢false}
 use Rattle.std.specs.Prelude.{nat_eq, bytes_eq}
 use Rattle.std.specs.List.{list_any}
 use Rattle.std.specs.Str.{IsUtf8}

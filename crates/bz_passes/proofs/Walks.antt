@@ -1,5 +1,5 @@
 -- What a walk over windows has seen so far, and what it has done.
-use Rattle.std.proofs.Common.{◌||◌, ℕ, ◌+◌, ◌-◌, ◌≤◌, ◌<◌, Bool, false, ◌&&◌, List, [], ◌∷◌, ◌++◌, ◌≡◌, length, take, drop, get_or, slice_range, refl, sym, ap, ◌∙◌, subst, arith, append_assoc, drop-drop, drop_at, length-append, length-drop, length-take-le, take_at}
+use Rattle.std.proofs.Common.{◌||◌, ℕ, ◌+◌, ◌-◌, ◌≤◌, ◌<◌, false, List, [], ◌∷◌, ◌++◌, ◌≡◌, length, take, drop, get_or, slice_range, sym, ap, ◌∙◌, subst, arith, append_assoc, drop-drop, drop_at, length-append, length-drop, length-take-le, take_at}
 use borrow.Rule.Slice.PartMut.{put_mid}
 use Rattle.std.proofs.Math.Seq.{take-add}
 use Rattle.std.proofs.lemmas.Bool.{or_from}
@@ -7,50 +7,23 @@ use Rattle.std.proofs.lemmas.List.{drop_more}
 use Rattle.bz_value.specs.declared.value.Item.{Item}
 use Rattle.bz_value.specs.declared.windows.Window.{Window}
 use Rattle.bz_value.specs.Windows.{AreWithin}
-use Rattle.bz_passes.specs.Joined.{begins_with_load}
 use Rattle.bz_passes.specs.Passes.{tidied}
-use Rattle.bz_passes.specs.private.Borders.{any_touched, ends_with_load, tidied_over, touches}
+use Rattle.bz_passes.specs.private.Borders.{any_touched, tidied_over, touches}
 use Rattle.bz_passes.proofs.Cut.{put_there}
 use Rattle.bz_passes.proofs.Keeping.{both}
 use Rattle.bz_passes.proofs.Pieces.{both_length}
 
--- no load is sorted across a border up to a place, nor across one at all if not across one of the windows that are left
-pub record AreSeen (windows left : List Window) (stop : ℕ) (items : List Item) : Type 0 where
-  pub bound : stop ≤ length items
-  pub within : AreWithin left (drop stop items)
-  pub seen : any_touched left (drop stop items) ≡ false → any_touched windows items ≡ false
+-- no load is sorted across a border at all, if not across one of the windows that are left
+abbrev pub AreSeen : List Window → List Item → List Window → List Item → Type 0
+AreSeen windows items others left = (length left ≤ length items) × AreWithin others left × (any_touched others left ≡ false → any_touched windows items ≡ false)
 
-ends_more : (xs : List Item) (y : Item) (ys : List Item) → ends_with_load (xs ++ y ∷ ys) ≡ ends_with_load (y ∷ ys)
-ends_more [] y ys = refl
-ends_more (x ∷ []) y ys = refl
-ends_more (x ∷ z ∷ xs) y ys = ends_more (z ∷ xs) y ys
-
-fewer_end : (xs ys : List Item) (b : Bool) → (ends_with_load (xs ++ ys) && b) ≡ false → (ends_with_load ys && b) ≡ false
-fewer_end xs [] b h = refl
-fewer_end xs (y ∷ ys) b h = ap (λ a. a && b) (sym (ends_more xs y ys)) ∙ h
-
--- a border from the place on
-touched_from : (start n : ℕ) (items : List Item) → touches (start + n) items ≡ false → touches n (drop start items) ≡ false
-touched_from start n items h =
-    ap (λ z. ends_with_load (take n (drop start items)) && begins_with_load z) (drop-drop n start items)
-    ∙ fewer_end (take start items) (take n (drop start items)) (begins_with_load (drop (start + n) items))
-    (ap (λ z. ends_with_load z && begins_with_load (drop (start + n) items)) (sym (take-add start n items)) ∙ h)
-
-pub seen_more : (windows all : List Window) (i start : ℕ) (d : Window) (items : List Item) → i < length all → AreSeen windows (drop i all) start items
-    → touches (start + (get_or all i d).from) items ≡ false → touches (start + (get_or all i d).from + (get_or all i d).come) items ≡ false
-    → AreSeen windows (drop (i + 1) all) (start + (get_or all i d).from + (get_or all i d).come) items
-seen_more windows all i start d items bound seen first last =
+pub seen_more : (windows all : List Window) (items left rest : List Item) (i : ℕ) (d : Window) → i < length all → AreSeen windows items (drop i all) left → touches (get_or all i d).from left ≡ false
+    → touches ((get_or all i d).from + (get_or all i d).come) left ≡ false → rest ≡ drop ((get_or all i d).from + (get_or all i d).come) left → AreSeen windows items (drop (i + 1) all) rest
+seen_more windows all items left rest i d bound seen first last is =
     let w : Window = get_or all i d in
-    let now : AreSeen windows (w ∷ drop (i + 1) all) start items = subst (λ ws. AreSeen windows ws start items) (drop_more all i d bound) seen in
-    let stop : start + (w.from + w.come) ≡ start + w.from + w.come = omega arith in
-    let after : drop (w.from + w.come) (drop start items) ≡ drop (start + w.from + w.come) items = drop-drop (w.from + w.come) start items ∙ ap (λ n. drop n items) stop in
-    let none : (touches w.from (drop start items) || touches (w.from + w.come) (drop start items)) ≡ false =
-    or_from (touches w.from (drop start items)) _ (touched_from start w.from items first) (touched_from start (w.from + w.come) items (ap (λ n. touches n items) stop ∙ last)) in
-    record {
-      bound = omega (arith, now.bound, now.within.0, length-drop start items);
-      within = subst (AreWithin (drop (i + 1) all)) after now.within.1;
-      seen = λ h. now.seen (or_from (touches w.from (drop start items) || touches (w.from + w.come) (drop start items)) _ none (ap (any_touched (drop (i + 1) all)) after ∙ h));
-    }
+    let now : AreSeen windows items (w ∷ drop (i + 1) all) left = subst (λ ws. AreSeen windows items ws left) (drop_more all i d bound) seen in
+    subst (AreSeen windows items (drop (i + 1) all)) (sym is)
+    (omega (arith, now.0, ap length is, length-drop (w.from + w.come) left), now.1.1, λ h. now.2 (or_from (touches w.from left || touches (w.from + w.come) left) _ (or_from (touches w.from left) _ first last) h))
 
 -- Up to a place all windows' items are tidied; what is left is to be tidied over the windows that are left.
 pub record AreOnTheWay (whole : List Item) (left : List Window) (start : ℕ) (items : List Item) : Type 0 where

@@ -42,13 +42,13 @@ fn any_touched(items: &[Item], windows: &[Window]) -> bool
     requires { AreWithin windows.now items.now }
     ensures { result ≡ false → any_so windows.now items.now ≡ false }
 {
-    let mut end = 0;
+    let mut left = items;
     for window in windows {
-        let from = end + window.from;
-        end = from + window.come;
-        if touches(items, from) || touches(items, end) {
+        let end = window.from + window.come;
+        if touches(left, window.from) || touches(left, end) {
             return true;
         }
+        left = left.split_at(end).1;
     }
     false
 }

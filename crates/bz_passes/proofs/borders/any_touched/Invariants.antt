@@ -3,4 +3,4 @@ use Rattle.bz_passes.proofs.Walks.{AreSeen}
 use Rattle.bz_passes.proofs.borders.any_touched.Given as goal
 
 abbrev pub invariant-loop-window : goal.invariant-loop-window
-invariant-loop-window l = AreSeen l.fn.windows (drop l.window-index l.windows) l.end l.items
+invariant-loop-window l = AreSeen l.fn.windows l.fn.items (drop l.window-index l.windows) l.left

@@ -1,4 +1,4 @@
-use Rattle.std.proofs.Common.{◌≡◌, ◌++◌, drop, Bool, List}
+use Rattle.std.proofs.Common.{◌≡◌, ◌++◌, drop, List}
 use Rattle.std.specs.Bool.{beq}
 use Rattle.std.specs.List.{filter}
 use Rattle.bz_items.specs.Characters.{Bytes}

@@ -1,4 +1,4 @@
-use Rattle.std.proofs.Common.{◌≡◌, ◌∙◌, ap, arith, map}
+use Rattle.std.proofs.Common.{◌∙◌, ap, arith}
 use Rattle.bz_passes.specs.Changes.{arguments_changed, attribute_changed}
 use Rattle.bz_passes.specs.Sorting.{sort_by}
 use Rattle.bz_passes.specs.Passes.{argument_precedes, on_attribute}

@@ -1,4 +1,4 @@
-use Rattle.std.proofs.Common.{◌≡◌, ◌≤◌, ◌<◌, ◌+◌, ◌-◌, ◌/◌, ◌∙◌, ℕ, true, false, ap, arith, get_or, length, subst, sym, take}
+use Rattle.std.proofs.Common.{◌≡◌, ◌<◌, ◌+◌, ◌-◌, ◌/◌, ◌∙◌, ℕ, true, false, ap, arith, get_or, length, subst, sym, take}
 use Rattle.std.proofs.lemmas.List.{drop_all}
 use Rattle.bz_passes.specs.Passes.{load_precedes}
 use Rattle.bz_passes.proofs.Single.{AllLater, fewer_loads, later_from, no_load_stops, stops_after}
