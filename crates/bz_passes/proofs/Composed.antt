@@ -17,7 +17,7 @@ use Rattle.bz_passes.specs.Passes.{on_statement, taken, on_taken, on_call, on_ru
 use Rattle.bz_passes.specs.Strings.{shorter_string}
 use Rattle.bz_passes.proofs.Keeping.{both}
 use Rattle.bz_passes.proofs.Parts.{the_parts, the_items, above_quoted, items_kind, kind_quoted, parts_kind}
-use Rattle.bz_passes.proofs.Levels.{above_put, within}
+use Rattle.bz_passes.proofs.Places.{above_put, within}
 
 -- ---- what the passes do not change
 

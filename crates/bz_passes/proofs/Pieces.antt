@@ -17,11 +17,10 @@ use Rattle.bz_passes.specs.Joined.{TidiedAlone, begins_with_load, item_tidied}
 use Rattle.bz_passes.specs.Passes.{is_run_load, load_precedes, loads, path_precedes, taken, tidied}
 use Rattle.bz_passes.specs.private.Borders.{AreSetApart, AreTidied, any_touched, ends_with_load, tidied_over, touches}
 use Rattle.bz_passes.proofs.Composed.{above_outside, kind_outside, taken_stays}
-use Rattle.bz_passes.proofs.Cut.{cut_at}
+use Rattle.bz_passes.proofs.Sorting.{cut_at, Starts, Ordered, ordered_stays, sort_length, sort_ordered}
 use Rattle.bz_passes.proofs.Keeping.{both}
 use Rattle.bz_passes.proofs.ProperPasses.{tidied_proper}
 use Rattle.bz_passes.proofs.Settling.{by_items, each, each_settled, load_one_way, same_loose}
-use Rattle.bz_passes.proofs.Sorting.{Starts, Ordered, ordered_stays, sort_length, sort_ordered}
 
 -- ---- tidying by items
 

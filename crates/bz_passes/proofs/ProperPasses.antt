@@ -1,32 +1,47 @@
 -- Each pass keeps file values proper.
-use Rattle.std.proofs.Common.{Bool, true, false, ◌≡◌, List, inl, inr, map, subst}
-use Rattle.std.specs.Prelude.{Option, Some, None}
+use Rattle.std.specs.Prelude.{All, Option, Some, None}
+use Rattle.std.proofs.Common.{Bool, List, true, false, ◌≡◌, inl, inr, map, subst}
+use Rattle.std.proofs.lemmas.List.Elements.{All-from_recursion, recursion_from_All, All-map, All-weaker}
+use Rattle.bz_grammar.specs.Shapes.{Nonterminal, is_class}
+use Rattle.bz_value.specs.declared.value.Expr.{Expr, Token, Form', Row_of-Expr, end_of-Expr, more_of-Expr, items-the_row-Expr}
+use Rattle.bz_value.specs.Comments.{HostComments}
+use Rattle.bz_value.specs.Commented.{with_comments}
+use Rattle.bz_items.specs.Characters.{Bytes}
+use Rattle.bz_value.specs.Proper.{IsComment, AreComments, comments_of, IsProperItem, IsProper}
+use Rattle.bz_rule.specs.Values.{above, with_above, has_kind, has_class, text_of, parts_of, with_text, on_items, on_first, on_third, first_text, on_lists}
+use Rattle.bz_passes.specs.Lists.{settled_list}
+use Rattle.bz_rule.proofs.ProperSequences.{IsItem, Keeps, where_true, list_in_place, call_in_place, load_in_place}
+use Rattle.bz_passes.proofs.Listed.{settled_all}
 use Rattle.std.proofs.lemmas.Bool.{cases_Bool}
-use Rattle.std.proofs.lemmas.List.Elements.{All-map, All-weaker, All-from_recursion, recursion_from_All}
 use Rattle.bz_token.specs.declared.class.Class.TheVariants as c
 use Rattle.bz_grammar.specs.declared.kind.Kind.TheVariants as k
 use Rattle.bz_grammar.specs.Shapes as s
-use Rattle.bz_grammar.specs.Shapes.{is_class}
 use Rattle.bz_grammar.specs.Spots.{Begins}
 use Rattle.bz_label.specs.Tables.{is_sorted, is_label_attribute}
-use Rattle.bz_value.specs.declared.value.Expr.{Expr, Token, Form', Row_of-Expr, end_of-Expr, more_of-Expr, items-the_row-Expr}
 use Rattle.bz_value.specs.declared.value.Item.{Item}
 use Rattle.bz_value.specs.declared.value.Item.TheVariants as i
-use Rattle.bz_items.specs.Characters.{Bytes}
-use Rattle.bz_value.specs.Proper.{AreComments, IsProperItem, IsProper}
 use Rattle.bz_layout.proofs.FlaggedProper.{flags_proper}
-use Rattle.bz_rule.specs.Values.{has_kind, has_class, text_of, parts_of, with_text, above, on_items, on_first, on_third, first_text, on_lists}
 use Rattle.bz_passes.specs.Sorting.{sort_by}
 use Rattle.bz_passes.specs.Strings.{with_double, shorter_string}
 use Rattle.bz_passes.specs.Marks.{any_marked, leave_alone}
-use Rattle.bz_passes.specs.Lists.{settled_list}
 use Rattle.bz_passes.specs.Passes.{on_statement, taken, on_taken, rule_kind, of_rule, on_call, on_rule_arguments, on_attribute, quotes_in, each_on_strings, quotes, labelled, labels_in, labels, on_label_value, on_list_value, on_assigned, lists_in, lists, argument_precedes, arguments_in, arguments, symbol_precedes, symbols_in, symbols, load_precedes, loads, tidied}
 use Rattle.bz_rule.proofs.ProperForms.{InPlace, itself, EachInPlace, none, both, all_itself, each_mapped, lists_in_place}
 use Rattle.bz_rule.proofs.ProperChanges.{by_test, Stays, EachStays, row_stays, items_stay, first_stays, third_stays, lists_stay, string_in_place}
 use Rattle.bz_passes.proofs.ProperStrings.{double_string, shorter_is_string}
-use Rattle.bz_rule.proofs.ProperSequences.{IsItem, Keeps, where_true, list_in_place, call_in_place, load_in_place}
-use Rattle.bz_passes.proofs.ProperSorted.{settled_items}
 use Rattle.bz_passes.proofs.Sorting.{sort_all}
+
+-- an item with other comments
+with_item : (nonterminal : Nonterminal) (x : Expr) (comments : HostComments) → AreComments comments → IsItem nonterminal x → IsItem nonterminal (with_comments x comments)
+with_item nonterminal (Token t) comments c h = ((h.0.0, c, h.0.2), h.1)
+with_item nonterminal (Form' kind s parts s' items end split open_break old) comments c h = ((h.0.0, c, h.0.2), h.1)
+
+above_item : (nonterminal : Nonterminal) (comments : List Bytes) (x : Expr) → All IsComment comments → IsItem nonterminal x → IsItem nonterminal (with_above comments x)
+above_item nonterminal comments x c h = with_item nonterminal x (record (comments_of x) { before = comments }) (c, h.0.1.1) h
+
+pub settled_items : (nonterminal : Nonterminal) (outside : List Bytes) (by_table : Bool) → Keeps nonterminal (settled_list outside by_table)
+settled_items nonterminal =
+    settled_all IsComment (IsItem nonterminal) (λ x h. recursion_from_All IsComment (above x) h.0.1.0)
+    (λ comments x c h. above_item nonterminal comments x (All-from_recursion IsComment comments c) h)
 
 -- ---- changes of statements and of rules
 

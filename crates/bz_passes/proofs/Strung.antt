@@ -1,5 +1,5 @@
 -- Double quote marks and labels without a repeated name: given again they change nothing, and a shorter label keeps its quote marks.
-use Rattle.std.proofs.Common.{ℕ, Bool, true, false, not, ◌&&◌, ◌||◌, [], ◌∷◌, ◌++◌, ◌≡◌, refl, sym, ap, ◌∙◌, inl, inr, Option, Some, None, length, codes, take}
+use Rattle.std.proofs.Common.{ℕ, Bool, true, false, not, ◌&&◌, ◌||◌, [], ◌∷◌, ◌++◌, ◌≡◌, refl, sym, ap, ◌∙◌, inl, inr, Option, Some, None, length, codes, take, zero, suc, ◌≤◌, arith, replicate}
 use Rattle.std.specs.Prelude.{nat_eq, nat_le, bytes_eq}
 use Rattle.std.specs.Option.{option_map_or}
 use Rattle.std.proofs.lemmas.Bool.{cases_Bool, or_from, or_parts, true≢false, and_from, and_parts}
@@ -19,6 +19,7 @@ use Rattle.bz_passes.specs.Strings.{has_character, begins_single, in_double, wit
 use Rattle.bz_rule.specs.QuoteMarks.{begins_thrice, marks_of}
 use Rattle.bz_passes.proofs.Keeping.{Keeps, Settles, same_first, same_after}
 use Rattle.bz_passes.proofs.SameTexts.{same_byte}
+use Rattle.std.specs.Str.{bytes_eq}
 
 same_text : (one other : Bytes) → bytes_eq one other ≡ true → one ≡ other
 same_text one other e = (bytes_eq-Decides one other).0 e
@@ -205,3 +206,20 @@ by_keeps text (Some label) f d =
 
 pub string_keeps : Keeps shorter_string with_double
 string_keeps text d = by_keeps text (body text) refl d
+
+marked_body : (text label : Bytes) → Some label ≡ body text → take 1 text ++ (label ++ take 1 text) ≡ text
+marked_body text label e =
+    let spelled = body_text text label (sym e) in
+    ap (λ (mark : Bytes). mark ++ (label ++ mark)) (ap (take 1) spelled.1) ∙ sym spelled.1
+
+pub kept_body : (text label short : Bytes) → Some label ≡ body text → short ≡ unrepeated label → bytes_eq short label ≡ true → shorter_string text ≡ text
+kept_body text label short b u e =
+    ap (λ found. option_map_or (λ label. take 1 text ++ (unrepeated label ++ take 1 text)) found text) (sym b)
+    ∙ (ap (λ (inside : Bytes). take 1 text ++ (inside ++ take 1 text)) (sym u ∙ (bytes_eq-Decides short label).0 e) ∙ marked_body text label b)
+
+pub marks_taken : (count : ℕ) → count ≤ 3 → take count (34 ∷ 34 ∷ 34 ∷ []) ≡ replicate count quotation_mark
+marks_taken zero h = refl
+marks_taken (suc zero) h = refl
+marks_taken (suc (suc zero)) h = refl
+marks_taken (suc (suc (suc zero))) h = refl
+marks_taken (suc (suc (suc (suc n)))) h = absurd (omega (arith, h))

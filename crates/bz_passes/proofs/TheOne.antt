@@ -10,9 +10,8 @@ use Rattle.bz_passes.specs.Lists.{precedes}
 use Rattle.bz_passes.specs.Sorting.{sort_by, IsSorting, IsSortingByRuns, one_run, next_run, GivesTheOne}
 use Rattle.bz_passes.specs.Passes.{is_run_load, name_precedes, path_precedes, symbol_precedes}
 use Rattle.bz_passes.specs.private.Ranks.{item_ranks, name_ranks, path_ranks, symbol_ranks}
-use Rattle.bz_passes.proofs.Cut.{cut_at, run_sorted}
+use Rattle.bz_passes.proofs.Sorting.{cut_at, run_sorted, compared, sort_same}
 use Rattle.bz_passes.proofs.Keeping.{all_joined}
-use Rattle.bz_passes.proofs.Sorting.{compared, sort_same}
 use Rattle.bz_passes.proofs.Stable.{one_order, sort_rises, sort_stable}
 
 -- ---- an order of all items

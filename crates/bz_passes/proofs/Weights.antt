@@ -21,7 +21,7 @@ use Rattle.bz_passes.specs.Marks.{any_marked, leave_alone}
 use Rattle.bz_passes.specs.Passes.{on_statement, taken, on_taken, rule_kind, of_rule, on_call, on_rule_arguments, on_attribute, on_strings, each_on_strings, on_string, on_label_value, on_labels, on_list_value, on_assigned, on_list_values}
 use Rattle.bz_passes.proofs.FormSteps.{in_form}
 use Rattle.bz_passes.proofs.Keeping.{both, third_is}
-use Rattle.bz_passes.proofs.Levels.{within}
+use Rattle.bz_passes.proofs.Places.{within}
 use Rattle.bz_passes.proofs.Parts.{Place, the_parts, the_items, made, own_parts}
 
 -- ---- sums over lists

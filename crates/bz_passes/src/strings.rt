@@ -28,7 +28,7 @@ fn takes_double(text: &[u8]) -> bool
     begins_single(text) && !(has_character(b'"', text) || has_character(b'\\', text))
 }
 
-#[tactic(auto, using(crate::proofs::TextSteps::marks_taken))]
+#[tactic(auto, using(crate::proofs::Strung::marks_taken))]
 fn double_marks(count: usize) -> &'static [u8]
     requires { count ≤ 3 }
     ensures { result.now ≡ replicate count quotation_mark }
@@ -71,7 +71,7 @@ fn first_mark(text: &[u8]) -> &[u8]
 
 /// Takes a repeated name off the label in a plain string; any other text stays, and takes no memory. The error: memory was
 /// refused; the text is then as it was.
-#[tactic(auto, using(crate::proofs::TextSteps::kept_body))]
+#[tactic(auto, using(crate::proofs::Strung::kept_body))]
 pub(crate) fn shortened(alloc: Global, text: &mut Text) -> Result<(), Memory>
     ensures { OnOk result (text.new ≡ shorter_string text.old) }
 {

@@ -22,7 +22,7 @@ use std::alloc::Global;
 const LEAVE_ALONE: &[u8] = b"buildifier: leave-alone";
 
 /// The passes over a statement; one marked `buildifier: leave-alone` stays.
-#[tactic(auto, using(crate::proofs::OneWalk::passes_taken))]
+#[tactic(auto, using(crate::proofs::Settling::passes_taken))]
 fn change_statement(alloc: Global, x: &mut Expr) -> Result<(), Memory>
     ensures { OnOk result (x.new ≡ taken after_passes x.old) }
 {

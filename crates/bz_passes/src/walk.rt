@@ -145,7 +145,7 @@ fn kind_of(function: &Expr) -> &'static [u8]
 }
 
 /// Changes the arguments of a call of a name, or of names joined by dots; those of any other call stay.
-#[tactic(auto, using(crate::proofs::OneWalk::of_same_kind))]
+#[tactic(auto, using(crate::proofs::Settling::of_same_kind))]
 fn change_called(alloc: Global, function: &Expr, arguments: &mut [Expr]) -> Result<(), Memory>
     ensures { OnOk result (arguments.new ≡ of_rule arguments_changed (dotted_name function.now) arguments.old) }
 {

@@ -1,5 +1,5 @@
 use Rattle.std.proofs.Common.{arith, sym, ◌∙◌}
-use Rattle.bz_passes.proofs.Walks.{seen_more}
+use Rattle.bz_passes.proofs.Joining.{seen_more}
 use Rattle.bz_passes.proofs.borders.any_touched.Goals as goal
 
 pub loop-window-preserved : goal.loop-window-preserved

@@ -1,5 +1,5 @@
 use Rattle.std.proofs.Common.{drop}
-use Rattle.bz_passes.proofs.Walks.{AreSeen}
+use Rattle.bz_passes.proofs.Joining.{AreSeen}
 use Rattle.bz_passes.proofs.borders.any_touched.Given as goal
 
 abbrev pub invariant-loop-window : goal.invariant-loop-window

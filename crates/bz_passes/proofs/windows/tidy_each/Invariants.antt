@@ -1,6 +1,6 @@
 use Rattle.std.proofs.Common.{drop}
 use Rattle.bz_passes.specs.private.Borders.{tidied_over}
-use Rattle.bz_passes.proofs.Walks.{AreOnTheWay}
+use Rattle.bz_passes.proofs.Joining.{AreOnTheWay}
 use Rattle.bz_passes.proofs.windows.tidy_each.Given as goal
 
 abbrev pub invariant-loop-window : goal.invariant-loop-window
