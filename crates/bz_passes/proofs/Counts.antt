@@ -1,32 +1,174 @@
--- Each pass keeps the sum of a number of each comment.
-use Rattle.std.proofs.Common.{ℕ, ◌+◌, Bool, true, not, ◌&&◌, List, [], ◌∷◌, ◌++◌, ◌≡◌, refl, sym, ap, ◌∙◌, subst, inl, inr, Option, Some, None, arith}
+-- A number of each expression that its lists add up to stays where the sums stay at the places where the passes go: so does that of each comment.
+use Rattle.std.proofs.Common.{ℕ, ◌+◌, Bool, true, false, List, [], ◌∷◌, ◌≡◌, refl, sym, ap, ◌∙◌, subst, map, inl, inr, Option, Some, None, not, ◌&&◌, ◌++◌, arith}
 use Rattle.std.proofs.lemmas.Bool.{cases_Bool, and_parts, true≢false}
-use Rattle.std.specs.List.{list_any, AllByRecursion}
-use Rattle.std.specs.Prelude.{bytes_eq}
-use Rattle.std.proofs.lemmas.List.Sorted.{IsPermutation-filter_both}
-use Rattle.bz_value.specs.declared.value.Expr.{Expr, Token, Form'}
+use Rattle.bz_token.specs.declared.class.Class.TheVariants as c
+use Rattle.bz_grammar.specs.declared.kind.Kind.{Kind}
+use Rattle.bz_grammar.specs.declared.kind.Kind.TheVariants as k
+use Rattle.bz_grammar.specs.Shapes.{is_class}
+use Rattle.bz_label.specs.Tables.{is_sorted, is_label_attribute}
+use Rattle.bz_value.specs.declared.value.Form.{Form}
+use Rattle.bz_value.specs.declared.value.Expr.{Expr, Token, Form', Row_of-Expr, end_of-Expr, more_of-Expr, items-the_row-Expr}
+use Rattle.bz_value.specs.declared.value.Expr.TheVariants as e
 use Rattle.bz_value.specs.declared.value.Item.{Item}
 use Rattle.bz_value.specs.declared.value.Item.TheVariants as i
 use Rattle.bz_value.specs.Counted.{total, suffix_amount, host_amount, amount, item_amount, one_if, times}
-use Rattle.bz_value.proofs.Totals.{append_total, form_amount}
+use Rattle.bz_value.specs.Frames.{frame}
 use Rattle.bz_items.specs.Characters.{Bytes}
+use Rattle.bz_layout.specs.Flags.{settled_split, with_flags, each_with_flags, item_with_flags}
+use Rattle.bz_rule.proofs.ProperChanges.{by_case, by_test}
+use Rattle.bz_rule.specs.Values.{has_kind, has_class, text_of, parts_of, with_text, above, on_items, on_row, on_first, on_third, on_rest, first_text, on_lists, with_above}
+use Rattle.bz_passes.specs.Marks.{any_marked, leave_alone, is_marked, keep_sorted, keep_marks, other_comments}
+use Rattle.bz_passes.specs.Passes.{on_statement, taken, on_taken, rule_kind, of_rule, on_call, on_rule_arguments, on_attribute, on_strings, each_on_strings, on_string, on_label_value, on_labels, on_list_value, on_assigned, on_list_values, quotes_in, quotes, labels_in, labels, lists_in, lists, argument_precedes, arguments_in, arguments, symbol_precedes, symbols_in, symbols, load_precedes, loads, tidied}
+use Rattle.bz_passes.proofs.Parts.{in_form, Place, the_parts, the_items, made, own_parts}
+use Rattle.bz_passes.proofs.Keeping.{both, third_is}
+use Rattle.bz_passes.proofs.Places.{within}
+use Rattle.std.specs.List.{list_any, AllByRecursion}
+use Rattle.std.specs.Prelude.{bytes_eq}
+use Rattle.std.proofs.lemmas.List.Sorted.{IsPermutation-filter_both}
+use Rattle.bz_value.proofs.Totals.{append_total, form_amount}
 use Rattle.bz_value.specs.Proper.{comments_of}
 use Rattle.bz_value.specs.Empty.{is_empty, is_none}
-use Rattle.bz_layout.specs.Flags.{item_with_flags}
-use Rattle.bz_rule.proofs.ProperChanges.{by_case}
-use Rattle.bz_rule.specs.Values.{text_of, above, with_above, with_text}
 use Rattle.bz_passes.specs.Sorting.{sort_by}
-use Rattle.bz_passes.specs.Marks.{is_marked, keep_sorted, keep_marks, other_comments}
 use Rattle.bz_passes.specs.Lists.{is_taken, precedes, has_no_comment, without_repeats, in_order, without_marks, sorted, settled_list, MovesMarks, with_marks_moved}
-use Rattle.bz_passes.specs.Passes.{on_taken, quotes_in, quotes, labels_in, labels, lists_in, lists, argument_precedes, arguments_in, arguments, symbol_precedes, symbols_in, symbols, load_precedes, loads, tidied}
 use Rattle.bz_passes.specs.Strings.{shorter_string, with_double}
-use Rattle.bz_passes.proofs.Keeping.{both}
-use Rattle.bz_passes.proofs.Listed.{unrepeated_all}
-use Rattle.bz_passes.proofs.MovedMarks.{marks_move}
-use Rattle.bz_passes.proofs.Parts.{made}
+use Rattle.bz_passes.proofs.Listed.{unrepeated_all, marks_move}
 use Rattle.bz_passes.proofs.SameLists.{IsText, taken_texts}
 use Rattle.bz_passes.proofs.Sorting.{permuted_total, sort_all, sort_total}
-use Rattle.bz_passes.proofs.Weights.{Same, SameTotal, Weighs, map_total, strings_same, flags_same, rule_same, labels_same, list_values_same, symbols_same, taken_total}
+
+-- ---- sums over lists
+
+module _ {X : Type 0} (number : X → ℕ) where
+  abbrev pub Same : (X → X) → Type 0
+  Same g = (x : X) → number (g x) ≡ number x
+
+  abbrev pub SameTotal : (List X → List X) → Type 0
+  SameTotal g = (xs : List X) → total number (g xs) ≡ total number xs
+
+  pub map_total : (g : X → X) → Same g → SameTotal (map g)
+  map_total g h [] = refl
+  map_total g h (x ∷ xs) = both (λ a b. a + b) (h x) (map_total g h xs)
+
+  first_total : (g : X → X) → Same g → SameTotal (on_first g)
+  first_total g h [] = refl
+  first_total g h (x ∷ xs) = ap (λ a. a + total number xs) (h x)
+
+  after_total : (g : List X → List X) → SameTotal g → SameTotal (on_rest g)
+  after_total g h [] = refl
+  after_total g h (x ∷ xs) = ap (λ a. number x + a) (h xs)
+
+  third_total : (g : X → X) → Same g → SameTotal (on_third g)
+  third_total g h = subst SameTotal (third_is g) (after_total (on_rest (on_first g)) (after_total (on_first g) (first_total g h)))
+
+-- form: lists with the same sums give a form the same number, whether it is split or not.
+-- string: the texts of strings do not count.
+pub record Weighs (whole : Expr → ℕ) : Type 0 where
+  pub form : (f : Form) (parts items : List Expr) (split : Bool) → total whole parts ≡ total whole f.parts → total whole items ≡ total whole f.seq.items → whole (in_form f parts items split) ≡ whole (e.Form f)
+  pub string : (text : Bytes) (x : Expr) → has_class c.String x ≡ true → whole (with_text text x) ≡ whole x
+
+module _ (whole : Expr → ℕ) (weighs : Weighs whole) where
+  -- ---- at the two places where expressions are in an expression
+
+  abbrev Counts : Place → Type 0
+  Counts place = (ys : List Expr) (x : Expr) → total whole ys ≡ total whole (place.get x) → whole (place.put ys x) ≡ whole x
+
+  parts_count : Counts the_parts
+  parts_count ys (Token t) h = refl
+  parts_count ys (Form' kind s parts s' items end split open_break comments) h =
+      weighs.form (made kind (items-the_row-Expr _ parts) (items-the_row-Expr _ items) end split open_break comments) ys (items-the_row-Expr _ items) split h refl
+      ∙ ap whole (own_parts (Form' kind s parts s' items end split open_break comments))
+
+  items_count : Counts the_items
+  items_count ys (Token t) h = refl
+  items_count ys (Form' kind s parts s' items end split open_break comments) h =
+      weighs.form (made kind (items-the_row-Expr _ parts) (items-the_row-Expr _ items) end split open_break comments) (items-the_row-Expr _ parts) ys split refl h
+      ∙ ap whole (own_parts (Form' kind s parts s' items end split open_break comments))
+
+  within_same : (place : Place) → Counts place → (kind : Kind) (d : Expr → List Expr → List Expr) → ((x : Expr) → SameTotal whole (d x)) → Same whole (within place kind d)
+  within_same place count kind d h x = by_test (λ y. whole y ≡ whole x) (has_kind kind x) (place.put (d x (place.get x)) x) x (count (d x (place.get x)) x (h x (place.get x))) refl
+
+  row_same : (kind : Kind) (d : Expr → List Expr → List Expr) → ((x : Expr) → SameTotal whole (d x)) → Same whole (within the_parts kind d)
+  row_same = within_same the_parts parts_count
+
+  items_same : (kind : Kind) (d : Expr → List Expr → List Expr) → ((x : Expr) → SameTotal whole (d x)) → Same whole (within the_items kind d)
+  items_same = within_same the_items items_count
+
+  -- ---- everywhere
+
+  mutual
+    pub strings_same : (change : Bytes → Bytes) → Same whole (on_strings change)
+    strings_same change (Token t) = elim (cases_Bool (is_class t.class c.String)) [
+      | inl w ↦ rw w (weighs.string (change t.text) (Token t) w)
+      | inr w ↦ rw w refl
+    ]
+    strings_same change (Form' kind s parts s' items end split open_break comments) =
+        weighs.form (made kind (items-the_row-Expr _ parts) (items-the_row-Expr _ items) end split open_break comments) (each_on_strings change parts) (each_on_strings change items) split
+        (row_strings_same change _ parts) (row_strings_same change _ items)
+        ∙ ap whole (own_parts (Form' kind s parts s' items end split open_break comments))
+
+    row_strings_same : (change : Bytes → Bytes) (m : _) (r : Row_of-Expr m) → total whole (each_on_strings change r) ≡ total whole (items-the_row-Expr m r)
+    row_strings_same change m end_of-Expr = refl
+    row_strings_same change m (more_of-Expr x rest) = both (λ a b. a + b) (strings_same change x) (row_strings_same change _ rest)
+
+  mutual
+    pub flags_same : Same whole with_flags
+    flags_same (Token t) = refl
+    flags_same (Form' kind s parts s' items end split open_break comments) =
+        weighs.form (made kind (items-the_row-Expr _ parts) (items-the_row-Expr _ items) end split open_break comments) (each_with_flags parts) (each_with_flags items)
+        (settled_split (frame kind) kind split (items-the_row-Expr _ items) end) (row_flags_same _ parts) (row_flags_same _ items)
+        ∙ ap whole (own_parts (Form' kind s parts s' items end split open_break comments))
+
+    row_flags_same : (m : _) (r : Row_of-Expr m) → total whole (each_with_flags r) ≡ total whole (items-the_row-Expr m r)
+    row_flags_same m end_of-Expr = refl
+    row_flags_same m (more_of-Expr x rest) = both (λ a b. a + b) (flags_same x) (row_flags_same _ rest)
+
+  -- ---- in statements
+
+  lists_same : (g : List Expr → List Expr) → SameTotal whole g → Same whole (on_lists g)
+  lists_same g h x =
+      by_test (λ y. whole y ≡ whole x) (has_kind k.Sum x) (on_row k.Sum (map (on_items k.List g)) x) (on_items k.List g x)
+      (row_same k.Sum (λ x. map (on_items k.List g)) (λ x. map_total whole (on_items k.List g) (items_same k.List (λ x. g) (λ x. h))) x)
+      (items_same k.List (λ x. g) (λ x. h) x)
+
+  attribute_same : (g : Bytes → List Bytes → Expr → Expr) → ((name : Bytes) (a : List Bytes) → Same whole (g name a)) → Same whole (on_attribute g)
+  attribute_same g h = row_same k.Named (λ x. on_third (g (first_text (parts_of x)) (above x))) (λ x. third_total whole _ (h (first_text (parts_of x)) (above x)))
+
+  of_total : (g : Bytes → List Expr → List Expr) → ((kind : Bytes) → SameTotal whole (g kind)) → (o : Option Bytes) → SameTotal whole (of_rule g o)
+  of_total g h None xs = refl
+  of_total g h (Some kind) xs = h kind xs
+
+  pub rule_same : (g : Bytes → List Expr → List Expr) → ((kind : Bytes) → SameTotal whole (g kind)) → Same whole (on_rule_arguments g)
+  rule_same g h = row_same k.Bare (λ x. on_first (on_call g)) (λ x. first_total whole (on_call g) (items_same k.Call (λ y. of_rule g (rule_kind (parts_of y))) (λ y. of_total g h (rule_kind (parts_of y)))))
+
+  string_same : (change : Bytes → Bytes) → Same whole (on_string change)
+  string_same change x = by_case (λ y. whole y ≡ whole x) (has_class c.String x) (with_text (change (text_of x)) x) x (weighs.string (change (text_of x)) x) (λ f. refl)
+
+  label_value_same : (change : Bytes → Bytes) (name : Bytes) (outside : List Bytes) → Same whole (on_label_value change name outside)
+  label_value_same change name outside x =
+      by_test (λ y. whole y ≡ whole x) (is_label_attribute name) (on_lists (map (on_string change)) x) x (lists_same (map (on_string change)) (map_total whole (on_string change) (string_same change)) x) refl
+
+  pub labels_same : (change : Bytes → Bytes) → Same whole (on_labels change)
+  labels_same change = rule_same (λ kind. map (on_attribute (on_label_value change)))
+      (λ kind. map_total whole (on_attribute (on_label_value change)) (attribute_same (on_label_value change) (label_value_same change)))
+
+  pub list_values_same : (change : List Bytes → Bool → List Expr → List Expr) → ((outside : List Bytes) (by_table : Bool) → SameTotal whole (change outside by_table)) → Same whole (on_list_values change)
+  list_values_same change h x =
+      by_test (λ y. whole y ≡ whole x) (has_kind k.Assign x) (on_assigned change x) (on_rule_arguments (λ kind. map (on_attribute (on_list_value change kind))) x)
+      (row_same k.Assign (λ y. on_third (on_lists (change (above y) false))) (λ y. third_total whole _ (lists_same (change (above y) false) (h (above y) false))) x)
+      (rule_same (λ kind. map (on_attribute (on_list_value change kind))) (λ kind. map_total whole (on_attribute (on_list_value change kind))
+      (attribute_same (on_list_value change kind) (λ name a. lists_same (change a (is_sorted kind name)) (h a (is_sorted kind name))))) x)
+
+  pub symbols_same : (change : List Expr → List Expr) → SameTotal whole change → Same whole (on_items k.Load (on_rest change))
+  symbols_same change h = items_same k.Load (λ x. on_rest change) (λ x. after_total whole change h)
+
+  -- ---- in a file
+
+  module _ (of_item : Item → ℕ) (own : (x : Expr) → of_item (i.Stmt x) ≡ whole x) where
+    statement_same : (g : Expr → Expr) → Same whole g → Same of_item (on_statement (taken g))
+    statement_same g h (i.Block lines) = refl
+    statement_same g h (i.Stmt x) = own (taken g x) ∙ (by_test (λ y. whole y ≡ whole x) (any_marked leave_alone (above x)) x (g x) refl (h x) ∙ sym (own x))
+
+    pub taken_total : (g : Expr → Expr) → Same whole g → SameTotal of_item (on_taken g)
+    taken_total g h = map_total of_item (on_statement (taken g)) (statement_same g h)
 
 module _ (number : Bytes → ℕ) where
   abbrev whole : Expr → ℕ

@@ -1,10 +1,8 @@
-pub mod FormSteps
 pub mod EachChanged
 pub mod Keeping
 pub mod Sorting
 pub mod Parts
 pub mod Composed
-pub mod Weights
 pub mod Counts
 pub mod Listed
 pub mod Strung
@@ -16,13 +14,9 @@ pub mod Joining
 pub mod Single
 pub mod Dropping
 pub mod Stable
-pub mod TheOne
-pub mod MovedMarks
 pub mod ProperPasses
 pub mod ProperStrings
 pub mod SameTexts
 pub mod SameLists
 pub mod SameSyntax
-pub mod SameProgram
 pub mod TokensKept
-pub mod OtherPrograms

@@ -1,4 +1,4 @@
--- A list that is sorted holds the strings that it held.
+-- A list that is sorted holds the strings that it held, and each pass changes no more of a program than it may.
 use Rattle.std.proofs.Common.{suc, Bool, true, ◌&&◌, List, [], ◌∷◌, ◌++◌, ◌≡◌, ◌⊎◌, refl, sym, ap, map, subst, inl, inr, arith}
 use Rattle.std.specs.Prelude.{Contains, bytes_eq}
 use Rattle.std.specs.List.{list_any, list_all, AllByRecursion}
@@ -11,13 +11,20 @@ use Rattle.bz_token.specs.declared.class.Class.TheVariants as c
 use Rattle.bz_value.specs.declared.value.Expr.{Expr, Token, Form'}
 use Rattle.bz_items.specs.Characters.{Bytes}
 use Rattle.bz_rule.proofs.ProperChanges.{by_case}
-use Rattle.bz_rule.specs.Values.{has_class, text_of, above, with_above}
-use Rattle.bz_passes.specs.Sorting.{sort_by}
+use Rattle.bz_rule.specs.Values.{has_class, text_of, above, with_above, has_kind}
+use Rattle.bz_passes.specs.Sorting.{sort_by, IsSorting, IsSortingByRuns}
 use Rattle.bz_passes.specs.Marks.{keep_marks, other_comments}
 use Rattle.bz_passes.specs.Lists.{is_taken, precedes, has_no_comment, without_repeats, in_order, without_marks, marked_by, sorted, settled_list}
-use Rattle.bz_passes.specs.Programs.{HoldsTheStrings, IsSameList}
+use Rattle.bz_passes.specs.Programs.{HoldsTheStrings, IsSameList, TidyingKeepsProgram}
 use Rattle.bz_passes.proofs.Listed.{text_above, settled_anyway}
 use Rattle.bz_passes.proofs.Sorting.{sort_same}
+use Rattle.bz_grammar.specs.declared.kind.Kind.TheVariants as k
+use Rattle.bz_value.specs.declared.value.Item.{Item}
+use Rattle.bz_passes.specs.Passes.{argument_precedes, arguments, is_run_load, labels, lists, loads, name_precedes, path_precedes, quotes, symbol_precedes, symbols}
+use Rattle.bz_passes.specs.Strings.{shorter_string, with_double}
+use Rattle.bz_passes.proofs.SameSyntax.{flags_program}
+use Rattle.bz_passes.proofs.SameTexts.{double_same, shorter_same}
+use Rattle.bz_passes.proofs.Stable.{sorting_is_the_one}
 
 abbrev texts : List Expr → List Bytes
 texts xs = map text_of xs
@@ -155,3 +162,29 @@ list_same outside by_table xs = elim (cases_Bool (is_taken outside by_table xs))
       rw w (holds xs (sorted xs) still' (sorted_held xs))
   | inr w ↦ rw w refl
 ]
+
+arguments_sorted : (xs : List Expr) → IsSortingByRuns (has_kind k.Named) name_precedes xs (sort_by argument_precedes xs)
+arguments_sorted xs = (sorting_is_the_one.2 xs (sort_by argument_precedes xs)).1 refl
+
+symbols_sorted : (xs : List Expr) → IsSorting symbol_precedes xs (sort_by symbol_precedes xs)
+symbols_sorted xs = (sorting_is_the_one.1 xs (sort_by symbol_precedes xs)).1 refl
+
+loads_sorted : (xs : List Item) → IsSortingByRuns is_run_load path_precedes xs (loads xs)
+loads_sorted xs = (sorting_is_the_one.3 xs (loads xs)).1 refl
+
+pub program_stays : TidyingKeepsProgram
+program_stays items = record {
+  quoted = quotes items;
+  labelled = labels (quotes items);
+  listed = lists (labels (quotes items));
+  arranged = arguments (lists (labels (quotes items)));
+  named = symbols (arguments (lists (labels (quotes items))));
+  loaded = loads (symbols (arguments (lists (labels (quotes items)))));
+  quotes = record { change = with_double; each = double_same; same = refl };
+  labels = record { change = shorter_string; each = shorter_same; same = refl };
+  lists = record { change = settled_list; each = list_same; same = refl };
+  arguments = record { change = sort_by argument_precedes; each = arguments_sorted; same = refl };
+  symbols = record { change = sort_by symbol_precedes; each = symbols_sorted; same = refl };
+  loads = loads_sorted (symbols (arguments (lists (labels (quotes items)))));
+  flags = flags_program (loads (symbols (arguments (lists (labels (quotes items))))));
+}

@@ -1,5 +1,5 @@
--- The sorted list is the one that is in order and stable: so whatever sorts stably gives it.
-use Rattle.std.proofs.Common.{suc, ◌+◌, Bool, true, false, not, List, [], ◌∷◌, ◌≡◌, refl, sym, ap, ◌∙◌, subst, inl, inr, arith, get_or, length, if◌then◌else◌}
+-- The sorted list is the one that is in order and stable: so whatever sorts stably gives it; insertion does, and goes run by run.
+use Rattle.std.proofs.Common.{suc, ◌+◌, Bool, true, false, not, List, [], ◌∷◌, ◌≡◌, refl, sym, ap, ◌∙◌, subst, inl, inr, arith, get_or, length, if◌then◌else◌, ◌++◌, append_assoc}
 use Rattle.std.proofs.lemmas.Bool.{and_parts, cases_Bool, false_from_ne_true, not-true, true≢false}
 use Rattle.std.specs.List.{filter, AllAdjacentBelow, AllByRecursion, IsAllAdjacentAnswer}
 use Rattle.std.specs.List.Sorted.{IsSortedBy, IsStableBy, ties}
@@ -10,12 +10,18 @@ use Rattle.std.specs.declared.cmp.Ordering.{Ordering}
 use denote.Ref.{Bor}
 use denote.Param.Members.{Mut}
 use Rattle.std.proofs.lemmas.List.Sorted.{answers_always}
-use Rattle.bz_passes.specs.Sorting.{insert_by, sort_by, NoneBefore, Rises}
+use Rattle.bz_passes.specs.Sorting.{insert_by, sort_by, NoneBefore, Rises, IsSorting, IsSortingByRuns, one_run, next_run, GivesTheOne}
 use Rattle.bz_passes.specs.private.Repeats.{Climbs}
 use Rattle.bz_rule.proofs.ProperChanges.{by_case}
 use Rattle.bz_rule.proofs.ProperItems.{all_kept}
-use Rattle.bz_passes.proofs.Keeping.{both, same_first, same_after}
-use Rattle.bz_passes.proofs.Sorting.{insert_all}
+use Rattle.bz_passes.proofs.Keeping.{both, same_first, same_after, all_joined}
+use Rattle.bz_passes.proofs.Sorting.{insert_all, cut_at, run_sorted, compared, sort_same}
+use Rattle.bz_grammar.specs.declared.kind.Kind.TheVariants as k
+use Rattle.bz_rule.specs.Values.{has_kind}
+use Rattle.bz_passes.specs.Laws.{SortingIsTheOne}
+use Rattle.bz_passes.specs.Lists.{precedes}
+use Rattle.bz_passes.specs.Passes.{is_run_load, name_precedes, path_precedes, symbol_precedes}
+use Rattle.bz_passes.specs.private.Ranks.{item_ranks, name_ranks, path_ranks, symbol_ranks}
 
 module _ {X : Type 0} (lt : X → X → Bool) (o : IsStrictWeakOrder lt) where
   pub after_too : (x y : X) (zs : List X) → lt x y ≡ false → NoneBefore lt x zs → NoneBefore lt y zs
@@ -149,3 +155,56 @@ module _ {X : Type 0} (before : X → X → Bool) where
       → ((h : F) (a : Bor X × (Bor X × Unit {0})) (b : Bool) (h' : F) → Called g h a b h' → b ≡ before a.0.now a.1.0.now)
       → r ≡ true → Climbs before xs
   answers_climb {F} {g} {f} xs r s k e = answered xs r (s before (answers_always g (λ a b. b ≡ before a.0.now a.1.0.now) f k)) e
+
+-- ---- an order of all items
+
+module _ {X : Type 0} (lt : X → X → Bool) (o : IsStrictWeakOrder lt) where
+  sorts : (xs : List X) → IsSorting lt xs (sort_by lt xs)
+  sorts xs = record { same = sort_same lt xs; ordered = sort_rises lt o xs; stable = sort_stable lt o xs }
+
+  sorted_once : (xs ys : List X) → IsSorting lt xs ys → ys ≡ sort_by lt xs
+  sorted_once xs ys h = one_order lt o ys (sort_by lt xs) h.ordered (sort_rises lt o xs) (λ x. h.stable x ∙ sym (sort_stable lt o xs x))
+
+  pub sorting : GivesTheOne (IsSorting lt) (sort_by lt)
+  sorting xs ys = (sorted_once xs ys, λ e. subst (IsSorting lt xs) (sym e) (sorts xs))
+
+-- ---- an order of those that take part
+
+module _ {X : Type 0} (p : X → Bool) (lt : X → X → Bool) (o : IsStrictWeakOrder lt) where
+  abbrev TakePart : List X → Type 0
+  TakePart xs = AllByRecursion (λ x. p x ≡ true) xs
+
+  run_once : (xs ys : List X) → TakePart xs → IsSorting lt xs ys → ys ≡ sort_by (compared p lt) xs
+  run_once xs ys a h = sorted_once lt o xs ys h ∙ sym (run_sorted p lt xs a)
+
+  run_sorts : (xs : List X) → TakePart xs → IsSorting lt xs (sort_by (compared p lt) xs)
+  run_sorts xs a = subst (IsSorting lt xs) (sym (run_sorted p lt xs a)) (sorts lt o xs)
+
+  runs_once : (xs ys : List X) → IsSortingByRuns p lt xs ys → ys ≡ sort_by (compared p lt) xs
+  runs_once xs ys (one_run a h) = run_once xs ys a h
+  runs_once xs ys (next_run run ordered bar rest others e e' a h f more) =
+      e'
+      ∙ (ap (λ z. z ++ bar ∷ others) (run_once run ordered a h)
+      ∙ (ap (λ z. sort_by (compared p lt) run ++ bar ∷ z) (runs_once rest others more)
+      ∙ (sym (cut_at p lt run rest bar f) ∙ ap (sort_by (compared p lt)) (sym e))))
+
+  -- after a run that has begun
+  runs_from : (run rest : List X) → TakePart run → IsSortingByRuns p lt (run ++ rest) (sort_by (compared p lt) (run ++ rest))
+  runs_from run [] a = let all : TakePart (run ++ []) = all_joined (λ y. p y ≡ true) run [] a tt in one_run all (run_sorts (run ++ []) all)
+  runs_from run (x ∷ rest) a = elim (cases_Bool (p x)) [
+    | inl t ↦ subst (λ z. IsSortingByRuns p lt z (sort_by (compared p lt) z)) (append_assoc run (x ∷ []) rest) (runs_from (run ++ x ∷ []) rest (all_joined (λ y. p y ≡ true) run (x ∷ []) a (t, tt)))
+    | inr f ↦ next_run run (sort_by (compared p lt) run) x rest (sort_by (compared p lt) rest) refl (cut_at p lt run rest x f) a (run_sorts run a) f (runs_from [] rest tt)
+  ]
+
+  pub sorting_by_runs : GivesTheOne (IsSortingByRuns p lt) (sort_by (compared p lt))
+  sorting_by_runs xs ys = (runs_once xs ys, λ e. subst (IsSortingByRuns p lt xs) (sym e) (runs_from [] xs tt))
+
+-- ---- the orders of the passes
+
+pub sorting_is_the_one : SortingIsTheOne
+sorting_is_the_one = (
+  sorting precedes item_ranks,
+  sorting symbol_precedes symbol_ranks,
+  sorting_by_runs (has_kind k.Named) name_precedes name_ranks,
+  sorting_by_runs is_run_load path_precedes path_ranks,
+)

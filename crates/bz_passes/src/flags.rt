@@ -10,7 +10,7 @@ use bz_layout::is_broken;
 use bz_value::{Expr, Form, is_sequence};
 
 /// Whether a sequence is broken; what has no sequence keeps its flag.
-#[tactic(auto, using(crate::proofs::FormSteps::split_by_kind))]
+#[tactic(auto, using(crate::proofs::Parts::split_by_kind))]
 fn settled_split(form: &Form) -> bool
     ensures { result ≡ settled_split (frame form.now.kind) form.now.kind form.now.seq.split form.now.seq.items form.now.seq.end }
 {

@@ -40,14 +40,14 @@ pub fn comments_stay()
 
 /// What is sorted is the one list in order that has the same items, with ties in their old order; where only some items are
 /// compared, each longest run of them is.
-#[tactic(auto, using(crate::proofs::TheOne::sorting_is_the_one))]
+#[tactic(auto, using(crate::proofs::Stable::sorting_is_the_one))]
 pub fn sorting_is_the_one()
     ensures { SortingIsTheOne }
 {}
 
 /// A list is sorted as if its items were put in order, repeats dropped, and the `keep sorted` comments moved then: from
 /// its old first item to the new one.
-#[tactic(auto, using(crate::proofs::MovedMarks::marks_move))]
+#[tactic(auto, using(crate::proofs::Listed::marks_move))]
 pub fn marks_move()
     ensures { MarksMove }
 {}
@@ -72,7 +72,7 @@ pub fn proper_stays()
 
 /// Tidying keeps the program of a file value: no more is changed than the marks of quotes, labels that mean the same, repeats in
 /// lists that are sorted, and the order of the items of these, of named arguments, of the symbols of a load and of loads.
-#[tactic(auto, using(crate::proofs::SameProgram::program_stays))]
+#[tactic(auto, using(crate::proofs::SameLists::program_stays))]
 pub fn program_stays()
     ensures { TidyingKeepsProgram }
 {}

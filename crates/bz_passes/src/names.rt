@@ -29,7 +29,7 @@ fn front_in(parts: &[Expr]) -> Option<&Expr>
 }
 
 /// What is before the last dot of names joined by dots, where the rest stays.
-#[tactic(auto, using(crate::proofs::FormSteps::quoted_stays, crate::proofs::FormSteps::flags_stay, crate::proofs::FormSteps::fronts_of_Form))]
+#[tactic(auto, using(crate::proofs::Parts::quoted_stays, crate::proofs::Parts::flags_stay, crate::proofs::Parts::fronts_of_Form))]
 fn front_of(x: &Expr) -> Option<&Expr>
     ensures quotes { IfSome result (λ front. quotes_in front.now ≡ front.now → quotes_in x.now ≡ x.now) }
     ensures flags { IfSome result (λ front. with_flags front.now ≡ front.now → with_flags x.now ≡ x.now) }

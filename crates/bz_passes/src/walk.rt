@@ -20,7 +20,7 @@ use std::alloc::Global;
 /// What a list is in: its labels lose a repeated name where it is a label attribute's, and it is sorted where the comments above
 /// the attribute or the assignment, the table and its items say so.
 #[derive(Clone, Copy)]
-pub(crate) struct ListPlace<'a> {
+struct ListPlace<'a> {
     has_labels: bool,
     outside: &'a [Text],
     by_table: bool,
@@ -35,7 +35,7 @@ fn change_items(alloc: Global, place: ListPlace<'_>, items: &mut Items<Expr>) ->
 }
 
 /// Changes a list; any other expression stays.
-#[tactic(auto, using(crate::proofs::FormSteps::sequence_Form))]
+#[tactic(auto, using(crate::proofs::Parts::sequence_Form))]
 fn change_list(alloc: Global, place: ListPlace<'_>, x: &mut Expr) -> Result<(), Memory>
     ensures { OnOk result (x.new ≡ on_items k.List (list_changed place.entry.has_labels place.entry.outside.now place.entry.by_table) x.old) }
 {
@@ -65,7 +65,7 @@ fn change_operands(
 }
 
 /// Changes the lists of a value.
-#[tactic(auto, using(crate::proofs::FormSteps::lists_by_kind))]
+#[tactic(auto, using(crate::proofs::Parts::lists_by_kind))]
 fn change_lists(alloc: Global, place: ListPlace<'_>, x: &mut Expr) -> Result<(), Memory>
     ensures { OnOk result (x.new ≡ on_lists (list_changed place.entry.has_labels place.entry.outside.now place.entry.by_table) x.old) }
 {

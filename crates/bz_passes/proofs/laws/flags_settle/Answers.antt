@@ -1,8 +1,7 @@
 use Rattle.bz_value.specs.Counted.{amount}
 use Rattle.bz_value.specs.Frames.{sequence}
-use Rattle.bz_passes.proofs.Counts.{weighs}
+use Rattle.bz_passes.proofs.Counts.{weighs, flags_same}
 use Rattle.bz_passes.proofs.Inner.{flags_settle, same_split}
-use Rattle.bz_passes.proofs.Weights.{flags_same}
 use Rattle.bz_passes.proofs.laws.flags_settle.Goals as goal
 
 pub returns : goal.returns

@@ -5,8 +5,7 @@ use Rattle.bz_label.proofs.Repeats.{is_unrepeated}
 use Rattle.bz_label.proofs.Shorter.{unrepeated_same}
 use Rattle.bz_passes.specs.Programs.{renamed, turned}
 use Rattle.bz_passes.specs.Rows.{rule_named}
-use Rattle.bz_passes.proofs.OtherPrograms.{argument_text, body_stays, other_body, other_name, unmoved, value_text}
-use Rattle.bz_passes.proofs.TokensKept.{tokens_kept}
+use Rattle.bz_passes.proofs.TokensKept.{argument_text, body_stays, other_body, other_name, unmoved, value_text, tokens_kept}
 use Rattle.bz_passes.proofs.laws.worked_programs.Goals as goal
 
 never : ◌≡◌ {A = ℕ} 0 1 → ⊥

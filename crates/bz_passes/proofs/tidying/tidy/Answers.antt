@@ -8,7 +8,7 @@ use Rattle.bz_passes.specs.Programs.{KeepsProgram}
 use Rattle.bz_passes.proofs.Counts.{comments_stay}
 use Rattle.bz_passes.proofs.Inner.{flags_settled}
 use Rattle.bz_passes.proofs.ProperPasses.{tidied_proper}
-use Rattle.bz_passes.proofs.SameProgram.{program_stays}
+use Rattle.bz_passes.proofs.SameLists.{program_stays}
 use Rattle.bz_passes.proofs.Settling.{tidy_stays}
 use Rattle.bz_passes.proofs.tidying.tidy.Goals as goal
 
