@@ -16,7 +16,6 @@ pub mod Dropping
 pub mod Stable
 pub mod ProperPasses
 pub mod ProperStrings
-pub mod SameTexts
 pub mod SameLists
 pub mod SameSyntax
 pub mod TokensKept

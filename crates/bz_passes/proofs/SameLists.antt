@@ -23,7 +23,7 @@ use Rattle.bz_value.specs.declared.value.Item.{Item}
 use Rattle.bz_passes.specs.Passes.{argument_precedes, arguments, is_run_load, labels, lists, loads, name_precedes, path_precedes, quotes, symbol_precedes, symbols}
 use Rattle.bz_passes.specs.Strings.{shorter_string, with_double}
 use Rattle.bz_passes.proofs.SameSyntax.{flags_program}
-use Rattle.bz_passes.proofs.SameTexts.{double_same, shorter_same}
+use Rattle.bz_passes.proofs.ProperStrings.{double_same, shorter_same}
 use Rattle.bz_passes.proofs.Stable.{sorting_is_the_one}
 
 abbrev texts : List Expr → List Bytes

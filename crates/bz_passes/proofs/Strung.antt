@@ -18,7 +18,7 @@ use Rattle.bz_label.specs.Shorter.{before_colon, after_colon, before_slashes, af
 use Rattle.bz_passes.specs.Strings.{has_character, begins_single, in_double, with_double, shorter_string}
 use Rattle.bz_rule.specs.QuoteMarks.{begins_thrice, marks_of}
 use Rattle.bz_passes.proofs.Keeping.{Keeps, Settles, same_first, same_after}
-use Rattle.bz_passes.proofs.SameTexts.{same_byte}
+use Rattle.bz_passes.proofs.ProperStrings.{same_byte}
 use Rattle.std.specs.Str.{bytes_eq}
 
 same_text : (one other : Bytes) → bytes_eq one other ≡ true → one ≡ other
