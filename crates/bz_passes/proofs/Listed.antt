@@ -132,9 +132,6 @@ climbs_rises (x ∷ y ∷ ys) c =
     let first : precedes y x ≡ false = item_ranks.one_way x y c.0 in
     ((first, after_too precedes item_ranks y x ys first rest.0), rest)
 
-climbs_ordered : (xs : List Expr) → Climbs precedes xs → Ordered precedes xs
-climbs_ordered xs c = ordered xs (climbs_rises xs c)
-
 -- these texts come before the item
 abbrev Below : List Bytes → Expr → Type 0
 Below earlier x = AllByRecursion (λ t. is_lt (key_order (between t) (between (text_of x))) ≡ true) earlier
@@ -169,70 +166,6 @@ climbs_fine (x ∷ xs) c = record { rising = climbs_rises (x ∷ xs) c; clean = 
 -- a list that rises stays, whether it is taken or not
 pub rising_settled : (outside : List Bytes) (b : Bool) (xs : List Expr) → Climbs precedes xs → settled_list outside b xs ≡ xs
 rising_settled outside b xs c = by_test (λ ys. ys ≡ xs) (is_taken outside b xs) (sorted xs) xs (fine_stays xs (climbs_fine xs c)) refl
-
--- ---- a list that rises once its last item is moved to another place
-
-climbs_over : (x y : Expr) (ys : List Expr) → Climbs precedes (x ∷ y ∷ ys) → Climbs precedes (x ∷ ys)
-climbs_over x y [] c = tt
-climbs_over x y (z ∷ zs) c = (still_before (text_of x) y z c.0 c.1.0, c.1.1)
-
-climbs_rest : (x : Expr) (xs : List Expr) → Climbs precedes (x ∷ xs) → Climbs precedes xs
-climbs_rest x [] c = tt
-climbs_rest x (y ∷ ys) c = c.1
-
-last_raised : (later : List Expr) (x : Expr) → Climbs precedes (x ∷ later) → sort_by precedes (later ++ x ∷ []) ≡ x ∷ later
-last_raised [] x c = refl
-last_raised (y ∷ ys) x c =
-    ap (insert_by precedes y) (last_raised ys x (climbs_over x y ys c)) ∙ rw c.0 (ap (λ zs. x ∷ zs) (insert_starts precedes y ys (climbs_ordered (y ∷ ys) c.1).0))
-
-front_raised : (front later : List Expr) (x : Expr) → Climbs precedes (front ++ x ∷ later) → sort_by precedes (front ++ (later ++ x ∷ [])) ≡ front ++ x ∷ later
-front_raised [] later x c = last_raised later x c
-front_raised (y ∷ front) later x c =
-    ap (insert_by precedes y) (front_raised front later x (climbs_rest y (front ++ x ∷ later) c)) ∙ insert_starts precedes y (front ++ x ∷ later) (climbs_ordered (y ∷ front ++ x ∷ later) c).0
-
-record Apart (xs : List Expr) : Type 0 where
-  later : List Expr
-  last : Expr
-  joined : xs ≡ later ++ last ∷ []
-
-last_apart : (y : Expr) (ys : List Expr) → Apart (y ∷ ys)
-last_apart y [] = record { later = []; last = y; joined = refl }
-last_apart y (z ∷ zs) = let rest : Apart (z ∷ zs) = last_apart z zs in record { later = y ∷ rest.later; last = rest.last; joined = ap (λ xs. y ∷ xs) rest.joined }
-
-rotated : (later : List Expr) (x : Expr) → slice_rotate_right (later ++ x ∷ []) 1 ≡ x ∷ later
-rotated later x =
-    let size : length later ≡ length (later ++ x ∷ []) - 1 = omega (arith, length-append later (x ∷ [])) in
-    both (λ a b. a ++ b) (drop_at later (x ∷ []) (length (later ++ x ∷ []) - 1) size) (take_at later (x ∷ []) (length (later ++ x ∷ []) - 1) size)
-
--- the last item of those from a place on goes first
-raised_apart : (front later : List Expr) (x : Expr) (old new : List Expr) → old ≡ front ++ (later ++ x ∷ []) → new ≡ front ++ slice_rotate_right (later ++ x ∷ []) 1 → Climbs precedes new → new ≡ in_order old
-raised_apart front later x old new own is c =
-    let made : new ≡ front ++ x ∷ later = is ∙ ap (λ zs. front ++ zs) (rotated later x) in
-    let put : sort_by precedes old ≡ new = ap (sort_by precedes) own ∙ (front_raised front later x (subst (Climbs precedes) made c) ∙ sym made) in
-    sym (ap (without_repeats []) put ∙ clean_stays [] new (climbs_fine new c).clean)
-
-raised_there : (front back new old : List Expr) → 0 < length back → old ≡ front ++ back → new ≡ front ++ slice_rotate_right back 1 → Climbs precedes new → new ≡ in_order old
-raised_there front [] new old some own is c = absurd (omega (arith, some))
-raised_there front (y ∷ ys) new old some own is c =
-    let apart : Apart (y ∷ ys) = last_apart y ys in
-    raised_apart front apart.later apart.last old new (own ∙ ap (λ zs. front ++ zs) apart.joined) (is ∙ ap (λ zs. front ++ slice_rotate_right zs 1) apart.joined) c
-
-rotated_back : (back : List Expr) → 0 < length back → drop 1 (slice_rotate_right back 1) ++ take 1 (slice_rotate_right back 1) ≡ back
-rotated_back [] some = absurd (omega (arith, some))
-rotated_back (y ∷ ys) some =
-    let apart : Apart (y ∷ ys) = last_apart y ys in
-    ap (λ zs. drop 1 zs ++ take 1 zs) (ap (λ zs. slice_rotate_right zs 1) apart.joined ∙ rotated apart.later apart.last) ∙ sym apart.joined
-
-pub last_back : (at : ℕ) (old mid new : List Expr) → at < length old → mid ≡ take at old ++ slice_rotate_right (drop at old) 1 → new ≡ take at mid ++ (drop 1 (drop at mid) ++ take 1 (drop at mid)) → new ≡ old
-last_back at old mid new h is back =
-    let size : length (take at old) ≡ at = length-take-le at old (omega (arith, h)) in
-    let rest : List Expr = slice_rotate_right (drop at old) 1 in
-    let front : take at mid ≡ take at old = ap (λ xs. take at xs) is ∙ take_at (take at old) rest at size in
-    let later : drop at mid ≡ rest = ap (λ xs. drop at xs) is ∙ drop_at (take at old) rest at size in
-    back ∙ (both (λ a b. a ++ (drop 1 b ++ take 1 b)) front later ∙ (ap (λ xs. take at old ++ xs) (rotated_back (drop at old) (omega (arith, h, length-drop at old))) ∙ take-append-drop at old))
-
-pub last_moved : (at : ℕ) (old new : List Expr) → at < length old → new ≡ take at old ++ slice_rotate_right (drop at old) 1 → Climbs precedes new → new ≡ in_order old
-last_moved at old new h is c = raised_there (take at old) (drop at old) new old (omega (arith, h, length-drop at old)) (sym (take-append-drop at old)) is c
 
 -- a list that neither the table names nor a comment may mark stays
 pub untaken_stays : (outside : List Bytes) (b : Bool) (xs : List Expr) → b ≡ false → outside ≡ [] → above_first xs ≡ [] → settled_list outside b xs ≡ xs

@@ -34,14 +34,6 @@ fn item_order(x: &Expr, y: &Expr) -> Ordering
     key_cmp(between(text_of(x)), between(text_of(y)))
 }
 
-/// The items in that order, equal ones in their old order. The error: a growth was refused.
-fn sort_items(items: &mut Vec<Expr>) -> Result<(), Memory>
-    ensures { OnOk result (items.new.items ≡ sort_by precedes items.old.items) }
-{
-    items.sort_by(|x, y| item_order(x, y))?;
-    Ok(())
-}
-
 fn is_string(x: &Expr) -> bool
     ensures { result ≡ has_class classes.String x.now }
 {
@@ -174,56 +166,11 @@ fn is_any_before(x: &Expr, others: &[Expr]) -> bool
     others.iter().any(|other| item_order(other, x).is_lt())
 }
 
-/// After how many of the others the last item goes, where these are in order.
-fn place_of_last(items: &[Expr]) -> Option<usize>
-    ensures { IfSome result (λ at. at < length items.now) }
-{
-    let (last, others) = items.split_last()?;
-    Some(others.partition_point(|x| item_order(x, last).is_lt()))
-}
-
-/// Moves the last item to this place.
-fn put_last(items: &mut [Expr], at: usize)
-    requires { at < length items.old }
-    ensures { items.new ≡ take at items.old ++ slice_rotate_right (drop at items.old) 1 }
-{
-    items[at..].rotate_right(1);
-}
-
-/// Moves the item at this place to the end.
-fn put_back(items: &mut [Expr], at: usize)
-    requires { at < length items.old }
-    ensures { items.new ≡ take at items.old ++ (drop 1 (drop at items.old) ++ take 1 (drop at items.old)) }
-{
-    items[at..].rotate_left(1);
-}
-
-/// Moves the last item to its place, if each item then comes before the next one, as where it was added to a list in order. Else the
-/// items are as before.
-fn raise_last(items: &mut [Expr]) -> bool
-    ensures raised { IsTrue result → items.new ≡ in_order items.old }
-    ensures stays { result ≡ false → items.new ≡ items.old }
-{
-    let Some(at) = place_of_last(items) else {
-        return false;
-    };
-    put_last(items, at);
-    if are_rising(items) {
-        return true;
-    }
-    put_back(items, at);
-    false
-}
-
 /// The items in their order, without repeats.
-#[tactic(auto, using(crate::proofs::Listed::sorted_rises))]
 fn put_in_order(alloc: Global, mut items: Vec<Expr>) -> Result<Vec<Expr>, Memory>
     ensures { IfOk result (λ ordered. ordered.items ≡ in_order items.items) }
 {
-    if raise_last(items.as_mut_slice()) {
-        return Ok(items);
-    }
-    sort_items(&mut items)?;
+    items.sort_by(|x, y| item_order(x, y))?;
     drop_repeats(alloc, items)
 }
 
