@@ -13,7 +13,7 @@ use Rattle.bz_passes.specs.Changes.{after_passes}
 use Rattle.bz_passes.specs.Sorting.{sort_by}
 use Rattle.bz_passes.specs.Marks.{any_marked, leave_alone}
 use Rattle.bz_passes.specs.Lists.{settled_list}
-use Rattle.bz_passes.specs.Passes.{on_statement, taken, on_taken, on_call, on_rule_arguments, on_attribute, on_assigned, on_label_value, on_list_value, quotes_in, quotes, labels_in, labels, lists_in, lists, argument_precedes, arguments_in, arguments, symbol_precedes, symbols_in, symbols}
+use Rattle.bz_passes.specs.Passes.{on_statement, taken, on_taken, on_call, on_rule_arguments, on_attribute, on_assigned, on_label_value, on_list_value, quotes_in, labels_in, lists_in, argument_precedes, arguments_in, symbol_precedes, symbols_in}
 use Rattle.bz_passes.specs.Strings.{shorter_string}
 use Rattle.bz_passes.proofs.Keeping.{both}
 use Rattle.bz_passes.proofs.Parts.{the_parts, the_items, above_quoted, items_kind, kind_quoted, parts_kind}
@@ -87,9 +87,11 @@ on_taken_composed f g a [] = refl
 on_taken_composed f g a (item ∷ items) = both (λ z zs. z ∷ zs) (statement_composed f g a item) (on_taken_composed f g a items)
 
 -- the five passes that go statement by statement, as one
-pub five_composed : (items : List Item) → symbols (arguments (lists (labels (quotes items)))) ≡ on_taken after_passes items
+pub five_composed : (items : List Item) → on_taken symbols_in (on_taken arguments_in (on_taken lists_in (on_taken labels_in (on_taken quotes_in items)))) ≡ on_taken after_passes items
 five_composed items =
-    on_taken_composed arguments_in symbols_in (arguments_stay above above_outside) (lists (labels (quotes items)))
-    ∙ (on_taken_composed lists_in (λ y. symbols_in (arguments_in y)) (lists_stay above above_outside) (labels (quotes items))
-    ∙ (on_taken_composed labels_in (λ y. symbols_in (arguments_in (lists_in y))) (labels_stay above above_outside) (quotes items)
+    let quoted : List Item = on_taken quotes_in items in
+    let listed : List Item = on_taken lists_in (on_taken labels_in quoted) in
+    on_taken_composed arguments_in symbols_in (arguments_stay above above_outside) listed
+    ∙ (on_taken_composed lists_in (λ y. symbols_in (arguments_in y)) (lists_stay above above_outside) (on_taken labels_in quoted)
+    ∙ (on_taken_composed labels_in (λ y. symbols_in (arguments_in (lists_in y))) (labels_stay above above_outside) quoted
     ∙ on_taken_composed quotes_in (λ y. symbols_in (arguments_in (lists_in (labels_in y)))) above_quoted items))

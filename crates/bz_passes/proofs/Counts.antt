@@ -18,7 +18,7 @@ use Rattle.bz_layout.specs.Flags.{settled_split, with_flags, each_with_flags, it
 use Rattle.bz_rule.proofs.ProperChanges.{by_case, by_test}
 use Rattle.bz_rule.specs.Values.{has_kind, has_class, text_of, parts_of, with_text, above, on_items, on_row, on_first, on_third, on_rest, first_text, on_lists, with_above}
 use Rattle.bz_passes.specs.Marks.{any_marked, leave_alone, is_marked, keep_sorted, keep_marks, other_comments}
-use Rattle.bz_passes.specs.Passes.{on_statement, taken, on_taken, rule_kind, of_rule, on_call, on_rule_arguments, on_attribute, on_strings, each_on_strings, on_string, on_label_value, on_labels, on_list_value, on_assigned, on_list_values, quotes_in, quotes, labels_in, labels, lists_in, lists, argument_precedes, arguments_in, arguments, symbol_precedes, symbols_in, symbols, load_precedes, loads, tidied}
+use Rattle.bz_passes.specs.Passes.{on_statement, taken, on_taken, rule_kind, of_rule, on_call, on_rule_arguments, on_attribute, on_strings, each_on_strings, on_string, on_label_value, on_labels, on_list_value, on_assigned, on_list_values, quotes_in, labels_in, lists_in, argument_precedes, arguments_in, symbol_precedes, symbols_in, load_precedes, loads, tidied}
 use Rattle.bz_passes.proofs.Parts.{in_form, Place, the_parts, the_items, made, own_parts}
 use Rattle.bz_passes.proofs.Keeping.{both, third_is}
 use Rattle.bz_passes.proofs.Places.{within}
@@ -262,12 +262,17 @@ module _ (number : Bytes → ℕ) where
 
   pub tidied_total : SameTotal (item_amount number) tidied
   tidied_total items =
-      map_total (item_amount number) item_with_flags item_flags (loads (symbols (arguments (lists (labels (quotes items))))))
-      ∙ (sort_total load_precedes (item_amount number) (symbols (arguments (lists (labels (quotes items)))))
-      ∙ (each_taken symbols_in (symbols_same whole weighs (sort_by symbol_precedes) (sort_total symbol_precedes whole)) (arguments (lists (labels (quotes items))))
-      ∙ (each_taken arguments_in (rule_same whole weighs (λ kind. sort_by argument_precedes) (λ kind. sort_total argument_precedes whole)) (lists (labels (quotes items)))
-      ∙ (each_taken lists_in (list_values_same whole weighs settled_list list_total) (labels (quotes items))
-      ∙ (each_taken labels_in (labels_same whole weighs shorter_string) (quotes items) ∙ each_taken quotes_in (strings_same whole weighs with_double) items)))))
+      let quoted : List Item = on_taken quotes_in items in
+      let labelled : List Item = on_taken labels_in quoted in
+      let listed : List Item = on_taken lists_in labelled in
+      let arranged : List Item = on_taken arguments_in listed in
+      let named : List Item = on_taken symbols_in arranged in
+      map_total (item_amount number) item_with_flags item_flags (loads named)
+      ∙ (sort_total load_precedes (item_amount number) named
+      ∙ (each_taken symbols_in (symbols_same whole weighs (sort_by symbol_precedes) (sort_total symbol_precedes whole)) arranged
+      ∙ (each_taken arguments_in (rule_same whole weighs (λ kind. sort_by argument_precedes) (λ kind. sort_total argument_precedes whole)) listed
+      ∙ (each_taken lists_in (list_values_same whole weighs settled_list list_total) labelled
+      ∙ (each_taken labels_in (labels_same whole weighs shorter_string) quoted ∙ each_taken quotes_in (strings_same whole weighs with_double) items)))))
 
 pub comments_stay : (text : Bytes) (items : List Item) → times text (tidied items) ≡ times text items
 comments_stay text items = tidied_total (one_if text) items

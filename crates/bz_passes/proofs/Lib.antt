@@ -1,4 +1,5 @@
 pub mod EachChanged
+pub mod Ranks
 pub mod Keeping
 pub mod Sorting
 pub mod Parts

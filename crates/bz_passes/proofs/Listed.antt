@@ -22,7 +22,7 @@ use Rattle.bz_passes.specs.Sorting.{insert_by, sort_by, NoneBefore, Rises}
 use Rattle.bz_rule.specs.QuoteMarks.{between}
 use Rattle.bz_passes.specs.Marks.{is_marked, keep_marks, keep_sorted, other_comments}
 use Rattle.bz_passes.specs.Lists.{above_first, has_above, is_taken, precedes, has_no_comment, without_repeats, in_order, without_marks, marked_by, sorted, settled_list, MovesMarks}
-use Rattle.bz_passes.specs.private.Ranks.{item_ranks}
+use Rattle.bz_passes.proofs.Ranks.{item_ranks}
 use Rattle.bz_passes.specs.private.Repeats.{Climbs, is_passed}
 use Rattle.bz_passes.proofs.Keeping.{Keeps, Settles, all_joined, both, same_first, same_after}
 use Rattle.bz_rule.proofs.ProperChanges.{by_case, by_test}

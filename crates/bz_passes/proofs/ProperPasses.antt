@@ -24,7 +24,7 @@ use Rattle.bz_layout.proofs.FlaggedProper.{flags_proper}
 use Rattle.bz_passes.specs.Sorting.{sort_by}
 use Rattle.bz_passes.specs.Strings.{with_double, shorter_string}
 use Rattle.bz_passes.specs.Marks.{any_marked, leave_alone}
-use Rattle.bz_passes.specs.Passes.{on_statement, taken, on_taken, rule_kind, of_rule, on_call, on_rule_arguments, on_attribute, quotes_in, each_on_strings, quotes, labelled, labels_in, labels, on_label_value, on_list_value, on_assigned, lists_in, lists, argument_precedes, arguments_in, arguments, symbol_precedes, symbols_in, symbols, load_precedes, loads, tidied}
+use Rattle.bz_passes.specs.Passes.{on_statement, taken, on_taken, rule_kind, of_rule, on_call, on_rule_arguments, on_attribute, quotes_in, each_on_strings, labelled, labels_in, on_label_value, on_list_value, on_assigned, lists_in, argument_precedes, arguments_in, symbol_precedes, symbols_in, load_precedes, loads, tidied}
 use Rattle.bz_rule.proofs.ProperForms.{InPlace, itself, EachInPlace, none, both, all_itself, each_mapped, lists_in_place}
 use Rattle.bz_rule.proofs.ProperChanges.{by_test, Stays, EachStays, row_stays, items_stay, first_stays, third_stays, lists_stay, string_in_place}
 use Rattle.bz_passes.proofs.ProperStrings.{double_string, shorter_is_string}
@@ -113,11 +113,15 @@ arguments_kept (Some kind) xs h = sort_all argument_precedes (IsItem s.argument)
 
 pub tidied_proper : (items : List Item) → IsProper items → IsProper (tidied items)
 tidied_proper items h =
-    let named : List Item = arguments (lists (labels (quotes items))) in
-    let all : IsProper (symbols named) =
-    taken_proper symbols_in (load_in_place (sort_by symbol_precedes) (sort_all symbol_precedes (IsItem s.loaded))) named
-    (taken_proper arguments_in (rule_stays (λ kind. sort_by argument_precedes) (λ o. call_in_place (of_rule (λ kind. sort_by argument_precedes) o) (arguments_kept o))) (lists (labels (quotes items)))
-    (taken_proper lists_in lists_in_stays (labels (quotes items))
-    (taken_proper labels_in (values_stay (λ kind. on_label_value shorter_string) (λ kind. labelled_value_stays)) (quotes items)
+    let quoted : List Item = on_taken quotes_in items in
+    let labelled : List Item = on_taken labels_in quoted in
+    let listed : List Item = on_taken lists_in labelled in
+    let arranged : List Item = on_taken arguments_in listed in
+    let named : List Item = on_taken symbols_in arranged in
+    let all : IsProper named =
+    taken_proper symbols_in (load_in_place (sort_by symbol_precedes) (sort_all symbol_precedes (IsItem s.loaded))) arranged
+    (taken_proper arguments_in (rule_stays (λ kind. sort_by argument_precedes) (λ o. call_in_place (of_rule (λ kind. sort_by argument_precedes) o) (arguments_kept o))) listed
+    (taken_proper lists_in lists_in_stays labelled
+    (taken_proper labels_in (values_stay (λ kind. on_label_value shorter_string) (λ kind. labelled_value_stays)) quoted
     (taken_proper quotes_in quoted_stays items h)))) in
-    flags_proper (loads (symbols named)) (All-from_recursion IsProperItem (loads (symbols named)) (sort_all load_precedes IsProperItem (symbols named) (recursion_from_All IsProperItem (symbols named) all)))
+    flags_proper (loads named) (All-from_recursion IsProperItem (loads named) (sort_all load_precedes IsProperItem named (recursion_from_All IsProperItem named all)))

@@ -20,7 +20,7 @@ use Rattle.bz_passes.proofs.Listed.{text_above, settled_anyway}
 use Rattle.bz_passes.proofs.Sorting.{sort_same}
 use Rattle.bz_grammar.specs.declared.kind.Kind.TheVariants as k
 use Rattle.bz_value.specs.declared.value.Item.{Item}
-use Rattle.bz_passes.specs.Passes.{argument_precedes, arguments, is_run_load, labels, lists, loads, name_precedes, path_precedes, quotes, symbol_precedes, symbols}
+use Rattle.bz_passes.specs.Passes.{argument_precedes, is_run_load, loads, name_precedes, path_precedes, symbol_precedes, on_taken, quotes_in, labels_in, lists_in, arguments_in, symbols_in}
 use Rattle.bz_passes.specs.Strings.{shorter_string, with_double}
 use Rattle.bz_passes.proofs.SameSyntax.{flags_program}
 use Rattle.bz_passes.proofs.ProperStrings.{double_same, shorter_same}
@@ -173,18 +173,24 @@ loads_sorted : (xs : List Item) → IsSortingByRuns is_run_load path_precedes xs
 loads_sorted xs = (sorting_is_the_one.3 xs (loads xs)).1 refl
 
 pub program_stays : TidyingKeepsProgram
-program_stays items = record {
-  quoted = quotes items;
-  labelled = labels (quotes items);
-  listed = lists (labels (quotes items));
-  arranged = arguments (lists (labels (quotes items)));
-  named = symbols (arguments (lists (labels (quotes items))));
-  loaded = loads (symbols (arguments (lists (labels (quotes items)))));
-  quotes = record { change = with_double; each = double_same; same = refl };
-  labels = record { change = shorter_string; each = shorter_same; same = refl };
-  lists = record { change = settled_list; each = list_same; same = refl };
-  arguments = record { change = sort_by argument_precedes; each = arguments_sorted; same = refl };
-  symbols = record { change = sort_by symbol_precedes; each = symbols_sorted; same = refl };
-  loads = loads_sorted (symbols (arguments (lists (labels (quotes items)))));
-  flags = flags_program (loads (symbols (arguments (lists (labels (quotes items))))));
-}
+program_stays items =
+    let quoted : List Item = on_taken quotes_in items in
+    let labelled : List Item = on_taken labels_in quoted in
+    let listed : List Item = on_taken lists_in labelled in
+    let arranged : List Item = on_taken arguments_in listed in
+    let named : List Item = on_taken symbols_in arranged in
+    record {
+      quoted = quoted;
+      labelled = labelled;
+      listed = listed;
+      arranged = arranged;
+      named = named;
+      loaded = loads named;
+      quotes = record { change = with_double; each = double_same; same = refl };
+      labels = record { change = shorter_string; each = shorter_same; same = refl };
+      lists = record { change = settled_list; each = list_same; same = refl };
+      arguments = record { change = sort_by argument_precedes; each = arguments_sorted; same = refl };
+      symbols = record { change = sort_by symbol_precedes; each = symbols_sorted; same = refl };
+      loads = loads_sorted named;
+      flags = flags_program (loads named);
+    }

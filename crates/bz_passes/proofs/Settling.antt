@@ -11,7 +11,7 @@ use Rattle.bz_rule.specs.Values.{above, has_kind, on_first, on_lists, on_third, 
 use Rattle.bz_passes.specs.Changes.{after_passes, arguments_changed, attribute_changed, labels_changed, list_changed, lists_and_arguments}
 use Rattle.bz_passes.specs.Sorting.{sort_by}
 use Rattle.bz_passes.specs.Lists.{settled_list}
-use Rattle.bz_passes.specs.Passes.{argument_precedes, arguments_in, labelled, labels_in, lists_in, of_rule, on_assigned, on_attribute, on_call, on_label_value, on_list_value, on_rule_arguments, quotes_in, symbols_in, taken, on_statement, on_taken, argument_order, name_precedes, symbol_precedes, path_order, path_of, path_precedes, is_loose_load, is_run_load, load_path, load_precedes, loads, tidied}
+use Rattle.bz_passes.specs.Passes.{argument_precedes, arguments_in, labelled, labels_in, lists_in, of_rule, on_assigned, on_attribute, on_call, on_label_value, on_list_value, on_rule_arguments, quotes_in, symbols_in, taken, on_statement, on_taken, argument_order, name_precedes, symbol_precedes, path_order, path_precedes, is_run_load, load_path, load_precedes, loads, tidied}
 use Rattle.bz_passes.specs.Marks.{any_marked, leave_alone}
 use Rattle.bz_passes.specs.Strings.{shorter_string}
 use Rattle.bz_passes.proofs.Composed.{kind_outside, labels_stay, above_outside, five_composed, passes_stay}
@@ -29,7 +29,8 @@ use Rattle.bz_value.specs.Empty.{is_empty}
 use Rattle.bz_layout.specs.Flags.{with_flags, item_with_flags, flags}
 use Rattle.bz_passes.specs.Joined.{item_tidied}
 use Rattle.bz_rule.specs.QuoteMarks.{between, local_name}
-use Rattle.bz_passes.specs.private.Ranks.{name_ranks, path_ranks, symbol_ranks}
+use Rattle.bz_passes.specs.private.Ranks.{name_ranks, path_ranks}
+use Rattle.bz_passes.proofs.Ranks.{symbol_ranks}
 use Rattle.bz_passes.proofs.Sorting.{compared_one_way, sort_settles, sort_keeps, sort_map, map_keeps_sort}
 use Rattle.bz_passes.proofs.Listed.{list_settles, list_keeps, keeps_list}
 use Rattle.bz_passes.proofs.Inner.{labelled_settles, flags_keep_labelled, under_labelled, labelled_keeps_quoted, quoted_settles, flags_keep_quoted, flags_settle}
@@ -257,10 +258,10 @@ item_settles (i.Stmt x) = ap i.Stmt (composed_settles (taken after_passes) with_
 pub load_one_way : (x y : Item) → load_precedes x y ≡ true → load_precedes y x ≡ false
 load_one_way = compared_one_way is_run_load path_precedes path_ranks
 
-pub same_loose : (x : Expr) → is_loose_load (with_flags x) ≡ is_loose_load x
+pub same_loose : (x : Expr) → is_run_load (i.Stmt (with_flags x)) ≡ is_run_load (i.Stmt x)
 same_loose x = both (λ a b. a && b) (kind_flags k.Load x) (ap is_empty (above_flags x))
 
-same_path : (x : Expr) → path_of (with_flags x) ≡ path_of x
+same_path : (x : Expr) → load_path (i.Stmt (with_flags x)) ≡ load_path (i.Stmt x)
 same_path x = ap between (ap first_text (items_flags x) ∙ first_flags (items_of x))
 
 same_run : (x : Item) → is_run_load (item_with_flags x) ≡ is_run_load x

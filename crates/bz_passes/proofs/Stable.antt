@@ -21,7 +21,8 @@ use Rattle.bz_rule.specs.Values.{has_kind}
 use Rattle.bz_passes.specs.Laws.{SortingIsTheOne}
 use Rattle.bz_passes.specs.Lists.{precedes}
 use Rattle.bz_passes.specs.Passes.{is_run_load, name_precedes, path_precedes, symbol_precedes}
-use Rattle.bz_passes.specs.private.Ranks.{item_ranks, name_ranks, path_ranks, symbol_ranks}
+use Rattle.bz_passes.specs.private.Ranks.{name_ranks, path_ranks}
+use Rattle.bz_passes.proofs.Ranks.{item_ranks, symbol_ranks}
 
 module _ {X : Type 0} (lt : X → X → Bool) (o : IsStrictWeakOrder lt) where
   pub after_too : (x y : X) (zs : List X) → lt x y ≡ false → NoneBefore lt x zs → NoneBefore lt y zs

@@ -1,4 +1,4 @@
--- The seven passes, each from file values to file values, and `tidied`, which is all of them in turn.
+-- The seven passes, five over a statement and two over the items of a file value, and `tidied`, which is all of them in turn.
 use Rattle.std.specs.Prelude.{Bool, false, ◌&&◌, List, [], ◌∷◌, Option, Some, None, if◌then◌else◌, map}
 use Rattle.std.specs.Ordering.{is_lt, nat_cmp, ordering_then}
 use Rattle.std.specs.declared.cmp.Ordering.{Ordering}
@@ -92,9 +92,6 @@ on_list_values change x = if has_kind k.Assign x then on_assigned change x else 
 abbrev pub quotes_in : Expr → Expr
 quotes_in = on_strings with_double
 
-abbrev pub quotes : List Item → List Item
-quotes = on_taken quotes_in
-
 -- ---- labels: in the label attributes of a rule plain strings lose a repeated name
 
 abbrev pub labelled : Expr → Expr
@@ -103,16 +100,10 @@ labelled = on_string shorter_string
 abbrev pub labels_in : Expr → Expr
 labels_in = on_labels shorter_string
 
-abbrev pub labels : List Item → List Item
-labels = on_taken labels_in
-
 -- ---- lists: those of the table, and those marked `keep sorted`, are sorted
 
 abbrev pub lists_in : Expr → Expr
 lists_in = on_list_values settled_list
-
-abbrev pub lists : List Item → List Item
-lists = on_taken lists_in
 
 -- ---- arguments: each unbroken run of named arguments of a rule by priority, then name, then old order (law
 -- `sorting_is_the_one`)
@@ -133,9 +124,6 @@ argument_precedes x y = has_kind k.Named x && has_kind k.Named y && name_precede
 abbrev pub arguments_in : Expr → Expr
 arguments_in = on_rule_arguments (λ kind. sort_by argument_precedes)
 
-abbrev pub arguments : List Item → List Item
-arguments = on_taken arguments_in
-
 -- ---- symbols: those of a load by local name, then old order (law `sorting_is_the_one`)
 
 abbrev pub symbol_precedes : Expr → Expr → Bool
@@ -144,28 +132,19 @@ symbol_precedes x y = is_lt (bytes_order (local_name x) (local_name y))
 abbrev pub symbols_in : Expr → Expr
 symbols_in = on_items k.Load (on_rest (sort_by symbol_precedes))
 
-abbrev pub symbols : List Item → List Item
-symbols = on_taken symbols_in
-
 -- ---- loads: each longest run of adjacent loads without comments above by path, then old order (law `sorting_is_the_one`)
 
 -- by what a path begins with, in the reverse order of keys: @, then //, then :, then others; then by its bytes
 abbrev pub path_order : Bytes → Bytes → Ordering
 path_order x y = ordering_then (nat_cmp (group_of y) (group_of x)) (bytes_order x y)
 
-abbrev pub path_of : Expr → Bytes
-path_of x = between (first_text (items_of x))
-
-abbrev pub is_loose_load : Expr → Bool
-is_loose_load x = has_kind k.Load x && is_empty (above x)
-
 abbrev pub is_run_load : Item → Bool
 is_run_load (i.Block lines) = false
-is_run_load (i.Stmt x) = is_loose_load x
+is_run_load (i.Stmt x) = has_kind k.Load x && is_empty (above x)
 
 abbrev pub load_path : Item → Bytes
 load_path (i.Block lines) = []
-load_path (i.Stmt x) = path_of x
+load_path (i.Stmt x) = between (first_text (items_of x))
 
 abbrev pub path_precedes : Item → Item → Bool
 path_precedes x y = is_lt (path_order (load_path x) (load_path y))
@@ -180,4 +159,4 @@ loads = sort_by load_precedes
 -- ---- all in turn
 
 abbrev pub tidied : List Item → List Item
-tidied items = flags (loads (symbols (arguments (lists (labels (quotes items))))))
+tidied items = flags (loads (on_taken symbols_in (on_taken arguments_in (on_taken lists_in (on_taken labels_in (on_taken quotes_in items))))))

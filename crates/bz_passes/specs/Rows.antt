@@ -47,16 +47,9 @@ statement before name arguments = i.Stmt (under_comments before k.Bare false (se
 abbrev load : List Bytes → Bytes → Item
 load before path = i.Stmt (under_comments before k.Load false (token c.Keyword (codes "load") ∷ []) (string path ∷ string (codes "\"x\"") ∷ []))
 
-abbrev two_sources : List Item
-two_sources = statement [] (codes "cc_library") (argument (codes "srcs") (sequence k.List false [] (string (codes "\"b.c\"") ∷ string (codes "'a.c'") ∷ [])) ∷ argument (codes "name") (string (codes "'a'")) ∷ []) ∷ []
-
 -- three loads, one below a comment
 abbrev three_loads : List Bytes → List Item
 three_loads above = load [] (codes "\"B.bzl\"") ∷ load above (codes "\"C.bzl\"") ∷ load [] (codes "\"A.bzl\"") ∷ []
-
-abbrev pub Loads : Type 0
-Loads = (tidied (three_loads (codes "# keep here" ∷ [])) ≡ three_loads (codes "# keep here" ∷ []))
-    × (tidied (three_loads []) ≡ load [] (codes "\"A.bzl\"") ∷ load [] (codes "\"B.bzl\"") ∷ load [] (codes "\"C.bzl\"") ∷ [])
 
 -- a rule with one attribute
 abbrev rule : Bytes → Bytes → Expr → List Item
@@ -65,10 +58,19 @@ rule kind name value = statement [] kind (argument name value ∷ []) ∷ []
 abbrev list : List Expr → Expr
 list items = sequence k.List true [] items
 
-abbrev pub Lists : Type 0
-Lists =
+abbrev strings : List Bytes → Expr
+strings texts = list (map string texts)
+
+abbrev pub WorkedPasses : Type 0
+WorkedPasses =
+    (layout (tidied (statement [] (codes "cc_library") (argument (codes "srcs")
+    (sequence k.List false [] (string (codes "\"b.c\"") ∷ string (codes "'a.c'") ∷ [])) ∷ argument (codes "name") (string (codes "'a'")) ∷ []) ∷ []))
+    ≡ codes "cc_library(\n    name = \"a\",\n    srcs = [\n        \"a.c\",\n        \"b.c\",\n    ],\n)\n")
+    -- loads are sorted, but not past one with a comment above
+    × (tidied (three_loads (codes "# keep here" ∷ [])) ≡ three_loads (codes "# keep here" ∷ []))
+    × (tidied (three_loads []) ≡ map (load []) (codes "\"A.bzl\"" ∷ codes "\"B.bzl\"" ∷ codes "\"C.bzl\"" ∷ []))
     -- labels are shortened, then a repeat without comments is dropped
-    (tidied (rule (codes "cc_library") (codes "deps") (list (string (codes "\"//a/b:b\"") ∷ string (codes "\"//a/b\"") ∷ commented [] (Some (codes "# x")) (codes "\"//a/b\"") ∷ [])))
+    × (tidied (rule (codes "cc_library") (codes "deps") (list (string (codes "\"//a/b:b\"") ∷ string (codes "\"//a/b\"") ∷ commented [] (Some (codes "# x")) (codes "\"//a/b\"") ∷ [])))
     ≡ rule (codes "cc_library") (codes "deps") (list (string (codes "\"//a/b\"") ∷ commented [] (Some (codes "# x")) (codes "\"//a/b\"") ∷ [])))
     -- the sources of genrule stay
     × (tidied (rule (codes "genrule") (codes "srcs") (list (string (codes "\"b\"") ∷ string (codes "\"a\"") ∷ []))) ≡ rule (codes "genrule") (codes "srcs") (list (string (codes "\"b\"") ∷ string (codes "\"a\"") ∷ [])))
@@ -78,21 +80,11 @@ Lists =
     -- where the first item stays first, its comments stay as they are
     × (tidied (rule (codes "x") (codes "args") (list (commented (codes "# a" ∷ codes "# keep sorted" ∷ []) None (codes "\"a\"") ∷ string (codes "\"b\"") ∷ [])))
     ≡ rule (codes "x") (codes "args") (list (commented (codes "# a" ∷ codes "# keep sorted" ∷ []) None (codes "\"a\"") ∷ string (codes "\"b\"") ∷ [])))
-
-abbrev strings : List Bytes → Expr
-strings texts = list (map string texts)
-
--- the lists of a sum are sorted each by itself; a list inside a call stays
-abbrev pub Sums : Type 0
-Sums =
-    (tidied (rule (codes "x") (codes "deps") (node k.Sum (strings (codes "\"b\"" ∷ codes "\"a\"" ∷ []) ∷ token c.Mark (codes "+") ∷ strings (codes "\"d\"" ∷ codes "\"c\"" ∷ []) ∷ [])))
+    -- the lists of a sum are sorted each by itself; a list inside a call stays
+    × (tidied (rule (codes "x") (codes "deps") (node k.Sum (strings (codes "\"b\"" ∷ codes "\"a\"" ∷ []) ∷ token c.Mark (codes "+") ∷ strings (codes "\"d\"" ∷ codes "\"c\"" ∷ []) ∷ [])))
     ≡ rule (codes "x") (codes "deps") (node k.Sum (strings (codes "\"a\"" ∷ codes "\"b\"" ∷ []) ∷ token c.Mark (codes "+") ∷ strings (codes "\"c\"" ∷ codes "\"d\"" ∷ []) ∷ [])))
     × (tidied (rule (codes "x") (codes "srcs") (sequence k.Call false (token c.Name (codes "glob") ∷ []) (strings (codes "\"b\"" ∷ codes "\"a\"" ∷ []) ∷ [])))
     ≡ rule (codes "x") (codes "srcs") (sequence k.Call false (token c.Name (codes "glob") ∷ []) (strings (codes "\"b\"" ∷ codes "\"a\"" ∷ []) ∷ [])))
-
-abbrev pub WorkedPasses : Type 0
-WorkedPasses =
-    (layout (tidied two_sources) ≡ codes "cc_library(\n    name = \"a\",\n    srcs = [\n        \"a.c\",\n        \"b.c\",\n    ],\n)\n") × Loads × Lists × Sums
 
 -- ---- programs
 
@@ -103,10 +95,6 @@ rule_named text = statement [] (codes "x") (argument (codes "name") (string text
 -- a call x(name = "a", deps = [..])
 abbrev named_with : Bool → List Bytes → List Expr → Item
 named_with split above deps = statement above (codes "x") (argument (codes "name") (string (codes "\"a\"")) ∷ argument (codes "deps") (sequence k.List split [] deps) ∷ [])
-
--- a call x(a, b) of names
-abbrev called_with : List Bytes → Item
-called_with names = statement [] (codes "x") (map (token c.Name) names)
 
 abbrev pub WorkedPrograms : Type 0
 WorkedPrograms =
@@ -119,5 +107,6 @@ WorkedPrograms =
     -- body, the program is not kept
     × (KeepsProgram (named_with true [] [] ∷ []) (rule_named (codes "\"a\"") ∷ []) → ⊥)
     × (KeepsProgram (named_with true [] [] ∷ []) (named_with true [] [] ∷ named_with true [] [] ∷ []) → ⊥)
-    × (KeepsProgram (called_with (codes "a" ∷ codes "b" ∷ []) ∷ []) (called_with (codes "b" ∷ codes "a" ∷ []) ∷ []) → ⊥)
+    × (KeepsProgram (statement [] (codes "x") (map (token c.Name) (codes "a" ∷ codes "b" ∷ [])) ∷ [])
+    (statement [] (codes "x") (map (token c.Name) (codes "b" ∷ codes "a" ∷ [])) ∷ []) → ⊥)
     × (KeepsProgram (rule_named (codes "\"a\"") ∷ []) (rule_named (codes "\"b\"") ∷ []) → ⊥)

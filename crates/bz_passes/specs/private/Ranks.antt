@@ -1,24 +1,13 @@
--- What items are sorted by are orders: any two items compare, and ties tie.
+-- What items are sorted by in runs are orders: any two items compare, and ties tie.
 use Rattle.std.specs.Cmp.{IsStrictWeakOrder}
 use Rattle.std.proofs.lemmas.Cmp.{nat_cmp_total, nat_list_cmp_total, then_total, on_total, back_total}
 use Rattle.std.proofs.lemmas.List.MinMax.{ranks_by}
-use Rattle.bz_label.proofs.Orders.{key_total}
 use Rattle.bz_label.specs.Keys.{group_of}
 use Rattle.bz_label.specs.Tables.{priority_of}
-use Rattle.bz_value.specs.declared.value.Expr.{Expr}
-use Rattle.bz_passes.specs.Lists.{precedes}
-use Rattle.bz_passes.specs.Passes.{argument_name, load_path, name_precedes, path_precedes, symbol_precedes}
-use Rattle.bz_rule.specs.QuoteMarks.{local_name, between}
-use Rattle.bz_rule.specs.Values.{text_of}
-
-pub item_ranks : IsStrictWeakOrder precedes
-item_ranks = ranks_by key_total (λ (x : Expr). between (text_of x))
+use Rattle.bz_passes.specs.Passes.{argument_name, load_path, name_precedes, path_precedes}
 
 pub name_ranks : IsStrictWeakOrder name_precedes
 name_ranks = ranks_by (then_total (on_total priority_of nat_cmp_total) nat_list_cmp_total) argument_name
-
-pub symbol_ranks : IsStrictWeakOrder symbol_precedes
-symbol_ranks = ranks_by nat_list_cmp_total local_name
 
 pub path_ranks : IsStrictWeakOrder path_precedes
 path_ranks = ranks_by (then_total (on_total group_of (back_total nat_cmp_total)) nat_list_cmp_total) load_path

@@ -1,7 +1,7 @@
 use Rattle.std.proofs.Common.{[], rules, subst}
 use Rattle.std.specs.Prelude.{◌≡◌, IfOk}
 use Rattle.bz_passes.specs.Lists.{precedes, without_repeats}
-use Rattle.bz_passes.specs.private.Ranks.{item_ranks}
+use Rattle.bz_passes.proofs.Ranks.{item_ranks}
 use Rattle.bz_passes.proofs.Listed.{sorted_rises}
 use Rattle.bz_passes.proofs.Stable.{from_sort_by}
 use Rattle.bz_passes.proofs.lists.put_in_order.Goals as goal

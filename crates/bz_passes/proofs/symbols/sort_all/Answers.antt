@@ -1,6 +1,6 @@
 use Rattle.std.proofs.Common.{rules}
 use Rattle.bz_passes.specs.Passes.{symbol_precedes}
-use Rattle.bz_passes.specs.private.Ranks.{symbol_ranks}
+use Rattle.bz_passes.proofs.Ranks.{symbol_ranks}
 use Rattle.bz_passes.proofs.Stable.{from_sort_by}
 use Rattle.bz_passes.proofs.symbols.sort_all.Goals as goal
 
