@@ -11,10 +11,8 @@ use Rattle.bz_rule.proofs.ProperChanges.{by_test}
 use Rattle.bz_rule.specs.Values.{has_kind, above, parts_of, items_of, with_parts, with_items, on_first, on_third, on_rest, on_lists}
 use Rattle.bz_passes.specs.Changes.{after_passes}
 use Rattle.bz_passes.specs.Sorting.{sort_by}
-use Rattle.bz_passes.specs.Marks.{any_marked, leave_alone}
-use Rattle.bz_passes.specs.Lists.{settled_list}
-use Rattle.bz_passes.specs.Passes.{on_statement, taken, on_taken, on_call, on_rule_arguments, on_attribute, on_assigned, on_label_value, on_list_value, quotes_in, labels_in, lists_in, argument_precedes, arguments_in, symbol_precedes, symbols_in}
-use Rattle.bz_passes.specs.Strings.{shorter_string}
+use Rattle.bz_passes.specs.Lists.{settled_list, any_marked}
+use Rattle.bz_passes.specs.Passes.{on_statement, taken, on_taken, on_call, on_rule_arguments, on_attribute, on_assigned, on_label_value, on_list_value, quotes_in, labels_in, lists_in, argument_precedes, arguments_in, symbol_precedes, symbols_in, leave_alone, shorter_string}
 use Rattle.bz_passes.proofs.Keeping.{both}
 use Rattle.bz_passes.proofs.Parts.{the_parts, the_items, above_quoted, items_kind, kind_quoted, parts_kind}
 use Rattle.bz_passes.proofs.Places.{above_put, within}

@@ -17,8 +17,7 @@ use Rattle.bz_items.specs.Characters.{Bytes}
 use Rattle.bz_layout.specs.Flags.{settled_split, with_flags, each_with_flags, item_with_flags}
 use Rattle.bz_rule.proofs.ProperChanges.{by_case, by_test}
 use Rattle.bz_rule.specs.Values.{has_kind, has_class, text_of, parts_of, with_text, above, on_items, on_row, on_first, on_third, on_rest, first_text, on_lists, with_above}
-use Rattle.bz_passes.specs.Marks.{any_marked, leave_alone, is_marked, keep_sorted, keep_marks, other_comments}
-use Rattle.bz_passes.specs.Passes.{on_statement, taken, on_taken, rule_kind, of_rule, on_call, on_rule_arguments, on_attribute, on_strings, each_on_strings, on_string, on_label_value, on_labels, on_list_value, on_assigned, on_list_values, quotes_in, labels_in, lists_in, argument_precedes, arguments_in, symbol_precedes, symbols_in, load_precedes, loads, tidied}
+use Rattle.bz_passes.specs.Passes.{on_statement, taken, on_taken, rule_kind, of_rule, on_call, on_rule_arguments, on_attribute, on_strings, each_on_strings, on_string, on_label_value, on_labels, on_list_value, on_assigned, on_list_values, quotes_in, labels_in, lists_in, argument_precedes, arguments_in, symbol_precedes, symbols_in, load_precedes, loads, tidied, leave_alone, shorter_string, with_double}
 use Rattle.bz_passes.proofs.Parts.{in_form, Place, the_parts, the_items, made, own_parts}
 use Rattle.bz_passes.proofs.Keeping.{both, third_is}
 use Rattle.bz_passes.proofs.Places.{within}
@@ -29,8 +28,7 @@ use Rattle.bz_value.proofs.Totals.{append_total, form_amount}
 use Rattle.bz_value.specs.Proper.{comments_of}
 use Rattle.bz_value.specs.Empty.{is_empty, is_none}
 use Rattle.bz_passes.specs.Sorting.{sort_by}
-use Rattle.bz_passes.specs.Lists.{is_taken, precedes, has_no_comment, without_repeats, in_order, without_marks, sorted, settled_list, MovesMarks, with_marks_moved}
-use Rattle.bz_passes.specs.Strings.{shorter_string, with_double}
+use Rattle.bz_passes.specs.Lists.{is_taken, precedes, has_no_comment, without_repeats, in_order, without_marks, sorted, settled_list, MovesMarks, with_marks_moved, any_marked, is_marked, keep_sorted, keep_marks, other_comments}
 use Rattle.bz_passes.proofs.Listed.{unrepeated_all, marks_move}
 use Rattle.bz_passes.proofs.SameLists.{IsText, taken_texts}
 use Rattle.bz_passes.proofs.Sorting.{permuted_total, sort_all, sort_total}

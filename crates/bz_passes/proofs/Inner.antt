@@ -17,8 +17,7 @@ use Rattle.bz_value.specs.Empty.{is_empty, is_none}
 use Rattle.bz_layout.specs.Flags.{settled_split, with_flags, each_with_flags, item_with_flags, flags}
 use Rattle.bz_layout.proofs.Flagged.{same_named, settled}
 use Rattle.bz_rule.specs.Values.{text_of, parts_of, items_of, with_above}
-use Rattle.bz_passes.specs.Strings.{with_double}
-use Rattle.bz_passes.specs.Passes.{quotes_in, each_on_strings, labelled}
+use Rattle.bz_passes.specs.Passes.{quotes_in, each_on_strings, labelled, with_double}
 use Rattle.bz_passes.proofs.Keeping.{Keeps, Settles, both, map_settles, same_after, same_first}
 use Rattle.bz_passes.proofs.Parts.{made, flags_row, flags_Form, quoted_Form, parts_quoted, items_quoted, comments_flags}
 use Rattle.bz_passes.proofs.Strung.{double_settles, string_settles, string_keeps}

@@ -20,8 +20,7 @@ use Rattle.bz_value.specs.Proper.{comments_of}
 use Rattle.bz_rule.specs.Values.{has_class, text_of, above, with_above}
 use Rattle.bz_passes.specs.Sorting.{insert_by, sort_by, NoneBefore, Rises}
 use Rattle.bz_rule.specs.QuoteMarks.{between}
-use Rattle.bz_passes.specs.Marks.{is_marked, keep_marks, keep_sorted, other_comments}
-use Rattle.bz_passes.specs.Lists.{above_first, has_above, is_taken, precedes, has_no_comment, without_repeats, in_order, without_marks, marked_by, sorted, settled_list, MovesMarks}
+use Rattle.bz_passes.specs.Lists.{above_first, is_taken, precedes, has_no_comment, without_repeats, in_order, without_marks, marked_by, sorted, settled_list, MovesMarks, is_marked, keep_marks, keep_sorted, other_comments}
 use Rattle.bz_passes.proofs.Ranks.{item_ranks}
 use Rattle.bz_passes.specs.private.Repeats.{Climbs, is_passed}
 use Rattle.bz_passes.proofs.Keeping.{Keeps, Settles, all_joined, both, same_first, same_after}
@@ -266,7 +265,7 @@ module _ (g : Expr → Expr) (text : (x : Expr) → text_of (g x) ≡ text_of x)
 
   same_taken : (outside : List Bytes) (b : Bool) (xs : List Expr) → is_taken outside b (map g xs) ≡ is_taken outside b xs
   same_taken outside b xs =
-      rw (first_above xs, all_map g (has_class c.String) (has_class c.String) class xs, any_map g has_above has_above (λ x. ap (λ (k : HostComments). not (is_empty k.before)) (comments x)) xs) refl
+      rw (first_above xs, all_map g (has_class c.String) (has_class c.String) class xs, any_map g (λ x. not (is_empty (above x))) (λ x. not (is_empty (above x))) (λ x. ap (λ (k : HostComments). not (is_empty k.before)) (comments x)) xs) refl
 
   unrepeated_map : (earlier : List Bytes) (xs : List Expr) → without_repeats earlier (map g xs) ≡ map g (without_repeats earlier xs)
   unrepeated_map earlier [] = refl

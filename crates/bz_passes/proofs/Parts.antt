@@ -12,8 +12,7 @@ use Rattle.bz_value.specs.Proper.{comments_of}
 use Rattle.bz_layout.specs.Flags.{settled_split, with_flags, each_with_flags}
 use Rattle.bz_rule.specs.Values.{has_kind, has_class, text_of, parts_of, items_of, with_parts, with_items, above, with_above, on_row, on_items, on_lists}
 pub use Rattle.bz_rule.proofs.Opened.{made, own_parts, own_items}
-use Rattle.bz_passes.specs.Strings.{with_double}
-use Rattle.bz_passes.specs.Passes.{quotes_in, each_on_strings}
+use Rattle.bz_passes.specs.Passes.{quotes_in, each_on_strings, with_double}
 use Rattle.bz_passes.proofs.Keeping.{both}
 use Rattle.bz_grammar.specs.declared.kind.Kind.TheVariants as k
 use Rattle.bz_grammar.specs.Shapes.{is_kind}

@@ -9,7 +9,7 @@ use Rattle.bz_value.specs.Commented.{with_comments}
 use Rattle.bz_items.specs.Characters.{Bytes}
 use Rattle.bz_value.specs.Proper.{IsComment, AreComments, comments_of, IsProperItem, IsProper}
 use Rattle.bz_rule.specs.Values.{above, with_above, has_kind, has_class, text_of, parts_of, with_text, on_items, on_first, on_third, first_text, on_lists}
-use Rattle.bz_passes.specs.Lists.{settled_list}
+use Rattle.bz_passes.specs.Lists.{settled_list, any_marked}
 use Rattle.bz_rule.proofs.ProperSequences.{IsItem, Keeps, where_true, list_in_place, call_in_place, load_in_place}
 use Rattle.bz_passes.proofs.Listed.{settled_all}
 use Rattle.std.proofs.lemmas.Bool.{cases_Bool}
@@ -22,9 +22,7 @@ use Rattle.bz_value.specs.declared.value.Item.{Item}
 use Rattle.bz_value.specs.declared.value.Item.TheVariants as i
 use Rattle.bz_layout.proofs.FlaggedProper.{flags_proper}
 use Rattle.bz_passes.specs.Sorting.{sort_by}
-use Rattle.bz_passes.specs.Strings.{with_double, shorter_string}
-use Rattle.bz_passes.specs.Marks.{any_marked, leave_alone}
-use Rattle.bz_passes.specs.Passes.{on_statement, taken, on_taken, rule_kind, of_rule, on_call, on_rule_arguments, on_attribute, quotes_in, each_on_strings, labelled, labels_in, on_label_value, on_list_value, on_assigned, lists_in, argument_precedes, arguments_in, symbol_precedes, symbols_in, load_precedes, loads, tidied}
+use Rattle.bz_passes.specs.Passes.{on_statement, taken, on_taken, rule_kind, of_rule, on_call, on_rule_arguments, on_attribute, quotes_in, each_on_strings, labelled, labels_in, on_label_value, on_list_value, on_assigned, lists_in, argument_precedes, arguments_in, symbol_precedes, symbols_in, load_precedes, loads, tidied, with_double, shorter_string, leave_alone}
 use Rattle.bz_rule.proofs.ProperForms.{InPlace, itself, EachInPlace, none, both, all_itself, each_mapped, lists_in_place}
 use Rattle.bz_rule.proofs.ProperChanges.{by_test, Stays, EachStays, row_stays, items_stay, first_stays, third_stays, lists_stay, string_in_place}
 use Rattle.bz_passes.proofs.ProperStrings.{double_string, shorter_is_string}

@@ -14,7 +14,6 @@ use Rattle.bz_items.specs.Characters.{Bytes, apostrophe, backslash, quotation_ma
 use Rattle.bz_rule.specs.QuoteMarks.{begins_thrice, is_quote_mark, inside, marks_of}
 use Rattle.bz_rule.specs.Rules.{inner, is_plain_in}
 use Rattle.bz_passes.specs.Programs.{IsSameString, IsUnescaped, itself, turned, turned_thrice, IsSameLabel, unchanged, renamed}
-use Rattle.bz_passes.specs.Strings.{begins_single, has_character, in_double, with_double, shorter_string}
 use Rattle.std.specs.List.{list_any}
 use Rattle.std.specs.Str.{IsUtf8}
 use Rattle.std.proofs.lemmas.List.{append_cancel_right}
@@ -23,6 +22,7 @@ use Rattle.bz_token.specs.Bytes.{is_quote}
 use Rattle.bz_label.specs.Pieces.{is_colon}
 use Rattle.bz_passes.proofs.Keeping.{same_first, same_after}
 use Rattle.bz_rule.proofs.ProperChanges.{Strung, by_case, by_test}
+use Rattle.bz_passes.specs.Passes.{begins_single, has_character, in_double, with_double, shorter_string}
 
 -- ---- texts without double marks and backslashes
 

@@ -13,15 +13,13 @@ use Rattle.bz_items.specs.Characters.{Bytes}
 use Rattle.bz_rule.proofs.ProperChanges.{by_case}
 use Rattle.bz_rule.specs.Values.{has_class, text_of, above, with_above, has_kind}
 use Rattle.bz_passes.specs.Sorting.{sort_by, IsSorting, IsSortingByRuns}
-use Rattle.bz_passes.specs.Marks.{keep_marks, other_comments}
-use Rattle.bz_passes.specs.Lists.{is_taken, precedes, has_no_comment, without_repeats, in_order, without_marks, marked_by, sorted, settled_list}
+use Rattle.bz_passes.specs.Lists.{is_taken, precedes, has_no_comment, without_repeats, in_order, without_marks, marked_by, sorted, settled_list, keep_marks, other_comments}
 use Rattle.bz_passes.specs.Programs.{HoldsTheStrings, IsSameList, TidyingKeepsProgram}
 use Rattle.bz_passes.proofs.Listed.{text_above, settled_anyway}
 use Rattle.bz_passes.proofs.Sorting.{sort_same}
 use Rattle.bz_grammar.specs.declared.kind.Kind.TheVariants as k
 use Rattle.bz_value.specs.declared.value.Item.{Item}
-use Rattle.bz_passes.specs.Passes.{argument_precedes, is_run_load, loads, name_precedes, path_precedes, symbol_precedes, on_taken, quotes_in, labels_in, lists_in, arguments_in, symbols_in}
-use Rattle.bz_passes.specs.Strings.{shorter_string, with_double}
+use Rattle.bz_passes.specs.Passes.{argument_precedes, is_run_load, loads, name_precedes, path_precedes, symbol_precedes, on_taken, quotes_in, labels_in, lists_in, arguments_in, symbols_in, shorter_string, with_double}
 use Rattle.bz_passes.proofs.SameSyntax.{flags_program}
 use Rattle.bz_passes.proofs.ProperStrings.{double_same, shorter_same}
 use Rattle.bz_passes.proofs.Stable.{sorting_is_the_one}

@@ -10,10 +10,8 @@ use Rattle.bz_rule.specs.Rules.{is_text}
 use Rattle.bz_rule.specs.Values.{above, has_kind, on_first, on_lists, on_third, text_of, parts_of, items_of, with_parts, on_rest, first_text}
 use Rattle.bz_passes.specs.Changes.{after_passes, arguments_changed, attribute_changed, labels_changed, list_changed, lists_and_arguments}
 use Rattle.bz_passes.specs.Sorting.{sort_by}
-use Rattle.bz_passes.specs.Lists.{settled_list}
-use Rattle.bz_passes.specs.Passes.{argument_precedes, arguments_in, labelled, labels_in, lists_in, of_rule, on_assigned, on_attribute, on_call, on_label_value, on_list_value, on_rule_arguments, quotes_in, symbols_in, taken, on_statement, on_taken, argument_order, name_precedes, symbol_precedes, path_order, path_precedes, is_run_load, load_path, load_precedes, loads, tidied}
-use Rattle.bz_passes.specs.Marks.{any_marked, leave_alone}
-use Rattle.bz_passes.specs.Strings.{shorter_string}
+use Rattle.bz_passes.specs.Lists.{settled_list, any_marked}
+use Rattle.bz_passes.specs.Passes.{argument_precedes, arguments_in, labelled, labels_in, lists_in, of_rule, on_assigned, on_attribute, on_call, on_label_value, on_list_value, on_rule_arguments, quotes_in, symbols_in, taken, on_statement, on_taken, argument_order, name_precedes, symbol_precedes, path_order, path_precedes, is_run_load, load_path, load_precedes, loads, tidied, leave_alone, shorter_string}
 use Rattle.bz_passes.proofs.Composed.{kind_outside, labels_stay, above_outside, five_composed, passes_stay}
 use Rattle.bz_passes.proofs.Keeping.{maps_composed, Keeps, Settles, both, map_keeps, map_settles, third_settles, third_keeps_map, map_keeps_third, after_settles, after_keeps_map, map_keeps_after, test_settles, keeps_tested, tested_keeps}
 use Rattle.bz_passes.proofs.Places.{at_other, kind_within, above_put, within_settles, within_quoted, flags_within, within_other, attribute_composed, differ, lists_composed, rule_composed, rule_settles, rule_quoted, rule_flags, attribute_settles, attribute_quoted, attribute_flags, first_flags, first_part_flags, lists_settle, lists_quoted, lists_flags}

@@ -15,11 +15,11 @@ use Rattle.bz_label.specs.Forms.{is_repository, are_whole}
 use Rattle.bz_label.proofs.Repeats.{is_unrepeated, the_unrepeated}
 use Rattle.bz_label.proofs.Shorter.{unrepeated_stays}
 use Rattle.bz_label.specs.Shorter.{before_colon, after_colon, before_slashes, after_slashes, is_repeated, unrepeated}
-use Rattle.bz_passes.specs.Strings.{has_character, begins_single, in_double, with_double, shorter_string}
 use Rattle.bz_rule.specs.QuoteMarks.{begins_thrice, marks_of}
 use Rattle.bz_passes.proofs.Keeping.{Keeps, Settles, same_first, same_after}
 use Rattle.bz_passes.proofs.ProperStrings.{same_byte}
 use Rattle.std.specs.Str.{bytes_eq}
+use Rattle.bz_passes.specs.Passes.{has_character, begins_single, in_double, with_double, shorter_string}
 
 same_text : (one other : Bytes) → bytes_eq one other ≡ true → one ≡ other
 same_text one other e = (bytes_eq-Decides one other).0 e

@@ -2,11 +2,9 @@ pub mod Changes
 pub mod Joined
 pub mod Laws
 pub mod Lists
-pub mod Marks
 pub mod Passes
 pub mod Programs
 pub mod Rows
 pub mod Sorting
-pub mod Strings
 pub mod Syntax
 pub mod private

@@ -1,6 +1,6 @@
--- The items of one list: whether they are sorted, and how.
-use Rattle.std.specs.Prelude.{Bool, not, ◌&&◌, ◌||◌, List, [], ◌∷◌, ◌++◌, bytes_eq, if◌then◌else◌, ◌≡◌, true}
-use Rattle.std.specs.List.{list_any, list_all}
+-- Marks in comments; and the items of one list: whether they are sorted, and how.
+use Rattle.std.specs.Prelude.{◌≡◌, ◌==◌, ◌+◌, ℕ, Bool, true, false, not, ◌&&◌, ◌||◌, List, [], ◌∷◌, ◌++◌, bytes_eq, codes, if◌then◌else◌, map, nat_le}
+use Rattle.std.specs.List.{filter, list_any, list_all}
 use Rattle.std.specs.Ordering.{is_lt}
 use Rattle.bz_token.specs.declared.class.Class.TheVariants as c
 use Rattle.bz_label.specs.Keys.{key_order}
@@ -11,14 +11,44 @@ use Rattle.bz_value.specs.Empty.{is_empty, is_none}
 use Rattle.bz_rule.specs.Values.{has_class, text_of, above, with_above}
 use Rattle.bz_passes.specs.Sorting.{sort_by}
 use Rattle.bz_rule.specs.QuoteMarks.{between}
-use Rattle.bz_passes.specs.Marks.{any_marked, keep_sorted, do_not_sort, keep_marks, other_comments}
+
+-- ---- marks: texts that are sought in comments ignoring ASCII case
+
+abbrev pub lower : ℕ → ℕ
+lower c = if nat_le 65 c && nat_le c 90 then c + 32 else c
+
+abbrev pub begins_with : Bytes → Bytes → Bool
+begins_with [] s = true
+begins_with (m ∷ mark) [] = false
+begins_with (m ∷ mark) (c ∷ s) = m == c && begins_with mark s
+
+abbrev pub stands_in : Bytes → Bytes → Bool
+stands_in mark [] = false
+stands_in mark (c ∷ s) = begins_with mark (c ∷ s) || stands_in mark s
+
+abbrev pub is_marked : Bytes → Bytes → Bool
+is_marked mark comment = stands_in mark (map lower comment)
+
+abbrev pub any_marked : Bytes → List Bytes → Bool
+any_marked mark comments = list_any (is_marked mark) comments
+
+abbrev pub keep_sorted : Bytes
+keep_sorted = codes "keep sorted"
+
+abbrev pub do_not_sort : Bytes
+do_not_sort = codes "do not sort"
+
+abbrev pub keep_marks : List Bytes → List Bytes
+keep_marks = filter (is_marked keep_sorted)
+
+abbrev pub other_comments : List Bytes → List Bytes
+other_comments = filter (λ c. not (is_marked keep_sorted c))
+
+-- ---- lists
 
 abbrev pub above_first : List Expr → List Bytes
 above_first [] = []
 above_first (x ∷ xs) = above x
-
-abbrev pub has_above : Expr → Bool
-has_above x = not (is_empty (above x))
 
 -- Whether a list is sorted. `outside`: the comments above the attribute or the assignment; `by_table`: whether the table
 -- has the attribute. `do not sort` beats all; a list is taken only where all its items are strings, and, without
@@ -27,7 +57,7 @@ abbrev pub is_taken : List Bytes → Bool → List Expr → Bool
 is_taken outside by_table xs =
     not (any_marked do_not_sort (outside ++ above_first xs))
     && list_all (has_class c.String) xs
-    && (any_marked keep_sorted (outside ++ above_first xs) || (by_table && not (list_any has_above xs)))
+    && (any_marked keep_sorted (outside ++ above_first xs) || (by_table && not (list_any (λ x. not (is_empty (above x))) xs)))
 
 -- the order of items: by the texts between their quote marks
 abbrev pub precedes : Expr → Expr → Bool

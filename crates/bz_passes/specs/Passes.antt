@@ -1,5 +1,7 @@
 -- The seven passes, five over a statement and two over the items of a file value, and `tidied`, which is all of them in turn.
-use Rattle.std.specs.Prelude.{Bool, false, ◌&&◌, List, [], ◌∷◌, Option, Some, None, if◌then◌else◌, map}
+use Rattle.std.specs.Prelude.{ℕ, Bool, false, not, ◌&&◌, ◌||◌, List, [], ◌∷◌, ◌++◌, Option, Some, None, codes, if◌then◌else◌, map, nat_eq, replicate, take}
+use Rattle.std.specs.List.{list_any}
+use Rattle.std.specs.Option.{option_map_or}
 use Rattle.std.specs.Ordering.{is_lt, nat_cmp, ordering_then}
 use Rattle.std.specs.declared.cmp.Ordering.{Ordering}
 use Rattle.bz_token.specs.declared.class.Class.TheVariants as c
@@ -7,26 +9,28 @@ use Rattle.bz_grammar.specs.declared.kind.Kind.TheVariants as k
 use Rattle.bz_grammar.specs.Shapes.{is_class}
 use Rattle.bz_label.specs.Tables.{is_sorted, is_label_attribute, priority_of}
 use Rattle.bz_label.specs.Keys.{group_of, bytes_order}
+use Rattle.bz_label.specs.Shorter.{unrepeated}
 use Rattle.bz_value.specs.declared.value.Expr.{Expr, Token, Form', Row_of-Expr, end_of-Expr, more_of-Expr}
 use Rattle.bz_value.specs.declared.value.Expr.TheVariants as e
 use Rattle.bz_value.specs.declared.value.Item.{Item}
 use Rattle.bz_value.specs.declared.value.Item.TheVariants as i
-use Rattle.bz_items.specs.Characters.{Bytes}
-use Rattle.bz_rule.specs.Rules.{dotted_name}
+use Rattle.bz_items.specs.Characters.{Bytes, apostrophe, backslash, quotation_mark}
+use Rattle.bz_rule.specs.Rules.{body, dotted_name}
 use Rattle.bz_value.specs.Empty.{is_empty}
 use Rattle.bz_layout.specs.Flags.{flags}
 use Rattle.bz_rule.specs.Values.{has_kind, has_class, text_of, parts_of, items_of, with_text, above, on_row, on_items, on_first, on_third, on_rest, first_text, on_lists}
 use Rattle.bz_passes.specs.Sorting.{sort_by}
-use Rattle.bz_passes.specs.Strings.{with_double, shorter_string}
-use Rattle.bz_rule.specs.QuoteMarks.{between, local_name}
-use Rattle.bz_passes.specs.Marks.{any_marked, leave_alone}
-use Rattle.bz_passes.specs.Lists.{settled_list}
+use Rattle.bz_rule.specs.QuoteMarks.{between, inside, local_name, marks_of}
+use Rattle.bz_passes.specs.Lists.{any_marked, settled_list}
 
 -- ---- where the passes go
 
 abbrev pub on_statement : (Expr → Expr) → Item → Item
 on_statement change (i.Block lines) = i.Block lines
 on_statement change (i.Stmt x) = i.Stmt (change x)
+
+abbrev pub leave_alone : Bytes
+leave_alone = codes "buildifier: leave-alone"
 
 -- A statement marked `buildifier: leave-alone` in a comment above is passed over.
 abbrev pub taken : (Expr → Expr) → Expr → Expr
@@ -89,10 +93,29 @@ on_list_values change x = if has_kind k.Assign x then on_assigned change x else 
 
 -- ---- quotes: strings take double quote marks
 
+abbrev pub has_character : ℕ → Bytes → Bool
+has_character character text = list_any (λ c. nat_eq c character) text
+
+abbrev pub begins_single : Bytes → Bool
+begins_single [] = false
+begins_single (c ∷ s) = nat_eq c apostrophe
+
+abbrev pub in_double : ℕ → Bytes → Bytes
+in_double n text = replicate n quotation_mark ++ (inside n text ++ replicate n quotation_mark)
+
+-- A string without prefix in ' or ''' that holds no " and no backslash takes " or """.
+abbrev pub with_double : Bytes → Bytes
+with_double text =
+    if begins_single text && not (has_character quotation_mark text || has_character backslash text) then in_double (marks_of text) text else text
+
 abbrev pub quotes_in : Expr → Expr
 quotes_in = on_strings with_double
 
 -- ---- labels: in the label attributes of a rule plain strings lose a repeated name
+
+-- A plain string keeps its quote marks around the label without a repeated name; any other string stays.
+abbrev pub shorter_string : Bytes → Bytes
+shorter_string text = option_map_or (λ label. take 1 text ++ (unrepeated label ++ take 1 text)) (body text) text
 
 abbrev pub labelled : Expr → Expr
 labelled = on_string shorter_string

@@ -14,9 +14,8 @@ use Rattle.bz_rule.specs.QuoteMarks.{is_quote_mark}
 use Rattle.bz_rule.specs.Rules.{inner, is_plain_in}
 use Rattle.bz_rule.specs.Values.{on_rest, has_class, has_kind, on_items, text_of}
 use Rattle.bz_passes.specs.Lists.{is_taken}
-use Rattle.bz_passes.specs.Passes.{is_run_load, name_precedes, on_labels, on_list_values, on_rule_arguments, on_strings, on_taken, path_precedes, symbol_precedes, tidied}
+use Rattle.bz_passes.specs.Passes.{has_character, is_run_load, name_precedes, on_labels, on_list_values, on_rule_arguments, on_strings, on_taken, path_precedes, symbol_precedes, tidied}
 use Rattle.bz_passes.specs.Sorting.{IsSorting, IsSortingByRuns}
-use Rattle.bz_passes.specs.Strings.{has_character}
 use Rattle.bz_passes.specs.Syntax.{program, token_times}
 
 -- y is x, but that what is at some places was changed as it may be. All else is as it was, comments and flags too.
@@ -40,9 +39,6 @@ pub data IsSameString (text new : Bytes) : Type 0 where
   turned_thrice : (body : Bytes) → IsLong apostrophe body → IsUnescaped body → text ≡ replicate 3 apostrophe ++ (body ++ replicate 3 apostrophe)
       → new ≡ replicate 3 quotation_mark ++ (body ++ replicate 3 quotation_mark) → IsSameString text new
 
-abbrev pub HaveOtherQuotes : List Item → List Item → Type 0
-HaveOtherQuotes = IsChangedAt (λ change. on_taken (on_strings change)) (λ text new. IsString text → IsSameString text new)
-
 -- ---- labels: in a label attribute a string means the same label
 
 -- The same label: the string stays, or it is a plain one, and between its quote marks is a text that means the same label in
@@ -51,9 +47,6 @@ pub data IsSameLabel (text new : Bytes) : Type 0 where
   unchanged : new ≡ text → IsSameLabel text new
   renamed : (mark : ℕ) (label : Bytes) → is_quote_mark mark ≡ true → is_plain_in mark text ≡ true → new ≡ mark ∷ (label ++ mark ∷ [])
       → ((current : Bytes) → IsSame current (inner text) label) → IsSameLabel text new
-
-abbrev pub HaveOtherLabels : List Item → List Item → Type 0
-HaveOtherLabels = IsChangedAt (λ change. on_taken (on_labels change)) IsSameLabel
 
 -- ---- lists: one that is to be sorted holds the same strings
 
@@ -74,20 +67,11 @@ pub record HaveOtherLists (items new : List Item) : Type 0 where
   pub each : (outside : List Bytes) (by_table : Bool) (old : List Expr) → IsSameList (is_taken outside by_table old) old (change outside by_table old)
   pub same : new ≡ on_taken (on_list_values change) items
 
--- ---- arguments, symbols and loads: others of them come first
-
--- Runs of named arguments of a rule are sorted: every other argument stays, and no named one passes it.
-abbrev pub HaveOtherArguments : List Item → List Item → Type 0
-HaveOtherArguments = IsChangedAt (λ change. on_taken (on_rule_arguments (λ kind. change))) (IsSortingByRuns (has_kind k.Named) name_precedes)
-
--- The symbols of a load are sorted, after its path.
-abbrev pub HaveOtherSymbols : List Item → List Item → Type 0
-HaveOtherSymbols = IsChangedAt (λ change. on_taken (on_items k.Load (on_rest change))) (IsSorting symbol_precedes)
-
 -- ---- all in turn
 
--- A program is kept where one value leads to the other over these, in which no more is changed than is said of each; the last step
--- changes nothing that a compiler reads.
+-- A program is kept where one value leads to the other over these, in which no more is changed than is said of each. Of arguments of a
+-- rule runs of named ones are sorted: every other one stays, and no named one passes it. The symbols of a load are sorted after its
+-- path. The last step changes nothing that a compiler reads.
 pub record KeepsProgram (before after : List Item) : Type 0 where
   pub quoted : List Item
   pub labelled : List Item
@@ -95,11 +79,11 @@ pub record KeepsProgram (before after : List Item) : Type 0 where
   pub arranged : List Item
   pub named : List Item
   pub loaded : List Item
-  pub quotes : HaveOtherQuotes before quoted
-  pub labels : HaveOtherLabels quoted labelled
+  pub quotes : IsChangedAt (λ change. on_taken (on_strings change)) (λ text new. IsString text → IsSameString text new) before quoted
+  pub labels : IsChangedAt (λ change. on_taken (on_labels change)) IsSameLabel quoted labelled
   pub lists : HaveOtherLists labelled listed
-  pub arguments : HaveOtherArguments listed arranged
-  pub symbols : HaveOtherSymbols arranged named
+  pub arguments : IsChangedAt (λ change. on_taken (on_rule_arguments (λ kind. change))) (IsSortingByRuns (has_kind k.Named) name_precedes) listed arranged
+  pub symbols : IsChangedAt (λ change. on_taken (on_items k.Load (on_rest change))) (IsSorting symbol_precedes) arranged named
   pub loads : IsSortingByRuns is_run_load path_precedes named loaded
   pub flags : program after ≡ program loaded
 

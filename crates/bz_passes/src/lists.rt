@@ -1,14 +1,13 @@
 //! The items of one list: whether they are sorted, and sorting them.
-ghost use Rattle.std.specs.Prelude.{◌≡◌, ◌<◌, ◌++◌, drop, false, length, take, IfOk, IfSome, IsTrue, OnOk, if◌then◌else◌};
-ghost use Rattle.std.specs.List.{list_all, list_any, slice_rotate_right};
+ghost use Rattle.std.specs.Prelude.{◌≡◌, ◌++◌, false, not, IfOk, IsTrue, OnOk, if◌then◌else◌};
+ghost use Rattle.std.specs.List.{list_all, list_any};
 ghost use Rattle.bz_label.specs.Keys.{key_order};
+ghost use Rattle.bz_value.specs.Empty.{is_empty};
 ghost use Rattle.bz_token.specs.declared.class.Class.TheVariants as classes;
-ghost use Rattle.bz_passes.specs.Lists.{above_first, has_above as has_comment_above, in_order, is_taken as is_taken_in, marked_by, precedes, settled_list, sorted, without_marks};
-ghost use Rattle.bz_passes.specs.Marks.{any_marked as marked_in_any, keep_marks, other_comments};
-ghost use Rattle.bz_passes.specs.Sorting.{sort_by};
+ghost use Rattle.bz_passes.specs.Lists.{above_first, in_order, is_taken as is_taken_in, marked_by, precedes, settled_list, sorted, without_marks, any_marked as marked_in_any, keep_marks, other_comments};
 ghost use Rattle.bz_passes.specs.private.Repeats.{Climbs, is_passed};
 ghost use Rattle.bz_rule.specs.QuoteMarks.{between as between_marks};
-ghost use Rattle.bz_rule.specs.Values.{has_class, on_first, text_of as text_in, with_above};
+ghost use Rattle.bz_rule.specs.Values.{above, has_class, on_first, text_of as text_in, with_above};
 
 use crate::marks::{any_marked, is_marked};
 use crate::repeats::drop_repeats;
@@ -40,12 +39,6 @@ fn is_string(x: &Expr) -> bool
     matches!(x, Expr::Token(token) if token.class.number() == Class::String.number())
 }
 
-fn has_above(x: &Expr) -> bool
-    ensures { result ≡ has_comment_above x.now }
-{
-    !x.comments().before().is_empty()
-}
-
 /// The comments above the first item.
 fn comments_above(items: &[Expr]) -> &[Text]
     ensures { result.now ≡ above_first items.now }
@@ -70,9 +63,9 @@ fn are_strings(items: &[Expr]) -> bool
 }
 
 fn is_any_commented(items: &[Expr]) -> bool
-    ensures { result ≡ list_any has_comment_above items.now }
+    ensures { result ≡ list_any (λ x. not (is_empty (above x))) items.now }
 {
-    items.iter().any(|x| has_above(x))
+    items.iter().any(|x| !x.comments().before().is_empty())
 }
 
 /// Whether the list is sorted.

@@ -1,6 +1,6 @@
 //! Marks in comments.
 ghost use Rattle.std.specs.Prelude.{◌≡◌, map};
-ghost use Rattle.bz_passes.specs.Marks.{any_marked as marked_in_any, begins_with, is_marked as marked, lower};
+ghost use Rattle.bz_passes.specs.Lists.{any_marked as marked_in_any, begins_with, is_marked as marked, lower};
 
 use bz_items::Text;
 

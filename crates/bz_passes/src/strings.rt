@@ -1,7 +1,7 @@
 //! The texts of strings: double quote marks, and labels without a repeated name.
 ghost use Rattle.std.specs.Prelude.{◌≡◌, ◌++◌, ◌≤◌, ◌&&◌, ◌||◌, not, take, replicate, IfOk, OnOk};
 ghost use Rattle.bz_items.specs.Characters.{backslash, quotation_mark};
-ghost use Rattle.bz_passes.specs.Strings.{begins_single, has_character, with_double, shorter_string};
+ghost use Rattle.bz_passes.specs.Passes.{begins_single, has_character, with_double, shorter_string};
 
 use bz_items::{Memory, Text};
 use bz_label::bytes::unrepeated;

@@ -1,5 +1,5 @@
 use Rattle.std.proofs.Common.{◌≡◌, map, length}
-use Rattle.bz_passes.specs.Marks.{begins_with, lower}
+use Rattle.bz_passes.specs.Lists.{begins_with, lower}
 use Rattle.bz_passes.proofs.marks.begins.Given as goal
 
 abbrev pub invariant-loop-left : goal.invariant-loop-left

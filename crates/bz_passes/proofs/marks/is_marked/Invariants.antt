@@ -1,5 +1,5 @@
 use Rattle.std.proofs.Common.{◌≡◌, map, length}
-use Rattle.bz_passes.specs.Marks.{lower, stands_in}
+use Rattle.bz_passes.specs.Lists.{lower, stands_in}
 use Rattle.bz_passes.proofs.marks.is_marked.Given as goal
 
 abbrev pub invariant-loop-rest : goal.invariant-loop-rest
