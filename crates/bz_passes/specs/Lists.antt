@@ -1,5 +1,6 @@
 -- Marks in comments; and the items of one list: whether they are sorted, and how.
-use Rattle.std.specs.Prelude.{◌≡◌, ◌==◌, ◌+◌, ℕ, Bool, true, false, not, ◌&&◌, ◌||◌, List, [], ◌∷◌, ◌++◌, bytes_eq, codes, if◌then◌else◌, map, nat_le}
+use Rattle.std.specs.Prelude.{◌≡◌, ◌==◌, Bool, true, false, not, ◌&&◌, ◌||◌, List, [], ◌∷◌, ◌++◌, bytes_eq, codes, if◌then◌else◌, map}
+use Rattle.std.specs.Char.{to_ascii_lowercase}
 use Rattle.std.specs.List.{filter, list_any, list_all}
 use Rattle.std.specs.Ordering.{is_lt}
 use Rattle.bz_token.specs.declared.class.Class.TheVariants as c
@@ -14,9 +15,6 @@ use Rattle.bz_rule.specs.QuoteMarks.{between}
 
 -- ---- marks: texts that are sought in comments ignoring ASCII case
 
-abbrev pub lower : ℕ → ℕ
-lower c = if nat_le 65 c && nat_le c 90 then c + 32 else c
-
 abbrev pub begins_with : Bytes → Bytes → Bool
 begins_with [] s = true
 begins_with (m ∷ mark) [] = false
@@ -27,16 +25,13 @@ stands_in mark [] = false
 stands_in mark (c ∷ s) = begins_with mark (c ∷ s) || stands_in mark s
 
 abbrev pub is_marked : Bytes → Bytes → Bool
-is_marked mark comment = stands_in mark (map lower comment)
+is_marked mark comment = stands_in mark (map to_ascii_lowercase comment)
 
 abbrev pub any_marked : Bytes → List Bytes → Bool
 any_marked mark comments = list_any (is_marked mark) comments
 
 abbrev pub keep_sorted : Bytes
 keep_sorted = codes "keep sorted"
-
-abbrev pub do_not_sort : Bytes
-do_not_sort = codes "do not sort"
 
 abbrev pub keep_marks : List Bytes → List Bytes
 keep_marks = filter (is_marked keep_sorted)
@@ -55,7 +50,7 @@ above_first (x ∷ xs) = above x
 -- `keep sorted`, only where no item has a comment above.
 abbrev pub is_taken : List Bytes → Bool → List Expr → Bool
 is_taken outside by_table xs =
-    not (any_marked do_not_sort (outside ++ above_first xs))
+    not (any_marked (codes "do not sort") (outside ++ above_first xs))
     && list_all (has_class c.String) xs
     && (any_marked keep_sorted (outside ++ above_first xs) || (by_table && not (list_any (λ x. not (is_empty (above x))) xs)))
 

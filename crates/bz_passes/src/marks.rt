@@ -1,12 +1,13 @@
 //! Marks in comments.
 ghost use Rattle.std.specs.Prelude.{◌≡◌, map};
-ghost use Rattle.bz_passes.specs.Lists.{any_marked as marked_in_any, begins_with, is_marked as marked, lower};
+ghost use Rattle.std.specs.Char.{to_ascii_lowercase};
+ghost use Rattle.bz_passes.specs.Lists.{any_marked as marked_in_any, begins_with, is_marked as marked};
 
 use bz_items::Text;
 
 /// Whether the text begins with the mark, capital letters of ASCII being as good as small ones.
 fn begins(mark: &[u8], text: &[u8]) -> bool
-    ensures { result ≡ begins_with mark.now (map lower text.now) }
+    ensures { result ≡ begins_with mark.now (map to_ascii_lowercase text.now) }
 {
     let mut left = mark;
     let mut rest = text;

@@ -1,9 +1,10 @@
 use Rattle.std.proofs.Common.{◌≡◌, map, length}
-use Rattle.bz_passes.specs.Lists.{begins_with, lower}
+use Rattle.std.specs.Char.{to_ascii_lowercase}
+use Rattle.bz_passes.specs.Lists.{begins_with}
 use Rattle.bz_passes.proofs.marks.begins.Given as goal
 
 abbrev pub invariant-loop-left : goal.invariant-loop-left
-invariant-loop-left l = begins_with l.left (map lower l.rest) ≡ begins_with l.fn.mark (map lower l.fn.text)
+invariant-loop-left l = begins_with l.left (map to_ascii_lowercase l.rest) ≡ begins_with l.fn.mark (map to_ascii_lowercase l.fn.text)
 
 abbrev pub decreases-loop-left : goal.decreases-loop-left
 decreases-loop-left l = length l.left
