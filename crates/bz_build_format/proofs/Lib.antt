@@ -2,6 +2,7 @@ pub mod Writes
 pub mod Formatting
 pub mod ReadFaults
 pub mod SeenPrograms
+pub mod ShapeWalks
 pub mod TreeWords
 pub mod WrittenPrograms
 pub mod Chunking

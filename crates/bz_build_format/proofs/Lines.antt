@@ -16,19 +16,17 @@ use Rattle.bz_grammar.specs.Split.{LinesSplit, bare_end}
 use Rattle.bz_grammar.proofs.Spells.{leaves_Node}
 use Rattle.bz_hosts.specs.Joined.{EndsWithLine}
 use Rattle.bz_hosts.proofs.JoinedLines.{last_after, whole_both}
-use Rattle.bz_build_format.specs.private.Lines.{ReadAsLines, IsWholeLine, spelled_parts}
+use Rattle.bz_build_format.specs.private.Lines.{EndInLineFeed, ReadAsLines, spelled_parts}
 
 -- ---- whole lines
 
-pub whole_lines : (ps front : List Part) (x : Part) → ps ≡ front ++ x ∷ [] → IsWholeLine x → AreWholeLines ps
-whole_lines ps front x is (line, own, (before, y, at, feed)) =
-    let newline : Leaf = feed.0 in
-    let last : leaves_part (p.Node line) ≡ flat_map leaves_part before ++ newline ∷ [] =
-    leaves_Node line ∙ (ap (flat_map leaves_part) (at ∙ ap (λ z. before ++ z ∷ []) feed.1) ∙ flat_map-append leaves_part before (p.Leaf newline ∷ [])) in
+pub whole_lines : (ps front own : List Part) (x : Part) (line : Node) → ps ≡ front ++ x ∷ [] → x ≡ p.Node line → own ≡ line.parts → EndInLineFeed own → AreWholeLines ps
+whole_lines ps front own x line is node same (before, newline, at, feed) =
+    let last : leaves_part (p.Node line) ≡ flat_map leaves_part before ++ newline ∷ [] = leaves_Node line ∙ (ap (flat_map leaves_part) (sym same ∙ at) ∙ flat_map-append leaves_part before (p.Leaf newline ∷ [])) in
     let all : flat_map leaves_part (front ++ p.Node line ∷ []) ≡ (flat_map leaves_part front ++ flat_map leaves_part before) ++ newline ∷ [] =
     flat_map-append leaves_part front (p.Node line ∷ [])
     ∙ (ap (λ ls. flat_map leaves_part front ++ ls) (append-nil (leaves_part (p.Node line)) ∙ last) ∙ sym (append_assoc (flat_map leaves_part front) (flat_map leaves_part before) (newline ∷ []))) in
-    ap (λ xs. last_token (flat_map leaves_part xs)) (is ∙ ap (λ z. front ++ z ∷ []) own) ∙ (ap last_token all ∙ (last_after (flat_map leaves_part front ++ flat_map leaves_part before) newline ∙ feed.2))
+    ap (λ xs. last_token (flat_map leaves_part xs)) (is ∙ ap (λ z. front ++ z ∷ []) node) ∙ (ap last_token all ∙ (last_after (flat_map leaves_part front ++ flat_map leaves_part before) newline ∙ feed))
 
 -- ---- the lines of a text
 

@@ -1,20 +1,30 @@
 -- What leaves and nodes spell.
-use Rattle.std.proofs.Common.{◌≡◌, ◌∙◌, ◌++◌, ap, sym, append_assoc}
-use Rattle.std.specs.List.{flat_map}
+use Rattle.std.proofs.Common.{ℕ, ◌≡◌, ◌≤◌, ◌-◌, ◌∙◌, ◌++◌, List, length, drop, ap, sym, append_assoc, arith}
+use Rattle.std.proofs.lemmas.List.{take_all}
 use Rattle.bz_items.specs.Characters.{Bytes}
 use Rattle.bz_grammar.specs.declared.tree.Node.{Node}
-use Rattle.bz_grammar.specs.declared.tree.Part as p
+use Rattle.bz_grammar.specs.declared.tree.Part.{Part}
+use Rattle.bz_grammar.specs.declared.tree.Part.TheVariants as p
 use Rattle.bz_grammar.specs.Spell.{spell_part}
-use Rattle.bz_grammar.proofs.Spells as below
+use Rattle.bz_grammar.proofs.Spells.{spell_Node}
+use Rattle.bz_build_format.specs.declared.ends.Side.{Side}
+use Rattle.bz_build_format.specs.declared.ends.Side.TheVariants.{Front, Back}
+use Rattle.bz_build_format.specs.private.Lines.{at_side, joined_at, spelled_parts}
 
--- the spelling of a node is that of its parts
-pub node_spelled : (n : Node) → spell_part (p.Node n) ≡ flat_map spell_part n.parts
-node_spelled n = below.spell_Node n
+-- as many parts at a side as there are
+all_at_side : (side : Side) (n : ℕ) (parts : List Part) → length parts ≤ n → at_side side n parts ≡ parts
+all_at_side Front n parts h = take_all n parts h
+all_at_side Back n parts h = let none : length parts - n ≡ 0 = omega (arith, h) in ap (λ k. drop k parts) none
 
--- a text after a leaf
+-- a text with all parts of a node at a side
+pub node_beside : (side : Side) (n : ℕ) (node : Node) (part : Part) (parts : List Part) (text rest : Bytes) → part ≡ p.Node node → parts ≡ node.parts → length node.parts ≤ n
+    → text ≡ joined_at side (spelled_parts (at_side side n parts)) rest → text ≡ joined_at side (spell_part part) rest
+node_beside side n node part parts text rest own all h is =
+    is ∙ ap (λ t. joined_at side t rest) (ap (λ xs. spelled_parts (at_side side n xs)) all ∙ (ap spelled_parts (all_at_side side n node.parts h) ∙ (sym (spell_Node node) ∙ ap spell_part (sym own))))
+
+-- a text after a leaf, and before one
 pub after_leaf : (text rest following gap token : Bytes) → text ≡ gap ++ rest → rest ≡ token ++ following → text ≡ (gap ++ token) ++ following
 after_leaf text rest following gap token is own = is ∙ (ap (λ t. gap ++ t) own ∙ sym (append_assoc gap token following))
 
--- a text before a leaf
 pub before_leaf : (text rest front gap token : Bytes) → text ≡ rest ++ token → rest ≡ front ++ gap → text ≡ front ++ (gap ++ token)
 before_leaf text rest front gap token is own = is ∙ (ap (λ t. t ++ token) own ∙ append_assoc front gap token)

@@ -1,10 +1,9 @@
 -- The tokens of a legal tree, in their order, are those of its program, but for separators; so each is there as often.
-use Rattle.std.proofs.Common.{ℕ, zero, suc, ◌+◌, Bool, true, false, ◌&&◌, ◌||◌, List, [], ◌∷◌, ◌++◌, ◌≡◌, refl, sym, ap, ◌∙◌, map, take, drop, subst, inl, inr, arith, codes, append_assoc, append-nil, true≢false, nat_eq, if◌then◌else◌}
+use Rattle.std.proofs.Common.{ℕ, zero, suc, ◌+◌, Bool, true, false, not, ◌&&◌, ◌||◌, List, [], ◌∷◌, ◌++◌, ◌≡◌, refl, sym, ap, ◌∙◌, map, take, drop, length, subst, inl, inr, arith, append_assoc, append-nil, length-append, true≢false, nat_eq, if◌then◌else◌}
 use Rattle.std.specs.Prelude.{bytes_eq}
 use Rattle.std.specs.List.{flat_map, AllByRecursion}
-use Rattle.std.proofs.lemmas.Bool.{cases_Bool, and_parts, or_left, or_right, eqb-true, cond-true, cond-false}
+use Rattle.std.proofs.lemmas.Bool.{cases_Bool, and_parts, or_left, or_right, eqb-true, cond-true, cond-false, not-true}
 use Rattle.std.proofs.lemmas.Grind.{flat_map-append}
-use Rattle.std.proofs.lemmas.List.{map-append}
 use Rattle.std.proofs.lemmas.Slice.Eq.{bytes_eq-Decides}
 use Rattle.bz_token.specs.declared.class.Class.{Class}
 use Rattle.bz_token.specs.Classes.{class_number}
@@ -15,9 +14,9 @@ use Rattle.bz_grammar.specs.declared.tree.Node.{Node}
 use Rattle.bz_grammar.specs.declared.tree.Part.{Part, Row_of-Part, end_of-Part, more_of-Part, Node', items-the_row-Part}
 use Rattle.bz_grammar.specs.declared.tree.Part.TheVariants as p
 use Rattle.bz_grammar.specs.Laws.{LegalByLines}
-use Rattle.bz_grammar.specs.Legal.{IsNonterminal, LegalBzl, LegalBzlPart, LegalBzlRow}
+use Rattle.bz_grammar.specs.Legal.{IsNonterminal, Legal, LegalBzl, LegalBzlPart, LegalBzlRow}
 use Rattle.bz_grammar.specs.Shapes as s
-use Rattle.bz_grammar.specs.Shapes.{Nonterminal, Terminal, any, this, Fits, Listed, After, Several, Times, no_more, once_more, bzl_shape, enclosed, owned, nonterminal_has_kind, items, sub, tok, done, has_token, is_class, is_one_of, is_terminal}
+use Rattle.bz_grammar.specs.Shapes.{Nonterminal, Terminal, Shape, any, this, Fits, Several, bzl_shape, nonterminal_has_kind, tok, done, has_token, is_class, is_one_of, is_terminal}
 use Rattle.bz_grammar.specs.Spell.{leaves_of, leaves_part, leaves_row}
 use Rattle.bz_grammar.proofs.Balance.{no_such}
 use Rattle.bz_grammar.proofs.Numbers.{same_kind}
@@ -26,121 +25,106 @@ use Rattle.bz_items.specs.Characters.{Bytes}
 use Rattle.bz_value.specs.declared.value.Form.{Form}
 use Rattle.bz_value.specs.declared.value.Expr.{Expr, Token, Form', Row_of-Expr, end_of-Expr, more_of-Expr, items-the_row-Expr}
 use Rattle.bz_value.specs.declared.value.Expr.TheVariants as e
-use Rattle.bz_value.specs.Comments.{no_comments}
 use Rattle.bz_value.specs.Counted.{total}
 use Rattle.bz_value.specs.Frames.{Frame, row, sequence, frame, lead}
-use Rattle.bz_value.proofs.Totals.{append_total}
-use Rattle.bz_hosts.proofs.SeenParts.{all_parted}
-use Rattle.bz_passes.specs.Syntax.{token_sum, row_token_sum, one_if_token}
+use Rattle.bz_hosts.proofs.SeenParts.{all_mapped}
+use Rattle.bz_passes.specs.Syntax.{token_sum, row_token_sum, one_if_token, token_times}
 use Rattle.bz_passes.proofs.Keeping.{both}
-use Rattle.bz_passes.proofs.Parts.{made, parts_after, items_after, parts_are, items_are}
+use Rattle.bz_passes.proofs.Parts.{parts_after, items_after, parts_are, items_are}
 use Rattle.bz_bzl_value.specs.declared.value.Branch.{Branch}
 use Rattle.bz_bzl_value.specs.declared.value.Statement.{Statement, Simple, Compound', Row_of-Branch, end_of-Branch, more_of-Branch, Row_of-Statement, end_of-Statement, more_of-Statement, items-the_row-Branch, items-the_row-Statement, items_shown-the_row-Statement-0}
 use Rattle.bz_bzl_value.specs.declared.value.Statement.TheVariants as st
 use Rattle.bz_bzl_value.specs.View.{stated}
-use Rattle.bz_bzl_value.proofs.KeptGaps.{NoColon, nonterminal_plain, token_plain}
+use Rattle.bz_bzl_value.proofs.KeptGaps.{NoColon, no_colons, nonterminal_plain, token_plain}
 use Rattle.bz_bzl_layout.proofs.Rows.{branches_after, branches_are}
 use Rattle.bz_build_format.specs.Fixed.{BzlFixedPoint, FixedPoint}
-use Rattle.bz_build_format.specs.TreePrograms.{before_marks, node_syntax, part_syntax, row_syntax, lines_program, tree_program, bzl_tree_program, head_in, headers_in, line_statements, node_statements, Parsed, parsed, parsed_row, parsed_parts, statements_in, suite_statements}
-use Rattle.bz_build_format.specs.Tokens.{marks_between, is_mark_between, is_bzl_separator, leaf_words, words_in, FormattingKeepsTokens, FormattingKeepsWords, TreeProgramsKeepTokens}
+use Rattle.bz_build_format.specs.TreePrograms.{bare_head, before_marks, node_syntax, part_syntax, row_syntax, lines_program, tree_program, bzl_tree_program, head_in, headers_in, suites_in, line_statements, node_statements, Parsed, parsed, parsed_row, parsed_parts, statements_in, suite_statements}
+use Rattle.bz_build_format.specs.Tokens.{marks_between, is_mark_between, is_bzl_separator, leaf_times, leaf_words, words_in, FormattingKeepsTokens, FormattingKeepsWords, TreeProgramsKeepTokens}
+use Rattle.bz_build_format.proofs.ShapeWalks.{leads, led}
 
--- ---- marks_between
+-- ---- where separators are
 
-abbrev IsSeparator : Part → Type 0
-IsSeparator x = has_token marks_between x ≡ true
+-- What comes next in a row: any part that stays; an item or a closing mark; a mark between items; nothing; an opening mark after this many
+-- parts. No row leads astray.
+data Turn : Type 0 where
+  anywhere at_item at_mark closed astray : Turn
+  opening_after : ℕ → Turn
 
-separates : (ts : List Terminal) → subset ts marks_between ≡ true → (x : Part) → has_token ts x ≡ true → IsSeparator x
-separates ts e (p.Leaf l) h = subset-one_of l ts marks_between e h
-separates ts e (Node' kind m r) h = no_such h
+-- after a mark between parts, or after another part
+abbrev turned : Turn → Bool → Turn
+turned anywhere b = anywhere
+turned at_item true = closed
+turned at_item false = at_mark
+turned at_mark true = at_item
+turned (opening_after zero) true = at_item
+turned (opening_after (suc n)) b = opening_after n
+turned _ b = astray
 
-comma : (x : Part) → has_token s.comma_mark x ≡ true → IsSeparator x
-comma x h = separates s.comma_mark refl x h
+abbrev may_end : Turn → Bool
+may_end anywhere = true
+may_end at_item = true
+may_end closed = true
+may_end _ = false
 
--- ---- where they are
+abbrev is_turn : Turn → Turn → Bool
+is_turn anywhere anywhere = true
+is_turn at_item at_item = true
+is_turn _ _ = false
 
--- every second part is one, and so is a last one after pairs of a part and its separator
-abbrev Paired : List Part → Type 0
-Paired [] = Unit {0}
-Paired (x ∷ []) = IsSeparator x
-Paired (x ∷ y ∷ xs) = IsSeparator y × Paired xs
+same_turn : (a b : Turn) → is_turn a b ≡ true → a ≡ b
+same_turn anywhere anywhere h = refl
+same_turn at_item at_item h = refl
+same_turn _ _ h = no_such h
 
--- the part at this index is one, if there is a part
-abbrev SeparatorAt : ℕ → List Part → Type 0
-SeparatorAt n [] = Unit {0}
-SeparatorAt zero (x ∷ xs) = IsSeparator x
-SeparatorAt (suc n) (x ∷ xs) = SeparatorAt n xs
+abbrev on_token : Turn → List Terminal → Turn
+on_token t ts = turned t (subset ts marks_between)
 
-module _ (between close : List Terminal) (b : subset between marks_between ≡ true) (c : subset close marks_between ≡ true) where
-  ends_paired : (x : Part) (xs : List Part) → Fits IsNonterminal (tok close done) (x ∷ xs) → Paired (x ∷ xs)
-  ends_paired x [] h = separates close c x h.0
-  ends_paired x (y ∷ xs) h = absurd h.1
+abbrev on_sort : Turn → Nonterminal → Turn
+on_sort t q = turned t false
 
-  listed_paired : (q : Nonterminal) (xs : List Part) → Listed (IsNonterminal q) between true (Fits IsNonterminal (tok close done)) xs → Paired xs
-  listed_paired q [] h = absurd h
-  listed_paired q (x ∷ []) h = absurd h.1
-  listed_paired q (x ∷ y ∷ []) (h, inl i) = (separates close c y i.0, tt)
-  listed_paired q (x ∷ y ∷ []) (h, inr (m, i)) = (separates between b y m, tt)
-  listed_paired q (x ∷ y ∷ z ∷ xs) (h, inl i) = absurd i.1
-  listed_paired q (x ∷ y ∷ z ∷ xs) (h, inr (m, inl i)) = (separates between b y m, listed_paired q (z ∷ xs) i)
-  listed_paired q (x ∷ y ∷ z ∷ xs) (h, inr (m, inr i)) = (separates between b y m, ends_paired z xs i.1)
+abbrev first_turn : Frame → Kind → Turn
+first_turn row kind = anywhere
+first_turn (sequence opener closer) kind = opening_after (lead kind)
 
-module _ (close : List Terminal) (c : subset close marks_between ≡ true) where
-  items_paired : (q : Nonterminal) (xs : List Part) → Fits IsNonterminal (items q close) xs → Paired xs
-  items_paired q [] h = tt
-  items_paired q (x ∷ xs) (inl h) = ends_paired s.comma_mark close refl c x xs h
-  items_paired q (x ∷ xs) (inr h) = listed_paired s.comma_mark close refl c q (x ∷ xs) h
+kind_leads : (kind : Kind) → leads on_token on_sort is_turn may_end (bzl_shape kind) (first_turn (frame kind) kind) ≡ true
+kind_leads k.Call = refl
+kind_leads _ = refl
 
-  one_paired : (q : Nonterminal) (x : Part) (xs : List Part) → Fits IsNonterminal (s.alt (tok close done) (tok s.comma_mark (items q close))) xs → Paired (x ∷ xs)
-  one_paired q x [] (inl h) = absurd h
-  one_paired q x [] (inr h) = absurd h
-  one_paired q x (y ∷ []) (inl h) = (separates close c y h.0, tt)
-  one_paired q x (y ∷ z ∷ xs) (inl h) = absurd h.1
-  one_paired q x (y ∷ xs) (inr h) = (comma y h.0, items_paired q xs h.1)
+-- where a part is: a header begins or nothing more is there; in a header; after its colon
+data Spot : Type 0 where
+  begins owner nowhere : Spot
+  header : Turn → Spot
 
--- the opening bracket, and what is after it
-record Bracketed (kind : Kind) (xs : List Part) : Type 0 where
-  opener : SeparatorAt (lead kind) xs
-  body : Paired (drop (suc (lead kind)) xs)
+-- after a token of a header: no colon, or a colon, where the header may end
+abbrev in_header : Bool → Bool → Bool → Turn → Spot
+in_header true colon end t = header t
+in_header false true true t = owner
+in_header false _ _ t = nowhere
 
-call_bracketed : (xs : List Part) → Fits IsNonterminal (bzl_shape k.Call) xs → Bracketed k.Call xs
-call_bracketed [] h = absurd h
-call_bracketed (x ∷ []) h = absurd h.1
-call_bracketed (x ∷ y ∷ xs) h = record { opener = separates s.open_round refl y h.1.0; body = items_paired s.close_round refl s.argument xs h.1.1 }
+abbrev spot_after : Turn → Spot → List Terminal → Spot
+spot_after start begins ts = in_header (no_colons ts) (subset ts s.colon_mark) (may_end start) (on_token start ts)
+spot_after start (header t) ts = in_header (no_colons ts) (subset ts s.colon_mark) (may_end t) (on_token t ts)
+spot_after start _ ts = nowhere
 
-load_bracketed : (xs : List Part) → Fits IsNonterminal (bzl_shape k.Load) xs → Bracketed k.Load xs
-load_bracketed [] h = absurd h
-load_bracketed (x ∷ []) h = absurd h.1
-load_bracketed (x ∷ y ∷ []) h = absurd h.1.1
-load_bracketed (x ∷ y ∷ z ∷ xs) h = record { opener = separates s.open_round refl y h.1.0; body = one_paired s.close_round refl s.loaded z xs h.1.1.1 }
+abbrev spot_past : Turn → Spot → Nonterminal → Spot
+spot_past start begins q = header (on_sort start q)
+spot_past start (header t) q = header (on_sort t q)
+spot_past start owner s.suite = begins
+spot_past start _ q = nowhere
 
-tuple_body : (xs : List Part) → Fits IsNonterminal (s.alt (tok s.close_round done) (s.sub s.test (tok s.comma_mark (items s.test s.close_round)))) xs → Paired xs
-tuple_body [] i = tt
-tuple_body (x ∷ xs) (inl i) = ends_paired s.comma_mark s.close_round refl refl x xs i
-tuple_body (x ∷ xs) (inr i) = one_paired s.close_round refl s.test x xs (inr i.1)
+abbrev is_spot : Spot → Spot → Bool
+is_spot begins begins = true
+is_spot (header t) (header u) = is_turn t u
+is_spot _ _ = false
 
-tuple_bracketed : (xs : List Part) → Fits IsNonterminal (bzl_shape k.Tuple) xs → Bracketed k.Tuple xs
-tuple_bracketed [] h = absurd h
-tuple_bracketed (y ∷ xs) h = record { opener = separates s.open_round refl y h.0; body = tuple_body xs h.1 }
+same_spot : (a b : Spot) → is_spot a b ≡ true → a ≡ b
+same_spot begins begins h = refl
+same_spot (header t) (header u) h = ap header (same_turn t u h)
+same_spot _ _ h = no_such h
 
-list_bracketed : (xs : List Part) → Fits IsNonterminal (bzl_shape k.List) xs → Bracketed k.List xs
-list_bracketed [] h = absurd h
-list_bracketed (y ∷ xs) h = record { opener = separates s.open_square refl y h.0; body = items_paired s.close_square refl s.test xs h.1 }
-
-dict_bracketed : (xs : List Part) → Fits IsNonterminal (bzl_shape k.Dict) xs → Bracketed k.Dict xs
-dict_bracketed [] h = absurd h
-dict_bracketed (y ∷ xs) h = record { opener = separates s.open_curly refl y h.0; body = items_paired s.close_curly refl s.entry xs h.1 }
-
-abbrev BracketedIn : Frame → Kind → List Part → Type 0
-BracketedIn row kind xs = Unit {0}
-BracketedIn (sequence opener closer) kind xs = Bracketed kind xs
-
-node_bracketed : (kind : Kind) (xs : List Part) → Fits IsNonterminal (bzl_shape kind) xs → BracketedIn (frame kind) kind xs
-node_bracketed k.Call xs h = call_bracketed xs h
-node_bracketed k.Load xs h = load_bracketed xs h
-node_bracketed k.Tuple xs h = tuple_bracketed xs h
-node_bracketed k.List xs h = list_bracketed xs h
-node_bracketed k.Dict xs h = dict_bracketed xs h
-node_bracketed _ xs h = tt
+token_within : (ts : List Terminal) (x : Part) → subset ts s.colon_mark ≡ true → has_token ts x ≡ true → has_token s.colon_mark x ≡ true
+token_within ts (p.Leaf l) e h = subset-one_of l ts s.colon_mark e h
+token_within ts (Node' kind m r) e h = no_such h
 
 syntax_map : (m : _) (r : Row_of-Part m) → row_syntax r ≡ map part_syntax (items-the_row-Part m r)
 syntax_map m end_of-Part = refl
@@ -191,9 +175,9 @@ module _ (silent : Class → Bytes → Bool) (quiet : (l : Leaf) → is_one_of m
   no_words : (l : Leaf) → silent l.class l.token ≡ true → part_words (p.Leaf l) ≡ []
   no_words l h = ap (λ ws. ws ++ []) (cond-true (silent l.class l.token) [] ((l.class, l.token) ∷ []) h)
 
-  quiet_part : (x : Part) → IsSeparator x → part_words x ≡ []
-  quiet_part (p.Leaf l) h = no_words l (quiet l h)
-  quiet_part (Node' kind m r) h = no_such h
+  quiet_part : (ts : List Terminal) (x : Part) → subset ts marks_between ≡ true → has_token ts x ≡ true → part_words x ≡ []
+  quiet_part ts (p.Leaf l) e h = no_words l (quiet l (subset-one_of l ts marks_between e h))
+  quiet_part ts (Node' kind m r) e h = no_such h
 
   -- nothing in front
   nothing_before : (us vs : Words) → us ≡ [] → us ++ vs ≡ vs
@@ -202,35 +186,51 @@ module _ (silent : Class → Bytes → Bool) (quiet : (l : Leaf) → is_one_of m
   abbrev Kept : Part → Type 0
   Kept x = expr_words (part_syntax x) ≡ part_words x
 
-  all_kept : (xs : List Part) → AllByRecursion Kept xs → all_words (map part_syntax xs) ≡ parts_words xs
-  all_kept [] h = refl
-  all_kept (x ∷ xs) h = both (λ us vs. us ++ vs) h.0 (all_kept xs h.1)
+  -- what is left of a row says these words
+  abbrev Left : Turn → List Expr → Words → Type 0
+  Left anywhere xs ws = all_words xs ≡ ws
+  Left at_item xs ws = all_words (before_marks xs) ≡ ws
+  Left at_mark xs ws = (x : Expr) → all_words (before_marks (x ∷ xs)) ≡ expr_words x ++ ws
+  Left closed xs ws = (xs ≡ []) × (ws ≡ [])
+  Left astray xs ws = ⊥
+  Left (opening_after n) xs ws = all_words (take n xs) ++ all_words (before_marks (drop (suc n) xs)) ≡ ws
 
-  front_kept : (xs : List Part) → Paired xs → AllByRecursion Kept xs → all_words (before_marks (map part_syntax xs)) ≡ parts_words xs
-  front_kept [] t h = refl
-  front_kept (x ∷ []) t h = sym (nothing_before (part_words x) [] (quiet_part x t))
-  front_kept (x ∷ y ∷ xs) t h = both (λ us vs. us ++ vs) h.0 (front_kept xs t.1 h.1.1 ∙ sym (nothing_before (part_words y) (parts_words xs) (quiet_part y t.0)))
+  one_more : (t : Turn) (b : Bool) (x : Part) (xs : List Expr) (ws : Words) → (b ≡ true → part_words x ≡ []) → Kept x → Left (turned t b) xs ws → Left t (part_syntax x ∷ xs) (part_words x ++ ws)
+  one_more anywhere b x xs ws q g h = both (λ us vs. us ++ vs) g h
+  one_more at_item true x xs ws q g h = ap (λ zs. all_words (before_marks (part_syntax x ∷ zs))) h.0 ∙ sym (both (λ us vs. us ++ vs) (q refl) h.1)
+  one_more at_item false x xs ws q g h = h (part_syntax x) ∙ ap (λ us. us ++ ws) g
+  one_more at_mark true x xs ws q g h = λ y. ap (λ vs. expr_words y ++ vs) (h ∙ sym (nothing_before (part_words x) ws (q refl)))
+  one_more at_mark false x xs ws q g h = absurd h
+  one_more closed b x xs ws q g h = absurd h
+  one_more astray b x xs ws q g h = absurd h
+  one_more (opening_after zero) true x xs ws q g h = h ∙ sym (nothing_before (part_words x) ws (q refl))
+  one_more (opening_after zero) false x xs ws q g h = absurd h
+  one_more (opening_after (suc n)) b x xs ws q g h = append_assoc (expr_words (part_syntax x)) _ _ ∙ both (λ us vs. us ++ vs) g h
 
-  -- what is before an opening bracket, and the items after it
-  sequence_kept : (n : ℕ) (xs : List Part) → SeparatorAt n xs → Paired (drop (suc n) xs) → AllByRecursion Kept xs
-      → all_words (take n (map part_syntax xs)) ++ all_words (before_marks (drop (suc n) (map part_syntax xs))) ≡ parts_words xs
-  sequence_kept zero [] a t h = refl
-  sequence_kept zero (x ∷ xs) a t h = front_kept xs t h.1 ∙ sym (nothing_before (part_words x) (parts_words xs) (quiet_part x a))
-  sequence_kept (suc n) [] a t h = refl
-  sequence_kept (suc n) (x ∷ xs) a t h = append_assoc (expr_words (part_syntax x)) _ _ ∙ both (λ us vs. us ++ vs) h.0 (sequence_kept n xs a t h.1)
+  none_left : (t : Turn) → may_end t ≡ true → Left t [] []
+  none_left anywhere h = refl
+  none_left at_item h = refl
+  none_left closed h = (refl, refl)
+  none_left _ h = no_such h
 
-  node_kept : (f : Frame) (kind : Kind) (xs : List Part) → BracketedIn f kind xs → AllByRecursion Kept xs → expr_words (node_syntax f kind (map part_syntax xs)) ≡ parts_words xs
-  node_kept row kind xs a h = form_words (made kind (map part_syntax xs) [] [] false false no_comments) ∙ (append-nil (all_words (map part_syntax xs)) ∙ all_kept xs h)
-  node_kept (sequence opener closer) kind xs a h =
-      form_words (made kind (take (lead kind) (map part_syntax xs)) (before_marks (drop (suc (lead kind)) (map part_syntax xs))) [] false false no_comments)
-      ∙ sequence_kept (lead kind) xs a.opener a.body h
+  row_left : (r : Shape) (t : Turn) → leads on_token on_sort is_turn may_end r t ≡ true → (xs : List Part) → AllByRecursion Kept xs → Fits IsNonterminal r xs → Left t (map part_syntax xs) (parts_words xs)
+  row_left r t w xs g h =
+      led on_token on_sort is_turn same_turn Kept (λ u ys. Left u (map part_syntax ys) (parts_words ys))
+      (λ u ts y ys m known. one_more u (subset ts marks_between) y (map part_syntax ys) (parts_words ys) (λ b. quiet_part ts y b m) known)
+      (λ u q y ys i known. one_more u false y (map part_syntax ys) (parts_words ys) no_such known)
+      r may_end t w none_left xs g h
+
+  node_kept : (f : Frame) (kind : Kind) (xs : List Expr) (ws : Words) → Left (first_turn f kind) xs ws → expr_words (node_syntax f kind xs) ≡ ws
+  node_kept row kind xs ws h = form_words (bare_head kind xs []) ∙ (append-nil (all_words xs) ∙ h)
+  node_kept (sequence opener closer) kind xs ws h = form_words (bare_head kind (take (lead kind) xs) (before_marks (drop (suc (lead kind)) xs))) ∙ h
 
   mutual
     part_kept : (x : Part) → LegalBzlPart x → Kept x
     part_kept (p.Leaf l) h = sym (append-nil (leaf_words silent l))
     part_kept (Node' kind m r) h =
-        ap (λ xs. expr_words (node_syntax (frame kind) kind xs)) (syntax_map _ r)
-        ∙ (node_kept (frame kind) kind (items-the_row-Part _ r) (node_bracketed kind (items-the_row-Part _ r) h.0) (row_kept _ r h.1) ∙ sym (row_leaves _ r))
+        let xs : List Part = items-the_row-Part _ r in
+        ap (λ ys. expr_words (node_syntax (frame kind) kind ys)) (syntax_map _ r)
+        ∙ (node_kept (frame kind) kind (map part_syntax xs) (parts_words xs) (row_left (bzl_shape kind) (first_turn (frame kind) kind) (kind_leads kind) xs (row_kept _ r h.1) h.0) ∙ sym (row_leaves _ r))
 
     row_kept : (m : _) (r : Row_of-Part m) → LegalBzlRow r → AllByRecursion Kept (items-the_row-Part m r)
     row_kept m end_of-Part h = tt
@@ -238,13 +238,13 @@ module _ (silent : Class → Bytes → Bool) (quiet : (l : Leaf) → is_one_of m
 
   -- the statements of a line
   line_words : (xs : List Part) → Fits IsNonterminal (bzl_shape k.Line) xs → AllByRecursion Kept xs → all_words (before_marks (map part_syntax xs)) ≡ parts_words xs
-  line_words xs h g = front_kept xs (listed_paired s.semicolon s.newline refl refl s.small xs h) g
+  line_words xs h g = row_left (bzl_shape k.Line) at_item refl xs g h
 
   -- ---- BUILD files
 
   lines_kept : (xs : List Part) → Several (IsNonterminal s.line) (Fits IsNonterminal (tok s.end done)) xs → AllByRecursion LegalBzlPart xs → all_words (lines_program xs) ≡ parts_words xs
   lines_kept [] h g = absurd h
-  lines_kept (p.Leaf l ∷ []) (inl h) g = sym (nothing_before (part_words (p.Leaf l)) [] (quiet_part (p.Leaf l) (separates s.end refl (p.Leaf l) h.0)))
+  lines_kept (p.Leaf l ∷ []) (inl h) g = sym (nothing_before (part_words (p.Leaf l)) [] (quiet_part s.end (p.Leaf l) refl h.0))
   lines_kept (p.Leaf l ∷ y ∷ xs) (inl h) g = absurd h.1
   lines_kept (p.Leaf l ∷ xs) (inr h) g = no_such h.0
   lines_kept (Node' kind m r ∷ xs) (inl h) g = no_such h.0
@@ -314,8 +314,7 @@ module _ (silent : Class → Bytes → Bool) (quiet : (l : Leaf) → is_one_of m
       suite : IsNonterminal s.suite x → program_words (parsed x).suite ≡ part_words x
 
     kept_all : (xs : List Part) → AllByRecursion Known xs → AllByRecursion Kept xs
-    kept_all [] h = tt
-    kept_all (x ∷ xs) h = (h.0.kept, kept_all xs h.1)
+    kept_all xs h = all_mapped Known Kept (λ x g. g.kept) xs h
 
     part_parsed : (x : Part) → (parsed x).part ≡ part_syntax x
     part_parsed (p.Leaf l) = refl
@@ -335,192 +334,68 @@ module _ (silent : Class → Bytes → Bool) (quiet : (l : Leaf) → is_one_of m
 
     -- ---- headers
 
-    -- parts up to a colon, the colon, a suite, and these parts
-    record Cut (P : List Part → Type 0) (back xs : List Part) : Type 0 where
-      front : List Part
-      mark : Part
-      own : Part
-      cut : xs ≡ front ++ mark ∷ own ∷ back
-      such : P front
-      plain : AllByRecursion NoColon front
-      colon : has_token s.colon_mark mark ≡ true
-      suite : IsNonterminal s.suite own
-
-    abbrev Any : List Part → Type 0
-    Any front = Unit {0}
-
-    here_cut : (P : List Part → Type 0) (back : List Part) (mark own : Part) → P [] → has_token s.colon_mark mark ≡ true → IsNonterminal s.suite own → Cut P back (mark ∷ own ∷ back)
-    here_cut P back mark own such h i = record { front = []; mark = mark; own = own; cut = refl; such = such; plain = tt; colon = h; suite = i }
-
-    one_more : (P Q : List Part → Type 0) (back : List Part) (y : Part) (xs : List Part) → NoColon y → ((front : List Part) → P front → Q (y ∷ front)) → Cut P back xs → Cut Q back (y ∷ xs)
-    one_more P Q back y xs n f h = record { front = y ∷ h.front; mark = h.mark; own = h.own; cut = ap (λ (zs : List Part). y ∷ zs) h.cut; such = f h.front h.such; plain = (n, h.plain); colon = h.colon; suite = h.suite }
-
-    abbrev Nothing : List Part → Type 0
-    Nothing front = front ≡ []
-
-    owned_cut : (xs : List Part) → Fits IsNonterminal owned xs → Cut Nothing [] xs
-    owned_cut [] h = absurd h
-    owned_cut (mark ∷ []) h = absurd h.1
-    owned_cut (mark ∷ own ∷ []) h = here_cut Nothing [] mark own refl h.0 h.1.0
-    owned_cut (mark ∷ own ∷ x ∷ xs) h = absurd h.1.1
-
-    -- after for
-    in_cut : (xs : List Part) → Fits IsNonterminal (tok (s.one_keyword (codes "in")) (sub s.expr owned)) xs → Cut Any [] xs
-    in_cut [] h = absurd h
-    in_cut (x ∷ []) h = absurd h.1
-    in_cut (x ∷ y ∷ xs) h =
-        one_more Any Any [] x (y ∷ xs) (token_plain (s.one_keyword (codes "in")) x refl h.0) (λ front w. tt)
-        (one_more Nothing Any [] y xs (nonterminal_plain s.expr y h.1.0) (λ front w. tt) (owned_cut xs h.1.1))
-
-    mutual
-      names_cut : (xs : List Part) → Listed (IsNonterminal s.primary) s.comma_mark false (Fits IsNonterminal (tok (s.one_keyword (codes "in")) (sub s.expr owned))) xs → Cut Any [] xs
-      names_cut [] h = absurd h
-      names_cut (x ∷ xs) h = one_more Any Any [] x xs (nonterminal_plain s.primary x h.0) (λ front w. tt) (after_name_cut xs h.1)
-
-      after_name_cut : (xs : List Part) → After (IsNonterminal s.primary) s.comma_mark false (Fits IsNonterminal (tok (s.one_keyword (codes "in")) (sub s.expr owned))) xs → Cut Any [] xs
-      after_name_cut [] h = in_cut [] h
-      after_name_cut (x ∷ xs) (inl h) = in_cut (x ∷ xs) h
-      after_name_cut (x ∷ xs) (inr (m, inl h)) = one_more Any Any [] x xs (token_plain s.comma_mark x refl m) (λ front w. tt) (names_cut xs h)
-      after_name_cut (x ∷ xs) (inr (m, inr h)) = no_such h.0
-
-    -- after the bracket of def
-    close_cut : (xs : List Part) → Fits IsNonterminal (tok s.close_round owned) xs → Cut (λ front. (y : Part) × (front ≡ y ∷ []) × IsSeparator y) [] xs
-    close_cut [] h = absurd h
-    close_cut (y ∷ xs) h =
-        one_more Nothing (λ front. (z : Part) × (front ≡ z ∷ []) × IsSeparator z) [] y xs (token_plain s.close_round y refl h.0) (λ front w. (y, ap (λ (zs : List Part). y ∷ zs) w, separates s.close_round refl y h.0)) (owned_cut xs h.1)
-
-    alone_paired : (front : List Part) → (y : Part) × (front ≡ y ∷ []) × IsSeparator y → Paired front
-    alone_paired front w = subst Paired (sym w.1) w.2
-
-    after_one : (x : Part) (front : List Part) → (y : Part) × (front ≡ y ∷ []) × IsSeparator y → Paired (x ∷ front)
-    after_one x front w = subst (λ zs. Paired (x ∷ zs)) (sym w.1) (w.2, tt)
-
-    weaker : (P Q : List Part → Type 0) (back xs : List Part) → ((front : List Part) → P front → Q front) → Cut P back xs → Cut Q back xs
-    weaker P Q back xs f h = record { front = h.front; mark = h.mark; own = h.own; cut = h.cut; such = f h.front h.such; plain = h.plain; colon = h.colon; suite = h.suite }
-
-    abbrev AfterOne : List Part → Type 0
-    AfterOne front = (x : Part) → Paired (x ∷ front)
-
-    mutual
-      parameters_cut : (xs : List Part) → Listed (IsNonterminal s.param) s.comma_mark true (Fits IsNonterminal (tok s.close_round owned)) xs → Cut Paired [] xs
-      parameters_cut [] h = absurd h
-      parameters_cut (x ∷ xs) h = one_more AfterOne Paired [] x xs (nonterminal_plain s.param x h.0) (λ front w. w x) (after_parameter_cut xs h.1)
-
-      after_parameter_cut : (xs : List Part) → After (IsNonterminal s.param) s.comma_mark true (Fits IsNonterminal (tok s.close_round owned)) xs → Cut AfterOne [] xs
-      after_parameter_cut [] h = absurd h
-      after_parameter_cut (y ∷ xs) (inl h) = weaker (λ front. (z : Part) × (front ≡ z ∷ []) × IsSeparator z) AfterOne [] (y ∷ xs) (λ front w x. after_one x front w) (close_cut (y ∷ xs) h)
-      after_parameter_cut (y ∷ xs) (inr (m, inl h)) = one_more Paired AfterOne [] y xs (token_plain s.comma_mark y refl m) (λ front w x. (comma y m, w)) (parameters_cut xs h)
-      after_parameter_cut (y ∷ xs) (inr (m, inr h)) =
-          one_more (λ front. (z : Part) × (front ≡ z ∷ []) × IsSeparator z) AfterOne [] y xs (token_plain s.comma_mark y refl m) (λ front w x. (comma y m, alone_paired front w)) (close_cut xs h.1)
-
-    enclosed_cut : (xs : List Part) → Fits IsNonterminal (enclosed s.param s.close_round owned) xs → Cut Paired [] xs
-    enclosed_cut xs (inl h) = weaker (λ front. (y : Part) × (front ≡ y ∷ []) × IsSeparator y) Paired [] xs alone_paired (close_cut xs h)
-    enclosed_cut xs (inr h) = parameters_cut xs h
-
-    -- a word, a name, a bracket, and parameters
-    abbrev IsDef : List Part → Type 0
-    IsDef front = SeparatorAt 2 front × Paired (drop 3 front)
-
-    -- ---- a header and its suite
-
-    skipped : (kind : Kind) (ps : List Expr) (hs : List Part) (ys : List Parsed) → AllByRecursion NoColon hs → headers_in kind ps (map parsed hs ++ ys) ≡ headers_in kind (ps ++ map part_syntax hs) ys
-    skipped kind ps [] ys h = ap (λ t. headers_in kind t ys) (sym (append-nil ps))
-    skipped kind ps (x ∷ hs) ys h =
-        cond-false (parsed x).is_colon _ _ (same_colon x ∙ h.0)
-        ∙ (skipped kind (ps ++ (parsed x).part ∷ []) hs ys h.1
-        ∙ ap (λ t. headers_in kind t ys) (append_assoc ps ((parsed x).part ∷ []) (map part_syntax hs) ∙ ap (λ t. ps ++ t ∷ map part_syntax hs) (part_parsed x)))
-
     is_colon_mark : (x : Part) → has_token s.colon_mark x ≡ true → (parsed x).is_colon ≡ true
     is_colon_mark (p.Leaf l) h = h
     is_colon_mark (Node' kind m r) h = no_such h
 
-    abbrev HeadKept : Kind → List Part → Type 0
-    HeadKept kind hs = head_words (head_in kind (map part_syntax hs)) ≡ parts_words hs
+    -- opened: what a header of this kind is made of, whose parts begin at this turn
+    module _ (kind : Kind) (start : Turn) (opened : (xs : List Expr) (ws : Words) → Left start xs ws → head_words (head_in kind xs) ≡ ws) where
+      -- of headers that begin here; after parts of a header; after its colon
+      abbrev Ahead : Spot → List Part → Type 0
+      Ahead begins xs = flat_map branch_words (headers_in kind [] (map parsed xs)) ≡ parts_words xs
+      Ahead (header t) xs =
+          (ps : List Expr) (ws : Words) → ((es : List Expr) (vs : Words) → Left t es vs → head_words (head_in kind (ps ++ es)) ≡ ws ++ vs) → flat_map branch_words (headers_in kind ps (map parsed xs)) ≡ ws ++ parts_words xs
+      Ahead owner xs = (ps : List Expr) (ws : Words) → head_words (head_in kind ps) ≡ ws → flat_map branch_words (suites_in kind ps (map parsed xs)) ≡ ws ++ parts_words xs
+      Ahead nowhere xs = ⊥
 
-    -- the words of the headers of these parts
-    abbrev HeadersKept : Kind → List Part → Type 0
-    HeadersKept kind xs = flat_map branch_words (headers_in kind [] (map parsed xs)) ≡ parts_words xs
+      plain_more : (t : Turn) (b : Bool) (x : Part) (xs : List Part) → (b ≡ true → part_words x ≡ []) → NoColon x → Known x → Ahead (header (turned t b)) xs → Ahead (header t) (x ∷ xs)
+      plain_more t b x xs q n g h ps ws f =
+          ap (flat_map branch_words) (cond-false (parsed x).is_colon _ _ (same_colon x ∙ n))
+          ∙ (h (ps ++ (parsed x).part ∷ []) (ws ++ part_words x) (λ es vs l. ap (λ zs. head_words (head_in kind zs)) (append_assoc ps ((parsed x).part ∷ []) es ∙ ap (λ y. ps ++ y ∷ es) (part_parsed x))
+          ∙ (f (part_syntax x ∷ es) (part_words x ++ vs) (one_more t b x es vs q g.kept l) ∙ sym (append_assoc ws (part_words x) vs)))
+          ∙ append_assoc ws (part_words x) (parts_words xs))
 
-    header_ends : (kind : Kind) (hs : List Part) (mark own : Part) (back : List Part) → AllByRecursion NoColon hs → has_token s.colon_mark mark ≡ true
-        → headers_in kind [] (map parsed (hs ++ mark ∷ own ∷ back)) ≡ record { head = head_in kind (map part_syntax hs); statements = (parsed own).suite; end = [] } ∷ headers_in kind [] (map parsed back)
-    header_ends kind hs mark own back n c =
-        ap (headers_in kind []) (map-append parsed hs (mark ∷ own ∷ back))
-        ∙ (skipped kind [] hs (parsed mark ∷ parsed own ∷ map parsed back) n
-        ∙ cond-true (parsed mark).is_colon _ _ (is_colon_mark mark c))
+      colon_more : (t : Turn) (x : Part) (xs : List Part) → may_end t ≡ true → has_token s.colon_mark x ≡ true → Ahead owner xs → Ahead (header t) (x ∷ xs)
+      colon_more t x xs e m h ps ws f =
+          ap (flat_map branch_words) (cond-true (parsed x).is_colon _ _ (is_colon_mark x m))
+          ∙ (h ps ws (ap (λ zs. head_words (head_in kind zs)) (sym (append-nil ps)) ∙ (f [] [] (none_left t e) ∙ append-nil ws)) ∙ ap (λ vs. ws ++ vs) (sym (nothing_before (part_words x) (parts_words xs) (quiet_colon x m))))
 
-    joined : (a b c d : Words) → d ≡ [] → (a ++ b) ++ c ≡ a ++ (d ++ (b ++ c))
-    joined a b c d h = append_assoc a b c ∙ ap (λ ws. a ++ ws) (sym (nothing_before d (b ++ c) h))
+      token_more : (plain colon end : Bool) (t : Turn) (ts : List Terminal) (x : Part) (xs : List Part) → no_colons ts ≡ plain → subset ts s.colon_mark ≡ colon → may_end t ≡ end → has_token ts x ≡ true → Known x
+          → Ahead (in_header plain colon end (on_token t ts)) xs → Ahead (header t) (x ∷ xs)
+      token_more true colon end t ts x xs p c e m g h = plain_more t (subset ts marks_between) x xs (λ b. quiet_part ts x b m) (token_plain ts x p m) g h
+      token_more false true true t ts x xs p c e m g h = colon_more t x xs e (token_within ts x c m) h
+      token_more false true false t ts x xs p c e m g h = absurd h
+      token_more false false end t ts x xs p c e m g h = absurd h
 
-    cut_kept : (kind : Kind) (P : List Part → Type 0) (word : Part) (back xs : List Part) (h : Cut P back xs) → NoColon word → HeadKept kind (word ∷ h.front) → AllByRecursion Known (word ∷ xs) → HeadersKept kind back → HeadersKept kind (word ∷ xs)
-    cut_kept kind P word back xs h n w g b =
-        let hs : List Part = word ∷ h.front in
-        let known = all_parted Known h.front (h.mark ∷ h.own ∷ back) (subst (AllByRecursion Known) h.cut g.1) in
-        let own : program_words (parsed h.own).suite ≡ part_words h.own = known.1.1.0.suite h.suite in
-        subst (λ zs. HeadersKept kind (word ∷ zs)) (sym h.cut) (
-        ap (flat_map branch_words) (header_ends kind hs h.mark h.own back (n, h.plain) h.colon)
-        ∙ (both (λ us vs. us ++ vs) (both (λ us vs. us ++ vs) w own) b
-        ∙ (joined (parts_words hs) (part_words h.own) (parts_words back) (part_words h.mark) (quiet_colon h.mark h.colon)
-        ∙ sym (flat_map-append part_words hs (h.mark ∷ h.own ∷ back)))))
+      from_start : (x : Part) (xs : List Part) → Ahead (header start) (x ∷ xs) → Ahead begins (x ∷ xs)
+      from_start x xs h = h [] [] opened
 
-    -- a header that is no def
-    row_head : (kind : Kind) (hs : List Part) → s.is_kind kind k.Def ≡ false → AllByRecursion Kept hs → HeadKept kind hs
-    row_head kind hs f h = ap head_words (cond-false (s.is_kind kind k.Def) _ _ f) ∙ (append-nil (all_words (map part_syntax hs)) ∙ all_kept hs h)
+      token_ahead : (z : Spot) (ts : List Terminal) (x : Part) (xs : List Part) → has_token ts x ≡ true → Known x → Ahead (spot_after start z ts) xs → Ahead z (x ∷ xs)
+      token_ahead begins ts x xs m g h = from_start x xs (token_more (no_colons ts) (subset ts s.colon_mark) (may_end start) start ts x xs refl refl refl m g h)
+      token_ahead (header t) ts x xs m g h = token_more (no_colons ts) (subset ts s.colon_mark) (may_end t) t ts x xs refl refl refl m g h
+      token_ahead owner ts x xs m g h = absurd h
+      token_ahead nowhere ts x xs m g h = absurd h
 
-    def_head : (hs : List Part) → IsDef hs → AllByRecursion Kept hs → HeadKept k.Def hs
-    def_head hs w h = sequence_kept 2 hs w.0 w.1 h
+      sort_ahead : (z : Spot) (q : Nonterminal) (x : Part) (xs : List Part) → IsNonterminal q x → Known x → Ahead (spot_past start z q) xs → Ahead z (x ∷ xs)
+      sort_ahead begins q x xs i g h = from_start x xs (plain_more start false x xs no_such (nonterminal_plain q x i) g h)
+      sort_ahead (header t) q x xs i g h = plain_more t false x xs no_such (nonterminal_plain q x i) g h
+      sort_ahead owner s.suite x xs i g h = λ ps ws f. both (λ us vs. us ++ vs) (both (λ us vs. us ++ vs) f (g.suite i)) h ∙ append_assoc ws (part_words x) (parts_words xs)
+      sort_ahead owner _ x xs i g h = absurd h
+      sort_ahead nowhere q x xs i g h = absurd h
 
-    front_known : (word : Part) (P : List Part → Type 0) (back xs : List Part) (h : Cut P back xs) → AllByRecursion Known (word ∷ xs) → AllByRecursion Kept (word ∷ h.front)
-    front_known word P back xs h g = (g.0.kept, kept_all h.front (all_parted Known h.front (h.mark ∷ h.own ∷ back) (subst (AllByRecursion Known) h.cut g.1)).0)
+      none_ahead : (z : Spot) → is_spot begins z ≡ true → Ahead z []
+      none_ahead begins h = refl
+      none_ahead _ h = no_such h
 
-    row_headed : (kind : Kind) (P : List Part → Type 0) (word : Part) (back xs : List Part) → s.is_kind kind k.Def ≡ false → Cut P back xs → NoColon word → AllByRecursion Known (word ∷ xs) → HeadersKept kind back → HeadersKept kind (word ∷ xs)
-    row_headed kind P word back xs f h n g b = cut_kept kind P word back xs h n (row_head kind (word ∷ h.front) f (front_known word P back xs h g)) g b
+      compound_kept : leads (spot_after start) (spot_past start) is_spot (is_spot begins) (bzl_shape kind) begins ≡ true → (xs : List Part) → Fits IsNonterminal (bzl_shape kind) xs → AllByRecursion Known xs
+          → program_words (st.Compound (headers_in kind [] (map parsed xs)) ∷ []) ≡ parts_words xs
+      compound_kept w xs h g =
+          append-nil (statement_words (st.Compound (headers_in kind [] (map parsed xs))))
+          ∙ (compound_words (headers_in kind [] (map parsed xs)) ∙ led (spot_after start) (spot_past start) is_spot same_spot Known Ahead token_ahead sort_ahead (bzl_shape kind) (is_spot begins) begins w none_ahead xs g h)
 
-    -- ---- if, elif, else
-
-    test_cut : (x mark own : Part) (back : List Part) → IsNonterminal s.test x → has_token s.colon_mark mark ≡ true → IsNonterminal s.suite own → Cut Any back (x ∷ mark ∷ own ∷ back)
-    test_cut x mark own back h i j = one_more Any Any back x (mark ∷ own ∷ back) (nonterminal_plain s.test x h) (λ front w. tt) (here_cut Any back mark own tt i j)
-
-    else_kept : (xs : List Part) → Fits IsNonterminal (s.alt (tok (s.one_keyword (codes "else")) owned) done) xs → AllByRecursion Known xs → HeadersKept k.IfStmt xs
-    else_kept [] h g = refl
-    else_kept (x ∷ xs) (inr h) g = absurd h
-    else_kept (x ∷ xs) (inl h) g = row_headed k.IfStmt Nothing x [] xs refl (owned_cut xs h.1) (token_plain (s.one_keyword (codes "else")) x refl h.0) g refl
-
-    branches_kept : (xs : List Part) → Times (Fits IsNonterminal (tok (s.one_keyword (codes "elif")) (sub s.test owned))) (Fits IsNonterminal (s.alt (tok (s.one_keyword (codes "else")) owned) done)) xs → AllByRecursion Known xs → HeadersKept k.IfStmt xs
-    branches_kept xs (no_more h) g = else_kept xs h g
-    branches_kept xs (once_more [] back e h t) g = absurd h
-    branches_kept xs (once_more (word ∷ []) back e h t) g = absurd h.1
-    branches_kept xs (once_more (word ∷ x ∷ []) back e h t) g = absurd h.1.1
-    branches_kept xs (once_more (word ∷ x ∷ mark ∷ []) back e h t) g = absurd h.1.1.1
-    branches_kept xs (once_more (word ∷ x ∷ mark ∷ own ∷ y ∷ front) back e h t) g = absurd h.1.1.1.1
-    branches_kept xs (once_more (word ∷ x ∷ mark ∷ own ∷ []) back e h t) g =
-        let known : AllByRecursion Known (word ∷ x ∷ mark ∷ own ∷ back) = subst (AllByRecursion Known) e g in
-        subst (HeadersKept k.IfStmt) (sym e)
-        (row_headed k.IfStmt Any word back (x ∷ mark ∷ own ∷ back) refl (test_cut x mark own back h.1.0 h.1.1.0 h.1.1.1.0) (token_plain (s.one_keyword (codes "elif")) word refl h.0) known (branches_kept back t known.1.1.1.1))
-
-    -- ---- statements with suites
-
-    if_statement : (xs : List Part) → Fits IsNonterminal (bzl_shape k.IfStmt) xs → AllByRecursion Known xs → HeadersKept k.IfStmt xs
-    if_statement [] h g = absurd h
-    if_statement (word ∷ []) h g = absurd h.1
-    if_statement (word ∷ x ∷ []) h g = absurd h.1.1
-    if_statement (word ∷ x ∷ mark ∷ []) h g = absurd h.1.1.1
-    if_statement (word ∷ x ∷ mark ∷ own ∷ back) h g =
-        row_headed k.IfStmt Any word back (x ∷ mark ∷ own ∷ back) refl (test_cut x mark own back h.1.0 h.1.1.0 h.1.1.1.0) (token_plain (s.one_keyword (codes "if")) word refl h.0) g (branches_kept back h.1.1.1.1 g.1.1.1.1)
-
-    for_statement : (xs : List Part) → Fits IsNonterminal (bzl_shape k.ForStmt) xs → AllByRecursion Known xs → HeadersKept k.ForStmt xs
-    for_statement [] h g = absurd h
-    for_statement (word ∷ xs) h g = row_headed k.ForStmt Any word [] xs refl (names_cut xs h.1) (token_plain (s.one_keyword (codes "for")) word refl h.0) g refl
-
-    def_statement : (xs : List Part) → Fits IsNonterminal (bzl_shape k.Def) xs → AllByRecursion Known xs → HeadersKept k.Def xs
-    def_statement [] h g = absurd h
-    def_statement (word ∷ []) h g = absurd h.1
-    def_statement (word ∷ name ∷ []) h g = absurd h.1.1
-    def_statement (word ∷ name ∷ opener ∷ xs) h g =
-        let inner : Cut Paired [] xs = enclosed_cut xs h.1.1.1 in
-        let opened : Cut (λ front. SeparatorAt 0 front × Paired (drop 1 front)) [] (opener ∷ xs) = one_more Paired (λ front. SeparatorAt 0 front × Paired (drop 1 front)) [] opener xs (token_plain s.open_round opener refl h.1.1.0) (λ front w. (separates s.open_round refl opener h.1.1.0, w)) inner in
-        let named : Cut (λ front. SeparatorAt 1 front × Paired (drop 2 front)) [] (name ∷ opener ∷ xs) = one_more (λ front. SeparatorAt 0 front × Paired (drop 1 front)) (λ front. SeparatorAt 1 front × Paired (drop 2 front)) [] name (opener ∷ xs) (token_plain s.name name refl h.1.0) (λ front w. w) opened in
-        cut_kept k.Def (λ front. SeparatorAt 1 front × Paired (drop 2 front)) word [] (name ∷ opener ∷ xs) named (token_plain (s.one_keyword (codes "def")) word refl h.0)
-        (def_head (word ∷ named.front) named.such (front_known word (λ front. SeparatorAt 1 front × Paired (drop 2 front)) [] (name ∷ opener ∷ xs) named g)) g refl
+    -- of a header that is no def
+    row_head : (kind : Kind) → s.is_kind kind k.Def ≡ false → (xs : List Expr) (ws : Words) → all_words xs ≡ ws → head_words (head_in kind xs) ≡ ws
+    row_head kind f xs ws h = ap head_words (cond-false (s.is_kind kind k.Def) _ _ f) ∙ (append-nil (all_words xs) ∙ h)
 
     -- ---- nodes
 
@@ -529,27 +404,30 @@ module _ (silent : Class → Bytes → Bool) (quiet : (l : Leaf) → is_one_of m
         simple_words (before_marks (parsed_parts (map parsed xs)))
         ∙ (ap (λ zs. all_words (before_marks zs)) (parts_parsed xs) ∙ line_words xs h (kept_all xs g))
 
-    compound_kept : (kind : Kind) (xs : List Part) → HeadersKept kind xs → program_words (st.Compound (headers_in kind [] (map parsed xs)) ∷ []) ≡ parts_words xs
-    compound_kept kind xs h = append-nil (statement_words (st.Compound (headers_in kind [] (map parsed xs)))) ∙ (compound_words (headers_in kind [] (map parsed xs)) ∙ h)
-
     node_statement : (kind : Kind) (xs : List Part) → nonterminal_has_kind s.stmt kind ≡ true → Fits IsNonterminal (bzl_shape kind) xs → AllByRecursion Known xs → program_words (node_statements kind (map parsed xs)) ≡ parts_words xs
     node_statement k.Line xs i h g = line_kept xs h g
-    node_statement k.Def xs i h g = compound_kept k.Def xs (def_statement xs h g)
-    node_statement k.IfStmt xs i h g = compound_kept k.IfStmt xs (if_statement xs h g)
-    node_statement k.ForStmt xs i h g = compound_kept k.ForStmt xs (for_statement xs h g)
+    node_statement k.Def xs i h g = compound_kept k.Def (opening_after 2) (λ ys ws l. l) refl xs h g
+    node_statement k.IfStmt xs i h g = compound_kept k.IfStmt anywhere (row_head k.IfStmt refl) refl xs h g
+    node_statement k.ForStmt xs i h g = compound_kept k.ForStmt anywhere (row_head k.ForStmt refl) refl xs h g
     node_statement _ xs i h g = no_such i
 
-    several_kept : (xs : List Part) → Several (IsNonterminal s.stmt) (Fits IsNonterminal done) xs → AllByRecursion Known xs → program_words (statements_in (map parsed xs)) ≡ parts_words xs
-    several_kept [] h g = refl
-    several_kept (x ∷ xs) (inl h) g = absurd h
-    several_kept (x ∷ xs) (inr h) g =
-        flat_map-append statement_words (parsed x).statements (statements_in (map parsed xs)) ∙ both (λ us vs. us ++ vs) (g.0.statement h.0) (several_kept xs h.1 g.1)
+    -- statements one after the other, and then what K says
+    several_kept : (K : List Part → Type 0) → ((xs : List Part) → K xs → program_words (statements_in (map parsed xs)) ≡ parts_words xs) → (xs : List Part) → Several (IsNonterminal s.stmt) K xs → AllByRecursion Known xs
+        → program_words (statements_in (map parsed xs)) ≡ parts_words xs
+    several_kept K f [] h g = f [] h
+    several_kept K f (x ∷ xs) (inl h) g = f (x ∷ xs) h
+    several_kept K f (x ∷ xs) (inr h) g =
+        flat_map-append statement_words (parsed x).statements (statements_in (map parsed xs)) ∙ both (λ us vs. us ++ vs) (g.0.statement h.0) (several_kept K f xs h.1 g.1)
+
+    done_kept : (xs : List Part) → Fits IsNonterminal done xs → program_words (statements_in (map parsed xs)) ≡ parts_words xs
+    done_kept [] h = refl
+    done_kept (x ∷ xs) h = absurd h
 
     suite_kept : (xs : List Part) → Fits IsNonterminal (bzl_shape k.Suite) xs → AllByRecursion Known xs → program_words (statements_in (drop 1 (map parsed xs))) ≡ parts_words xs
     suite_kept [] h g = absurd h
     suite_kept (x ∷ []) h g = absurd h.1
     suite_kept (x ∷ y ∷ xs) h g =
-        several_kept (y ∷ xs) (inr h.1) g.1 ∙ sym (nothing_before (part_words x) (parts_words (y ∷ xs)) (quiet_part x (separates s.newline refl x h.0)))
+        several_kept (Fits IsNonterminal done) done_kept (y ∷ xs) (inr h.1) g.1 ∙ sym (nothing_before (part_words x) (parts_words (y ∷ xs)) (quiet_part s.newline x refl h.0))
 
     node_suite : (kind : Kind) (xs : List Part) → nonterminal_has_kind s.suite kind ≡ true → Fits IsNonterminal (bzl_shape kind) xs → AllByRecursion Known xs → program_words (suite_statements kind (map parsed xs)) ≡ parts_words xs
     node_suite k.Line xs i h g = line_kept xs h g
@@ -573,83 +451,68 @@ module _ (silent : Class → Bytes → Bool) (quiet : (l : Leaf) → is_one_of m
 
     -- ---- the file
 
-    parts_known : (xs : List Part) → AllByRecursion LegalBzlPart xs → AllByRecursion Known xs
-    parts_known [] h = tt
-    parts_known (x ∷ xs) h = (part_known x h.0, parts_known xs h.1)
-
     -- the end of a file is no statement
     end_kept : (xs : List Part) → Fits IsNonterminal (tok s.end done) xs → program_words (statements_in (map parsed xs)) ≡ parts_words xs
     end_kept [] h = absurd h
-    end_kept (p.Leaf l ∷ []) h = sym (nothing_before (part_words (p.Leaf l)) [] (quiet_part (p.Leaf l) (separates s.end refl (p.Leaf l) h.0)))
+    end_kept (p.Leaf l ∷ []) h = sym (nothing_before (part_words (p.Leaf l)) [] (quiet_part s.end (p.Leaf l) refl h.0))
     end_kept (Node' kind m r ∷ xs) h = no_such h.0
     end_kept (p.Leaf l ∷ y ∷ xs) h = absurd h.1
-
-    file_kept : (xs : List Part) → Several (IsNonterminal s.stmt) (Fits IsNonterminal (tok s.end done)) xs → AllByRecursion Known xs → program_words (statements_in (map parsed xs)) ≡ parts_words xs
-    file_kept [] h g = absurd h
-    file_kept (x ∷ xs) (inl h) g = end_kept (x ∷ xs) h
-    file_kept (x ∷ xs) (inr h) g =
-        flat_map-append statement_words (parsed x).statements (statements_in (map parsed xs)) ∙ both (λ us vs. us ++ vs) (g.0.statement h.0) (file_kept xs h.1 g.1)
 
     -- the tokens of a tree are those of its program
     tree_kept : (tree : Node) → LegalBzl tree → flat_map (leaf_words silent) (leaves_of tree) ≡ program_words (bzl_tree_program tree)
     tree_kept tree h =
         let fits : Fits IsNonterminal (bzl_shape k.File) tree.parts = subst (λ kd. Fits IsNonterminal (bzl_shape kd) tree.parts) h.file.root h.file.shapes.0 in
-        parts_leaves tree.parts ∙ sym (file_kept tree.parts fits (parts_known tree.parts h.file.shapes.1))
+        parts_leaves tree.parts ∙ sym (several_kept (Fits IsNonterminal (tok s.end done)) end_kept tree.parts fits (all_mapped LegalBzlPart Known part_known tree.parts h.file.shapes.1))
 
 -- ---- how often
-
-module _ (number : Class → Bytes → ℕ) (silent : Class → Bytes → Bool) (none : (class : Class) (token : Bytes) → silent class token ≡ true → number class token ≡ 0)
-    (quiet : (l : Leaf) → is_one_of marks_between l ≡ true → silent l.class l.token ≡ true) where
-  abbrev sum : Words → ℕ
-  sum = total (λ w. number w.0 w.1)
-
-  word_sum : (b : Bool) (class : Class) (token : Bytes) → (b ≡ true → number class token ≡ 0) → sum (if b then [] else ((class, token) ∷ [])) ≡ number class token
-  word_sum true class token h = sym (h refl)
-  word_sum false class token h = omega arith
-
-  mutual
-    expr_sum : (x : Expr) → sum (expr_words silent quiet x) ≡ token_sum number x
-    expr_sum (Token t) = word_sum (silent t.class t.text) t.class t.text (none t.class t.text)
-    expr_sum (Form' kind n parts m items end split open_break comments) =
-        append_total (λ w. number w.0 w.1) (row_words silent quiet parts) (row_words silent quiet items) ∙ both (λ a b. a + b) (row_sum _ parts) (row_sum _ items)
-
-    row_sum : (m : _) (r : Row_of-Expr m) → sum (row_words silent quiet r) ≡ row_token_sum number r
-    row_sum m end_of-Expr = refl
-    row_sum m (more_of-Expr x rest) = append_total (λ w. number w.0 w.1) (expr_words silent quiet x) (row_words silent quiet rest) ∙ both (λ a b. a + b) (expr_sum x) (row_sum _ rest)
-
-  all_sum : (xs : List Expr) → sum (all_words silent quiet xs) ≡ total (token_sum number) xs
-  all_sum [] = refl
-  all_sum (x ∷ xs) = append_total (λ w. number w.0 w.1) (expr_words silent quiet x) (all_words silent quiet xs) ∙ both (λ a b. a + b) (expr_sum x) (all_sum xs)
-
-  leaves_sum : (ls : List Leaf) → sum (flat_map (leaf_words silent) ls) ≡ total (λ l. number l.class l.token) ls
-  leaves_sum [] = refl
-  leaves_sum (l ∷ ls) =
-      append_total (λ w. number w.0 w.1) (leaf_words silent l) (flat_map (leaf_words silent) ls)
-      ∙ both (λ a b. a + b) (word_sum (silent l.class l.token) l.class l.token (none l.class l.token)) (leaves_sum ls)
 
 alike : (ts : List Terminal) (l m : Leaf) → class_number l.class ≡ class_number m.class → l.token ≡ m.token → is_one_of ts l ≡ is_one_of ts m
 alike [] l m d e = refl
 alike (any class ∷ ts) l m d e = both (λ a b. a || b) (ap (λ n. nat_eq n (class_number class)) d) (alike ts l m d e)
 alike (this class token ∷ ts) l m d e = both (λ a b. a || b) (both (λ n t. nat_eq n (class_number class) && bytes_eq t token) d e) (alike ts l m d e)
 
-other_token : (class : Class) (token : Bytes) → is_mark_between class token ≡ false → (found : Class) (text : Bytes) → is_mark_between found text ≡ true → one_if_token class token found text ≡ 0
-other_token class token other found text h = elim (cases_Bool (is_class found class && bytes_eq text token)) [
-  | inl w ↦
-      let tests = and_parts (is_class found class) (bytes_eq text token) w in
-      let same = alike marks_between (record { class = found; gap = []; token = text }) (record { class = class; gap = []; token = token }) (eqb-true _ _ tests.0) ((bytes_eq-Decides text token).0 tests.1) in
-      absurd (true≢false (sym h ∙ (same ∙ other)))
-  | inr w ↦ rw w refl
-]
+-- the words are copies of one token, and as many as there are of it
+module _ (class : Class) (token : Bytes) (other : is_mark_between class token ≡ false) where
+  abbrev silent : Class → Bytes → Bool
+  silent found text = not (is_class found class && bytes_eq text token)
+
+  quiet : (l : Leaf) → is_one_of marks_between l ≡ true → silent l.class l.token ≡ true
+  quiet l h = elim (cases_Bool (is_class l.class class && bytes_eq l.token token)) [
+    | inl w ↦
+        let tests = and_parts (is_class l.class class) (bytes_eq l.token token) w in
+        absurd (true≢false (sym h ∙ (alike marks_between l (record { class = class; gap = []; token = token }) (eqb-true _ _ tests.0) ((bytes_eq-Decides l.token token).0 tests.1) ∙ other)))
+    | inr w ↦ ap not w
+  ]
+
+  word_count : (b : Bool) (word : Class × Bytes) → length (if not b then [] else (word ∷ [])) ≡ (if b then 1 else 0)
+  word_count true word = refl
+  word_count false word = refl
+
+  joined : (a b : ℕ) (us vs : Words) → length us ≡ a → length vs ≡ b → length (us ++ vs) ≡ a + b
+  joined a b us vs h g = length-append us vs ∙ both (λ m n. m + n) h g
+
+  mutual
+    expr_count : (x : Expr) → length (expr_words silent quiet x) ≡ token_sum (one_if_token class token) x
+    expr_count (Token t) = word_count (is_class t.class class && bytes_eq t.text token) (t.class, t.text)
+    expr_count (Form' kind n parts m items end split open_break comments) = joined _ _ (row_words silent quiet parts) (row_words silent quiet items) (row_count _ parts) (row_count _ items)
+
+    row_count : (m : _) (r : Row_of-Expr m) → length (row_words silent quiet r) ≡ row_token_sum (one_if_token class token) r
+    row_count m end_of-Expr = refl
+    row_count m (more_of-Expr x rest) = joined _ _ (expr_words silent quiet x) (row_words silent quiet rest) (expr_count x) (row_count _ rest)
+
+  counted : {X : Type 0} (f : X → Words) (number : X → ℕ) → ((x : X) → length (f x) ≡ number x) → (xs : List X) → length (flat_map f xs) ≡ total number xs
+  counted f number h [] = refl
+  counted f number h (x ∷ xs) = joined (number x) (total number xs) (f x) (flat_map f xs) (h x) (counted f number h xs)
+
+  tree_count : LegalByLines → (n : Node) → Legal n → token_times class token (tree_program n) ≡ leaf_times class token n
+  tree_count by_lines n h =
+      let fits : Fits IsNonterminal (s.shape k.File) n.parts = subst (λ kd. Fits IsNonterminal (s.shape kd) n.parts) h.file.root h.file.shapes.0 in
+      sym (counted (expr_words silent quiet) (token_sum (one_if_token class token)) expr_count (tree_program n))
+      ∙ (ap length (lines_kept silent quiet n.parts fits ((by_lines n).0 h).0.file.shapes.1 ∙ sym (parts_leaves silent quiet n.parts))
+      ∙ counted (leaf_words silent) (λ l. one_if_token class token l.class l.token) (λ l. word_count (is_class l.class class && bytes_eq l.token token) (l.class, l.token)) (leaves_of n))
 
 pub tree_tokens : LegalByLines → TreeProgramsKeepTokens
-tree_tokens by_lines n h class token other =
-    let fits : Fits IsNonterminal (s.shape k.File) n.parts = subst (λ kd. Fits IsNonterminal (s.shape kd) n.parts) h.file.root h.file.shapes.0 in
-    let legal : LegalBzl n = ((by_lines n).0 h).0 in
-    let number : Class → Bytes → ℕ = one_if_token class token in
-    let none : (found : Class) (text : Bytes) → is_mark_between found text ≡ true → number found text ≡ 0 = other_token class token other in
-    sym (all_sum number is_mark_between none (λ l m. m) (tree_program n))
-    ∙ (ap (total (λ w. number w.0 w.1)) (lines_kept is_mark_between (λ l m. m) n.parts fits legal.file.shapes.1 ∙ sym (parts_leaves is_mark_between (λ l m. m) n.parts))
-    ∙ leaves_sum number is_mark_between none (λ l m. m) (leaves_of n))
+tree_tokens by_lines n h class token other = tree_count class token other by_lines n h
 
 pub formatted_tokens : LegalByLines → FixedPoint → FormattingKeepsTokens
 formatted_tokens by_lines fixed text formatted formats tree new h i class token string separator =

@@ -1,6 +1,8 @@
 -- Windows of parts, read one after the other.
-use Rattle.std.proofs.Common.{ℕ, Bool, true, false, nat_eq, ◌≡◌, ◌≤◌, ◌<◌, ◌+◌, ◌-◌, ◌∙◌, List, [], ◌∷◌, ◌++◌, length, take, drop, refl, ap, sym, subst, arith, inl, inr, append_assoc, append-nil, length-append}
-use Rattle.std.specs.Prelude.{IfSome, None, Option, Some}
+use Rattle.std.proofs.Common.{ℕ, suc, Bool, true, false, nat_eq, ◌≡◌, ◌≤◌, ◌<◌, ◌+◌, ◌-◌, ◌∙◌, List, [], ◌∷◌, ◌++◌, length, take, drop, drop-cons, get_or, refl, ap, sym, subst, arith, inl, inr, append_assoc, append-nil, length-append, length-take}
+use Rattle.std.specs.Prelude.{IfOk, Result, Ok, Err, Some}
+use Rattle.std.specs.Result.{result_ok}
+use Rattle.std.proofs.lemmas.Option.{same_Some}
 use Rattle.std.proofs.Math.Seq.{take-add}
 use Rattle.std.proofs.lemmas.Bool.Decides.{nat_tests}
 use Rattle.std.proofs.lemmas.Grind.{flat_map-append}
@@ -29,25 +31,32 @@ window from gone lines = record { from = from; gone = gone; parts = lines }
 text_append : (xs ys : List Part) → spelled_parts (xs ++ ys) ≡ spelled_parts xs ++ spelled_parts ys
 text_append xs ys = flat_map-append spell_part xs ys
 
+-- a text after parts of which it begins with more
+pub further_text : (from at reach : ℕ) (parts : List Part) (text rest : Bytes) → at ≤ length (take (reach - from) (drop from parts)) → text ≡ spelled_parts (take at (take (reach - from) (drop from parts))) ++ rest
+    → spelled_parts (take from parts) ++ text ≡ spelled_parts (take (from + at) parts) ++ rest
+further_text from at reach parts text rest passed begins =
+    let first : take at (take (reach - from) (drop from parts)) ≡ take at (drop from parts) = take-take at (reach - from) (drop from parts) (omega (arith, passed, length-take (reach - from) (drop from parts))) in
+    ap (λ t. spelled_parts (take from parts) ++ t) (begins ∙ ap (λ ps. spelled_parts ps ++ rest) first)
+    ∙ (sym (append_assoc (spelled_parts (take from parts)) (spelled_parts (take at (drop from parts))) rest)
+    ∙ sym (ap (λ t. t ++ rest) (ap spelled_parts (take-add from at parts) ∙ text_append (take from parts) (take at (drop from parts)))))
+
 -- what is between parts that stay at both ends of those of a window, among others
-pub cut_so : (from reach at left : ℕ) (parts : List Part) (text rest middle : Bytes) → from ≤ reach → at + left ≤ reach - from
-    → text ≡ spelled_parts (take at (take (reach - from) (drop from parts))) ++ rest → rest ≡ middle ++ spelled_parts (drop left (drop at (take (reach - from) (drop from parts))))
-    → spelled_parts (take (from + at) parts) ++ (middle ++ spelled_parts (take (reach - (from + at + left)) (drop (from + at + left) parts))) ≡ spelled_parts (take from parts) ++ text
-cut_so from reach at left parts text rest middle lower le begins ends =
-    let others : List Part = drop from parts in
-    let gone : ℕ = reach - from in
-    let front : spelled_parts (take (from + at) parts) ≡ spelled_parts (take from parts) ++ spelled_parts (take at others) = ap spelled_parts (take-add from at parts) ∙ text_append (take from parts) (take at others) in
-    let first : take at (take gone others) ≡ take at others = take-take at gone others (omega (arith, le)) in
-    let m : ℕ = reach - (from + at + left) in
-    let many : gone ≡ (at + left) + m = omega (arith, le, lower) in
-    let place : from + (at + left) ≡ from + at + left = omega arith in
-    let last : drop left (drop at (take gone others)) ≡ take m (drop (from + at + left) parts) =
-    drop-drop left at (take gone others)
-    ∙ (ap (λ k. drop (at + left) (take k others)) many ∙ (drop-take (at + left) m others ∙ ap (take m) (drop-drop (at + left) from parts ∙ ap (λ k. drop k parts) place))) in
-    let after : Bytes = middle ++ spelled_parts (take m (drop (from + at + left) parts)) in
-    ap (λ t. t ++ after) front
-    ∙ (append_assoc (spelled_parts (take from parts)) (spelled_parts (take at others)) after
-    ∙ ap (λ t. spelled_parts (take from parts) ++ t) (sym (begins ∙ (ap (λ ps. spelled_parts ps ++ rest) first ∙ ap (λ t. spelled_parts (take at others) ++ t) (ends ∙ ap (λ ps. middle ++ spelled_parts ps) last)))))
+pub cut_so : (from at stay count reach : ℕ) (parts left kept : List Part) (text rest middle : Bytes) → at ≤ length (take (reach - from) (drop from parts)) → from ≤ reach → reach < length parts
+    → left ≡ take (reach - (from + at)) (drop (from + at) parts) → kept ≡ drop (length left - stay) left → stay ≤ length left → count ≤ length kept → text ≡ spelled_parts (take at (take (reach - from) (drop from parts))) ++ rest → rest ≡ middle ++ spelled_parts (drop (length kept - count) kept)
+    → spelled_parts (take (from + at) parts) ++ (middle ++ spelled_parts (take (reach - (from + at + (length left - count))) (drop (from + at + (length left - count)) parts))) ≡ spelled_parts (take from parts) ++ text
+cut_so from at stay count reach parts left kept text rest middle passed within inside own there le few begins ends =
+    let lower : at ≤ reach - from = omega (arith, passed, length-take (reach - from) (drop from parts)) in
+    let size : length left ≡ reach - (from + at) = ap length own ∙ omega (arith, length-take (reach - (from + at)) (drop (from + at) parts), length-drop (from + at) parts, inside) in
+    let n : ℕ = length left in
+    let gone : ℕ = n - count in
+    let m : ℕ = reach - (from + at + gone) in
+    let kept_size : length kept ≡ stay = omega (arith, ap length there, length-drop (n - stay) left, le) in
+    let place : n - stay + (length kept - count) ≡ gone = omega (arith, kept_size, few, le) in
+    let many : reach - (from + at) ≡ gone + m = omega (arith, size, few, kept_size, le, lower, within) in
+    let last : drop (length kept - count) kept ≡ take m (drop (from + at + gone) parts) =
+    ap (drop (length kept - count)) there ∙ (drop-drop (length kept - count) (n - stay) left ∙ (ap (λ k. drop k left) place ∙ (ap (drop gone) (own ∙ ap (λ k. take k (drop (from + at) parts)) many)
+    ∙ (drop-take gone m (drop (from + at) parts) ∙ ap (take m) (drop-drop gone (from + at) parts))))) in
+    sym (further_text from at reach parts text rest passed begins ∙ ap (λ t. spelled_parts (take (from + at) parts) ++ t) (ends ∙ ap (λ ps. middle ++ spelled_parts ps) last))
 
 module _ (join : LinesJoin) (split : LinesSplit) where
   -- lines in the place of parts, among lines
@@ -68,17 +77,15 @@ module _ (join : LinesJoin) (split : LinesSplit) where
       )
 
   -- lines in the place of parts, before the end of a file
-  end_kept : (parts lines : List Part) (end : Part) (text before : Bytes) (w : PartWindow) → parts ≡ lines ++ end ∷ [] → text ≡ before ++ spell_part end → Legal (file_with parts)
-      → IsPutAmong (length lines) parts w before → length text ≤ limit → AreRead text (w ∷ []) parts
-  end_kept parts lines end text before w is ends h put le =
-      let reach : ℕ = length lines in
-      let size : length parts ≡ reach + 1 = ap length is ∙ length-append lines (end ∷ []) in
-      let last : drop reach parts ≡ end ∷ [] = ap (drop reach) is ∙ drop_at lines (end ∷ []) reach refl in
+  pub end_kept : (reach : ℕ) (parts : List Part) (end : Part) (text before : Bytes) (w : PartWindow) → reach ≡ length parts - 1 → reach < length parts → end ≡ get_or parts reach end → text ≡ before ++ spell_part end → Legal (file_with parts)
+      → IsPutAmong reach parts w before → length text ≤ limit → AreRead text (w ∷ []) parts
+  end_kept reach parts end text before w size inside is ends h put le =
       let tail : List Part = drop reach parts in
+      let last : tail ≡ end ∷ [] = drop-cons parts reach end inside ∙ (ap (λ x. x ∷ drop (suc reach) parts) (sym is) ∙ ap (λ ps. end ∷ ps) (drop_all (suc reach) parts (omega (arith, size)))) in
       let all : text ≡ before ++ spelled_parts tail = ends ∙ (ap (λ t. before ++ t) (sym (append-nil (spell_part end))) ∙ ap (λ ps. before ++ spelled_parts ps) (sym last)) in
       let short : length (before ++ spelled_parts tail) ≤ limit = subst (λ t. length t ≤ limit) all le in
       let two : length before + length (spelled_parts tail) ≤ limit = omega (arith, short, length-append before (spelled_parts tail)) in
-      let own : Reads (spelled_parts tail) (file_with tail) = (legal_after split reach parts (omega (arith, size)) h, refl, omega (arith, two)) in
+      let own : Reads (spelled_parts tail) (file_with tail) = (legal_after split reach parts inside h, refl, omega (arith, two)) in
       let place : ℕ = w.from + w.gone in
       let m : ℕ = reach - place in
       let count : place + m ≡ reach = omega (arith, put.0) in
@@ -87,47 +94,24 @@ module _ (join : LinesJoin) (split : LinesSplit) where
       let new : window_parts (w ∷ []) parts ≡ put_in reach w parts ++ tail =
       ap (λ ps. take w.from parts ++ (w.parts ++ ps)) cut
       ∙ (ap (λ ps. take w.from parts ++ ps) (sym (append_assoc w.parts (take m (drop place parts)) tail)) ∙ sym (append_assoc (take w.from parts) (w.parts ++ take m (drop place parts)) tail)) in (
-        (omega (arith, put.0, size), tt),
+        (omega (arith, put.0, inside), tt),
         subst (λ t. Reads t (file_with (window_parts (w ∷ []) parts))) (sym all)
             (subst (λ ps. Reads (before ++ spelled_parts tail) (file_with ps)) (sym new) (read_after join before (spelled_parts tail) (put_in reach w parts) (file_with tail) (put.1 (omega (arith, two))) own short)),
       )
 
-  pub found_kept : (parts lines : List Part) (end : Part) (text before : Bytes) (found : Option PartWindow) → parts ≡ lines ++ end ∷ [] → text ≡ before ++ spell_part end → Legal (file_with parts)
-      → IfSome found (λ w. IsPutAmong (length lines) parts w before) → length text ≤ limit → IfSome found (λ w. AreRead text (w ∷ []) parts)
-  found_kept parts lines end text before None is ends h put le = tt
-  found_kept parts lines end text before (Some w) is ends h put le = end_kept parts lines end text before w is ends h put le
-
   -- a file in the place of all parts after lines
-  pub read_at_end : (at gone : ℕ) (parts lines passed others : List Part) (end : Part) (text rest : Bytes) (tree : Node) → parts ≡ lines ++ end ∷ [] → at ≤ length lines → passed ≡ take at parts → others ≡ drop at parts
-      → Legal (file_with parts) → AreWholeLines passed → gone ≡ length others → Reads rest tree → text ≡ spelled_parts (take at lines) ++ rest → length text ≤ limit → AreRead text (window at gone tree.parts ∷ []) parts
-  read_at_end at gone parts lines passed others end text rest tree is within front back h whole all reads begins le =
+  pub read_at_end : (at : ℕ) (parts : List Part) (text rest : Bytes) (w : PartWindow) → at < length parts → Legal (file_with parts) → AreWholeLines (take at parts) → w.from ≡ at → w.from + w.gone ≡ length parts → Reads rest (file_with w.parts)
+      → text ≡ spelled_parts (take at parts) ++ rest → length text ≤ limit → AreRead text (w ∷ []) parts
+  read_at_end at parts text rest w within h whole from all reads is le =
       let before : Bytes = spelled_parts (take at parts) in
-      let size : length parts ≡ length lines + 1 = ap length is ∙ length-append lines (end ∷ []) in
-      let same : take at lines ≡ take at parts = sym (ap (take at) is ∙ take-append-le at lines (end ∷ []) within) in
-      let own : text ≡ before ++ rest = begins ∙ ap (λ ps. spelled_parts ps ++ rest) same in
-      let short : length (before ++ rest) ≤ limit = subst (λ t. length t ≤ limit) own le in
-      let first : ReadAsLines before (take at parts) = first_lines split at parts (omega (arith, size, within)) h (subst AreWholeLines front whole) (omega (arith, short, length-append before rest)) in
-      let count : at + gone ≡ length parts = omega (arith, all, ap length back, length-drop at parts, size, within) in
-      let none : drop (at + gone) parts ≡ [] = drop_all (at + gone) parts (omega (arith, count)) in
-      let new : take at parts ++ (tree.parts ++ drop (at + gone) parts) ≡ take at parts ++ tree.parts = ap (λ ps. take at parts ++ ps) (ap (λ ps. tree.parts ++ ps) none ∙ append-nil tree.parts) in (
-        (omega (arith, count), tt),
-        subst (λ t. Reads t (file_with (window_parts (window at gone tree.parts ∷ []) parts))) (sym own)
-            (subst (λ ps. Reads (before ++ rest) (file_with ps)) (sym new) (read_after join before rest (take at parts) tree first reads short)),
+      let short : length (before ++ rest) ≤ limit = subst (λ t. length t ≤ limit) is le in
+      let first : ReadAsLines before (take at parts) = first_lines split at parts within h whole (omega (arith, short, length-append before rest)) in
+      let new : take w.from parts ++ (w.parts ++ drop (w.from + w.gone) parts) ≡ take at parts ++ w.parts =
+      ap (λ ps. take w.from parts ++ (w.parts ++ ps)) (drop_all (w.from + w.gone) parts (omega (arith, all))) ∙ (ap (λ ps. take w.from parts ++ ps) (append-nil w.parts) ∙ ap (λ k. take k parts ++ w.parts) from) in (
+        (omega (arith, all), tt),
+        subst (λ t. Reads t (file_with (window_parts (w ∷ []) parts))) (sym is)
+            (subst (λ ps. Reads (before ++ rest) (file_with ps)) (sym new) (read_after join before rest (take at parts) (file_with w.parts) first reads short)),
       )
-
-  -- a window of the parts after lines
-  pub read_beyond : (from : ℕ) (parts : List Part) (text : Bytes) (w : PartWindow) → from < length parts → Legal (file_with parts) → AreWholeLines (take from parts)
-      → AreRead text (w ∷ []) (drop from parts) → length (spelled_parts (take from parts) ++ text) ≤ limit → AreRead (spelled_parts (take from parts) ++ text) (window (from + w.from) w.gone w.parts ∷ []) parts
-  read_beyond from parts text w lt h whole read le =
-      let before : Bytes = spelled_parts (take from parts) in
-      let others : List Part = drop from parts in
-      let first : ReadAsLines before (take from parts) = first_lines split from parts lt h whole (omega (arith, le, length-append before text)) in
-      let place : from + (w.from + w.gone) ≡ from + w.from + w.gone = omega arith in
-      let behind : drop (w.from + w.gone) others ≡ drop (from + w.from + w.gone) parts = drop-drop (w.from + w.gone) from parts ∙ ap (λ k. drop k parts) place in
-      let new : take from parts ++ (take w.from others ++ (w.parts ++ drop (w.from + w.gone) others)) ≡ take (from + w.from) parts ++ (w.parts ++ drop (from + w.from + w.gone) parts) =
-      sym (append_assoc (take from parts) (take w.from others) (w.parts ++ drop (w.from + w.gone) others))
-      ∙ (ap (λ ps. ps ++ (w.parts ++ drop (w.from + w.gone) others)) (sym (take-add from w.from parts)) ∙ ap (λ ps. take (from + w.from) parts ++ (w.parts ++ ps)) behind) in
-      ((omega (arith, read.0.0, length-drop from parts, lt), tt), subst (λ ps. Reads (before ++ text) (file_with ps)) new (read_after join before text (take from parts) (file_with (window_parts (w ∷ []) others)) first read.1 le))
 
 -- ---- windows after windows
 
@@ -202,18 +186,21 @@ pub record AreBefore (parts : List Part) (total : Bytes) (read : List PartWindow
   pub text : total ≡ spelled_parts made ++ text_with texts left
   pub among : AreAmong texts left
   pub counted : kept + length left ≤ length parts
-  pub some : 0 < length left
   pub legal : Legal (file_with left)
 
-pub begun : (split : LinesSplit) (join : LinesJoin) (parts : List Part) (texts : List TextWindow) → Legal (file_with parts) → 0 < length parts → AreAmong texts parts → AreBefore parts (text_with texts parts) [] 0 parts texts
-begun split join parts texts h some among = record {
+-- a file has at least its end
+some_parts : (parts : List Part) → Legal (file_with parts) → 0 < length parts
+some_parts [] h = absurd h.file.shapes.0
+some_parts (x ∷ parts) h = omega arith
+
+pub begun : (split : LinesSplit) (join : LinesJoin) (parts : List Part) (texts : List TextWindow) → Legal (file_with parts) → AreAmong texts parts → AreBefore parts (text_with texts parts) [] 0 parts texts
+begun split join parts texts h among = record {
   made = [];
-  lines = no_lines join (bare_legal split 0 parts some h);
+  lines = no_lines join (bare_legal split 0 parts (some_parts parts h) h);
   on = λ ws there. let stay : windows_moved 0 ws ≡ ws = moved_none ws in (subst (λ l. AreThere l parts) (sym stay) there, ap (λ l. window_parts l parts) stay);
   text = refl;
   among = among;
   counted = omega arith;
-  some = some;
   legal = h;
 }
 
@@ -240,7 +227,6 @@ next join split parts total read after kept reach stay left t texts ts w state i
       text = all ∙ (sym (append_assoc (spelled_parts state.made) own tail) ∙ ap (λ s. s ++ tail) (sym spelled));
       among = subst (λ k. AreAmong ts (drop k left)) (sym at) (subst (λ l. AreAmong l left) is state.among).1;
       counted = count_next read after kept reach stay w pushed (length left) (length parts) (length (drop reach left)) state.counted put.0 (omega (arith, length-drop reach left, lt));
-      some = omega (arith, length-drop reach left, lt);
       legal = legal_after split reach left lt state.legal;
     }
 
@@ -292,14 +278,6 @@ alone parts text reach stay w after (inl (none, nothing, same, all)) read =
     subst (λ l. AreRead text l parts) (sym same) (tt, subst (λ ps. Reads text (file_with ps)) own read.1)
 alone parts text reach stay w after (inr (is, rest)) read = subst (λ l. AreRead text l parts) (sym (is ∙ moved_none (w ∷ []))) read
 
--- ---- tests
-
-pub none_there : {A : Type 0} (xs : List A) (t : Bool) → t ≡ nat_eq (length xs) 0 → t ≡ true → xs ≡ []
-none_there xs t is h = nil_from_length xs (grind (arith, nat_tests))
-
-pub some_there : {A : Type 0} (xs : List A) (t : Bool) → t ≡ nat_eq (length xs) 0 → t ≡ false → 0 < length xs
-some_there xs t is h = grind (arith, nat_tests)
-
 -- ---- windows of texts and of parts
 
 texts_among : (ts : List TextWindow) (ws : List PartWindow) (parts : List Part) → AreTextsOf ts ws → AreThere ws parts → AreAmong ts parts
@@ -326,11 +304,6 @@ new_reads : (ts : List TextWindow) (ws : List PartWindow) (tree : Node) → AreT
 new_reads ts ws tree h there legal le =
     (texts_among ts ws tree.parts h there, subst (λ s. Reads s (with_windows ws tree)) (texts_spelled ts ws tree.parts h) (legal, refl, le))
 
--- windows with which a tree reads as a text, as the tree says it
-tree_read : (tree : Node) (text : Bytes) (ws : List PartWindow) → Legal tree → AreRead text ws tree.parts → AreThere ws tree.parts × Reads text (with_windows ws tree)
-tree_read tree text ws h read =
-    (read.0, subst (λ kind. Reads text (let m : Node = record { kind = kind; parts = window_parts ws tree.parts } in m)) (sym h.file.root) read.1)
-
 -- what is required of windows of texts
 pub required : (ts slice : List TextWindow) (tree : Node) (parts : List Part) → slice ≡ ts → parts ≡ tree.parts
     → ((new : List PartWindow) × AreTextsOf ts new × AreThere new tree.parts × Legal (with_windows new tree) × (length (spell_node (with_windows new tree)) ≤ limit)) → AreAmong slice parts × Accepted (text_with slice parts)
@@ -339,13 +312,26 @@ required ts slice tree parts e d r =
     subst (λ l. AreAmong l parts × Accepted (text_with l parts)) (sym e) (subst (λ ps. AreAmong ts ps × Accepted (text_with ts ps)) (sym d) (own.0, (with_windows r.0 tree, own.1)))
 
 -- two lists of windows with the same texts make the same tree
-pub one_tree : OneReading → (ts slice : List TextWindow) (tree : Node) (parts : List Part) (new read : List PartWindow) → slice ≡ ts → parts ≡ tree.parts → Legal tree → AreRead (text_with slice parts) read parts
+pub one_tree : OneReading → (ts slice : List TextWindow) (tree : Node) (parts : List Part) (new read : List PartWindow) → slice ≡ ts → parts ≡ tree.parts → AreThere read tree.parts × Reads (text_with slice parts) (with_windows read tree)
     → AreTextsOf ts new → AreThere new tree.parts → Legal (with_windows new tree) → length (spell_node (with_windows new tree)) ≤ limit → AreThere read tree.parts × (with_windows read tree ≡ with_windows new tree)
-one_tree one ts slice tree parts new read e d h found texts there legal le =
-    let here : AreRead (text_with ts tree.parts) read tree.parts = subst (λ l. AreRead (text_with l tree.parts) read tree.parts) e (subst (λ ps. AreRead (text_with slice ps) read ps) d found) in
-    let own = tree_read tree (text_with ts tree.parts) read h here in
-    (own.0, one (text_with ts tree.parts) (with_windows read tree) (with_windows new tree) own.1 (new_reads ts new tree texts there legal le).1)
+one_tree one ts slice tree parts new read e d (found, reads) texts there legal le =
+    let here : Reads (text_with ts tree.parts) (with_windows read tree) = subst (λ l. Reads (text_with l tree.parts) (with_windows read tree)) e (subst (λ ps. Reads (text_with slice ps) (with_windows read tree)) d reads) in
+    (found, one (text_with ts tree.parts) (with_windows read tree) (with_windows new tree) here (new_reads ts new tree texts there legal le).1)
+
+-- windows with which a tree reads as a text, as the tree says it
+pub tree_read : (tree : Node) (parts : List Part) (text : Bytes) (ws : List PartWindow) → Legal tree → parts ≡ tree.parts → AreRead text ws parts → AreThere ws tree.parts × Reads text (with_windows ws tree)
+tree_read tree parts text ws h is read =
+    let own : AreRead text ws tree.parts = subst (AreRead text ws) is read in
+    (own.0, subst (λ kind. Reads text (let m : Node = record { kind = kind; parts = window_parts ws tree.parts } in m)) (sym h.file.root) own.1)
 
 -- the first of these windows is among the parts
 pub first_among : (t : TextWindow) (texts ts : List TextWindow) (left : List Part) → AreAmong texts left → texts ≡ t ∷ ts → t.from + t.gone ≤ length left
 first_among t texts ts left among cut = (subst (λ l. AreAmong l left) cut among).0
+
+-- what is said of a result, of its value
+pub ok_gives : {A E : Type 0} (P : A → Type 0) (r : Result A E) (x : A) → result_ok r ≡ Some x → IfOk r P → P x
+ok_gives P (Ok y) x e h = subst P (same_Some y x e) h
+ok_gives P (Err fault) x e h = absurd cc
+
+pub none_there : {A : Type 0} (xs : List A) (t : Bool) → t ≡ nat_eq (length xs) 0 → t ≡ true → xs ≡ []
+none_there xs t is h = nil_from_length xs (grind (arith, nat_tests))

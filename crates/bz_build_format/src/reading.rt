@@ -1,6 +1,6 @@
 //! Windows of parts, read of windows of texts.
-ghost use Rattle.std.specs.Prelude.{◌≡◌, ◌⊎◌, ◌<◌, ◌≤◌, ◌+◌, ◌-◌, ◌^◌, ◌++◌, [], ◌∷◌, IfOk, IfErr, IfSome, OnOk, take, length, List};
-ghost use Rattle.bz_grammar.specs.Joined.{file_with};
+ghost use Rattle.std.specs.Prelude.{◌≡◌, ◌⊎◌, ◌<◌, ◌≤◌, ◌+◌, ◌^◌, ◌++◌, [], ◌∷◌, IfOk, IfErr, IfSome, OnOk, take, length, List};
+ghost use Rattle.bz_grammar.specs.Joined.{AreWholeLines, file_with};
 ghost use Rattle.bz_grammar.specs.Legal.{Accepted, Legal, Reads};
 ghost use Rattle.bz_grammar.specs.Spell.{limit, spell_node};
 ghost use Rattle.bz_edit.specs.Windows.{AreThere, with_windows};
@@ -8,7 +8,7 @@ ghost use Rattle.bz_edit.specs.declared.part_windows.PartWindow.{PartWindow};
 ghost use Rattle.bz_layout.specs.Windows.{AreTextsOf};
 ghost use Rattle.bz_build_format.specs.private.Lines.{AreAmong, AreRead, IsPushed, IsPutAmong, spelled_parts, text_with};
 
-use crate::ends::{rest_before_part, same_back, same_front};
+use crate::ends::{Side, rest_of_part, same};
 use crate::whole_lines::{are_whole_lines, lines_at};
 use bz_edit::PartWindow;
 use bz_grammar::laws::{lines_join, lines_split, one_reading};
@@ -19,120 +19,85 @@ use bz_tree::parse;
 use std::alloc::{AllocError, Global};
 
 /// The lines of a text in the place of parts from `from` as far as `reach`, but for those that it has in common with them at its beginning and at its
-/// end. None where they aren't read by themselves. The error: a growth was refused.
+/// end. None where they aren't read by themselves, or a growth was refused.
 fn cut_lines(
     alloc: Global,
     parts: &[Part],
     from: usize,
     reach: usize,
     text: &[u8],
-) -> Result<Option<PartWindow>, Memory>
+) -> Option<PartWindow>
     requires within { from ≤ reach }
     requires reach { reach < length parts.now }
     requires legal { Legal (file_with parts.now) }
-    ensures { IfOk result (λ found. IfSome found (λ new. IsPutAmong reach parts.now new (spelled_parts (take from parts.now) ++ text.now))) }
+    ensures { IfSome result (λ new. IsPutAmong reach parts.now new (spelled_parts (take from parts.now) ++ text.now)) }
 {
-    let (_, following) = parts.split_at(from);
-    let (others, _) = following.split_at(reach - from);
-    let (at, rest) = same_front(others, text);
-    let (_, left) = others.split_at(at);
-    let (gone, middle) = same_back(left, rest);
-    if let Some(new) = lines_at(alloc, parts, from + at, gone, reach, middle)? {
-        return Ok(Some(new));
-    }
-    if gone == left.len() {
-        return Ok(None);
-    }
+    let (at, rest) = same(Side::Front, &parts[from..reach], text);
+    let left = &parts[from + at..reach];
+    let mut stay = left.len();
     // comments alone are no lines: they are read with the line below them
-    let (_, kept) = left.split_at(gone + 1);
-    let (more, middle) = same_back(kept, rest);
-    lines_at(alloc, parts, from + at, gone + 1 + more, reach, middle)
+    for _ in 0..2 {
+        let (_, kept) = left.split_at(left.len() - stay);
+        let (count, middle) = same(Side::Back, kept, rest);
+        let found = lines_at(alloc, parts, from + at, left.len() - count, reach, middle);
+        if found.is_some() || count == 0 {
+            return found;
+        }
+        stay = count - 1;
+    }
+    None
 }
 
-/// The lines of a window before the end of the parts. None where they aren't read by themselves. The error: a growth was refused.
-fn lines_window(
+/// The window of a text that is read in the place of all parts from one on.
+fn rest_read(
     alloc: Global,
     parts: &[Part],
-    window: &TextWindow,
-) -> Result<Option<PartWindow>, Memory>
-    requires reach { window.now.from + window.now.gone < length parts.now }
-    requires legal { Legal (file_with parts.now) }
-    ensures { IfOk result (λ found. IfSome found (λ new. IsPutAmong (window.now.from + window.now.gone) parts.now new (spelled_parts (take window.now.from parts.now) ++ window.now.text))) }
-{
-    let from = window.from;
-    let reach = from + window.gone;
-    let text = window.text.as_slice();
-    if let Some(new) = cut_lines(alloc, parts, from, reach, text)? {
-        return Ok(Some(new));
-    }
-    lines_at(alloc, parts, from, window.gone, reach, text)
-}
-
-/// The window of lines with which the parts of a file spell a text, where its end stays. None where they aren't read by themselves. The error: a growth
-/// was refused.
-fn before_end(alloc: Global, parts: &[Part], text: &[u8]) -> Result<Option<PartWindow>, Memory>
-    requires legal { Legal (file_with parts.now) }
-    requires short { length text.now ≤ limit }
-    ensures { IfOk result (λ found. IfSome found (λ new. AreRead text.now (new ∷ []) parts.now)) }
-{
-    lines_join();
-    lines_split();
-    let Some((end, lines)) = parts.split_last() else {
-        return Ok(None);
-    };
-    let Some(rest) = rest_before_part(end, text) else {
-        return Ok(None);
-    };
-    let found = cut_lines(alloc, parts, 0, lines.len(), rest)?;
-    Ok(found)
-}
-
-/// The window of parts with which those of a file spell a text, to its end. None where what is after the lines that stay isn't read by itself.
-fn to_end(alloc: Global, parts: &[Part], text: &[u8]) -> Option<PartWindow>
-    requires legal { Legal (file_with parts.now) }
-    requires short { length text.now ≤ limit }
-    ensures { IfSome result (λ new. AreRead text.now (new ∷ []) parts.now) }
-{
-    lines_join();
-    lines_split();
-    let (_, lines) = parts.split_last()?;
-    let (at, rest) = same_front(lines, text);
-    let (passed, others) = parts.split_at(at);
-    if !are_whole_lines(passed) {
-        return None;
-    }
-    match parse(alloc, rest) {
-        Ok(tree) => Some(PartWindow {
-            from: at,
-            gone: others.len(),
-            parts: tree.root.parts,
-        }),
-        Err(_) => None,
-    }
-}
-
-/// The window of parts with which those of a file spell a text: where no less of the text is known by itself, of all of it. The error: the text isn't
-/// accepted, or a growth was refused.
-fn end_window(alloc: Global, parts: &[Part], text: &[u8]) -> Result<PartWindow, ReadFault>
-    requires legal { Legal (file_with parts.now) }
-    requires short { length text.now ≤ limit }
-    ensures ok { IfOk result (λ new. AreRead text.now (new ∷ []) parts.now) }
+    from: usize,
+    text: &[u8],
+) -> Result<PartWindow, ReadFault>
+    requires from { from ≤ length parts.now }
+    ensures ok { IfOk result (λ new. (new.from ≡ from) × (new.from + new.gone ≡ length parts.now) × Reads text.now (file_with new.parts)) }
     ensures err { IfErr result (λ fault. (Accepted text.now → ⊥) ⊎ (fault ≡ ReadFault.Memory)) }
 {
-    if let Some(new) = before_end(alloc, parts, text)? {
-        return Ok(new);
+    let tree = parse(alloc, text)?;
+    Ok(PartWindow {
+        from,
+        gone: parts.len() - from,
+        parts: tree.root.parts,
+    })
+}
+
+/// The window of a text that takes the place of the parts of a file from `from` on, after lines: where no less of it is known by itself, of all of it.
+/// The error: with those lines it isn't accepted, or a growth was refused.
+fn end_window(
+    alloc: Global,
+    parts: &[Part],
+    from: usize,
+    text: &[u8],
+) -> Result<PartWindow, ReadFault>
+    requires from { from < length parts.now }
+    requires whole { AreWholeLines (take from parts.now) }
+    requires legal { Legal (file_with parts.now) }
+    requires short { length (spelled_parts (take from parts.now) ++ text.now) ≤ limit }
+    ensures ok { IfOk result (λ new. AreRead (spelled_parts (take from parts.now) ++ text.now) (new ∷ []) parts.now) }
+    ensures err { IfErr result (λ fault. (Accepted text.now → ⊥) ⊎ (fault ≡ ReadFault.Memory)) }
+{
+    lines_join();
+    lines_split();
+    let end = parts.len() - 1;
+    if let Some(rest) = rest_of_part(Side::Back, &parts[end], text) {
+        if let Some(new) = cut_lines(alloc, parts, from, end, rest) {
+            return Ok(new);
+        }
     }
-    if let Some(new) = to_end(alloc, parts, text) {
-        return Ok(new);
+    let (count, rest) = same(Side::Front, &parts[from..end], text);
+    if are_whole_lines(&parts[..from + count]) {
+        if let Ok(new) = rest_read(alloc, parts, from + count, rest) {
+            return Ok(new);
+        }
     }
-    match parse(alloc, text) {
-        Ok(tree) => Ok(PartWindow {
-            from: 0,
-            gone: parts.len(),
-            parts: tree.root.parts,
-        }),
-        Err(fault) => Err(fault),
-    }
+    let new = rest_read(alloc, parts, from, text)?;
+    Ok(new)
 }
 
 /// Appends a window among the first `reach` parts that are left, of which `kept` ones before them stay, unless it changes nothing. The
@@ -159,75 +124,38 @@ fn push_window(
     Ok(behind)
 }
 
-/// The window that reaches the end of the parts. None where it isn't read by itself. The error: a growth was refused.
-fn last_window(
-    alloc: Global,
-    parts: &[Part],
-    window: &TextWindow,
-) -> Result<Option<PartWindow>, Memory>
-    requires reach { window.now.from + window.now.gone ≡ length parts.now }
-    requires legal { Legal (file_with parts.now) }
-    requires short { length (spelled_parts (take window.now.from parts.now) ++ window.now.text) ≤ limit }
-    ensures { IfOk result (λ found. IfSome found (λ new. AreRead (spelled_parts (take window.now.from parts.now) ++ window.now.text) (new ∷ []) parts.now)) }
-{
-    lines_join();
-    lines_split();
-    let (before, gone) = parts.split_at(window.from);
-    if window.gone == 0 || !are_whole_lines(before) {
-        return Ok(None);
-    }
-    match end_window(alloc, gone, window.text.as_slice()) {
-        Ok(new) => Ok(Some(PartWindow {
-            from: window.from + new.from,
-            gone: new.gone,
-            parts: new.parts,
-        })),
-        Err(ReadFault::Memory) => Err(AllocError),
-        Err(_) => Ok(None),
-    }
-}
-
-/// The windows of parts, each of the text of one window. None where one isn't read by itself. The error: a growth was refused.
-fn each_read(
-    alloc: Global,
-    parts: &[Part],
-    windows: &[TextWindow],
-) -> Result<Option<Items<PartWindow>>, Memory>
+/// The windows of parts, each of the text of one window. None where one isn't read by itself, or a growth was refused.
+fn each_read(alloc: Global, parts: &[Part], windows: &[TextWindow]) -> Option<Items<PartWindow>>
     requires legal { Legal (file_with parts.now) }
     requires among { AreAmong windows.now parts.now }
     requires short { length (text_with windows.now parts.now) ≤ limit }
-    ensures { IfOk result (λ found. IfSome found (λ read. AreRead (text_with windows.now parts.now) read parts.now)) }
+    ensures { IfSome result (λ read. AreRead (text_with windows.now parts.now) read parts.now) }
 {
     lines_join();
     lines_split();
-    if parts.is_empty() {
-        return Ok(None);
-    }
     let mut read = Items::new(alloc);
     let mut kept = 0;
     let mut left = parts;
     let mut texts = windows;
     while let Some((window, others)) = texts.split_first() {
         let reach = window.from + window.gone;
+        let text = window.text.as_slice();
+        let (before, gone) = left.split_at(window.from);
         if reach == left.len() {
-            if !others.is_empty() {
-                return Ok(None);
+            if !others.is_empty() || gone.is_empty() || !are_whole_lines(before) {
+                return None;
             }
-            let Some(new) = last_window(alloc, left, window)? else {
-                return Ok(None);
-            };
-            push_window(&mut read, kept, new, reach)?;
-            return Ok(Some(read));
+            let new = end_window(alloc, left, window.from, text).ok()?;
+            push_window(&mut read, kept, new, reach).ok()?;
+            return Some(read);
         }
-        let Some(new) = lines_window(alloc, left, window)? else {
-            return Ok(None);
-        };
-        kept = push_window(&mut read, kept, new, reach)?;
+        let new = cut_lines(alloc, left, window.from, reach, text)?;
+        kept = push_window(&mut read, kept, new, reach).ok()?;
         let (_, following) = left.split_at(reach);
         left = following;
         texts = others;
     }
-    Ok(Some(read))
+    Some(read)
 }
 
 /// Appends what parts spell.
@@ -244,7 +172,7 @@ fn push_parts(out: &mut Vec<u8>, parts: &[Part]) -> Result<(), Memory>
 
 /// The text of parts, with that of each window in the place of as many as it says.
 fn whole_text(alloc: Global, parts: &[Part], windows: &[TextWindow]) -> Result<Text, Memory>
-    requires among { AreAmong windows.now parts.now }
+    requires { AreAmong windows.now parts.now }
     ensures { IfOk result (λ text. text ≡ text_with windows.now parts.now) }
 {
     let mut out = Vec::new(alloc);
@@ -262,40 +190,6 @@ fn whole_text(alloc: Global, parts: &[Part], windows: &[TextWindow]) -> Result<T
     Ok(Text::from_vec(out))
 }
 
-/// The window of a text in the place of all parts, of which those at its ends stay that it has too.
-fn text_read(alloc: Global, parts: &[Part], text: &[u8]) -> Result<Items<PartWindow>, ReadFault>
-    requires legal { Legal (file_with parts.now) }
-    ensures ok { IfOk result (λ read. AreRead text.now read parts.now) }
-    ensures err { IfErr result (λ fault. (Accepted text.now → ⊥) ⊎ (fault ≡ ReadFault.Memory)) }
-{
-    if text.len() > LENGTH_LIMIT {
-        return Err(ReadFault::TooLarge);
-    }
-    let new = end_window(alloc, parts, text)?;
-    let mut read = Items::new(alloc);
-    push_window(&mut read, 0, new, parts.len())?;
-    Ok(read)
-}
-
-/// The windows of parts where one of the texts isn't read by itself: the text of all is.
-fn all_read(
-    alloc: Global,
-    parts: &[Part],
-    windows: &[TextWindow],
-) -> Result<Items<PartWindow>, Memory>
-    requires legal { Legal (file_with parts.now) }
-    requires among { AreAmong windows.now parts.now }
-    requires accepted { Accepted (text_with windows.now parts.now) }
-    ensures { IfOk result (λ read. AreRead (text_with windows.now parts.now) read parts.now) }
-{
-    let text = whole_text(alloc, parts, windows)?;
-    match text_read(alloc, parts, text.as_slice()) {
-        Ok(read) => Ok(read),
-        Err(ReadFault::Memory) => Err(AllocError),
-        Err(_) => unreachable!(),
-    }
-}
-
 /// The parts of windows of texts that take the place of parts of a tree: as few as differ. Required is that the texts are what some parts
 /// spell, with which the tree is legal. The error: a growth was refused.
 pub fn read_windows(
@@ -309,12 +203,15 @@ pub fn read_windows(
 {
     one_reading();
     let parts = tree.root.parts.as_slice();
-    match each_read(alloc, parts, windows.as_slice())? {
-        Some(read) => Ok(read),
-        None => {
-            let read = all_read(alloc, parts, windows.as_slice())?;
-            Ok(read)
-        }
+    let texts = windows.as_slice();
+    if let Some(read) = each_read(alloc, parts, texts) {
+        return Ok(read);
+    }
+    let text = whole_text(alloc, parts, texts)?;
+    match read_text(alloc, tree, text.as_slice()) {
+        Ok(read) => Ok(read),
+        Err(ReadFault::Memory) => Err(AllocError),
+        Err(_) => unreachable!(),
     }
 }
 
@@ -324,14 +221,20 @@ pub fn read_text(alloc: Global, tree: &Tree, text: &[u8]) -> Result<Items<PartWi
     ensures ok { IfOk result (λ read. AreThere read tree.now.parts × Reads text.now (with_windows read tree.now)) }
     ensures err { IfErr result (λ fault. (Accepted text.now → ⊥) ⊎ (fault ≡ ReadFault.Memory)) }
 {
-    text_read(alloc, tree.root.parts.as_slice(), text)
+    if text.len() > LENGTH_LIMIT {
+        return Err(ReadFault::TooLarge);
+    }
+    let parts = tree.root.parts.as_slice();
+    let new = end_window(alloc, parts, 0, text)?;
+    let mut read = Items::new(alloc);
+    push_window(&mut read, 0, new, parts.len())?;
+    Ok(read)
 }
 
 /// Whether a text is for the most part other than the tree's at both ends.
 pub fn is_mostly_other(tree: &Tree, text: &[u8]) -> bool {
     let parts = tree.root.parts.as_slice();
-    let (at, rest) = same_front(parts, text);
-    let (_, others) = parts.split_at(at);
-    let (_, middle) = same_back(others, rest);
+    let (count, rest) = same(Side::Front, parts, text);
+    let (_, middle) = same(Side::Back, &parts[count..], rest);
     middle.len() > text.len() / 2
 }

@@ -13,18 +13,12 @@ use Rattle.bz_grammar.specs.Split.{bare_end}
 use Rattle.bz_edit.specs.declared.part_windows.PartWindow.{PartWindow}
 use Rattle.bz_edit.specs.Windows.{AreThere, window_parts}
 use Rattle.bz_layout.specs.declared.writer.TextWindow.{TextWindow}
+use Rattle.bz_build_format.specs.declared.ends.Side.{Side}
+use Rattle.bz_build_format.specs.declared.ends.Side.TheVariants.{Front, Back}
 
--- the part is a line feed, with what is before it
-abbrev pub IsEndOfLine : Part → Type 0
-IsEndOfLine x = (l : Leaf) × (x ≡ p.Leaf l) × (l.token ≡ line_feed ∷ [])
-
--- the last of the parts is
+-- the last of these parts is a line feed, with what is before it
 abbrev pub EndInLineFeed : List Part → Type 0
-EndInLineFeed ps = (front : List Part) × (x : Part) × (ps ≡ front ++ x ∷ []) × IsEndOfLine x
-
--- the part is a line that ends with one
-abbrev pub IsWholeLine : Part → Type 0
-IsWholeLine x = (line : Node) × (x ≡ p.Node line) × EndInLineFeed line.parts
+EndInLineFeed ps = (front : List Part) × (l : Leaf) × (ps ≡ front ++ p.Leaf l ∷ []) × (l.token ≡ line_feed ∷ [])
 
 -- what parts spell
 abbrev pub spelled_parts : List Part → Bytes
@@ -66,3 +60,20 @@ abbrev pub IsPushed : List PartWindow → ℕ → PartWindow → ℕ → List Pa
 IsPushed before kept w reach after stay =
     ((w.gone ≡ 0) × (w.parts ≡ []) × (after ≡ before) × (stay ≡ kept + reach))
     ⊎ ((after ≡ before ++ windows_moved kept (w ∷ [])) × (stay ≡ reach - (w.from + w.gone)))
+
+-- ---- the sides of texts and parts
+
+-- something at a side of something
+abbrev pub joined_at : Side → Bytes → Bytes → Bytes
+joined_at Front end rest = end ++ rest
+joined_at Back end rest = rest ++ end
+
+-- this many parts at a side
+abbrev pub at_side : Side → ℕ → List Part → List Part
+at_side Front n parts = take n parts
+at_side Back n parts = drop (length parts - n) parts
+
+-- the place of the part after as many from a side
+abbrev pub place_from : Side → ℕ → ℕ → ℕ
+place_from Front count passed = passed
+place_from Back count passed = count - 1 - passed

@@ -1,8 +1,7 @@
-use Rattle.std.proofs.Common.{◌≡◌, ◌++◌, take}
-use Rattle.std.specs.List.{flat_map}
-use Rattle.bz_grammar.specs.Spell.{spell_part}
+use Rattle.std.proofs.Common.{◌≡◌}
+use Rattle.bz_build_format.specs.private.Lines.{at_side, joined_at, spelled_parts}
 use Rattle.bz_build_format.proofs.ends.+rest.Given as goal
 
--- the text begins with the parts so far
-abbrev pub invariant-rest_after-loop-part : goal.invariant-rest_after-loop-part
-invariant-rest_after-loop-part l = flat_map spell_part (take l.part-index l.parts) ++ l.rest ≡ l.text
+-- the text has the parts so far at this side
+abbrev pub invariant-same-loop-passed : goal.invariant-same-loop-passed
+invariant-same-loop-passed l = l.text ≡ joined_at l.side (spelled_parts (at_side l.side l.passed l.parts)) l.rest
