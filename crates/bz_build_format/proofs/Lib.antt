@@ -4,9 +4,7 @@ pub mod ReadFaults
 pub mod SeenPrograms
 pub mod ShapeWalks
 pub mod TreeWords
-pub mod WrittenPrograms
 pub mod Chunking
-pub mod BzlFormatting
 pub mod Layouts
 pub mod Nodes
 pub mod Lines

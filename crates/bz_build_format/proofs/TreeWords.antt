@@ -37,9 +37,8 @@ use Rattle.bz_bzl_value.specs.declared.value.Statement.TheVariants as st
 use Rattle.bz_bzl_value.specs.View.{stated}
 use Rattle.bz_bzl_value.proofs.KeptGaps.{NoColon, no_colons, nonterminal_plain, token_plain}
 use Rattle.bz_bzl_layout.proofs.Rows.{branches_after, branches_are}
-use Rattle.bz_build_format.specs.Fixed.{BzlFixedPoint, FixedPoint}
+use Rattle.bz_build_format.specs.Fixed.{BzlFixedPoint, FixedPoint, FormattingKeepsTokens, FormattingKeepsWords, TreeProgramsKeepTokens, is_bzl_separator, is_mark_between, leaf_times, leaf_words, marks_between}
 use Rattle.bz_build_format.specs.TreePrograms.{bare_head, before_marks, node_syntax, part_syntax, row_syntax, lines_program, tree_program, bzl_tree_program, head_in, headers_in, suites_in, line_statements, node_statements, Parsed, parsed, parsed_row, parsed_parts, statements_in, suite_statements}
-use Rattle.bz_build_format.specs.Tokens.{marks_between, is_mark_between, is_bzl_separator, leaf_times, leaf_words, words_in, FormattingKeepsTokens, FormattingKeepsWords, TreeProgramsKeepTokens}
 use Rattle.bz_build_format.proofs.ShapeWalks.{leads, led}
 
 -- ---- where separators are
@@ -138,7 +137,7 @@ Words = List (Class × Bytes)
 module _ (silent : Class → Bytes → Bool) (quiet : (l : Leaf) → is_one_of marks_between l ≡ true → silent l.class l.token ≡ true) where
   abbrev mutual
     expr_words : Expr → Words
-    expr_words (Token t) = words_in silent t.class t.text
+    expr_words (Token t) = if silent t.class t.text then [] else ((t.class, t.text) ∷ [])
     expr_words (Form' kind n parts m items end split open_break comments) = row_words parts ++ row_words items
 
     row_words : {m : _} → Row_of-Expr m → Words

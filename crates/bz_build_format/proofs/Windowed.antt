@@ -19,7 +19,7 @@ use Rattle.bz_edit.specs.declared.part_windows.PartWindow.{PartWindow}
 use Rattle.bz_edit.specs.Windows.{AreThere, window_parts, with_windows}
 use Rattle.bz_layout.specs.declared.writer.TextWindow.{TextWindow}
 use Rattle.bz_layout.specs.Windows.{AreTextsOf}
-use Rattle.bz_build_format.specs.private.Lines.{AreAmong, ReadAsLines, AreRead, IsPushed, IsPutAmong, windows_moved, put_in, spelled_parts, text_with}
+use Rattle.bz_build_format.specs.private.Lines.{AreAmong, ReadAsLines, AreRead, IsPushed, IsPutAmong, put_in, spelled_parts, text_with}
 use Rattle.bz_build_format.proofs.Lines.{bare_legal, first_lines, legal_after, lines_after, lines_text, next_lines, no_lines, read_after}
 
 -- ---- texts around a window
@@ -114,6 +114,11 @@ module _ (join : LinesJoin) (split : LinesSplit) where
       )
 
 -- ---- windows after windows
+
+-- the windows with this many more parts before the first
+abbrev pub windows_moved : ℕ → List PartWindow → List PartWindow
+windows_moved n [] = []
+windows_moved n (w ∷ ws) = record { from = n + w.from; gone = w.gone; parts = w.parts } ∷ ws
 
 -- more parts before a window
 moved_so : (n : ℕ) (xs : List Part) (ws : List PartWindow) → n ≤ length xs → AreThere ws (drop n xs) → AreThere (windows_moved n ws) xs × (window_parts (windows_moved n ws) xs ≡ take n xs ++ window_parts ws (drop n xs))

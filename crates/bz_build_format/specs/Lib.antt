@@ -2,6 +2,4 @@ pub mod Meaning
 pub mod Faults
 pub mod Fixed
 pub mod TreePrograms
-pub mod Tokens
-pub mod Writing
 pub mod private

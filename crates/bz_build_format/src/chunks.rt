@@ -18,8 +18,6 @@ use std::alloc::Global;
 #[derive(Drop)]
 pub(crate) struct Chunk<F> {
     file: F,
-    /// It begins so that it may follow another one.
-    bare: bool,
     /// It ends so that another one may follow it.
     ends: bool,
 }
@@ -35,14 +33,19 @@ pub(crate) trait Source: Drop + Sized {
 
     ghost items: { Self → List Self.Item };
 
-    /// What a text says. One that none may follow is taken at the end alone.
-    fn seen(alloc: Global, text: &[u8], is_last: bool) -> Result<Chunk<Self>, Unseen>
-        ensures { IfOk result (λ chunk. ReadsAs kind text.now (items chunk.file) chunk.bare chunk.ends) };
+    /// What a text says. One that may not follow another is taken at the beginning alone, and one that none may follow at the end alone.
+    fn seen(
+        alloc: Global,
+        text: &[u8],
+        is_first: bool,
+        is_last: bool,
+    ) -> Result<Chunk<Self>, Unseen>
+        ensures { IfOk result (λ chunk. ReadsAs kind text.now (items chunk.file) is_first chunk.ends) };
 
-    /// Appends the formatted text of what a chunk says, below the item above it, whose place its last one takes. None: it has no items,
-    /// or is not formatted apart from those above, a limit is passed, or memory was refused.
-    fn append(self, out: &mut Vec<u8>, above: &mut Option<Self::Item>, bare: bool) -> Option<()>
-        ensures { IfSome result (λ _. IsAppended kind out.old.items above.old (items self) bare out.new.items above.new) };
+    /// Appends the formatted text of what a chunk says, below the item above it. Its last item; none: it has no items, or is not formatted
+    /// apart from those above, a limit is passed, or memory was refused.
+    fn append(self, out: &mut Vec<u8>, above: &Option<Self::Item>) -> Option<Self::Item>
+        ensures { IfSome result (λ last. IsAppended kind out.old.items above.now (items self) out.new.items last) };
 }
 
 impl Source for File {
@@ -54,7 +57,12 @@ impl Source for File {
 
     ghost items = { λ file. file };
 
-    fn seen(alloc: Global, text: &[u8], is_last: bool) -> Result<Chunk<File>, Unseen> {
+    fn seen(
+        alloc: Global,
+        text: &[u8],
+        _is_first: bool,
+        is_last: bool,
+    ) -> Result<Chunk<File>, Unseen> {
         let tree = match parse(alloc, text) {
             Ok(tree) => tree,
             Err(fault) => return Err(why_unseen(&fault, text, is_last)),
@@ -63,17 +71,13 @@ impl Source for File {
         if !ends && !is_last {
             return Err(Unseen::Short);
         }
-        match into_view(alloc, tree) {
-            Ok(file) => Ok(Chunk {
-                file,
-                bare: true,
-                ends,
-            }),
-            Err(_) => Err(Unseen::Never),
-        }
+        let Ok(file) = into_view(alloc, tree) else {
+            return Err(Unseen::Never);
+        };
+        Ok(Chunk { file, ends })
     }
 
-    fn append(self, out: &mut Vec<u8>, above: &mut Option<Item>, _bare: bool) -> Option<()> {
+    fn append(self, out: &mut Vec<u8>, above: &Option<Item>) -> Option<Item> {
         // a load is sorted with the one above it
         if above.is_some() && begins_with_load(self.items.as_slice()) {
             return None;
@@ -81,9 +85,7 @@ impl Source for File {
         let tidied = tidy(*out.allocator(), self).ok()?;
         append_file(out, above, &tidied)?;
         let File { mut items } = tidied;
-        let last = items.pop()?;
-        *above = Some(last);
-        Some(())
+        items.pop()
     }
 }
 
@@ -96,43 +98,45 @@ impl Source for BzlFile {
 
     ghost items = { λ file. file.items };
 
-    fn seen(alloc: Global, text: &[u8], is_last: bool) -> Result<Chunk<BzlFile>, Unseen> {
+    fn seen(
+        alloc: Global,
+        text: &[u8],
+        is_first: bool,
+        is_last: bool,
+    ) -> Result<Chunk<BzlFile>, Unseen> {
         let tree = match parse_bzl(alloc, text) {
             Ok(tree) => tree,
             Err(fault) => return Err(why_unseen(&fault, text, is_last)),
         };
-        let bare = begins_bare(&tree);
+        if !is_first && !begins_bare(&tree) {
+            return Err(Unseen::Never);
+        }
         let Ok((file, ends)) = view_bzl_front(alloc, &tree) else {
             return Err(Unseen::Never);
         };
         if !ends && !is_last {
             return Err(Unseen::Short);
         }
-        Ok(Chunk { file, bare, ends })
+        Ok(Chunk { file, ends })
     }
 
-    fn append(mut self, out: &mut Vec<u8>, above: &mut Option<BzlItem>, bare: bool) -> Option<()> {
-        if above.is_some() && !bare {
-            return None;
-        }
+    fn append(mut self, out: &mut Vec<u8>, above: &Option<BzlItem>) -> Option<BzlItem> {
         level(&mut self);
         append_bzl(out, above, &self)?;
         let BzlFile { mut items } = self;
-        let last = items.pop()?;
-        *above = Some(last);
-        Some(())
+        items.pop()
     }
 }
 
 /// The first chunk of a text that is read by itself, and its length.
-fn first_chunk<F: Source>(alloc: Global, text: &[u8]) -> Option<(Chunk<F>, usize)>
+fn first_chunk<F: Source>(alloc: Global, text: &[u8], is_first: bool) -> Option<(Chunk<F>, usize)>
     requires { 0 < length text.now }
-    ensures reads { IfSome result (λ found. ReadsAs F.kind (take found.1 text.now) (F.items found.0.file) found.0.bare found.0.ends) }
+    ensures reads { IfSome result (λ found. ReadsAs F.kind (take found.1 text.now) (F.items found.0.file) is_first found.0.ends) }
     ensures len { IfSome result (λ found. (0 < found.1) × (found.1 ≤ length text.now)) }
 {
     for doublings in 0..TRIES {
         let len = chunk_end(text, CHUNK << doublings, F::BARE);
-        match F::seen(alloc, &text[..len], len == text.len()) {
+        match F::seen(alloc, &text[..len], is_first, len == text.len()) {
             Ok(chunk) => return Some((chunk, len)),
             Err(Unseen::Never) => return None,
             Err(Unseen::Short) => {}
@@ -145,7 +149,7 @@ fn first_chunk<F: Source>(alloc: Global, text: &[u8]) -> Option<(Chunk<F>, usize
 /// it is not as simple as most, or memory was refused.
 pub(crate) fn chunks_formatted<F: Source>(alloc: Global, text: &[u8]) -> Option<Text>
     requires { LayersJoin F.kind }
-    ensures { IfSome result (λ formatted. (last : Option F.Item) × (ends : Bool) × IsFormattedAs F.kind text.now formatted last ends) }
+    ensures { IfSome result (λ formatted. (last : F.Item) × (ends : Bool) × IsFormattedAs F.kind text.now formatted last ends) }
 {
     if text.len() <= CHUNK || text.len() > LENGTH_LIMIT {
         return None;
@@ -160,8 +164,9 @@ pub(crate) fn chunks_formatted<F: Source>(alloc: Global, text: &[u8]) -> Option<
         if !ends {
             return None;
         }
-        let (chunk, len) = first_chunk::<F>(alloc, &text[at..])?;
-        chunk.file.append(&mut out, &mut last, chunk.bare)?;
+        let (chunk, len) = first_chunk::<F>(alloc, &text[at..], last.is_none())?;
+        let item = chunk.file.append(&mut out, &last)?;
+        last = Some(item);
         ends = chunk.ends;
         at += len;
     }

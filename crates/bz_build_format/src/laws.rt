@@ -1,8 +1,6 @@
 //! Facts about the definitions, for readers and for the proofs of other crates: the functions do nothing.
-ghost use Rattle.bz_build_format.specs.Fixed.{FixedPoint, BzlFixedPoint};
-ghost use Rattle.bz_build_format.specs.Tokens.{FormattingKeepsTokens, FormattingKeepsWords, TreeProgramsKeepTokens};
+ghost use Rattle.bz_build_format.specs.Fixed.{BzlFixedPoint, FixedPoint, FormattingKeepsTokens, FormattingKeepsWords, TreeProgramsKeepTokens, WritingKeepsProgram};
 ghost use Rattle.bz_build_format.specs.TreePrograms.{ViewsKeepPrograms, BzlViewsKeepPrograms};
-ghost use Rattle.bz_build_format.specs.Writing.{WritingKeepsProgram};
 
 use bz_bzl_layout::{level_keeps_comments, level_keeps_program, level_stays};
 use bz_bzl_value::bzl_comments_kept;
@@ -50,7 +48,7 @@ pub fn tokens_kept()
 }
 
 /// The text that is written of a proper value, as of what a command makes of one, keeps the value's program.
-#[tactic(auto, using(crate::proofs::WrittenPrograms::written_program))]
+#[tactic(auto, using(crate::proofs::Formatting::written_program))]
 pub fn writing_keeps_program()
     ensures { WritingKeepsProgram }
 {

@@ -8,7 +8,6 @@ mod ends;
 mod formatter;
 mod laws;
 mod reading;
-mod setting;
 mod whole_lines;
 mod writing;
 
@@ -18,5 +17,4 @@ pub use laws::{
     words_kept, writing_keeps_program,
 };
 pub use reading::{is_mostly_other, read_text, read_windows};
-pub use setting::set;
-pub use writing::{reads_back, written_text};
+pub use writing::{reads_back, set, written_text};

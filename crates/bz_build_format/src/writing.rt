@@ -1,15 +1,21 @@
-//! Texts of new values, and of trees.
-ghost use Rattle.std.specs.Prelude.{◌≡◌, ◌⊎◌, Option, IfOk, IfErr};
+//! Texts of new values, and trees of them.
+ghost use Rattle.std.specs.Prelude.{◌≡◌, ◌⊎◌, ◌<◌, ◌≤◌, Option, IfOk, IfErr, length};
 ghost use Rattle.bz_items.specs.Characters.{Bytes};
 ghost use Rattle.bz_grammar.specs.Legal.{Reads};
-ghost use Rattle.bz_grammar.specs.Spell.{spell_node};
+ghost use Rattle.bz_grammar.specs.Spell.{depth_limit, depth_of, limit, spell_node};
+ghost use Rattle.bz_hosts.specs.View.{view_of};
+ghost use Rattle.bz_layout.specs.Flags.{flags};
+ghost use Rattle.bz_layout.specs.LaidOut.{laid_out};
+ghost use Rattle.bz_layout.specs.Written.{layout};
 ghost use Rattle.bz_build_format.specs.Meaning.{gives, refuses, written};
 
-use bz_grammar::Tree;
+use bz_grammar::laws::one_reading;
+use bz_grammar::{ReadFault, Tree};
 use bz_items::Text;
-use bz_layout::{SetFault, text_of_file};
+use bz_layout::{SetFault, layout_is_accepted, layout_reads_back, text_of_file};
 use bz_passes::tidy;
 use bz_rule::take_apart;
+use bz_tree::parse;
 use bz_value::{File, Refusal};
 use std::alloc::Global;
 
@@ -34,5 +40,29 @@ pub fn written_text(alloc: Global, file: File, about: usize) -> Result<Text, Ref
         Err(SetFault::Memory) => Err(Refusal::Memory),
         Err(SetFault::TooLarge) => Err(Refusal::TooLarge),
         Err(SetFault::TooDeep) => Err(Refusal::TooDeep),
+    }
+}
+
+/// The tree whose spelling is the layout of the file value, and whose view is the value with its flags settled: what the text of the layout reads
+/// as. Both limits are looked at on the value, before the tree is made. Errors: `TooLarge` exactly where the layout is past the limit of a
+/// text, else `TooDeep` exactly where the tree is past the limit of depth; `Memory`: a growth was refused.
+pub fn set(alloc: Global, file: &File) -> Result<Tree, SetFault>
+    ensures laid_out { IfOk result (λ tree. tree ≡ laid_out file.now) }
+    ensures text { IfOk result (λ tree. spell_node tree ≡ layout file.now) }
+    ensures view { IfOk result (λ tree. view_of tree ≡ flags file.now) }
+    ensures too_large { result ≡ Err SetFault.TooLarge → limit < length (layout file.now) }
+    ensures too_deep { result ≡ Err SetFault.TooDeep → (length (layout file.now) ≤ limit) × (depth_limit < depth_of (laid_out file.now)) }
+{
+    one_reading();
+    layout_is_accepted();
+    layout_reads_back();
+    let _items = &file.items;
+    let text = text_of_file(alloc, file, 0)?;
+    match parse(alloc, text.as_slice()) {
+        Ok(tree) => Ok(tree),
+        Err(fault) => match fault {
+            ReadFault::Memory => Err(SetFault::Memory),
+            _ => unreachable!(),
+        },
     }
 }

@@ -50,16 +50,11 @@ abbrev pub AreAmong : List TextWindow → List Part → Type 0
 AreAmong [] parts = Unit {0}
 AreAmong (t ∷ ts) parts = (t.from + t.gone ≤ length parts) × AreAmong ts (drop (t.from + t.gone) parts)
 
--- the windows with this many more parts before the first
-abbrev pub windows_moved : ℕ → List PartWindow → List PartWindow
-windows_moved n [] = []
-windows_moved n (w ∷ ws) = record { from = n + w.from; gone = w.gone; parts = w.parts } ∷ ws
-
 -- After a window among the first `reach` parts, before which `kept` stay: it changes nothing and all of them stay, or it is the last window.
 abbrev pub IsPushed : List PartWindow → ℕ → PartWindow → ℕ → List PartWindow → ℕ → Type 0
 IsPushed before kept w reach after stay =
     ((w.gone ≡ 0) × (w.parts ≡ []) × (after ≡ before) × (stay ≡ kept + reach))
-    ⊎ ((after ≡ before ++ windows_moved kept (w ∷ [])) × (stay ≡ reach - (w.from + w.gone)))
+    ⊎ ((after ≡ before ++ record { from = kept + w.from; gone = w.gone; parts = w.parts } ∷ []) × (stay ≡ reach - (w.from + w.gone)))
 
 -- ---- the sides of texts and parts
 

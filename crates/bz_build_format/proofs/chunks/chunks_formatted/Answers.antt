@@ -1,6 +1,5 @@
-use Rattle.std.proofs.Common.{arith, inl, refl, subst, sym}
-use Rattle.bz_build_format.specs.private.Chunks.{IsFormattedAs}
-use Rattle.bz_build_format.proofs.Chunking.{next_begun, still_within, whole_formatted}
+use Rattle.std.proofs.Common.{arith, inl, refl, subst, sym, take}
+use Rattle.bz_build_format.proofs.Chunking.{IsBegun, next_begun, still_within, whole_formatted}
 use Rattle.bz_build_format.proofs.chunks.chunks_formatted.Goals as goal
 
 pub loop-at-init : goal.loop-at-init
@@ -8,17 +7,14 @@ loop-at-init g c = (inl (refl, c.in-Ok.ensures.items, refl), omega arith)
 
 pub loop-at-preserved : goal.loop-at-preserved
 loop-at-preserved g c = (
-  next_begun g.F.Source.kind c.requires c.args.text.now c.loop-at.out.items c.append.new.out.items c.loop-at.at c.in_ok-chunk.len c.loop-at.last c.append.new.above
-      (g.F.Source.items c.in_ok-chunk.chunk.file) c.loop-at.ends _ c.in_ok-chunk.chunk.ends c.loop-at.invariant.1 c.loop-at.invariant.0 c.if-not-ends.false
-      c.in_ok-chunk.ensures.reads c.in_ok-append.ensures (omega (arith, c.if-text-gt-LENGTH_LIMIT.false)),
+  next_begun g.F.Source.kind c.requires c.args.text.now c.loop-at.out.items c.append.new.out.items c.loop-at.at c.in_ok-chunk.len c.loop-at.last c.in_ok-item.item
+      (g.F.Source.items c.in_ok-chunk.chunk.file) c.loop-at.ends c.is_none.result c.in_ok-chunk.chunk.ends c.loop-at.invariant.1 c.is_none.ensures c.loop-at.invariant.0 c.if-not-ends.false
+      c.in_ok-chunk.ensures.reads c.in_ok-item.ensures (omega (arith, c.if-text-gt-LENGTH_LIMIT.false)),
   still_within c.args.text.now c.loop-at.at c.in_ok-chunk.len c.loop-at.invariant.1 c.in_ok-chunk.ensures.len.1,
 )
 
 pub returns : goal.returns
-returns g c = (
-  c.loop-at.last,
-  c.loop-at.ends,
-  subst (λ t. IsFormattedAs g.F.Source.kind c.args.text.now t c.loop-at.last c.loop-at.ends) (sym c.from_vec.ensures)
-      (whole_formatted g.F.Source.kind c.args.text.now c.loop-at.out.items c.loop-at.at c.loop-at.last c.loop-at.ends c.loop-at.invariant.0 c.loop-at.invariant.1
-      (omega (arith, c.loop-at-test.false)) (omega (arith, c.if-text-le-CHUNK.false))),
-)
+returns g c =
+    whole_formatted g.F.Source.kind c.args.text.now c.from_vec.result c.loop-at.at c.loop-at.last c.loop-at.ends
+    (subst (λ t. IsBegun g.F.Source.kind (take c.loop-at.at c.args.text.now) t c.loop-at.last c.loop-at.ends) (sym c.from_vec.ensures) c.loop-at.invariant.0) c.loop-at.invariant.1
+    (omega (arith, c.loop-at-test.false)) (omega (arith, c.if-text-le-CHUNK.false))

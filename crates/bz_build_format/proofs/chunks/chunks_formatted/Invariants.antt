@@ -1,5 +1,5 @@
 use Rattle.std.proofs.Common.{length, ◌-◌, ◌≤◌, take}
-use Rattle.bz_build_format.specs.private.Chunks.{IsBegun}
+use Rattle.bz_build_format.proofs.Chunking.{IsBegun}
 use Rattle.bz_build_format.proofs.chunks.chunks_formatted.Given as goal
 
 abbrev pub invariant-loop-at : goal.invariant-loop-at

@@ -2,7 +2,7 @@ use Rattle.std.proofs.Common.{Err, Ok, ap, ◌∙◌}
 use Rattle.bz_grammar.specs.Legal.{NoBzlTree}
 use Rattle.bz_bzl_layout.specs.Level.{level}
 use Rattle.bz_build_format.specs.Faults.{FormatsBzlTo}
-use Rattle.bz_build_format.proofs.BzlFormatting.{laid_out_given}
+use Rattle.bz_build_format.proofs.Formatting.{laid_out_given}
 use Rattle.bz_build_format.proofs.Chunking.{bzl_formatted, bzl_layers}
 use Rattle.bz_build_format.proofs.ReadFaults.{unread_answered}
 use Rattle.bz_build_format.proofs.formatter.format_bzl.Goals as goal

@@ -4,7 +4,7 @@ use Rattle.bz_value.specs.declared.value.Item.{Item}
 use Rattle.bz_grammar.specs.Legal.{NoTree}
 use Rattle.bz_build_format.proofs.ReadFaults.{refused_text}
 use Rattle.bz_build_format.proofs.Layouts.{not_refused, tree_laid_out, tree_spelled, tree_viewed}
-use Rattle.bz_build_format.proofs.setting.set.Goals as goal
+use Rattle.bz_build_format.proofs.writing.set.Goals as goal
 
 pub returns-in-Ok-clause-laid_out : goal.returns-in-Ok-clause-laid_out
 returns-in-Ok-clause-laid_out c =
