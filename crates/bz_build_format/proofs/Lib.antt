@@ -5,7 +5,6 @@ pub mod SeenPrograms
 pub mod ShapeWalks
 pub mod TreeWords
 pub mod Chunking
-pub mod Layouts
 pub mod Nodes
 pub mod Lines
 pub mod Windowed

@@ -4,7 +4,7 @@ use Rattle.std.specs.Prelude.{Option, None, Some, MatchOption}
 use Rattle.std.proofs.Math.Seq.{take-append_seam}
 use Rattle.std.proofs.lemmas.Grind.{flat_map-append}
 use Rattle.std.proofs.lemmas.List.{length-drop, take-append-drop}
-use Rattle.bz_items.specs.Characters.{Bytes}
+use Rattle.bz_items.specs.Characters.{Bytes, line_feed}
 use Rattle.bz_lex.specs.declared.leaf.Leaf.{Leaf}
 use Rattle.bz_grammar.specs.declared.tree.Node.{Node}
 use Rattle.bz_grammar.specs.declared.tree.Part.{Part}
@@ -16,11 +16,11 @@ use Rattle.bz_grammar.specs.Split.{LinesSplit, bare_end}
 use Rattle.bz_grammar.proofs.Spells.{leaves_Node}
 use Rattle.bz_hosts.specs.Joined.{EndsWithLine}
 use Rattle.bz_hosts.proofs.JoinedLines.{last_after, whole_both}
-use Rattle.bz_build_format.specs.private.Lines.{EndInLineFeed, ReadAsLines, spelled_parts}
+use Rattle.bz_build_format.specs.private.Lines.{ReadAsLines, spelled_parts}
 
 -- ---- whole lines
 
-pub whole_lines : (ps front own : List Part) (x : Part) (line : Node) → ps ≡ front ++ x ∷ [] → x ≡ p.Node line → own ≡ line.parts → EndInLineFeed own → AreWholeLines ps
+pub whole_lines : (ps front own : List Part) (x : Part) (line : Node) → ps ≡ front ++ x ∷ [] → x ≡ p.Node line → own ≡ line.parts → (before : List Part) × (newline : Leaf) × (own ≡ before ++ p.Leaf newline ∷ []) × (newline.token ≡ line_feed ∷ []) → AreWholeLines ps
 whole_lines ps front own x line is node same (before, newline, at, feed) =
     let last : leaves_part (p.Node line) ≡ flat_map leaves_part before ++ newline ∷ [] = leaves_Node line ∙ (ap (flat_map leaves_part) (sym same ∙ at) ∙ flat_map-append leaves_part before (p.Leaf newline ∷ [])) in
     let all : flat_map leaves_part (front ++ p.Node line ∷ []) ≡ (flat_map leaves_part front ++ flat_map leaves_part before) ++ newline ∷ [] =

@@ -9,6 +9,7 @@ use Rattle.bz_grammar.specs.declared.tree.Part.{Part, Row_of-Part, end_of-Part, 
 use Rattle.bz_grammar.specs.declared.tree.Part.TheVariants as p
 use Rattle.bz_grammar.specs.Shapes.{is_kind}
 use Rattle.bz_value.specs.declared.value.Expr.{Expr}
+use Rattle.bz_value.specs.declared.value.Expr.TheVariants as e
 use Rattle.bz_value.specs.declared.value.Item.{Item}
 use Rattle.bz_value.specs.declared.value.Item.TheVariants as i
 use Rattle.bz_value.specs.Comments.{HostComments, no_comments}
@@ -28,7 +29,7 @@ use Rattle.bz_bzl_value.specs.declared.value.BzlItem.TheVariants as b
 use Rattle.bz_bzl_value.specs.View.{bzl_items, block_items, branches, compound_read, head, indented_lines_before, is_compound, simple_statements, statement_read, stated, stated_row, suite_in, walked, with_suite, Stated}
 use Rattle.bz_bzl_layout.specs.Syntax.{head_syntax, statement_syntax, bzl_program}
 use Rattle.bz_bzl_layout.proofs.SameSyntax.{branch_syntax, syntax_Compound}
-use Rattle.bz_build_format.specs.TreePrograms.{before_marks, bare_form, bare_head, node_syntax, part_syntax, row_syntax, lines_program, head_in, headers_in, node_statements, Parsed, parsed, parsed_row, parsed_parts, statements_in, suite_statements, suites_in, BzlViewsKeepPrograms, ViewsKeepPrograms}
+use Rattle.bz_build_format.specs.TreePrograms.{before_marks, bare_head, node_syntax, part_syntax, row_syntax, lines_program, head_in, headers_in, node_statements, Parsed, parsed, parsed_row, statements_in, suite_statements, suites_in, BzlViewsKeepPrograms, ViewsKeepPrograms}
 
 -- whatever comments and break it is given, a part that was read has this syntax
 abbrev Says : Seen → Expr → Type 0
@@ -80,12 +81,12 @@ mutual
 node_says : (f : Frame) (kind : Kind) (ss : List Seen) (xs : List Expr) → EachSays ss xs → Says (seen_node f kind ss) (node_syntax f kind xs)
 node_says row kind ss xs h comments break =
     syntax_Form (made kind (row_exprs (is_binary kind) false false ss) [] [] false (is_comprehension kind && is_open ss) comments)
-    ∙ ap (λ ps. bare_form kind ps []) (row_says (is_binary kind) false false h)
+    ∙ ap (λ ps. e.Form (bare_head kind ps [])) (row_says (is_binary kind) false false h)
 node_says (sequence opener closer) kind ss xs h comments break =
     let body : List Seen = drop (suc (lead kind)) ss in
     let found : List Expr × List Bytes = items_in (all_in (first_seen_gap body)) body in
     syntax_Form (made kind (map plain (take (lead kind) ss)) found.0 found.1 (is_split body) false comments)
-    ∙ both (λ ps items. bare_form kind ps items) (plain_says (each_taken (lead kind) h)) (items_say (all_in (first_seen_gap body)) (each_dropped (suc (lead kind)) h))
+    ∙ both (λ ps items. e.Form (bare_head kind ps items)) (plain_says (each_taken (lead kind) h)) (items_say (all_in (first_seen_gap body)) (each_dropped (suc (lead kind)) h))
 
 mutual
   part_says : (x : Part) → Says (seen x) (part_syntax x)
@@ -146,7 +147,7 @@ record Agrees (x : Stated) (y : Parsed) : Type 0 where
 abbrev EachAgrees : List Stated → List Parsed → Type 0
 EachAgrees xs ys = Each Agrees xs ys
 
-parts_agree : {xs : List Stated} {ys : List Parsed} → EachAgrees xs ys → EachSays (map (λ x. x.part) xs) (parsed_parts ys)
+parts_agree : {xs : List Stated} {ys : List Parsed} → EachAgrees xs ys → EachSays (map (λ x. x.part) xs) (map (λ y. y.part) ys)
 parts_agree over = over
 parts_agree (step x y xs ys a h) = step _ _ _ _ a.part (parts_agree h)
 

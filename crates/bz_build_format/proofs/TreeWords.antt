@@ -38,7 +38,7 @@ use Rattle.bz_bzl_value.specs.View.{stated}
 use Rattle.bz_bzl_value.proofs.KeptGaps.{NoColon, no_colons, nonterminal_plain, token_plain}
 use Rattle.bz_bzl_layout.proofs.Rows.{branches_after, branches_are}
 use Rattle.bz_build_format.specs.Fixed.{BzlFixedPoint, FixedPoint, FormattingKeepsTokens, FormattingKeepsWords, TreeProgramsKeepTokens, is_bzl_separator, is_mark_between, leaf_times, leaf_words, marks_between}
-use Rattle.bz_build_format.specs.TreePrograms.{bare_head, before_marks, node_syntax, part_syntax, row_syntax, lines_program, tree_program, bzl_tree_program, head_in, headers_in, suites_in, line_statements, node_statements, Parsed, parsed, parsed_row, parsed_parts, statements_in, suite_statements}
+use Rattle.bz_build_format.specs.TreePrograms.{bare_head, before_marks, node_syntax, part_syntax, row_syntax, lines_program, tree_program, bzl_tree_program, head_in, headers_in, suites_in, line_statements, node_statements, Parsed, parsed, parsed_row, statements_in, suite_statements}
 use Rattle.bz_build_format.proofs.ShapeWalks.{leads, led}
 
 -- ---- where separators are
@@ -323,7 +323,7 @@ module _ (silent : Class → Bytes → Bool) (quiet : (l : Leaf) → is_one_of m
     same_colon (p.Leaf l) = refl
     same_colon (Node' kind m r) = refl
 
-    parts_parsed : (xs : List Part) → parsed_parts (map parsed xs) ≡ map part_syntax xs
+    parts_parsed : (xs : List Part) → map (λ x. x.part) (map parsed xs) ≡ map part_syntax xs
     parts_parsed [] = refl
     parts_parsed (x ∷ xs) = both (λ y ys. y ∷ ys) (part_parsed x) (parts_parsed xs)
 
@@ -400,7 +400,7 @@ module _ (silent : Class → Bytes → Bool) (quiet : (l : Leaf) → is_one_of m
 
     line_kept : (xs : List Part) → Fits IsNonterminal (bzl_shape k.Line) xs → AllByRecursion Known xs → program_words (line_statements (map parsed xs)) ≡ parts_words xs
     line_kept xs h g =
-        simple_words (before_marks (parsed_parts (map parsed xs)))
+        simple_words (before_marks (map (λ x. x.part) (map parsed xs)))
         ∙ (ap (λ zs. all_words (before_marks zs)) (parts_parsed xs) ∙ line_words xs h (kept_all xs g))
 
     node_statement : (kind : Kind) (xs : List Part) → nonterminal_has_kind s.stmt kind ≡ true → Fits IsNonterminal (bzl_shape kind) xs → AllByRecursion Known xs → program_words (node_statements kind (map parsed xs)) ≡ parts_words xs

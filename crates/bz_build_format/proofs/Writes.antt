@@ -14,15 +14,6 @@ use Rattle.bz_build_format.specs.Meaning.{Meaning, gives, refuses, written}
 abbrev pub limited : ℕ → Bytes → Option Bytes → Meaning
 limited depth text printed = if nat_lt limit (length text) then refuses TooLarge else (if nat_lt depth_limit depth then refuses TooDeep else gives text printed)
 
-too_large : (depth : ℕ) (text : Bytes) (printed : Option Bytes) → limit < length text → limited depth text printed ≡ refuses TooLarge
-too_large depth text printed h = let over : nat_lt limit (length text) ≡ true = grind (arith, nat_tests) in rw over
-
-too_deep : (depth : ℕ) (text : Bytes) (printed : Option Bytes) → length text ≤ limit → depth_limit < depth → limited depth text printed ≡ refuses TooDeep
-too_deep depth text printed h d =
-    let within : nat_lt limit (length text) ≡ false = grind (arith, nat_tests) in
-    let over : nat_lt depth_limit depth ≡ true = grind (arith, nat_tests) in
-    rw (within, over)
-
 fitting : (depth : ℕ) (text : Bytes) (printed : Option Bytes) → length text ≤ limit → depth ≤ depth_limit → limited depth text printed ≡ gives text printed
 fitting depth text printed h d =
     let within : nat_lt limit (length text) ≡ false = grind (arith, nat_tests) in
@@ -32,12 +23,13 @@ fitting depth text printed h d =
 -- Below, `tidy` is the value that was tidied.
 pub written_too_large : (items tidy : List Item) → tidy ≡ tidied items → limit < length (layout tidy) → (printed : Option Bytes) → written items printed ≡ refuses TooLarge
 written_too_large items tidy is h printed =
-    too_large (depth_of (laid_out (tidied items))) (layout (tidied items)) printed (subst (λ (xs : List Item). limit < length (layout xs)) is h)
+    let over : nat_lt limit (length (layout (tidied items))) ≡ true = subst (λ (xs : List Item). nat_lt limit (length (layout xs)) ≡ true) is (grind (arith, nat_tests)) in rw over refl
 
 pub written_too_deep : (items tidy : List Item) → tidy ≡ tidied items → length (layout tidy) ≤ limit → depth_limit < depth_of (laid_out tidy) → (printed : Option Bytes) → written items printed ≡ refuses TooDeep
 written_too_deep items tidy is h d printed =
-    too_deep (depth_of (laid_out (tidied items))) (layout (tidied items)) printed
-    (subst (λ (xs : List Item). length (layout xs) ≤ limit) is h) (subst (λ (xs : List Item). depth_limit < depth_of (laid_out xs)) is d)
+    let within : nat_lt limit (length (layout (tidied items))) ≡ false = subst (λ (xs : List Item). nat_lt limit (length (layout xs)) ≡ false) is (grind (arith, nat_tests)) in
+    let over : nat_lt depth_limit (depth_of (laid_out (tidied items))) ≡ true = subst (λ (xs : List Item). nat_lt depth_limit (depth_of (laid_out xs)) ≡ true) is (grind (arith, nat_tests)) in
+    rw (within, over) refl
 
 -- the text that the writer gives
 pub written_given : (items tidy : List Item) (text : Bytes) → tidy ≡ tidied items → text ≡ layout tidy → length (layout tidy) ≤ limit → depth_of (laid_out tidy) ≤ depth_limit

@@ -29,13 +29,10 @@ before_marks (x ∷ mark ∷ xs) = x ∷ before_marks xs
 abbrev pub bare_head : Kind → List Expr → List Expr → Form
 bare_head kind parts items = record { kind = kind; parts = parts; seq = record { items = items; end = []; split = false }; open_break = false; comments = no_comments }
 
-abbrev pub bare_form : Kind → List Expr → List Expr → Expr
-bare_form kind parts items = e.Form (bare_head kind parts items)
-
 -- a row of parts; or what is before the opening bracket, and the items after it
 abbrev pub node_syntax : Frame → Kind → List Expr → Expr
-node_syntax row kind xs = bare_form kind xs []
-node_syntax (sequence opener closer) kind xs = bare_form kind (take (lead kind) xs) (before_marks (drop (suc (lead kind)) xs))
+node_syntax row kind xs = e.Form (bare_head kind xs [])
+node_syntax (sequence opener closer) kind xs = e.Form (bare_head kind (take (lead kind) xs) (before_marks (drop (suc (lead kind)) xs)))
 
 abbrev mutual
   pub part_syntax : Part → Expr
@@ -68,12 +65,9 @@ pub record Parsed : Type 0 where
   pub statements : List Statement
   pub suite : List Statement
 
-abbrev pub parsed_parts : List Parsed → List Expr
-parsed_parts xs = map (λ x. x.part) xs
-
 -- the statements of a line
 abbrev pub line_statements : List Parsed → List Statement
-line_statements xs = map s.Simple (before_marks (parsed_parts xs))
+line_statements xs = map s.Simple (before_marks (map (λ x. x.part) xs))
 
 -- those of all these parts
 abbrev pub statements_in : List Parsed → List Statement

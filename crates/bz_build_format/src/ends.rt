@@ -2,7 +2,7 @@
 ghost use Rattle.std.specs.Prelude.{◌≡◌, ◌≢◌, ◌<◌, ◌≤◌, IfSome, MatchOption, length};
 ghost use Rattle.bz_items.specs.Characters.{Bytes};
 ghost use Rattle.bz_grammar.specs.Spell.{spell_leaf, spell_part};
-ghost use Rattle.bz_build_format.specs.private.Lines.{at_side, joined_at, place_from, spelled_parts};
+ghost use Rattle.bz_build_format.specs.private.Lines.{at_side, joined_at, spelled_parts};
 
 use bz_grammar::Part;
 use bz_lex::Leaf;
@@ -61,18 +61,6 @@ pub(crate) fn rest_of_part<'a>(side: Side, part: &Part, text: &'a [u8]) -> Optio
     }
 }
 
-/// Which of `count` parts comes after `passed` ones from a side.
-fn place(side: Side, count: usize, passed: usize) -> usize
-    requires { passed < count }
-    ensures within { result < count }
-    ensures place { result ≡ place_from side count passed }
-{
-    match side {
-        Side::Front => passed,
-        Side::Back => count - 1 - passed,
-    }
-}
-
 /// How many parts a text has in common with these at a side of both, and what is left of it without them.
 #[cycle(rest)]
 #[tactic(auto)]
@@ -82,7 +70,11 @@ pub(crate) fn same<'a>(side: Side, parts: &[Part], text: &'a [u8]) -> (usize, &'
 {
     let mut rest = text;
     for passed in 0..parts.len() {
-        let Some(next) = rest_of_part(side, &parts[place(side, parts.len(), passed)], rest) else {
+        let at = match side {
+            Side::Front => passed,
+            Side::Back => parts.len() - 1 - passed,
+        };
+        let Some(next) = rest_of_part(side, &parts[at], rest) else {
             return (passed, rest);
         };
         rest = next;

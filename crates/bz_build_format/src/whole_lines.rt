@@ -1,9 +1,12 @@
 //! Lines that are read by themselves.
-ghost use Rattle.std.specs.Prelude.{◌<◌, ◌≤◌, ◌+◌, ◌-◌, ◌++◌, [], ◌∷◌, IfSome, IsTrue, drop, length, take};
+ghost use Rattle.std.specs.Prelude.{◌≡◌, ◌<◌, ◌≤◌, ◌+◌, ◌-◌, ◌++◌, [], ◌∷◌, IfSome, IsTrue, List, drop, length, take};
+ghost use Rattle.bz_items.specs.Characters.{line_feed};
+ghost use Rattle.bz_lex.specs.declared.leaf.Leaf.{Leaf as Token};
+ghost use Rattle.bz_grammar.specs.declared.tree.Part.{Part as Line};
 ghost use Rattle.bz_grammar.specs.Joined.{AreWholeLines, file_with};
 ghost use Rattle.bz_grammar.specs.Legal.{Legal};
 ghost use Rattle.bz_grammar.specs.Split.{bare_end};
-ghost use Rattle.bz_build_format.specs.private.Lines.{EndInLineFeed, IsPutAmong, ReadAsLines, spelled_parts};
+ghost use Rattle.bz_build_format.specs.private.Lines.{IsPutAmong, ReadAsLines, spelled_parts};
 
 use bz_edit::PartWindow;
 use bz_grammar::Part;
@@ -15,7 +18,7 @@ use std::alloc::Global;
 
 /// Whether the last of the parts is a line feed, with what is before it.
 fn end_in_line_feed(parts: &[Part]) -> bool
-    ensures { IsTrue result → EndInLineFeed parts.now }
+    ensures { IsTrue result → (front : List Line) × (last : Token) × (parts.now ≡ front ++ Part.Leaf last ∷ []) × (last.token ≡ line_feed ∷ []) }
 {
     match parts.split_last() {
         Some((Part::Leaf(leaf), _)) => leaf.token.as_slice() == b"\n".as_slice(),

@@ -1,11 +1,8 @@
 -- Lines that are read by themselves, and windows of texts.
 use Rattle.std.specs.Prelude.{ℕ, ◌≡◌, ◌≤◌, ◌+◌, ◌-◌, ◌⊎◌, List, [], ◌∷◌, ◌++◌, length, take, drop}
 use Rattle.std.specs.List.{flat_map}
-use Rattle.bz_items.specs.Characters.{Bytes, line_feed}
-use Rattle.bz_lex.specs.declared.leaf.Leaf.{Leaf}
-use Rattle.bz_grammar.specs.declared.tree.Node.{Node}
+use Rattle.bz_items.specs.Characters.{Bytes}
 use Rattle.bz_grammar.specs.declared.tree.Part.{Part}
-use Rattle.bz_grammar.specs.declared.tree.Part.TheVariants as p
 use Rattle.bz_grammar.specs.Joined.{AreWholeLines, file_with}
 use Rattle.bz_grammar.specs.Legal.{Reads}
 use Rattle.bz_grammar.specs.Spell.{limit, spell_part}
@@ -15,10 +12,6 @@ use Rattle.bz_edit.specs.Windows.{AreThere, window_parts}
 use Rattle.bz_layout.specs.declared.writer.TextWindow.{TextWindow}
 use Rattle.bz_build_format.specs.declared.ends.Side.{Side}
 use Rattle.bz_build_format.specs.declared.ends.Side.TheVariants.{Front, Back}
-
--- the last of these parts is a line feed, with what is before it
-abbrev pub EndInLineFeed : List Part → Type 0
-EndInLineFeed ps = (front : List Part) × (l : Leaf) × (ps ≡ front ++ p.Leaf l ∷ []) × (l.token ≡ line_feed ∷ [])
 
 -- what parts spell
 abbrev pub spelled_parts : List Part → Bytes
@@ -67,8 +60,3 @@ joined_at Back end rest = rest ++ end
 abbrev pub at_side : Side → ℕ → List Part → List Part
 at_side Front n parts = take n parts
 at_side Back n parts = drop (length parts - n) parts
-
--- the place of the part after as many from a side
-abbrev pub place_from : Side → ℕ → ℕ → ℕ
-place_from Front count passed = passed
-place_from Back count passed = count - 1 - passed
