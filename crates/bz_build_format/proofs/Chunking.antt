@@ -53,6 +53,9 @@ module _ {I : Type 0} (kind : SourceKind I) (laws : LayersJoin kind) where
   apart_below above item items is (inl none) = let e : Some item ≡ None = sym is ∙ none in absurd cc
   apart_below above item items is (inr apart) = apart
 
+  first_text : (items : List I) → kind.gap None items ++ kind.text items ≡ kind.text items
+  first_text items = ap (λ z. z ++ kind.text items) (laws.first items)
+
   laid_both : (above : Option I) (item : I) (front items before : List I) → above ≡ Some item → kind.settled front ≡ before ++ item ∷ [] → kind.text (kind.settled front ++ items) ≡ kind.text (kind.settled front) ++ (kind.gap above items ++ kind.text items)
   laid_both above item front items before there is =
       ap (λ xs. kind.text (xs ++ items)) is ∙ (laws.layouts before item items ∙ sym (ap₂ (λ xs last. kind.text xs ++ (kind.gap last items ++ kind.text items)) is there))
@@ -62,10 +65,7 @@ module _ {I : Type 0} (kind : SourceKind I) (laws : LayersJoin kind) where
   one_more s t before out above below items first ends at_first (inl (none, empty, is)) (m, reads, says, begins, closes) k le = record {
     items = items;
     reads = (m, subst (λ z. kind.reads (z ++ t) m) (sym none) reads, says, λ e. absurd cc, closes);
-    formatted = k.formatted ∙ (ap₂ (λ z last. z ++ (kind.gap last (kind.settled items) ++ kind.text (kind.settled items))) empty is ∙ ap (λ z. z ++ kind.text (kind.settled items)) (laws.first (kind.settled items)));
-    short = k.short;
-    shallow = k.shallow;
-    last = k.last;
+    laid_out = subst (λ z. IsAppended kind z None items out below) empty (subst (λ last. IsAppended kind before last items out below) is k);
   }
   one_more s t before out above below items first ends at_first (inr (item, is, h)) (m, reads, says, begins, closes) k le =
       let (n, own, seen, begin, closed) = h.reads in
@@ -74,12 +74,15 @@ module _ {I : Type 0} (kind : SourceKind I) (laws : LayersJoin kind) where
       record {
         items = h.items ++ items;
         reads = (new, read, ap₂ (λ xs ys. xs ++ ys) seen says ∙ sym view, λ e. absurd cc, λ e. joins (closes e));
-        formatted =
-            k.formatted ∙ (ap (λ z. z ++ (kind.gap above (kind.settled items) ++ kind.text (kind.settled items))) h.formatted
-            ∙ (sym (laid_both above item h.items (kind.settled items) h.last.0 is h.last.1) ∙ ap kind.text (sym two)));
-        short = k.short;
-        shallow = subst (λ xs. depth_of (kind.tree xs) ≤ depth_limit) (sym two) (laws.depths (kind.settled h.items) (kind.settled items) depth_limit h.shallow k.shallow);
-        last = (kind.settled h.items ++ k.last.0, two ∙ (ap (λ xs. kind.settled h.items ++ xs) k.last.1 ∙ sym (append_assoc (kind.settled h.items) k.last.0 (below ∷ []))));
+        laid_out = record {
+          apart = inl refl;
+          formatted =
+              k.formatted ∙ (ap (λ z. z ++ (kind.gap above (kind.settled items) ++ kind.text (kind.settled items))) (h.laid_out.formatted ∙ first_text (kind.settled h.items))
+              ∙ (sym (laid_both above item h.items (kind.settled items) h.laid_out.last.0 is h.laid_out.last.1) ∙ (ap kind.text (sym two) ∙ sym (first_text (kind.settled (h.items ++ items))))));
+          short = k.short;
+          shallow = subst (λ xs. depth_of (kind.tree xs) ≤ depth_limit) (sym two) (laws.depths (kind.settled h.items) (kind.settled items) depth_limit h.laid_out.shallow k.shallow);
+          last = (kind.settled h.items ++ k.last.0, two ∙ (ap (λ xs. kind.settled h.items ++ xs) k.last.1 ∙ sym (append_assoc (kind.settled h.items) k.last.0 (below ∷ []))));
+        };
       }
 
   -- the same of a text that is read from its begin on
@@ -108,10 +111,10 @@ whole_formatted {I} kind text out at last ends g a b some =
 pub build_formatted : (text out : Bytes) (last : Item) (ends : Bool) → IsFormattedAs build_files text out last ends → Formats text (gives out None)
 build_formatted text out last ends h =
     let (tree, reads, seen, begins, closed) = h.reads in
-    (tree, reads, sym (written_given (view_of tree) (tidied h.items) out (ap tidied seen) h.formatted (subst (λ t. length t ≤ limit) h.formatted h.short) h.shallow None))
+    (tree, reads, sym (written_given (view_of tree) (tidied h.items) out (ap tidied seen) h.laid_out.formatted (subst (λ t. length t ≤ limit) h.laid_out.formatted h.laid_out.short) h.laid_out.shallow None))
 
 pub bzl_formatted : BzlViewIsProper → LevelKeepsLayout → LevelStays → BzlLayoutIsAccepted → BzlLayoutReadsBack → (text out : Bytes) (last : BzlItem) (ends : Bool) → IsFormattedAs bzl_files text out last ends → FormatsBzlTo text (Ok out)
 bzl_formatted proper keeps stays accepted back text out last ends h =
     let (tree, reads, says, begins, closed) = h.reads in
-    let short : length (bzl_layout (level h.items)) ≤ limit = subst (λ t. length t ≤ limit) h.formatted h.short in
-    laid_out_given proper keeps stays text out tree (level h.items) reads (ap level says) h.formatted short (λ good. accepted (level h.items) good short h.shallow) (back (level h.items))
+    let short : length (bzl_layout (level h.items)) ≤ limit = subst (λ t. length t ≤ limit) h.laid_out.formatted h.laid_out.short in
+    laid_out_given proper keeps stays text out tree (level h.items) reads (ap level says) h.laid_out.formatted short (λ good. accepted (level h.items) good short h.laid_out.shallow) (back (level h.items))

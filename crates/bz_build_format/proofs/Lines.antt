@@ -1,9 +1,8 @@
 -- Lines of texts: of one that is read, of one after another, and of parts of a legal file.
 use Rattle.std.proofs.Common.{ℕ, ◌≡◌, ◌≤◌, ◌<◌, ◌+◌, ◌∙◌, List, [], ◌∷◌, ◌++◌, length, take, drop, refl, ap, sym, subst, arith, append_assoc, append-nil, flat_map, length-append}
 use Rattle.std.specs.Prelude.{Option, None, Some, MatchOption}
-use Rattle.std.proofs.Math.Seq.{take-append_seam}
 use Rattle.std.proofs.lemmas.Grind.{flat_map-append}
-use Rattle.std.proofs.lemmas.List.{length-drop, take-append-drop}
+use Rattle.std.proofs.lemmas.List.{length-drop, same_from_push, take-append-drop}
 use Rattle.bz_items.specs.Characters.{Bytes, line_feed}
 use Rattle.bz_lex.specs.declared.leaf.Leaf.{Leaf}
 use Rattle.bz_grammar.specs.declared.tree.Node.{Node}
@@ -30,15 +29,10 @@ whole_lines ps front own x line is node same (before, newline, at, feed) =
 
 -- ---- the lines of a text
 
-same_front : (xs ys : List Part) (x y : Part) → xs ++ x ∷ [] ≡ ys ++ y ∷ [] → xs ≡ ys
-same_front xs ys x y e =
-    let size : length xs ≡ length ys = omega (arith, ap length e, length-append xs (x ∷ []), length-append ys (y ∷ [])) in
-    sym (take-append_seam xs (x ∷ [])) ∙ (ap (λ l. take (length xs) l) e ∙ (ap (λ k. take k (ys ++ y ∷ [])) size ∙ take-append_seam ys (y ∷ [])))
-
 popped : (old new lines : List Part) (end : Part) (last : Option Part) → MatchOption last ((old ≡ []) × (new ≡ [])) (λ x. old ≡ new ++ x ∷ []) → old ≡ lines ++ end ∷ [] → new ≡ lines
 popped old new [] end None h is = h.1
 popped old new (x ∷ lines) end None h is = absurd cc (h.0, is)
-popped old new lines end (Some x) h is = same_front new lines x end (sym h ∙ is)
+popped old new lines end (Some x) h is = (same_from_push new lines x end (sym h ∙ is)).0
 
 -- ---- lines
 

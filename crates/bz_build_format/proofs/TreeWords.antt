@@ -18,7 +18,7 @@ use Rattle.bz_grammar.specs.Legal.{IsNonterminal, Legal, LegalBzl, LegalBzlPart,
 use Rattle.bz_grammar.specs.Shapes as s
 use Rattle.bz_grammar.specs.Shapes.{Nonterminal, Terminal, Shape, any, this, Fits, Several, bzl_shape, nonterminal_has_kind, tok, done, has_token, is_class, is_one_of, is_terminal}
 use Rattle.bz_grammar.specs.Spell.{leaves_of, leaves_part, leaves_row}
-use Rattle.bz_grammar.proofs.Balance.{no_such}
+use Rattle.bz_grammar.proofs.Balance.{leaves_rows, no_such}
 use Rattle.bz_grammar.proofs.Numbers.{same_kind}
 use Rattle.bz_grammar.proofs.Terminals.{subset, subset-one_of}
 use Rattle.bz_items.specs.Characters.{Bytes}
@@ -163,20 +163,20 @@ module _ (silent : Class → Bytes → Bool) (quiet : (l : Leaf) → is_one_of m
   abbrev parts_words : List Part → Words
   parts_words xs = flat_map part_words xs
 
-  row_leaves : (m : _) (r : Row_of-Part m) → flat_map (leaf_words silent) (leaves_row r) ≡ parts_words (items-the_row-Part m r)
-  row_leaves m end_of-Part = refl
-  row_leaves m (more_of-Part x rest) = flat_map-append (leaf_words silent) (leaves_part x) (leaves_row rest) ∙ ap (λ ws. part_words x ++ ws) (row_leaves _ rest)
-
   parts_leaves : (xs : List Part) → flat_map (leaf_words silent) (flat_map leaves_part xs) ≡ parts_words xs
   parts_leaves [] = refl
   parts_leaves (x ∷ xs) = flat_map-append (leaf_words silent) (leaves_part x) (flat_map leaves_part xs) ∙ ap (λ ws. part_words x ++ ws) (parts_leaves xs)
 
-  no_words : (l : Leaf) → silent l.class l.token ≡ true → part_words (p.Leaf l) ≡ []
-  no_words l h = ap (λ ws. ws ++ []) (cond-true (silent l.class l.token) [] ((l.class, l.token) ∷ []) h)
+  row_leaves : (m : _) (r : Row_of-Part m) → flat_map (leaf_words silent) (leaves_row r) ≡ parts_words (items-the_row-Part m r)
+  row_leaves m r = ap (flat_map (leaf_words silent)) (leaves_rows m r) ∙ parts_leaves (items-the_row-Part m r)
+
+  -- a token of these, which are silent
+  no_words : (ts : List Terminal) (x : Part) → ((l : Leaf) → is_one_of ts l ≡ true → silent l.class l.token ≡ true) → has_token ts x ≡ true → part_words x ≡ []
+  no_words ts (p.Leaf l) q h = ap (λ ws. ws ++ []) (cond-true (silent l.class l.token) [] ((l.class, l.token) ∷ []) (q l h))
+  no_words ts (Node' kind m r) q h = no_such h
 
   quiet_part : (ts : List Terminal) (x : Part) → subset ts marks_between ≡ true → has_token ts x ≡ true → part_words x ≡ []
-  quiet_part ts (p.Leaf l) e h = no_words l (quiet l (subset-one_of l ts marks_between e h))
-  quiet_part ts (Node' kind m r) e h = no_such h
+  quiet_part ts x e h = no_words ts x (λ l m. quiet l (subset-one_of l ts marks_between e m)) h
 
   -- nothing in front
   nothing_before : (us vs : Words) → us ≡ [] → us ++ vs ≡ vs
@@ -257,10 +257,6 @@ module _ (silent : Class → Bytes → Bool) (quiet : (l : Leaf) → is_one_of m
   -- ---- .bzl files
 
   module _ (colons : (l : Leaf) → is_one_of s.colon_mark l ≡ true → silent l.class l.token ≡ true) where
-    quiet_colon : (x : Part) → has_token s.colon_mark x ≡ true → part_words x ≡ []
-    quiet_colon (p.Leaf l) h = no_words l (colons l h)
-    quiet_colon (Node' kind m r) h = no_such h
-
     abbrev head_words : Form → Words
     head_words f = all_words f.parts ++ all_words f.seq.items
 
@@ -357,7 +353,7 @@ module _ (silent : Class → Bytes → Bool) (quiet : (l : Leaf) → is_one_of m
       colon_more : (t : Turn) (x : Part) (xs : List Part) → may_end t ≡ true → has_token s.colon_mark x ≡ true → Ahead owner xs → Ahead (header t) (x ∷ xs)
       colon_more t x xs e m h ps ws f =
           ap (flat_map branch_words) (cond-true (parsed x).is_colon _ _ (is_colon_mark x m))
-          ∙ (h ps ws (ap (λ zs. head_words (head_in kind zs)) (sym (append-nil ps)) ∙ (f [] [] (none_left t e) ∙ append-nil ws)) ∙ ap (λ vs. ws ++ vs) (sym (nothing_before (part_words x) (parts_words xs) (quiet_colon x m))))
+          ∙ (h ps ws (ap (λ zs. head_words (head_in kind zs)) (sym (append-nil ps)) ∙ (f [] [] (none_left t e) ∙ append-nil ws)) ∙ ap (λ vs. ws ++ vs) (sym (nothing_before (part_words x) (parts_words xs) (no_words s.colon_mark x colons m))))
 
       token_more : (plain colon end : Bool) (t : Turn) (ts : List Terminal) (x : Part) (xs : List Part) → no_colons ts ≡ plain → subset ts s.colon_mark ≡ colon → may_end t ≡ end → has_token ts x ≡ true → Known x
           → Ahead (in_header plain colon end (on_token t ts)) xs → Ahead (header t) (x ∷ xs)

@@ -52,19 +52,16 @@ pub record LayersJoin {I : Type 0} (kind : SourceKind I) : Type 0 where
 abbrev pub ReadsAs : {I : Type 0} → SourceKind I → Bytes → List I → Bool → Bool → Type 0
 ReadsAs kind text items is_first ends = (tree : Node) × kind.reads text tree × (items ≡ kind.view tree) × (is_first ≡ false → kind.begins tree) × (ends ≡ true → kind.ends tree)
 
--- The formatted text of a text, within the limits, and the last of its items, settled.
-pub record IsFormattedAs {I : Type 0} (kind : SourceKind I) (text out : Bytes) (item : I) (ends : Bool) : Type 0 where
-  pub items : List I
-  pub reads : ReadsAs kind text items true ends
-  pub formatted : out ≡ kind.text (kind.settled items)
-  pub short : length out ≤ limit
-  pub shallow : depth_of (kind.tree (kind.settled items)) ≤ depth_limit
-  pub last : (front : List I) × (kind.settled items ≡ front ++ item ∷ [])
-
--- After what was formatted is the layout of further items, settled apart.
+-- After what was formatted is the layout of further items, settled apart, within the limits; the last of them, settled.
 pub record IsAppended {I : Type 0} (kind : SourceKind I) (before : Bytes) (above : Option I) (items : List I) (out : Bytes) (item : I) : Type 0 where
   pub apart : (above ≡ None) ⊎ kind.apart items
   pub formatted : out ≡ before ++ (kind.gap above (kind.settled items) ++ kind.text (kind.settled items))
   pub short : length out ≤ limit
   pub shallow : depth_of (kind.tree (kind.settled items)) ≤ depth_limit
   pub last : (front : List I) × (kind.settled items ≡ front ++ item ∷ [])
+
+-- The formatted text of a text, and the last of its items.
+pub record IsFormattedAs {I : Type 0} (kind : SourceKind I) (text out : Bytes) (item : I) (ends : Bool) : Type 0 where
+  pub items : List I
+  pub reads : ReadsAs kind text items true ends
+  pub laid_out : IsAppended kind [] None items out item
