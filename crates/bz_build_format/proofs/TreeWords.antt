@@ -1,12 +1,11 @@
 -- The tokens of a legal tree, in their order, are those of its program, but for separators; so each is there as often.
-use Rattle.std.proofs.Common.{ℕ, zero, suc, ◌+◌, Bool, true, false, not, ◌&&◌, ◌||◌, List, [], ◌∷◌, ◌++◌, ◌≡◌, refl, sym, ap, ◌∙◌, map, take, drop, length, subst, inl, inr, arith, append_assoc, append-nil, length-append, true≢false, nat_eq, if◌then◌else◌}
+use Rattle.std.proofs.Common.{ℕ, zero, suc, ◌+◌, Bool, true, false, not, ◌&&◌, List, [], ◌∷◌, ◌++◌, ◌≡◌, refl, sym, ap, ◌∙◌, map, take, drop, length, subst, inl, inr, arith, append_assoc, append-nil, length-append, true≢false, if◌then◌else◌}
 use Rattle.std.specs.Prelude.{bytes_eq}
 use Rattle.std.specs.List.{flat_map, AllByRecursion}
-use Rattle.std.proofs.lemmas.Bool.{cases_Bool, and_parts, or_left, or_right, eqb-true, cond-true, cond-false, not-true}
+use Rattle.std.proofs.lemmas.Bool.{cases_Bool, and_parts, or_left, or_right, eqb-true, cond-true, cond-false}
 use Rattle.std.proofs.lemmas.Grind.{flat_map-append}
 use Rattle.std.proofs.lemmas.Slice.Eq.{bytes_eq-Decides}
 use Rattle.bz_token.specs.declared.class.Class.{Class}
-use Rattle.bz_token.specs.Classes.{class_number}
 use Rattle.bz_lex.specs.declared.leaf.Leaf.{Leaf}
 use Rattle.bz_grammar.specs.declared.kind.Kind.{Kind}
 use Rattle.bz_grammar.specs.declared.kind.Kind.TheVariants as k
@@ -16,9 +15,9 @@ use Rattle.bz_grammar.specs.declared.tree.Part.TheVariants as p
 use Rattle.bz_grammar.specs.Laws.{LegalByLines}
 use Rattle.bz_grammar.specs.Legal.{IsNonterminal, Legal, LegalBzl, LegalBzlPart, LegalBzlRow}
 use Rattle.bz_grammar.specs.Shapes as s
-use Rattle.bz_grammar.specs.Shapes.{Nonterminal, Terminal, Shape, any, this, Fits, Several, bzl_shape, nonterminal_has_kind, tok, done, has_token, is_class, is_one_of, is_terminal}
+use Rattle.bz_grammar.specs.Shapes.{Nonterminal, Terminal, Shape, Fits, Several, bzl_shape, nonterminal_has_kind, tok, done, has_token, is_class, is_one_of}
 use Rattle.bz_grammar.specs.Spell.{leaves_of, leaves_part, leaves_row}
-use Rattle.bz_grammar.proofs.Balance.{leaves_rows, no_such}
+use Rattle.bz_grammar.proofs.Balance.{leaves_rows, no_such, same_class}
 use Rattle.bz_grammar.proofs.Numbers.{same_kind}
 use Rattle.bz_grammar.proofs.Terminals.{subset, subset-one_of}
 use Rattle.bz_items.specs.Characters.{Bytes}
@@ -308,9 +307,6 @@ module _ (silent : Class → Bytes → Bool) (quiet : (l : Leaf) → is_one_of m
       statement : IsNonterminal s.stmt x → program_words (parsed x).statements ≡ part_words x
       suite : IsNonterminal s.suite x → program_words (parsed x).suite ≡ part_words x
 
-    kept_all : (xs : List Part) → AllByRecursion Known xs → AllByRecursion Kept xs
-    kept_all xs h = all_mapped Known Kept (λ x g. g.kept) xs h
-
     part_parsed : (x : Part) → (parsed x).part ≡ part_syntax x
     part_parsed (p.Leaf l) = refl
     part_parsed (Node' kind m r) = refl
@@ -397,7 +393,7 @@ module _ (silent : Class → Bytes → Bool) (quiet : (l : Leaf) → is_one_of m
     line_kept : (xs : List Part) → Fits IsNonterminal (bzl_shape k.Line) xs → AllByRecursion Known xs → program_words (line_statements (map parsed xs)) ≡ parts_words xs
     line_kept xs h g =
         simple_words (before_marks (map (λ x. x.part) (map parsed xs)))
-        ∙ (ap (λ zs. all_words (before_marks zs)) (parts_parsed xs) ∙ line_words xs h (kept_all xs g))
+        ∙ (ap (λ zs. all_words (before_marks zs)) (parts_parsed xs) ∙ line_words xs h (all_mapped Known Kept (λ x known. known.kept) xs g))
 
     node_statement : (kind : Kind) (xs : List Part) → nonterminal_has_kind s.stmt kind ≡ true → Fits IsNonterminal (bzl_shape kind) xs → AllByRecursion Known xs → program_words (node_statements kind (map parsed xs)) ≡ parts_words xs
     node_statement k.Line xs i h g = line_kept xs h g
@@ -461,11 +457,6 @@ module _ (silent : Class → Bytes → Bool) (quiet : (l : Leaf) → is_one_of m
 
 -- ---- how often
 
-alike : (ts : List Terminal) (l m : Leaf) → class_number l.class ≡ class_number m.class → l.token ≡ m.token → is_one_of ts l ≡ is_one_of ts m
-alike [] l m d e = refl
-alike (any class ∷ ts) l m d e = both (λ a b. a || b) (ap (λ n. nat_eq n (class_number class)) d) (alike ts l m d e)
-alike (this class token ∷ ts) l m d e = both (λ a b. a || b) (both (λ n t. nat_eq n (class_number class) && bytes_eq t token) d e) (alike ts l m d e)
-
 -- the words are copies of one token, and as many as there are of it
 module _ (class : Class) (token : Bytes) (other : is_mark_between class token ≡ false) where
   abbrev silent : Class → Bytes → Bool
@@ -475,7 +466,7 @@ module _ (class : Class) (token : Bytes) (other : is_mark_between class token �
   quiet l h = elim (cases_Bool (is_class l.class class && bytes_eq l.token token)) [
     | inl w ↦
         let tests = and_parts (is_class l.class class) (bytes_eq l.token token) w in
-        absurd (true≢false (sym h ∙ (alike marks_between l (record { class = class; gap = []; token = token }) (eqb-true _ _ tests.0) ((bytes_eq-Decides l.token token).0 tests.1) ∙ other)))
+        absurd (true≢false (sym h ∙ (both is_mark_between (same_class l.class class tests.0) ((bytes_eq-Decides l.token token).0 tests.1) ∙ other)))
     | inr w ↦ ap not w
   ]
 

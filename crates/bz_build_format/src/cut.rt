@@ -33,11 +33,6 @@ pub(crate) fn why_unseen(fault: &ReadFault, text: &[u8], is_last: bool) -> Unsee
     }
 }
 
-/// Whether a byte is a blank, or ends a line.
-fn is_blank(byte: u8) -> bool {
-    matches!(byte, b' ' | b'\t' | b'\r' | b'\n')
-}
-
 /// Whether a statement begins with these bytes, at the begin of a line, that is neither a load nor goes on with an `if`.
 fn begins_statement(text: &[u8]) -> bool {
     match text {
@@ -66,7 +61,7 @@ fn code_end(text: &[u8], bare: bool) -> usize
     let mut left = text;
     while let [before @ .., _newline] = left {
         let (_, line) = left.split_at(memrchr(b'\n', before).map_or(0, |at| at + 1));
-        match line.iter().find(|byte| !is_blank(**byte)) {
+        match line.iter().find(|byte| !byte.is_ascii_whitespace()) {
             Some(b'#') if bare => return 0,
             Some(b'#') | None => left = &left[..left.len() - line.len()],
             Some(_) => return left.len(),
