@@ -8,7 +8,6 @@ mod ends;
 mod formatter;
 mod laws;
 mod reading;
-mod whole_lines;
 mod writing;
 
 pub use formatter::{FormatFault, format, format_bzl};

@@ -1,7 +1,7 @@
 use Rattle.std.proofs.Common.{ap}
 use Rattle.bz_grammar.specs.declared.tree.Node.{Node}
 use Rattle.bz_build_format.proofs.Lines.{lines_of_read}
-use Rattle.bz_build_format.proofs.whole_lines.lines_read.Goals as goal
+use Rattle.bz_build_format.proofs.reading.lines_read.Goals as goal
 
 pub returns : goal.returns
 returns c =

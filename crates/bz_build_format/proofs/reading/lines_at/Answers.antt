@@ -1,5 +1,5 @@
 use Rattle.bz_build_format.proofs.Windowed.{put_so}
-use Rattle.bz_build_format.proofs.whole_lines.lines_at.Goals as goal
+use Rattle.bz_build_format.proofs.reading.lines_at.Goals as goal
 
 pub returns : goal.returns
 returns c =

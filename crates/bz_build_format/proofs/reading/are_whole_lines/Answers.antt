@@ -1,7 +1,7 @@
 use Rattle.std.proofs.Common.{◌∙◌, ap}
 use Rattle.bz_grammar.specs.declared.tree.Node.{Node}
 use Rattle.bz_build_format.proofs.Lines.{whole_lines}
-use Rattle.bz_build_format.proofs.whole_lines.are_whole_lines.Goals as goal
+use Rattle.bz_build_format.proofs.reading.are_whole_lines.Goals as goal
 
 pub returns-in-Some-Node-default : goal.returns-in-Some-Node-default
 returns-in-Some-Node-default c t =
