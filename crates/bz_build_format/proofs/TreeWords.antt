@@ -1,5 +1,5 @@
 -- The tokens of a legal tree, in their order, are those of its program, but for separators; so each is there as often.
-use Rattle.std.proofs.Common.{ℕ, zero, suc, ◌+◌, Bool, true, false, not, ◌&&◌, List, [], ◌∷◌, ◌++◌, ◌≡◌, refl, sym, ap, ◌∙◌, map, take, drop, length, subst, inl, inr, arith, append_assoc, append-nil, length-append, true≢false, if◌then◌else◌}
+use Rattle.std.proofs.Common.{ℕ, zero, suc, ◌+◌, Bool, true, false, not, ◌&&◌, List, [], ◌∷◌, ◌++◌, ◌≡◌, refl, sym, ap, ◌∙◌, map, take, drop, length, subst, inl, inr, append_assoc, append-nil, length-append, true≢false, if◌then◌else◌}
 use Rattle.std.specs.Prelude.{bytes_eq}
 use Rattle.std.specs.List.{flat_map, AllByRecursion}
 use Rattle.std.proofs.lemmas.Bool.{cases_Bool, and_parts, or_left, or_right, eqb-true, cond-true, cond-false}
@@ -37,7 +37,7 @@ use Rattle.bz_bzl_value.specs.View.{stated}
 use Rattle.bz_bzl_value.proofs.KeptGaps.{NoColon, no_colons, nonterminal_plain, token_plain}
 use Rattle.bz_bzl_layout.proofs.Rows.{branches_after, branches_are}
 use Rattle.bz_build_format.specs.Fixed.{BzlFixedPoint, FixedPoint, FormattingKeepsTokens, FormattingKeepsWords, TreeProgramsKeepTokens, is_bzl_separator, is_mark_between, leaf_times, leaf_words, marks_between}
-use Rattle.bz_build_format.specs.TreePrograms.{bare_head, before_marks, node_syntax, part_syntax, row_syntax, lines_program, tree_program, bzl_tree_program, head_in, headers_in, suites_in, line_statements, node_statements, Parsed, parsed, parsed_row, statements_in, suite_statements}
+use Rattle.bz_build_format.specs.TreePrograms.{bare_head, before_marks, node_syntax, part_syntax, row_syntax, lines_program, tree_program, bzl_tree_program, head_in, headers_in, suites_in, line_statements, node_statements, parsed, parsed_row, statements_in, suite_statements}
 use Rattle.bz_build_format.proofs.ShapeWalks.{leads, led}
 
 -- ---- where separators are

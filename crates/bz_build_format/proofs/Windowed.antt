@@ -1,12 +1,12 @@
 -- Windows of parts, read one after the other.
-use Rattle.std.proofs.Common.{ℕ, suc, Bool, true, false, nat_eq, ◌≡◌, ◌≤◌, ◌<◌, ◌+◌, ◌-◌, ◌∙◌, List, [], ◌∷◌, ◌++◌, length, take, drop, drop-cons, get_or, refl, ap, sym, subst, arith, inl, inr, append_assoc, append-nil, length-append, length-take}
+use Rattle.std.proofs.Common.{ℕ, suc, Bool, true, nat_eq, ◌≡◌, ◌≤◌, ◌<◌, ◌+◌, ◌-◌, ◌∙◌, List, [], ◌∷◌, ◌++◌, length, take, drop, drop-cons, get_or, refl, ap, sym, subst, arith, inl, inr, append_assoc, append-nil, length-append, length-take}
 use Rattle.std.specs.Prelude.{IfOk, Result, Ok, Err, Some}
 use Rattle.std.specs.Result.{result_ok}
 use Rattle.std.proofs.lemmas.Option.{same_Some}
 use Rattle.std.proofs.Math.Seq.{take-add}
 use Rattle.std.proofs.lemmas.Bool.Decides.{nat_tests}
 use Rattle.std.proofs.lemmas.Grind.{flat_map-append}
-use Rattle.std.proofs.lemmas.List.{length-drop, nil_from_length, take-append-drop, take-append-le, take-take, take_all, drop-drop, drop-take, drop_all, drop_at}
+use Rattle.std.proofs.lemmas.List.{length-drop, nil_from_length, take-append-drop, take-take, take_all, drop-drop, drop-take, drop_all}
 use Rattle.bz_items.specs.Characters.{Bytes}
 use Rattle.bz_grammar.specs.declared.tree.Node.{Node}
 use Rattle.bz_grammar.specs.declared.tree.Part.{Part}
