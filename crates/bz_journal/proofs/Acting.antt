@@ -46,20 +46,6 @@ acts_same note operation target h current here printed reply own is means replie
     let led : ◌≡◌ {A = Answer × History} (Ok reply, h) (after_text note h here printed) = rw (same, replied) refl in
     acts_by note operation target h current here (gives here printed) (Ok reply) h own is means (inl led)
 
--- what an effect means on the value that was seen and the lines that were counted, it means on the text
-pub means_on : (operation : Operation) (target : Target) (current text : Bytes) (m : Meaning) (tree : Node) (value : List Item) (lines : List ℕ)
-    → Reads text tree → value ≡ view_of tree → lines ≡ lines_of tree
-    → EffectMeans (effect operation target current lines value) (printed_answer operation (printed operation target current lines value)) value text m
-    → Means operation target current text m
-means_on operation target current text m tree value lines reads seen counted means =
-    let on_view : EffectMeans (effect operation target current lines (view_of tree)) (printed_answer operation (printed operation target current lines (view_of tree))) (view_of tree) text m =
-    subst (λ (xs : List Item). EffectMeans (effect operation target current lines xs) (printed_answer operation (printed operation target current lines xs)) xs text m) seen means in
-    (tree, reads, subst (λ (ls : List ℕ). EffectMeans (effect operation target current ls (view_of tree)) (printed_answer operation (printed operation target current ls (view_of tree))) (view_of tree) text m) counted on_view)
-
--- what is answered of what was printed
-pub printed_answer_of : (operation : Operation) (made : Result Bytes Refusal) (out : Bytes) (answer : Option Bytes) → made ≡ Ok out → answer ≡ printed_answer operation (Ok out) → answer ≡ printed_answer operation made
-printed_answer_of operation made out answer printed_is answer_is = answer_is ∙ sym (ap (printed_answer operation) printed_is)
-
 -- ---- formatting
 
 -- the value that was seen of the present text is written, or that is refused

@@ -1,5 +1,5 @@
 -- What a command on the value beside a session does is what the history says.
-use Rattle.std.proofs.Common.{◌≡◌, [], ◌≢◌, ◌⊎◌, ◌<◌, inl, inr, List, length, Result, Ok, Err, Option, refl, sym, subst, ap}
+use Rattle.std.proofs.Common.{◌≡◌, [], ◌≢◌, ◌⊎◌, ◌<◌, ◌∙◌, ℕ, inl, inr, List, length, Result, Ok, Err, Option, refl, sym, subst, ap}
 use Rattle.std.specs.Prelude.{OnErr}
 use Rattle.bz_grammar.specs.declared.tree.Node.{Node}
 use Rattle.bz_grammar.specs.Legal.{Reads}
@@ -24,30 +24,30 @@ use Rattle.bz_journal.specs.History.{History, Answer, present, unchanged, after_
 use Rattle.bz_journal.specs.Editing.{IsTidyLayoutOf, WrittenIsLaidOut}
 use Rattle.bz_journal.specs.Shown.{session_history}
 use Rattle.bz_journal.specs.State.{SessionState}
-use Rattle.bz_journal.specs.private.Doing.{EndsAt, RunsIn}
+use Rattle.bz_journal.specs.private.Doing.{EndsAt, GivesAlike, RunsIn}
 use Rattle.bz_journal.specs.private.Filling.{Overfills}
-use Rattle.bz_journal.proofs.Acting.{acts_by, acts_same, means_on, printed_answer_of}
+use Rattle.bz_journal.proofs.Acting.{acts_by, acts_refused, acts_same}
 
--- ---- what a command means by its effect on the value that was seen of a tree, and what it prints of that
+-- ---- what a command means by its effect on the value that was seen of a tree, and what it prints of that, by lines that give the same as those of the tree
 
-module _ (operation : Operation) (target : Target) (current : Bytes) (tree : Node) (value : List Item) (reads : Reads (spell_node tree) tree) (seen : value ≡ view_of tree) where
+module _ (operation : Operation) (target : Target) (current : Bytes) (tree : Node) (value : List Item) (lines : List ℕ) (reads : Reads (spell_node tree) tree) (seen : value ≡ view_of tree)
+    (alike : GivesAlike operation target lines (lines_of tree)) where
   abbrev Made : Result (List Item) Refusal
-  Made = effect operation target current (lines_of tree) value
+  Made = effect operation target current lines value
 
   abbrev Out : Result Bytes Refusal
-  Out = printed operation target current (lines_of tree) value
+  Out = printed operation target current lines value
 
   abbrev Meant : Meaning → Type 0
   Meant = Means operation target current (spell_node tree)
 
   meant_by : (made : Result (List Item) Refusal) (m : Meaning) → Made ≡ made → EffectMeans made (printed_answer operation Out) value (spell_node tree) m → Meant m
   meant_by made m is means =
-      means_on operation target current (spell_node tree) m tree value (lines_of tree) reads seen refl
-      (subst (λ (r : Result (List Item) Refusal). EffectMeans r (printed_answer operation Out) value (spell_node tree) m) (sym is) means)
-
-  pub means_refused : (refusal : Refusal) → (Made ≡ Err refusal) ⊎ (refusal ≡ Memory) → Meant (refuses refusal) ⊎ (refusal ≡ Memory)
-  means_refused refusal (inl made) = inl (meant_by (Err refusal) (refuses refusal) made refl)
-  means_refused refusal (inr memory) = inr memory
+      let effects : EffectMeans (effect operation target current (lines_of tree) value) (printed_answer operation Out) value (spell_node tree) m =
+      subst (λ (r : Result (List Item) Refusal). EffectMeans r (printed_answer operation Out) value (spell_node tree) m) (sym is ∙ (alike current value).0) means in
+      let prints : EffectMeans (effect operation target current (lines_of tree) value) (printed_answer operation (printed operation target current (lines_of tree) value)) value (spell_node tree) m =
+      subst (λ (o : Result Bytes Refusal). EffectMeans (effect operation target current (lines_of tree) value) (printed_answer operation o) value (spell_node tree) m) (alike current value).1 effects in
+      (tree, reads, subst (λ (xs : List Item). EffectMeans (effect operation target current (lines_of tree) xs) (printed_answer operation (printed operation target current (lines_of tree) xs)) xs (spell_node tree) m) seen prints)
 
   too_large : (made : Result (List Item) Refusal) (answer : Option Bytes) → Overfills value made → EffectMeans made answer value (spell_node tree) (refuses TooLarge)
   too_large (Err refusal) answer over = absurd over
@@ -55,44 +55,36 @@ module _ (operation : Operation) (target : Target) (current : Bytes) (tree : Nod
 
   -- a command that is refused, or is past the limit
   pub means_not : (refusal : Refusal) → ((Made ≡ Err refusal) ⊎ (refusal ≡ Memory)) ⊎ ((refusal ≡ TooLarge) × Overfills value Made) → Meant (refuses refusal) ⊎ (refusal ≡ Memory)
-  means_not refusal (inl made) = means_refused refusal made
+  means_not refusal (inl (inl made)) = inl (meant_by (Err refusal) (refuses refusal) made refl)
+  means_not refusal (inl (inr memory)) = inr memory
   means_not refusal (inr over) = inl (subst (λ (r : Refusal). Meant (refuses r)) (sym over.0) (meant_by Made (refuses TooLarge) refl (too_large Made (printed_answer operation Out) over.1)))
 
-  -- `out` was printed
-  module _ (new : List Item) (out : Bytes) (answer : Option Bytes) (made : Made ≡ Ok new) (printed_is : Out ≡ Ok out) (answer_is : answer ≡ printed_answer operation (Ok out)) where
-    answered_is : answer ≡ printed_answer operation Out
-    answered_is = printed_answer_of operation Out out answer printed_is answer_is
-
-    pub means_same : new ≡ value → Meant (gives (spell_node tree) answer)
-    means_same same = meant_by (Ok new) (gives (spell_node tree) answer) made (inl (same, ap (gives (spell_node tree)) answered_is))
-
-    pub means_made : new ≢ value → Meant (written new answer)
-    means_made apart = meant_by (Ok new) (written new answer) made (inr (apart, ap (written new) answered_is))
+  answered : (out : Bytes) (answer : Option Bytes) → Out ≡ Ok out → answer ≡ printed_answer operation (Ok out) → answer ≡ printed_answer operation Out
+  answered out answer printed_is answer_is = answer_is ∙ sym (ap (printed_answer operation) printed_is)
 
   -- by what it did to the value in place
   pub means_ran : (new : List Item) (ran : Ran) (answer : Option Bytes) → RunsIn Made Out value (Ok ran) new → (ran.windows ≡ [] → ⊥) → answer ≡ printed_answer operation (Ok ran.printed)
       → Meant (written new answer)
-  means_ran new ran answer runs other answer_is = means_made new ran.printed answer runs.ok runs.printed answer_is (λ same. other (runs.same.1 same))
+  means_ran new ran answer runs other answer_is =
+      meant_by (Ok new) (written new answer) runs.ok (inr (λ same. other (runs.same.1 same), ap (written new) (answered ran.printed answer runs.printed answer_is)))
 
--- ---- what it answers beside a session
+  -- ---- what it answers beside a session
 
--- Below, `value` is the value of the tree, and `out` what was printed of it.
-pub edited_same : (note : Bytes) (operation : Operation) (target : Target) (h : History) (current : Bytes) (tree : Node) (value new : List Item) (out : Bytes) (answer : Option Bytes) (reply : Reply)
-    → current ≡ h.package → spell_node tree ≡ present h → Reads (spell_node tree) tree → value ≡ view_of tree
-    → effect operation target current (lines_of tree) value ≡ Ok new → new ≡ value
-    → printed operation target current (lines_of tree) value ≡ Ok out → answer ≡ printed_answer operation (Ok out) → reply ≡ unchanged answer → MakesOrWants (Do operation target) note h (Ok reply) h
-edited_same note operation target h current tree value new out answer reply own is reads seen made same printed_is answer_is replied =
-    acts_same note operation target h current (spell_node tree) answer reply own is
-    (means_same operation target current tree value reads seen new out answer made printed_is answer_is same) replied
+  module _ (note : Bytes) (h : History) (own : current ≡ h.package) (is : spell_node tree ≡ present h) where
+    pub edited_refused : (refusal : Refusal) → ((Made ≡ Err refusal) ⊎ (refusal ≡ Memory)) ⊎ ((refusal ≡ TooLarge) × Overfills value Made) → MakesOrWants (Do operation target) note h (Err refusal) h
+    edited_refused refusal not = acts_refused note operation target h current (spell_node tree) refusal own is (means_not refusal not)
 
-pub edited_made : (note : Bytes) (operation : Operation) (target : Target) (h after : History) (current : Bytes) (tree : Node) (value new : List Item) (ran : Ran) (answer : Option Bytes) (reply : Answer)
-    → current ≡ h.package → spell_node tree ≡ present h → Reads (spell_node tree) tree → value ≡ view_of tree
-    → RunsIn (effect operation target current (lines_of tree) value) (printed operation target current (lines_of tree) value) value (Ok ran) new → (ran.windows ≡ [] → ⊥)
-    → answer ≡ printed_answer operation (Ok ran.printed)
-    → ((reply, after) ≡ after_meaning note h (written new answer)) ⊎ ((reply ≡ Err Memory) × (after ≡ h)) → MakesOrWants (Do operation target) note h reply after
-edited_made note operation target h after current tree value new ran answer reply own is reads seen runs other answer_is led =
-    acts_by note operation target h current (spell_node tree) (written new answer) reply after own is
-    (means_ran operation target current tree value reads seen new ran answer runs other answer_is) led
+    pub edited_same : (new : List Item) (out : Bytes) (answer : Option Bytes) (reply : Reply) → Made ≡ Ok new → new ≡ value → Out ≡ Ok out → answer ≡ printed_answer operation (Ok out)
+        → reply ≡ unchanged answer → MakesOrWants (Do operation target) note h (Ok reply) h
+    edited_same new out answer reply made same printed_is answer_is replied =
+        acts_same note operation target h current (spell_node tree) answer reply own is
+        (meant_by (Ok new) (gives (spell_node tree) answer) made (inl (same, ap (gives (spell_node tree)) (answered out answer printed_is answer_is)))) replied
+
+    pub edited_made : (after : History) (new : List Item) (ran : Ran) (answer : Option Bytes) (reply : Answer) → RunsIn Made Out value (Ok ran) new → (ran.windows ≡ [] → ⊥)
+        → answer ≡ printed_answer operation (Ok ran.printed)
+        → ((reply, after) ≡ after_meaning note h (written new answer)) ⊎ ((reply ≡ Err Memory) × (after ≡ h)) → MakesOrWants (Do operation target) note h reply after
+    edited_made after new ran answer reply runs other answer_is led =
+        acts_by note operation target h current (spell_node tree) (written new answer) reply after own is (means_ran new ran answer runs other answer_is) led
 
 -- ---- what stays beside the session
 

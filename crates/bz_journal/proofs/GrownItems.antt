@@ -13,7 +13,7 @@ use Rattle.bz_command_syntax.specs.Proper.{IsProperCommand}
 use Rattle.bz_command_syntax.specs.declared.command.Operation.{Operation}
 use Rattle.bz_value.specs.declared.refusal.Refusal.{Refusal}
 use Rattle.bz_command.specs.Effect.{NewItem, on_each, on_meant, source_of, with_item_first}
-use Rattle.bz_journal.specs.private.Filling.{AllGrow, Grows, Overfills, AreProperMade, Overgrows, alone_length, marked_alone, item_made, one_where}
+use Rattle.bz_journal.specs.private.Filling.{AllGrow, Grows, Overfills, AreProperMade, alone_length, marked_alone, item_made, one_where}
 use Rattle.bz_command.proofs.ProperEffects.{each_keeps}
 use Rattle.bz_journal.proofs.HeldAlone.{held_alone}
 
@@ -83,14 +83,14 @@ module _ (change : Item → NewItem) (marks : List Bool) (items : List Item) whe
     }
 
   pub all_tried : (left : ℕ) (differs : Bool) (ms : List Bool) (xs : List Item) → AreTried change marks items left differs ms xs → (ms ≡ []) ⊎ (xs ≡ [])
-      → differs ≡ true → left ≡ 0 → Overgrows marks items (on_meant change marks items)
+      → differs ≡ true → left ≡ 0 → AllGrow (limit + 1) true marks items (on_meant change marks items)
   all_tried left differs ms xs tried none other past =
       weaker (limit + 1) (0 + (limit + 1 - left)) true (false || differs) marks items (on_meant change marks items) (omega (arith, past)) (λ e. other)
       (tried.grow 0 false (none_grows change ms xs none))
 
 -- ---- what is past the limit one by one is so as a whole
 
-pub overgrown : (marks : List Bool) (items : List Item) (made : Result (List Item) Refusal) → Overgrows marks items made → Overfills items made
+pub overgrown : (marks : List Bool) (items : List Item) (made : Result (List Item) Refusal) → AllGrow (limit + 1) true marks items made → Overfills items made
 overgrown marks items (Err refusal) g = absurd g
 overgrown marks items (Ok new) g =
     let own = g.0 in
@@ -119,7 +119,7 @@ module _ (operation : Operation) (current : Bytes) (found : Option Expr) (marks 
   unfolding item_made
   one_by_one = rw (same_value, same_marks, same_items) each
 
-  pub overfilled : Overgrows ms xs (on_meant (item_made operation current found) ms xs) → Overfills items made
+  pub overfilled : AllGrow (limit + 1) true ms xs (on_meant (item_made operation current found) ms xs) → Overfills items made
   overfilled g =
       subst (λ (m : Result (List Item) Refusal). Overfills items m) (sym one_by_one)
       (subst (λ (ys : List Item). Overfills ys (on_meant (item_made operation current found) ms xs)) same_items (overgrown ms xs (on_meant (item_made operation current found) ms xs) g))

@@ -27,9 +27,6 @@ session_kept keep s h =
 pub session_present : TrailsKeep → (s : SessionState) → IsSession s → spell_node s.tree ≡ present (session_history s)
 session_present keep s h = let k = keep (session_trail s) h.trail in sym k.present
 
-pub session_counted : TrailsKeep → (s : SessionState) → IsSession s → length s.steps + 1 ≡ length (texts_of (session_trail s))
-session_counted keep s h = let k = keep (session_trail s) h.trail in sym k.counted
-
 -- ---- nothing is done
 
 pub as_before : (was s : SessionState) (tree : Node) (steps : List (List Edit)) (notes : List Bytes) → was ≡ s → tree ≡ was.tree → steps ≡ was.steps → notes ≡ was.notes
@@ -66,15 +63,9 @@ all_put P zero (y ∷ ys) x h own = (own, tt)
 all_put P (suc n) [] x h own = (own, tt)
 all_put P (suc n) (y ∷ ys) x h own = (h.0, all_put P n ys x h.1 own)
 
-pub record HasExtended (s : SessionState) (next : Node) (note : Bytes) (v : SessionState) : Type 0 where
-  pub session : IsSession v
-  pub texts : texts_of (session_trail v) ≡ take (s.cursor + 1) (texts_of (session_trail s)) ++ spell_node next ∷ []
-  pub history : session_history v ≡ changed note (session_history s) (spell_node next)
-  pub small : IsSmall (session_trail s) → IsSmall (session_trail v)
-
 pub extended : TrailsKeep → (s : SessionState) (next tree : Node) (steps : List (List Edit)) (notes : List Bytes) (note : Bytes) → IsSession s → s.cursor < most_steps → IsNote Two note
     → TakesUp (session_trail s) next (trail_at tree steps (s.cursor + 1)) → notes ≡ take s.cursor s.notes ++ note ∷ []
-    → HasExtended s next note (record { tree = tree; steps = steps; notes = notes; «package» = s.«package»; cursor = s.cursor + 1; before = s.cursor })
+    → IsSession (record { tree = tree; steps = steps; notes = notes; «package» = s.«package»; cursor = s.cursor + 1; before = s.cursor })
 extended keep s next tree steps notes note h room fits t put =
     let to = s.cursor + 1 in
     let texts = texts_of (session_trail s) in
@@ -85,18 +76,13 @@ extended keep s next tree steps notes note h room fits t put =
     let kept : length (take s.cursor s.notes) ≡ s.cursor = length-take-le s.cursor s.notes (omega (arith, h.noted, h.trail.within)) in
     let noted : length notes ≡ to = ap length put ∙ length-append (take s.cursor s.notes) (note ∷ []) ∙ ap (λ k. k + 1) kept in
     record {
-      session = record {
-        trail = t.trail;
-        named = h.named;
-        spelled = h.spelled;
-        noted = noted ∙ sym size;
-        notes = subst (AllByRecursion (IsNote Two)) (sym put) (all_put (IsNote Two) s.cursor s.notes note h.notes fits);
-        known = omega (arith, size);
-        bounded = omega (arith, size, room);
-      };
-      texts = t.texts;
-      history = rw (t.texts, put) refl;
-      small = t.small;
+      trail = t.trail;
+      named = h.named;
+      spelled = h.spelled;
+      noted = noted ∙ sym size;
+      notes = subst (AllByRecursion (IsNote Two)) (sym put) (all_put (IsNote Two) s.cursor s.notes note h.notes fits);
+      known = omega (arith, size);
+      bounded = omega (arith, size, room);
     }
 
 -- ---- the lines that are kept

@@ -19,7 +19,7 @@ use Rattle.bz_grammar.proofs.Spells.{spell_Node}
 use Rattle.bz_grammar.proofs.Statements.{newlines_append, text_more, text_to}
 use Rattle.bz_edit.specs.Windows.{AreThere, window_parts, with_windows}
 use Rattle.bz_edit.specs.declared.part_windows.PartWindow.{PartWindow}
-use Rattle.bz_journal.specs.private.Moving.{AreShifted, IsLike, IsLineOfOne, moved}
+use Rattle.bz_journal.specs.private.Making.{IsLike, IsLineOfOne, moved, moved_from}
 
 pub spelled : (n : Node) → spell_part (p.Node n) ≡ spell_node n
 spelled n = spell_Node n
@@ -107,6 +107,11 @@ parted here (x ∷ xs) ys =
     let next : List ℕ = here ++ spell_part x in
     ap (λ (ts : List (List ℕ)). fronts_in here (node_parts x) ++ ts) (parted next xs ys ∙ ap (λ (t : List ℕ). fronts next xs ++ fronts t ys) (append_assoc here (spell_part x) (flat_map spell_part xs)))
     ∙ sym (append_assoc (fronts_in here (node_parts x)) (fronts next xs) (fronts (here ++ flat_map spell_part (x ∷ xs)) ys))
+
+-- these lines are those with the ones from a place on moved
+pub record AreShifted (from gone come : ℕ) (old new : List ℕ) : Type 0 where
+  pub within : from ≤ length old
+  pub are : new ≡ moved_from from gone come old
 
 moved_there : (a b now next : List ℕ) (n gone come : ℕ) → length a ≡ n → now ≡ a ++ b → next ≡ a ++ map (moved gone come) b → AreShifted n gone come now next
 moved_there a b now next n gone come size is after =

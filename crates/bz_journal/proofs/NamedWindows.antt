@@ -10,7 +10,7 @@ use Rattle.bz_value.specs.declared.windows.Window.{Window}
 use Rattle.bz_rule.specs.Index.{Index, IsIndexOf, marked_places, places_from}
 use Rattle.bz_rule.specs.Held.{held_name}
 use Rattle.bz_rule.specs.Rules.{has_name, is_text}
-use Rattle.bz_journal.specs.private.Naming.{HaveListedNamesIn, HaveListedNames, HasListedName}
+use Rattle.bz_journal.specs.private.Making.{HaveListedNamesIn, HaveListedNames, HasListedName}
 
 -- ---- a place that is listed
 

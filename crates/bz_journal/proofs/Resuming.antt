@@ -7,8 +7,8 @@ use Rattle.bz_grammar.specs.Laws.{OneReading}
 use Rattle.bz_grammar.specs.Legal.{Reads}
 use Rattle.bz_grammar.specs.Spell.{spell_node, limit}
 use Rattle.bz_edit.specs.declared.edit.Edit.{Edit}
-use Rattle.bz_edit.specs.Trails.{IsSmall, trail_at}
-use Rattle.bz_edit.specs.Shown.{TrailsKeep, texts_of}
+use Rattle.bz_edit.specs.Trails.{IsSmall, Trail, trail_at}
+use Rattle.bz_edit.specs.Shown.{SmallIsBetween, SmallIsLeast, TrailsKeep, TrailsLead, texts_of}
 use Rattle.bz_items.specs.Characters.{Bytes}
 use Rattle.bz_resume.specs.declared.fault.ResumeFault.{ResumeFault}
 use Rattle.bz_resume.specs.declared.fault.ResumeFault.TheVariants as f
@@ -16,10 +16,13 @@ use Rattle.bz_resume.specs.declared.resumed.Resumed.{Resumed}
 use Rattle.bz_resume.specs.Journals.{AreSmall, MaySave}
 use Rattle.bz_resume.specs.Resumed as r
 use Rattle.bz_resume.specs.Resumed.{StandsFor}
-use Rattle.bz_journal.specs.History.{History}
+use Rattle.bz_resume.proofs.Saves.{is_saved}
+use Rattle.bz_journal.specs.History.{History, IsKept}
 use Rattle.bz_journal.specs.Lasting.{GoesOn, IsKnownSession, IsResumedSession}
 use Rattle.bz_journal.specs.Shown.{session_history}
 use Rattle.bz_journal.specs.State.{SessionState, IsSession, session_trail}
+use Rattle.bz_journal.specs.private.Kept.{HoldsState}
+use Rattle.bz_journal.proofs.Kept.{session_kept}
 
 -- ---- states
 
@@ -48,6 +51,22 @@ saves_small keep one s h small n trail is =
     let reads : Reads (spell_node s.tree) n = (trail.tree.0, shown, subst (λ (t : Bytes). length t ≤ limit) shown trail.tree.1) in
     let tree : n ≡ s.tree = one (spell_node s.tree) n s.tree reads (h.trail.tree.0, refl, h.trail.tree.1) in
     subst (λ (m : Node). IsSmall (trail_at m s.steps s.cursor)) (sym tree) small
+
+-- what is known of a session
+pub state_holds : OneReading → TrailsKeep → TrailsLead → SmallIsBetween → SmallIsLeast → (s : SessionState) → IsSession s → HoldsState s
+state_holds one keep lead between least s h =
+    let t : Trail = session_trail s in
+    let k = keep t h.trail in
+    let kept : IsKept (session_history s) = session_kept keep s h in
+    record {
+      own = h;
+      kept = kept;
+      text = sym k.present;
+      steps = sym k.counted;
+      holds = record { kept = ∣ kept ∣₁; lead = lead t h.trail; between = between t h.trail; least = least t };
+      journal = is_saved (session_history s) s.steps s.tree h.trail refl h.noted (may_save s h);
+      small = saves_small keep one s h;
+    }
 
 -- ---- resuming
 

@@ -14,7 +14,7 @@ use Rattle.bz_resume.specs.Journals.{Journal, stands, text_at}
 use Rattle.bz_journal.specs.History.{History, present}
 use Rattle.bz_journal.specs.Lasting.{IsKnownSession}
 use Rattle.bz_journal.specs.State.{SessionState}
-use Rattle.bz_journal.specs.Stopping.{ResumesAt, StoppedIsResumed}
+use Rattle.bz_journal.specs.Lasting.{ResumesAt, StoppedIsResumed}
 
 some_same : {X : Type 0} (a b : X) → Some a ≡ Some b → a ≡ b
 some_same a b e = cc

@@ -4,6 +4,7 @@ use Rattle.sha2.specs.Sha256.{sha256}
 use Rattle.bz_grammar.specs.declared.tree.Node.{Node}
 use Rattle.bz_grammar.specs.Legal.{Reads}
 use Rattle.bz_grammar.specs.Spell.{spell_node}
+use Rattle.bz_grammar.specs.Statements.{lines_of}
 use Rattle.bz_value.specs.declared.value.Item.{Item}
 use Rattle.bz_items.specs.Characters.{Bytes}
 use Rattle.bz_value.specs.Proper.{IsProper}
@@ -11,11 +12,17 @@ use Rattle.bz_hosts.specs.View.{view_of}
 use Rattle.bz_layout.specs.Written.{layout}
 use Rattle.bz_passes.specs.Passes.{tidied}
 use Rattle.bz_build_format.specs.Meaning.{IsWritten}
+use Rattle.bz_rule.specs.Index.{IsIndexOf}
 use Rattle.bz_journal.specs.declared.action.Reply.{Reply}
+use Rattle.bz_journal.specs.declared.answering.Lookups.{Lookups}
 use Rattle.bz_journal.specs.declared.doing.Seen.{Seen}
-use Rattle.bz_journal.specs.Lookups.{AreLookupsOf}
 use Rattle.bz_journal.specs.Meaning.{written}
 use Rattle.bz_journal.specs.History.{History, Answer, after_meaning, present}
+
+-- What was looked up is that of the tree: the index that of the names in its view, and the lines those of its statements.
+pub record AreLookupsOf (lookups : Lookups) (tree : Node) : Type 0 where
+  pub named : IfSome lookups.names (λ index. IsIndexOf index (view_of tree))
+  pub begun : IfSome lookups.lines (λ lines. lines ≡ lines_of tree)
 
 -- The value that is kept is the view of the tree, and what was looked up is that of the tree; a tree that counts as written is the
 -- layout of its view, which is tidy, and its text has this many bytes.

@@ -6,10 +6,8 @@ pub mod History
 pub mod Keeping
 pub mod Lasting
 pub mod Listing
-pub mod Lookups
 pub mod Meaning
 pub mod Shown
-pub mod Stopping
 pub mod Worked
 pub mod State
 pub mod private

@@ -5,5 +5,3 @@ pub mod Courses
 pub mod Filling
 pub mod Kept
 pub mod Making
-pub mod Moving
-pub mod Naming

@@ -18,20 +18,11 @@ pub(crate) struct Made {
 }
 
 /// A text of a package's file, and the one that a command made of it, where that is another one. Contracts see their history.
+#[derive(Drop)]
 pub(crate) struct Alone {
     package: String,
     first: Vec<u8>,
     made: Option<Made>,
-}
-
-impl Drop for Alone {
-    fn drop(self) {
-        let Alone {
-            package: _,
-            first: _,
-            made: _,
-        } = self;
-    }
 }
 
 impl Model for Alone {

@@ -1,14 +1,13 @@
 //! Commands that leave the present text as it is, answered by the value beside a session.
-ghost use Rattle.std.specs.Prelude.{◌≡◌, ◌⊎◌, None, Ok, Err, IfErr, IfOk, IfSome};
-ghost use Rattle.bz_journal.specs.Clauses.{AreLookupsOf, Bytes, HasMade, IsSeenIn, IsIndexOf, Node, Refusal, effect, lines_of, printed, session_history, view_of};
-ghost use Rattle.bz_journal.specs.Actions as a;
+ghost use Rattle.std.specs.Prelude.{◌≡◌, IfSome, OnOk};
+ghost use Rattle.bz_journal.specs.Clauses.{AreLookupsOf, Bytes, Do, GivesAlike, HasMade, IsSeenIn, Node, lines_begun, lines_of, view_of};
 
 use crate::action::Reply;
 use crate::course::{Course, unchanged};
 use crate::doing::Seen;
-use crate::meaning::{lines_for, printed_answer, value_of};
+use crate::meaning::{printed_answer, value_of};
 use bz_build_format::reads_back;
-use bz_command::{Outcome, looks_at_lines, run_named};
+use bz_command::{lines_matter, looks_at_lines, run_named};
 use bz_command_syntax::Command;
 use bz_grammar::Tree;
 use bz_items::{Items, Memory};
@@ -41,64 +40,21 @@ impl Lookups {
             lines: None,
         }
     }
-}
 
-/// Runs a command on the value of a tree, which stays, by what was looked up in these. Errors: those of the command.
-fn run_beside(
-    alloc: Global,
-    command: &Command,
-    target: &Target,
-    current: &[u8],
-    tree: &Tree,
-    lookups: &Lookups,
-    file: &File,
-) -> Result<Outcome, Refusal>
-    requires names { IfSome lookups.now.names (λ index. IsIndexOf index file.now) }
-    requires lines { IfSome lookups.now.lines (λ lines. lines ≡ lines_of tree.now) }
-    ensures ok { IfOk result (λ outcome. (outcome.file ≡ None) → effect command.now target.now current.now (lines_of tree.now) file.now ≡ Ok file.now) }
-    ensures printed { IfOk result (λ outcome. printed command.now target.now current.now (lines_of tree.now) file.now ≡ Ok outcome.printed) }
-    ensures err { IfErr result (λ refusal. (effect command.now target.now current.now (lines_of tree.now) file.now ≡ Err refusal) ⊎ (refusal ≡ Refusal.Memory)) }
-{
-    let names = lookups.names.as_ref();
-    let Some(lines) = &lookups.lines else {
-        let lines = lines_for(alloc, command, target, tree)?;
-        let lines = lines.as_slice();
-        return run_named(alloc, command, target, current, lines, names, file);
-    };
-    let lines = lines.as_slice();
-    run_named(alloc, command, target, current, lines, names, file)
-}
-
-/// What a command answers of the value of the present text; none where it would change that.
-fn answer_of(
-    course: &Course,
-    command: &Command,
-    target: &Target,
-    lookups: &Lookups,
-    file: &File,
-) -> Option<Result<Reply, Refusal>>
-    requires value { file.now ≡ view_of course.now.tree }
-    requires lookups { AreLookupsOf lookups.now course.now.tree }
-    ensures { IfSome result (λ answer. (note : Bytes) → HasMade (a.Do command.now target.now) note course.now answer course.now) }
-{
-    let alloc = course.alloc();
-    let here = course.present();
-    reads_back(here);
-    let current = course.own_package().as_bytes();
-    match run_beside(alloc, command, target, current, here, lookups, file) {
-        Ok(outcome) => {
-            if outcome.file.is_some() {
-                return None;
-            }
-            Some(Ok(unchanged(printed_answer(command, outcome.printed))))
+    /// The lines on which statements begin, where they were looked up.
+    pub(crate) fn begins(&self) -> &[u32]
+        ensures { result.now ≡ lines_begun self.now }
+    {
+        match &self.lines {
+            Some(lines) => lines.as_slice(),
+            None => &[],
         }
-        Err(refusal) => Some(Err(refusal)),
     }
 }
 
-/// Looks up the lines on which statements begin, where a command or its target looks at them and they aren't there yet. The error: memory
-/// was refused.
-fn look_up_lines(
+/// Looks up the lines on which the statements of a tree begin, where a command or its target looks at them and they aren't there yet. The
+/// error: memory was refused.
+pub(crate) fn look_up_lines(
     alloc: Global,
     command: &Command,
     target: &Target,
@@ -106,28 +62,14 @@ fn look_up_lines(
     tree: &Tree,
 ) -> Result<(), Memory>
     requires { AreLookupsOf lookups.old tree.now }
-    ensures { AreLookupsOf lookups.new tree.now }
+    ensures looked { AreLookupsOf lookups.new tree.now }
+    ensures alike { OnOk result (GivesAlike command.now target.now (lines_begun lookups.new) (lines_of tree.now)) }
 {
-    if lookups.lines.is_none() && looks_at_lines(command, target) {
-        lookups.lines = Some(Items::from_vec(tree.lines(alloc)?));
+    lines_matter();
+    if lookups.lines.is_some() || !looks_at_lines(command, target) {
+        return Ok(());
     }
-    Ok(())
-}
-
-/// Makes the index of the names in the value of a tree, where it isn't there yet. The error: memory was refused.
-fn look_up_names(
-    alloc: Global,
-    lookups: &mut Lookups,
-    tree: &Tree,
-    file: &File,
-) -> Result<(), Memory>
-    requires lookups { AreLookupsOf lookups.old tree.now }
-    requires value { file.now ≡ view_of tree.now }
-    ensures { AreLookupsOf lookups.new tree.now }
-{
-    if lookups.names.is_none() {
-        lookups.names = Some(Names::of(alloc, file.items.as_slice())?);
-    }
+    lookups.lines = Some(Items::from_vec(tree.lines(alloc)?));
     Ok(())
 }
 
@@ -149,13 +91,44 @@ pub(crate) fn look_up(
 ) -> Result<(), Memory>
     requires lookups { AreLookupsOf lookups.old tree.now }
     requires value { file.now ≡ view_of tree.now }
-    ensures { AreLookupsOf lookups.new tree.now }
+    ensures looked { AreLookupsOf lookups.new tree.now }
+    ensures alike { OnOk result (GivesAlike command.now target.now (lines_begun lookups.new) (lines_of tree.now)) }
 {
     look_up_lines(alloc, command, target, lookups, tree)?;
-    if again && is_by_name(target) {
-        look_up_names(alloc, lookups, tree, file)?;
+    if !again || !is_by_name(target) || lookups.names.is_some() {
+        return Ok(());
     }
+    lookups.names = Some(Names::of(alloc, file.items.as_slice())?);
     Ok(())
+}
+
+/// What a command answers of the value of the present text, by what was looked up; none where it would change that.
+fn answer_of(
+    course: &Course,
+    command: &Command,
+    target: &Target,
+    lookups: &Lookups,
+    file: &File,
+) -> Option<Result<Reply, Refusal>>
+    requires value { file.now ≡ view_of course.now.tree }
+    requires lookups { AreLookupsOf lookups.now course.now.tree }
+    requires alike { GivesAlike command.now target.now (lines_begun lookups.now) (lines_of course.now.tree) }
+    ensures { IfSome result (λ answer. (note : Bytes) → HasMade (Do command.now target.now) note course.now answer course.now) }
+{
+    let here = course.present();
+    reads_back(here);
+    let current = course.package.as_bytes();
+    let lines = lookups.begins();
+    let names = lookups.names.as_ref();
+    match run_named(course.alloc(), command, target, current, lines, names, file) {
+        Ok(outcome) => {
+            if outcome.file.is_some() {
+                return None;
+            }
+            Some(Ok(unchanged(printed_answer(command, outcome.printed))))
+        }
+        Err(refusal) => Some(Err(refusal)),
+    }
 }
 
 /// What a command that prints answers by the value of the present text, which is kept with what is looked up; none where it would change the
@@ -167,7 +140,7 @@ pub(crate) fn answer(
     target: &Target,
 ) -> Option<Result<Reply, Refusal>>
     requires { IsSeenIn course.now.tree seen.old }
-    ensures made { IfSome result (λ answer. (note : Bytes) → HasMade (a.Do command.now target.now) note course.now answer course.now) }
+    ensures made { IfSome result (λ answer. (note : Bytes) → HasMade (Do command.now target.now) note course.now answer course.now) }
     ensures seen { IsSeenIn course.now.tree seen.new }
 {
     let is_kept = seen.written || seen.printed_last;
@@ -180,9 +153,9 @@ pub(crate) fn answer(
     let Ok(file) = value_of(alloc, seen.value.take(), here) else {
         return Some(Err(Refusal::Memory));
     };
-    if look_up(alloc, command, target, true, &mut seen.lookups, here, &file).is_err() {
+    let Ok(()) = look_up(alloc, command, target, true, &mut seen.lookups, here, &file) else {
         return Some(Err(Refusal::Memory));
-    }
+    };
     let answer = answer_of(course, command, target, &seen.lookups, &file);
     seen.value = Some(file);
     answer

@@ -1,12 +1,11 @@
 //! The course of a file: its texts as one tree and the steps between them, and what actions make of it.
 ghost use Rattle.std.specs.Prelude.{◌≡◌, ◌≤◌, ◌<◌, ◌+◌, ◌↔◌, true, false, take, Err, None, Ok, Result, ℕ, List, IfOk, OnOk, OnErr, IsOk, IsTrue, length, string_bytes};
-ghost use Rattle.bz_journal.specs.Clauses.{AreThere, EndsAt, IsAtOnce, IsKept, IsSession, IsSmall, IsTree, MakesOrWants, OpensText, Refusal, action_in, after_text, are_even, changed, most_steps, note_limit, opened, present, session_history, session_trail, spell_node, steps_back, steps_forward, unchanged, with_windows};
-ghost use Rattle.bz_journal.specs.Actions as a;
+ghost use Rattle.bz_journal.specs.Clauses.{AreThere, EndsAt, HoldsState, IsAtOnce, IsSmall, IsTree, MakesOrWants, OpensText, Redo, Refusal, Undo, action_in, after_text, are_even, changed, most_steps, note_limit, opened, present, session_history, session_trail, spell_node, steps_back, steps_forward, unchanged, with_windows};
 
 use crate::action::{Action, Reply};
 use crate::staying::stay;
 use bz_build_format::reads_back;
-use bz_edit::laws::{starts_small, texts_kept};
+use bz_edit::laws::{small_steps, starts_small, steps_lead, texts_kept};
 use bz_edit::{PartWindow, Step, go_back, go_forward, put_after, take_up};
 use bz_grammar::laws::one_reading;
 use bz_grammar::{ReadFault, Tree};
@@ -119,12 +118,12 @@ impl Course {
 
     /// What a course keeps. Nothing is done.
     pub(crate) fn holds(&self)
-        ensures own { IsSession self.now }
-        ensures kept { IsKept (session_history self.now) }
-        ensures text { spell_node self.now.tree ≡ present (session_history self.now) }
-        ensures steps { length self.now.steps + 1 ≡ length (session_history self.now).texts }
+        ensures { HoldsState self.now }
     {
+        one_reading();
         texts_kept();
+        steps_lead();
+        small_steps();
         let _tree = &self.tree;
     }
 
@@ -146,13 +145,6 @@ impl Course {
         &self.tree
     }
 
-    /// The path of the file's package.
-    pub(crate) fn own_package(&self) -> &str
-        ensures { result.now ≡ (session_history self.now).«package» }
-    {
-        self.package.as_str()
-    }
-
     /// The tree of the one text of a course, and the path of its package.
     pub(crate) fn into_first(self) -> (Tree, String)
         requires { length (session_history self).texts ≡ 1 }
@@ -160,18 +152,7 @@ impl Course {
         ensures path { length (string_bytes result.1) ≤ 65536 }
     {
         self.holds();
-        let Course {
-            tree,
-            steps,
-            notes,
-            package,
-            kept,
-            ..
-        } = self;
-        drop(steps);
-        drop(notes);
-        drop(kept);
-        (tree, package)
+        (self.tree, self.package)
     }
 
     /// How many steps there are between the present text and the last.
@@ -187,7 +168,7 @@ impl Course {
     pub(crate) fn undo(&mut self, n: u32) -> Result<Reply, Refusal>
         requires some { 0 < n }
         requires there { n ≤ self.old.cursor }
-        ensures makes { (note : List ℕ) → MakesOrWants (a.Undo n) note (session_history self.old) result (session_history self.new) }
+        ensures makes { (note : List ℕ) → MakesOrWants (Undo n) note (session_history self.old) result (session_history self.new) }
         ensures unmoved { OnErr result (self.new ≡ self.old) }
         ensures even { n ≤ self.old.cursor → are_even (take n (steps_back (session_trail self.old))) ≡ true → IsOk result }
         ensures small { IsSmall (session_trail self.old) → IsSmall (session_trail self.new) }
@@ -206,7 +187,7 @@ impl Course {
     pub(crate) fn redo(&mut self, n: u32) -> Result<Reply, Refusal>
         requires some { 0 < n }
         requires there { self.old.cursor + n ≤ length self.old.steps }
-        ensures makes { (note : List ℕ) → MakesOrWants (a.Redo n) note (session_history self.old) result (session_history self.new) }
+        ensures makes { (note : List ℕ) → MakesOrWants (Redo n) note (session_history self.old) result (session_history self.new) }
         ensures unmoved { OnErr result (self.new ≡ self.old) }
         ensures even { self.old.cursor + n ≤ length self.old.steps → are_even (take n (steps_forward (session_trail self.old))) ≡ true → IsOk result }
         ensures small { IsSmall (session_trail self.old) → IsSmall (session_trail self.new) }
@@ -253,10 +234,8 @@ impl Course {
         if self.cursor() >= MOST_STEPS {
             return Err(Refusal::Full);
         }
-        match self.extend(windows, note) {
-            Ok(()) => Ok(Reply::Changed),
-            Err(_) => Err(Refusal::Memory),
-        }
+        self.extend(windows, note)?;
+        Ok(Reply::Changed)
     }
 
     /// Puts the text of the tree with these windows after the present one, with a note. The error: a growth was refused.

@@ -1,16 +1,13 @@
 //! The SHA-256 of the texts of a course: of the first ones, as they were taken, or of all, taken of a copy that goes through them.
-ghost use Rattle.std.specs.Prelude.{◌≡◌, ◌<◌, IfOk, IfSome, OnOk, length, map};
-ghost use Rattle.bz_journal.specs.Actions.{Action};
-ghost use Rattle.bz_journal.specs.Clauses.{Acts, AreFirstDigests, Bytes, History, IsSavedSession, IsTrail, listing, present, saved, session_history, sha256, texts_of, trail_at};
+ghost use Rattle.std.specs.Prelude.{◌≡◌, IfOk, IfSome, OnOk, map};
+ghost use Rattle.bz_journal.specs.Clauses.{AreFirstDigests, IsSavedSession, IsTrail, listing, present, saved, session_history, sha256, texts_of, trail_at};
 
-use crate::action::{Reply, is_changed};
 use crate::course::Course;
 use crate::digest::digest_of;
 use bz_edit::laws::texts_kept;
 use bz_edit::{Step, copy_steps, go_back, go_forward};
 use bz_grammar::Tree;
 use bz_items::{Memory, Text};
-use bz_value::Refusal;
 use sha2::{Digest, Sha256};
 use std::alloc::Global;
 
@@ -25,17 +22,6 @@ pub(crate) fn learn(digests: &mut Vec<[u8; 32]>, course: &Course, text: &[u8])
     if digests.len() == cursor && digests.reserve(1).is_ok() {
         digests.push(Sha256::digest(text)).unwrap();
     }
-}
-
-/// Where an action answered that there is a new text, the digests of those that it cut off go.
-pub(crate) fn cut_off(digests: &mut Vec<[u8; 32]>, course: &Course, answer: &Result<Reply, Refusal>)
-    ensures { (action : Action) (note : Bytes) (h : History) → h.cursor < length h.texts → Acts action note h answer.now (session_history course.now)
-        → AreFirstDigests digests.old.items h.texts → AreFirstDigests digests.new.items (session_history course.now).texts }
-{
-    if !is_changed(answer) {
-        return;
-    }
-    digests.truncate(course.cursor() as usize);
 }
 
 /// The digest of each text, where all are there.

@@ -1,15 +1,14 @@
 //! Actions in a course, and what is kept beside it from one command to the next: the value of the present text, so that a command need not
 //! make it anew. Where that text is the layout of a tidy value only what changes is tidied and laid out.
-ghost use Rattle.std.specs.Prelude.{◌≡◌, ◌≤◌, true, List, OnOk, length};
-ghost use Rattle.bz_journal.specs.Clauses.{AreOver, Bytes, EndsAt, HasActed, HasMade, IsFormatted, IsMadeOf, IsProper, IsReady, IsSeenIn, Item, MakesLines, Node, action_in, after_meaning, note_limit, present, session_history, tidied, view_of, written};
-ghost use Rattle.bz_journal.specs.Actions as a;
+ghost use Rattle.std.specs.Prelude.{◌≡◌, ◌≤◌, List, None, OnOk, length};
+ghost use Rattle.bz_journal.specs.Clauses.{AreOver, Do, EndsAt, Format, HasActed, HasMade, IsFormatted, IsSeenIn, Item, MakesLines, Node, action_in, after_meaning, note_limit, present, session_history, view_of, written};
 
 use crate::action::{Action, Reply};
 use crate::answering::{Lookups, answer, is_by_name, look_up};
 use crate::course::{Course, at_once, unchanged};
 use crate::laws::written_is_laid_out;
 use crate::making::{Made, made_by_text, made_by_windows};
-use crate::meaning::{printed_answer, run_on_tree, value_of};
+use crate::meaning::{printed_answer, run_beside, value_of};
 use crate::moving::begins_after;
 use bz_build_format::{formatted_once, reads_back};
 use bz_command_syntax::Command;
@@ -28,6 +27,7 @@ const FEWEST: usize = 500;
 const OFTEN: u32 = 64;
 
 /// What is kept beside a course.
+#[derive(Drop)]
 pub(crate) struct Seen {
     /// The value of the present text, where it is kept.
     pub(crate) value: Option<File>,
@@ -43,20 +43,6 @@ pub(crate) struct Seen {
     pub(crate) names_last: bool,
     /// How many actions were done, up to `OFTEN`.
     pub(crate) done: u32,
-}
-
-impl Drop for Seen {
-    fn drop(self) {
-        let Seen {
-            value: _,
-            lookups: _,
-            written: _,
-            length: _,
-            printed_last: _,
-            names_last: _,
-            done: _,
-        } = self;
-    }
 }
 
 impl Seen {
@@ -101,18 +87,20 @@ impl Seen {
     }
 }
 
-/// Takes up the lines of a value that was tidied, and keeps this as the value of the present text where it was not given up. The errors are
-/// those of taking them up.
-fn take_up_made(
+/// Takes up the lines that were made of a value that is to be written, and keeps this as the value of the present text where it was not given
+/// up; or answers what refused them. The errors are those of taking them up.
+fn take_up(
     course: &mut Course,
     seen: &mut Seen,
-    made: Made,
+    made: Result<Made, Refusal>,
     printed: Option<Text>,
     note: &str,
 ) -> Result<Reply, Refusal>
-    requires ready { IsReady note.now course.old.tree seen.old }
-    requires made { (file : List Item) × IsProper file × IsMadeOf made course.old.tree (tidied file) }
-    ensures end { (file : List Item) → IsMadeOf made course.old.tree (tidied file) → EndsAt (after_meaning note.now (session_history course.old) (written file printed)) course.old result course.new }
+    requires short { length note.now ≤ note_limit }
+    requires none { seen.old.value ≡ None }
+    requires seen { IsSeenIn course.old.tree seen.old }
+    requires made { (file : List Item) × MakesLines file course.old.tree made }
+    ensures end { (file : List Item) → MakesLines file course.old.tree made → EndsAt (after_meaning note.now (session_history course.old) (written file printed)) course.old result course.new }
     ensures seen { IsSeenIn course.new.tree seen.new }
 {
     one_reading();
@@ -123,15 +111,15 @@ fn take_up_made(
         value,
         names,
         length,
-    } = made;
-    let begins = begins_after(seen.lookups.lines.take(), windows.as_slice(), before);
+    } = match made {
+        Ok(made) => made,
+        Err(refusal) => return Err(refusal),
+    };
+    let lines = begins_after(seen.lookups.lines.take(), windows.as_slice(), before);
     match course.take_up(windows, printed, note) {
         Ok(reply) => {
             reads_back(course.present());
-            seen.lookups = Lookups {
-                names,
-                lines: begins,
-            };
+            seen.lookups = Lookups { names, lines };
             seen.written = true;
             seen.length = length;
             seen.value = value;
@@ -141,34 +129,6 @@ fn take_up_made(
             drop(value);
             Err(refusal)
         }
-    }
-}
-
-/// The same where the lines were made; or what refused them. Either is of a value that is to be written.
-fn take_up_lines(
-    course: &mut Course,
-    seen: &mut Seen,
-    made: Result<Made, Refusal>,
-    printed: Option<Text>,
-    note: &str,
-) -> Result<Reply, Refusal>
-    requires ready { IsReady note.now course.old.tree seen.old }
-    requires made { (file : List Item) × MakesLines file course.old.tree made }
-    ensures end { (file : List Item) → MakesLines file course.old.tree made → EndsAt (after_meaning note.now (session_history course.old) (written file printed)) course.old result course.new }
-    ensures seen { IsSeenIn course.new.tree seen.new }
-{
-    match made {
-        Ok(made) => take_up_made(course, seen, made, printed, note),
-        Err(refusal) => Err(refusal),
-    }
-}
-
-/// About how many bytes the present text has; a look at the whole of it where that isn't known.
-fn length_about(seen: &Seen, here: &Tree) -> usize {
-    if seen.written {
-        seen.length
-    } else {
-        here.len()
     }
 }
 
@@ -205,7 +165,7 @@ fn edit(
 ) -> Result<Reply, Refusal>
     requires short { length note.now ≤ note_limit }
     requires seen { IsSeenIn course.old.tree seen.old }
-    ensures made { HasMade (a.Do command.now target.now) note.now course.old result course.new }
+    ensures made { HasMade (Do command.now target.now) note.now course.old result course.new }
     ensures seen { IsSeenIn course.new.tree seen.new }
 {
     let alloc = course.alloc();
@@ -213,26 +173,20 @@ fn edit(
     reads_back(here);
     let again = seen.names_last;
     let mut file = value_of(alloc, seen.value.take(), here)?;
-    if look_up(
-        alloc,
-        command,
-        target,
-        again,
-        &mut seen.lookups,
-        here,
-        &file,
-    )
-    .is_err()
-    {
+    let lookups = &mut seen.lookups;
+    let Ok(()) = look_up(alloc, command, target, again, lookups, here, &file) else {
         take_apart(file);
         return Err(Refusal::Memory);
-    }
-    let current = course.own_package().as_bytes();
+    };
+    let current = course.package.as_bytes();
+    // a look at the whole of it where its length isn't known
+    let len = if seen.written {
+        seen.length
+    } else {
+        here.len()
+    };
     let lookups = &seen.lookups;
-    let len = length_about(seen, here);
-    match run_on_tree(
-        alloc, command, target, current, here, len, lookups, &mut file,
-    ) {
+    match run_beside(alloc, command, target, current, lookups, len, &mut file) {
         Ok(ran) => {
             seen.names_last = ran.same_names && is_by_name(target);
             let printed = printed_answer(command, ran.printed);
@@ -242,7 +196,7 @@ fn edit(
                 return Ok(unchanged(printed));
             }
             let made = made_of(alloc, seen, ran.windows, file, here);
-            take_up_lines(course, seen, made, printed, note)
+            take_up(course, seen, made, printed, note)
         }
         Err(refusal) => {
             take_apart(file);
@@ -255,7 +209,7 @@ fn edit(
 fn format(course: &mut Course, seen: &mut Seen, note: &str) -> Result<Reply, Refusal>
     requires short { length note.now ≤ note_limit }
     requires seen { IsSeenIn course.old.tree seen.old }
-    ensures made { HasMade a.Format note.now course.old result course.new }
+    ensures made { HasMade Format note.now course.old result course.new }
     ensures formatted { OnOk result (IsFormatted (present (session_history course.old)) (present (session_history course.new))) }
     ensures seen { IsSeenIn course.new.tree seen.new }
 {
@@ -263,10 +217,10 @@ fn format(course: &mut Course, seen: &mut Seen, note: &str) -> Result<Reply, Ref
     let alloc = course.alloc();
     let here = course.present();
     reads_back(here);
-    let len = length_about(seen, here);
+    let len = here.len();
     let file = value_of(alloc, seen.value.take(), here)?;
     let made = made_by_text(alloc, file, here, len);
-    take_up_lines(course, seen, made, None, note)
+    take_up(course, seen, made, None, note)
 }
 
 /// Does an action with a note by what is kept beside the course, as `Session::act_noted` says. The errors are those.

@@ -1,48 +1,18 @@
 //! Whether what a command makes is past the limit of a text, seen rule by rule before all of it is made.
-ghost use Rattle.std.specs.Prelude.{◌≡◌, ◌⊎◌, ◌≤◌, [], ◌∷◌, Err, IfErr, IfOk, IsTrue, length, true};
-ghost use Rattle.bz_value.specs.Proper.{IsProperItem};
-ghost use Rattle.bz_layout.specs.Written.{layout};
-ghost use Rattle.bz_command.specs.Effect.{on_meant};
-ghost use Rattle.bz_journal.specs.Clauses.{Overfills, effect};
-ghost use Rattle.bz_journal.specs.private.Filling.{AreProperMade, Grows, IsProperMade, Overgrows, alone_length, item_made_by, one_where};
+ghost use Rattle.std.specs.Prelude.{◌≡◌, ◌⊎◌, ◌≤◌, ◌+◌, Err, IfErr, IfOk, IsTrue, length, true};
+ghost use Rattle.bz_journal.specs.Clauses.{AllGrow, AreProperMade, Grows, IsProperItem, Overfills, alone_length, effect, item_made_by, layout, limit, on_meant, one_where};
 
 use bz_command::{Work, changed_copy, copied, marks_if_large};
 use bz_grammar::LENGTH_LIMIT;
-use bz_items::{Items, Memory};
+use bz_items::Items;
 use bz_layout::{SetFault, item_text, text_of_file};
 use bz_passes::tidy;
 use bz_rule::take_apart;
 use bz_value::{File, Item, Refusal};
 use std::alloc::Global;
 
-/// A file of one item. The error: a growth was refused.
-fn file_of(alloc: Global, item: Item) -> Result<File, Memory>
-    requires { IsProperItem item }
-    ensures { IfOk result (λ file. file ≡ item ∷ []) }
-{
-    let mut items = Vec::new(alloc);
-    if let Err(fault) = items.reserve(1) {
-        drop(item);
-        return Err(fault);
-    }
-    items.push_reserved(item);
-    Ok(File {
-        items: Items::from_vec(items),
-    })
-}
-
-/// At least how many bytes the layout of a file has: those of its first item. The error: a growth was refused.
+/// At least how many bytes the layout of a file has: where that is too deep, those of its first item. Errors: `Memory`.
 #[tactic(auto, using(crate::proofs::HeldAlone::first_below))]
-fn first_length(alloc: Global, file: &File) -> Result<usize, Memory>
-    ensures { IfOk result (λ size. size ≤ length (layout file.now)) }
-{
-    match file.items.as_slice().split_first() {
-        Some((item, _others)) => Ok(item_text(alloc, item)?.len()),
-        None => Ok(0),
-    }
-}
-
-/// At least how many bytes the layout of a file has. Errors: `Memory`.
 fn length_of(alloc: Global, file: &File) -> Result<usize, Refusal>
     ensures size { IfOk result (λ size. size ≤ length (layout file.now)) }
     ensures err { IfErr result (λ refusal. refusal ≡ Refusal.Memory) }
@@ -50,7 +20,10 @@ fn length_of(alloc: Global, file: &File) -> Result<usize, Refusal>
     match text_of_file(alloc, file, 0) {
         Ok(text) => Ok(text.len()),
         Err(SetFault::TooLarge) => Ok(LENGTH_LIMIT + 1),
-        Err(SetFault::TooDeep) => Ok(first_length(alloc, file)?),
+        Err(SetFault::TooDeep) => match file.items.as_slice().split_first() {
+            Some((item, _others)) => Ok(item_text(alloc, item)?.len()),
+            None => Ok(0),
+        },
         Err(SetFault::Memory) => Err(Refusal::Memory),
     }
 }
@@ -62,7 +35,11 @@ fn length_alone(alloc: Global, counts: bool, item: Item) -> Result<usize, Refusa
     ensures size { IfOk result (λ size. size ≤ alone_length item) }
     ensures err { IfErr result (λ refusal. refusal ≡ Refusal.Memory) }
 {
-    let file = file_of(alloc, item)?;
+    let mut items = Vec::new(alloc);
+    items.reserve(1)?;
+    items.push_reserved(item);
+    let items = Items::from_vec(items);
+    let file = File { items };
     if !counts {
         take_apart(file);
         return Ok(0);
@@ -73,37 +50,26 @@ fn length_alone(alloc: Global, counts: bool, item: Item) -> Result<usize, Refusa
     size
 }
 
-/// Whether a command makes another item of one that it is meant for, and at least how many bytes that has in a file of its own.
+/// Whether a command makes another item of one that is marked, and at least how many bytes that has in a file of its own.
 /// Errors: the one with which the item is refused; `Memory`.
 #[tactic(auto, unfolding(crate::specs::private::Filling::item_made))]
-fn try_one(work: Work<'_, '_>, counts: bool, item: &Item) -> Result<(bool, usize), Refusal>
-    requires { IsProperMade (item_made_by work item.now) }
-    ensures ok { IfOk result (λ made. Grows made.1 made.0 true item.now (item_made_by work.entry item.now)) }
-    ensures err { IfErr result (λ refusal. (item_made_by work.entry item.now ≡ Err refusal) ⊎ (refusal ≡ Refusal.Memory)) }
-{
-    let new = changed_copy(work, item)?;
-    let differs = !new.equals(item);
-    match length_alone(work.alloc, counts, new) {
-        Ok(size) => Ok((differs, size)),
-        Err(refusal) => Err(refusal),
-    }
-}
-
-/// The same of an item where it is marked.
 fn try_where(
     work: Work<'_, '_>,
     mark: bool,
     counts: bool,
     item: &Item,
 ) -> Result<(bool, usize), Refusal>
-    requires { IsProperMade (item_made_by work item.now) }
+    requires { IfOk (item_made_by work item.now) IsProperItem }
     ensures ok { IfOk result (λ made. Grows made.1 made.0 mark item.now (one_where (item_made_by work.entry) mark item.now)) }
     ensures err { IfErr result (λ refusal. (one_where (item_made_by work.entry) mark item.now ≡ Err refusal) ⊎ (refusal ≡ Refusal.Memory)) }
 {
     if !mark {
         return Ok((false, 0));
     }
-    try_one(work, counts, item)
+    let new = changed_copy(work, item)?;
+    let differs = !new.equals(item);
+    let size = length_alone(work.alloc, counts, new)?;
+    Ok((differs, size))
 }
 
 /// Whether what a command makes of the items that are marked is something else, and past the limit of a text even one by one. Each is made,
@@ -111,7 +77,7 @@ fn try_where(
 fn are_past(work: Work<'_, '_>, marks: &[bool], items: &[Item]) -> Result<bool, Refusal>
     requires count { length marks.now ≡ length items.now }
     requires proper { AreProperMade (item_made_by work) items.now }
-    ensures ok { IfOk result (λ past. IsTrue past → Overgrows marks.now items.now (on_meant (item_made_by work.entry) marks.now items.now)) }
+    ensures ok { IfOk result (λ past. IsTrue past → AllGrow (limit + 1) true marks.now items.now (on_meant (item_made_by work.entry) marks.now items.now)) }
     ensures err { IfErr result (λ refusal. (on_meant (item_made_by work.entry) marks.now items.now ≡ Err refusal) ⊎ (refusal ≡ Refusal.Memory)) }
 {
     let mut left = LENGTH_LIMIT + 1;

@@ -1,7 +1,6 @@
 //! Actions whose history outlives the run: a file and its journal, kept.
 ghost use Rattle.std.specs.Prelude.{◌≡◌, ◌<◌, ℕ, IfErr, IfOk, IfSome, Err, Ok, length};
-ghost use Rattle.bz_journal.specs.Clauses.{AreFirstDigests, Bytes, HasActed, IsWrittenSince, KeepsPair, SessionState, present, session_history};
-ghost use Rattle.bz_journal.specs.Actions as a;
+ghost use Rattle.bz_journal.specs.Clauses.{Action, AreFirstDigests, Bytes, HasActed, IsWrittenSince, KeepsPair, SessionState, present, session_history};
 
 use crate::action::Reply;
 use crate::course::{Course, text_of};
@@ -104,7 +103,7 @@ pub(crate) fn persist<F: Files>(
     file: &str,
     files: &mut F,
 ) -> Result<Reply, KeepFault>
-    ensures { (s t : SessionState) (action : a.Action) (note : Bytes) → IfOk before (λ text. text.items ≡ present (session_history s))
+    ensures { (s t : SessionState) (action : Action) (note : Bytes) → IfOk before (λ text. text.items ≡ present (session_history s))
         → IsWrittenSince t s.cursor written.now → HasActed action note s answer t → KeepsPair F.Files action note file.now s result t files.old files.new }
 {
     let reply = match answer {

@@ -8,7 +8,6 @@ use crate::course::{Course, text_of};
 use crate::listing::listed;
 use crate::session::Session;
 use bz_edit::laws::texts_kept;
-use bz_grammar::laws::one_reading;
 use bz_items::{Memory, Text};
 use bz_journal_format::{Version, record_bytes};
 use bz_resume::laws::reopened;
@@ -34,6 +33,7 @@ impl Course {
         ensures journal { IsSavedSession self.old }
         ensures stays { self.new ≡ self.old }
     {
+        self.holds();
         let alloc = self.alloc();
         let content = Content {
             package: self.package.as_bytes(),
@@ -53,10 +53,8 @@ impl Session {
     pub fn note(&self, i: u32) -> Option<&str>
         ensures { option_map (λ note. note.now) result ≡ slice_get (session_history self.now).notes i }
     {
-        match bz_items::at(self.notes.as_slice(), i as usize) {
-            Some(note) => Some(str::from_utf8(note.as_slice()).unwrap()),
-            None => None,
-        }
+        let note = bz_items::at(self.notes.as_slice(), i as usize)?;
+        Some(str::from_utf8(note.as_slice()).unwrap())
     }
 
     /// Appends the journal of the session, in version 2. The error: a growth was refused; `out` is then as before.
@@ -68,8 +66,7 @@ impl Session {
         ensures journal { IsSavedSession self.now }
         ensures small { IsSmall (session_trail self.now) → AreSmall (session_history self.now) self.now.steps }
     {
-        self.saves();
-        texts_kept();
+        self.holds();
         let text = text_of(self.present())?;
         let saved = Saved {
             tree: &self.tree,
@@ -85,16 +82,6 @@ impl Session {
         };
         save_into(&saved, out)?;
         Ok(())
-    }
-
-    /// What is saved of a session is a journal, of small steps where its own are. Nothing is done.
-    fn saves(&self)
-        ensures journal { IsSavedSession self.now }
-        ensures small { IsSmall (session_trail self.now) → AreSmall (session_history self.now) self.now.steps }
-    {
-        one_reading();
-        texts_kept();
-        let _tree = &self.tree;
     }
 
     /// The session that a journal says, at the text that the file has now: at the cursor where that is the text there, else at

@@ -3,10 +3,8 @@
 ghost use Rattle.bz_journal.specs.Forms.{HoldsPast};
 ghost use Rattle.bz_journal.specs.Clauses.{AlikeActs, AlikeGoesOn, HoldsSteps, IsKept, StoppedIsResumed, WorkedHistories, WrittenIsLaidOut, session_history};
 
-use crate::course::Course;
 use crate::past::{Form, Past};
 use crate::session::Session;
-use bz_edit::laws::{small_steps, steps_lead};
 use bz_grammar::laws::one_reading;
 use bz_layout::{layout_is_accepted, layout_reads_back};
 use bz_passes::{proper_stays, tidy_settles, tidy_stays};
@@ -41,8 +39,6 @@ pub fn session_holds(session: &Session)
     ensures { HoldsSteps session.now }
 {
     session.holds();
-    steps_lead();
-    small_steps();
 }
 
 /// The same of what a run has of a file, where that is a course; texts alone are two at most.
@@ -50,20 +46,11 @@ pub fn past_holds(past: &Past)
     ensures { HoldsPast past.now }
 {
     match &past.form {
-        Form::Course(course) => course_holds(course),
+        Form::Course(course) => course.holds(),
         Form::Alone(texts) => {
             let _last = texts.cursor();
         }
     }
-}
-
-/// The same of a course.
-fn course_holds(course: &Course)
-    ensures { HoldsSteps course.now }
-{
-    course.holds();
-    steps_lead();
-    small_steps();
 }
 
 /// Where a value is written and the answer is no refusal, the tree of the present text is the layout of the value tidied.

@@ -1,17 +1,17 @@
 //! What a command makes of the value of a tree.
-ghost use Rattle.std.specs.Prelude.{◌≡◌, ◌⊎◌, List, Ok, IfOk, IfErr, IfSome};
-ghost use Rattle.bz_journal.specs.Clauses.{Bytes, IsIndexOf, Item, Means, Refusal, RunsIn, effect, gives, lines_of, printed, printed_answer, refuses, spell_node, text_or, view_of};
+ghost use Rattle.std.specs.Prelude.{◌≡◌, ◌⊎◌, Ok, IfOk, IfErr, IfSome};
+ghost use Rattle.bz_journal.specs.Clauses.{IsIndexOf, Means, Refusal, RunsIn, effect, gives, lines_begun, printed, printed_answer, refuses, spell_node, text_or, view_of};
 
-use crate::answering::Lookups;
+use crate::answering::{Lookups, look_up_lines};
 use crate::filling::overfills;
 use bz_build_format::{reads_back, written_text};
-use bz_command::{Ran, Work, lines_matter, looks_at_lines, run_in};
+use bz_command::{Ran, Work, run_in};
 use bz_command_syntax::Command;
 use bz_grammar::Tree;
 use bz_hosts::{into_view, view};
 use bz_items::{Memory, Text};
 use bz_label::Target;
-use bz_rule::{Names, take_apart};
+use bz_rule::take_apart;
 use bz_value::{File, Refusal};
 use std::alloc::Global;
 
@@ -33,75 +33,26 @@ pub(crate) fn value_of(alloc: Global, kept: Option<File>, tree: &Tree) -> Result
     }
 }
 
-/// The lines on which the statements of a tree begin, or none where no command depends on them. The error: memory was refused.
-pub(crate) fn lines_for(
-    alloc: Global,
-    command: &Command,
-    target: &Target,
-    tree: &Tree,
-) -> Result<Vec<u32>, Memory>
-    ensures effect { IfOk result (λ lines. (current : Bytes) (items : List Item) → effect command.now target.now current lines.items items ≡ effect command.now target.now current (lines_of tree.now) items) }
-    ensures printed { IfOk result (λ lines. (current : Bytes) (items : List Item) → printed command.now target.now current lines.items items ≡ printed command.now target.now current (lines_of tree.now) items) }
-{
-    lines_matter();
-    if looks_at_lines(command, target) {
-        return tree.lines(alloc);
-    }
-    Ok(Vec::new(alloc))
-}
-
-/// Runs a command on a value, in place, by the lines on which its statements begin; the value is that of a text of about `len` bytes.
-/// Errors: those of the command; `TooLarge` where what it makes is seen to be past the limit before it is made.
-fn run_by_lines(
+/// Runs a command on a value, in place, by what was looked up; the value is that of a text of about `len` bytes. Errors: those of the command;
+/// `TooLarge` where what it makes is seen to be past the limit before it is made.
+pub(crate) fn run_beside(
     alloc: Global,
     command: &Command,
     target: &Target,
     current: &[u8],
-    lines: &[u32],
+    lookups: &Lookups,
     len: usize,
-    names: Option<&Names>,
     file: &mut File,
 ) -> Result<Ran, Refusal>
-    requires { IfSome names (λ index. IsIndexOf index.now file.old) }
-    ensures { RunsIn (effect command.now target.now current.now lines.now file.old) (printed command.now target.now current.now lines.now file.old) file.old result file.new }
+    requires { IfSome lookups.now.names (λ index. IsIndexOf index file.old) }
+    ensures { RunsIn (effect command.now target.now current.now (lines_begun lookups.now) file.old) (printed command.now target.now current.now (lines_begun lookups.now) file.old) file.old result file.new }
 {
-    let work = Work {
-        alloc,
-        command,
-        target,
-        current,
-        lines,
-        found: None,
-    };
-    if overfills(work, len, file)? {
+    let lines = lookups.begins();
+    if overfills(Work::new(alloc, command, target, current, lines), len, file)? {
         return Err(Refusal::TooLarge);
     }
-    run_in(alloc, command, target, current, lines, names, file)
-}
-
-/// The same on the value of a tree, by the lines that were looked up in it.
-pub(crate) fn run_on_tree(
-    alloc: Global,
-    command: &Command,
-    target: &Target,
-    current: &[u8],
-    tree: &Tree,
-    len: usize,
-    lookups: &Lookups,
-    file: &mut File,
-) -> Result<Ran, Refusal>
-    requires names { IfSome lookups.now.names (λ index. IsIndexOf index file.old) }
-    requires lines { IfSome lookups.now.lines (λ lines. lines ≡ lines_of tree.now) }
-    ensures { RunsIn (effect command.now target.now current.now (lines_of tree.now) file.old) (printed command.now target.now current.now (lines_of tree.now) file.old) file.old result file.new }
-{
     let names = lookups.names.as_ref();
-    let Some(lines) = &lookups.lines else {
-        let lines = lines_for(alloc, command, target, tree)?;
-        let lines = lines.as_slice();
-        return run_by_lines(alloc, command, target, current, lines, len, names, file);
-    };
-    let lines = lines.as_slice();
-    run_by_lines(alloc, command, target, current, lines, len, names, file)
+    run_in(alloc, command, target, current, lines, names, file)
 }
 
 /// What a command means on the text of a tree, which has this many bytes and is given up for its value: the text after it, none where the
@@ -118,18 +69,10 @@ pub(crate) fn meant(
     ensures err { IfErr result (λ refusal. Means command.now target.now current.now (spell_node tree) (refuses refusal) ⊎ (refusal ≡ Refusal.Memory)) }
 {
     reads_back(&tree);
-    let lines = lines_for(alloc, command, target, &tree)?;
+    let mut lookups = Lookups::none();
+    look_up_lines(alloc, command, target, &mut lookups, &tree)?;
     let mut file = into_view(alloc, tree)?;
-    match run_by_lines(
-        alloc,
-        command,
-        target,
-        current,
-        lines.as_slice(),
-        len,
-        None,
-        &mut file,
-    ) {
+    match run_beside(alloc, command, target, current, &lookups, len, &mut file) {
         Ok(ran) => {
             let printed = printed_answer(command, ran.printed);
             if ran.windows.is_empty() {

@@ -1,23 +1,13 @@
 //! The lines on which the statements of a file begin, where one of its parts is exchanged: those after it move.
 ghost use Rattle.std.specs.Prelude.{◌≡◌, ◌≤◌, ◌++◌, ◌∷◌, [], List, ℕ, IfSome, IsTrue, length, map};
 ghost use Rattle.std.specs.Option.{option_copied};
-ghost use Rattle.bz_journal.specs.Clauses.{AreShifted, AreThere, IsLike, IsLineOfOne, fronts, fronts_in, is_node, lines_of, moved, moved_from, newlines, node_parts, spell_part, with_windows};
+ghost use Rattle.bz_journal.specs.Clauses.{AreThere, IsLike, IsLineOfOne, fronts, fronts_in, is_node, lines_of, moved, moved_from, newlines, node_parts, spell_part, with_windows};
 
 use bz_edit::PartWindow;
 use bz_grammar::{LENGTH_LIMIT, Part, Tree, first_of};
 use bz_items::{Gap, Items};
 
-/// How many newlines are in a text; none where this is longer than a text may be.
-fn newlines_in(text: &[u8]) -> Option<u32>
-    ensures { IfSome result (λ count. count ≡ newlines text.now) }
-{
-    if text.len() > LENGTH_LIMIT {
-        return None;
-    }
-    Some(text.iter().filter(|byte| **byte == b'\n').count() as u32)
-}
-
-/// How many newlines are in a line of a file; none of a leaf, or where memory is refused for the text.
+/// How many newlines are in a line of a file; none of a leaf, of what is longer than a text may be, or where memory is refused for the text.
 #[tactic(auto, using(crate::proofs::MovedLines::spelled))]
 fn newlines_of(part: &Part) -> Option<u32>
     ensures { IfSome result (λ count. count ≡ newlines (spell_part part.now)) }
@@ -26,10 +16,10 @@ fn newlines_of(part: &Part) -> Option<u32>
         return None;
     };
     let mut text = Vec::new(line.parts.alloc());
-    if line.spell_into(&mut text).is_err() {
+    if line.spell_into(&mut text).is_err() || text.len() > LENGTH_LIMIT {
         return None;
     }
-    newlines_in(text.as_slice())
+    Some(text.iter().filter(|byte| **byte == b'\n').count() as u32)
 }
 
 fn is_node(part: &Part) -> bool
@@ -69,10 +59,8 @@ fn opening(part: &Part) -> Option<&Gap>
     ensures { IfSome (option_copied result) (λ gap. (front : List ℕ) → fronts_in front (node_parts part.now) ≡ (front ++ gap) ∷ []) }
 {
     let parts = line_of_one(part)?;
-    match first_of(&parts[..1]) {
-        Some(leaf) => Some(&leaf.gap),
-        None => None,
-    }
+    let leaf = first_of(&parts[..1])?;
+    Some(&leaf.gap)
 }
 
 /// How many newlines are in each of two lines of a file that have one statement each, if both begin alike; else none.
@@ -85,38 +73,6 @@ fn alike(old: &Part, new: &Part) -> Option<(u32, u32)>
         return None;
     }
     Some((newlines_of(old)?, newlines_of(new)?))
-}
-
-/// From which statement of a tree on lines move, and by what.
-#[derive(Clone, Copy)]
-struct Shift {
-    from: usize,
-    gone: u32,
-    come: u32,
-}
-
-/// How the lines of the statements move, from the present tree to the one with these windows; none where that isn't seen at once.
-fn shift_of(windows: &[PartWindow], tree: &Tree) -> Option<Shift>
-    requires { AreThere windows.now tree.now.parts }
-    ensures { IfSome result (λ shift. AreShifted shift.from shift.gone shift.come (lines_of tree.now) (lines_of (with_windows windows.now tree.now))) }
-{
-    let [window] = windows else {
-        return None;
-    };
-    let [line] = window.parts.as_slice() else {
-        return None;
-    };
-    if window.gone != 1 {
-        return None;
-    }
-    let parts = tree.root.parts.as_slice();
-    let place = window.from;
-    let from = place + 1;
-    if !hold_one_each(&parts[..from]) {
-        return None;
-    }
-    let (gone, come) = alike(&parts[place], line)?;
-    Some(Shift { from, gone, come })
 }
 
 /// A line, moved; none where it would be past what a line may be.
@@ -159,8 +115,23 @@ pub(crate) fn begins_after(
     ensures { IfSome result (λ next. next ≡ lines_of (with_windows windows.now tree.now)) }
 {
     let mut begins = begins?;
-    let shift = shift_of(windows, tree)?;
-    if !move_from(begins.as_mut_slice(), shift.from, shift.gone, shift.come) {
+    let [window] = windows else {
+        return None;
+    };
+    let [line] = window.parts.as_slice() else {
+        return None;
+    };
+    if window.gone != 1 {
+        return None;
+    }
+    let parts = tree.root.parts.as_slice();
+    let place = window.from;
+    let from = place + 1;
+    if !hold_one_each(&parts[..from]) {
+        return None;
+    }
+    let (gone, come) = alike(&parts[place], line)?;
+    if !move_from(begins.as_mut_slice(), from, gone, come) {
         return None;
     }
     Some(begins)

@@ -1,8 +1,7 @@
 //! An index of names that outlives a change: where each item that changed has the name that is listed at its place, it is that of the new
 //! items too.
 ghost use Rattle.std.specs.Prelude.{◌<◌, ◌+◌, ◌^◌, List, IfSome, IsTrue, length};
-ghost use Rattle.bz_journal.specs.Clauses.{AreOver, IsIndexOf, Item};
-ghost use Rattle.bz_journal.specs.private.Naming.{HaveListedNamesIn, HaveListedNames, HasListedName};
+ghost use Rattle.bz_journal.specs.Clauses.{AreOver, HasListedName, HaveListedNames, HaveListedNamesIn, IsIndexOf, Item};
 
 use bz_rule::{Names, held_name};
 use bz_value::{Item, Window};

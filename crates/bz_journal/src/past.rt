@@ -1,14 +1,13 @@
 //! What a run has of a file: its texts so far, as a course, or alone once the last command on it is done.
 ghost use Rattle.std.specs.Prelude.{◌≡◌, ◌≤◌, ◌++◌, true, IfOk, IfSome, OnErr, OnOk, length, string_bytes};
-ghost use Rattle.bz_journal.specs.Actions as a;
-ghost use Rattle.bz_journal.specs.Clauses.{Acts, AreFirstDigests, HasActed, IsSeenIn, Keeps, KeepsFile, MakesOrWants, SessionState, action_in, listing, note_limit, present, session_history};
+ghost use Rattle.bz_journal.specs.Clauses.{Acts, AreFirstDigests, Do, HasActed, IsSeenIn, Keeps, KeepsFile, MakesOrWants, SessionState, action_in, listing, note_limit, present, session_history};
 ghost use Rattle.bz_journal.specs.Forms.{ActsIn, KeepsIn, OpensPast, past_history};
 ghost use Rattle.bz_journal.specs.private.Courses.{HasCourse};
 
-use crate::action::{Action, Reply};
+use crate::action::{Action, Reply, is_changed};
 use crate::alone::{Alone, of_first, taken_up};
 use crate::course::{Course, MOST_NOTE, begin};
-use crate::digests::{cut_off, listed_by};
+use crate::digests::listed_by;
 use crate::doing::{Seen, act};
 use crate::keeping::{
     KeepFault, known_text, own_text, persist, text_written, unkept, written_since,
@@ -86,7 +85,8 @@ fn past_of(course: Course, digests: Vec<[u8; 32]>, text: Option<Vec<u8>>) -> Pas
     }
 }
 
-/// Does an action with a note in a course, by what is kept of it, as `Session::act_noted` says. The errors are those.
+/// Does an action with a note in a course, by what is kept of it, as `Session::act_noted` says. The digests of texts that a new one cut off
+/// go. The errors are those.
 fn act_in(
     course: &mut Course,
     digests: &mut Vec<[u8; 32]>,
@@ -101,34 +101,12 @@ fn act_in(
     ensures digests { AreFirstDigests digests.new.items (session_history course.new).texts }
 {
     let answer = act(course, seen, action, note);
-    cut_off(digests, course, &answer);
     seen.let_go();
-    answer
-}
-
-/// Does the last command on the first text of a course, which is this: its tree is given up for its value. That text alone is left, or the
-/// next one beside it.
-fn do_last(
-    course: Course,
-    text: Vec<u8>,
-    command: &Command,
-    target: &Target,
-    note: String,
-) -> (Alone, Result<Reply, Refusal>)
-    requires short { length (string_bytes note) ≤ note_limit }
-    requires first { length (session_history course).texts ≡ 1 }
-    requires text { text.items ≡ present (session_history course) }
-    ensures { MakesOrWants (a.Do command.now target.now) (string_bytes note) (session_history course) result.1 result.0 }
-{
-    let alloc = course.alloc();
-    let (tree, package) = course.into_first();
-    match meant(alloc, command, target, package.as_bytes(), tree, text.len()) {
-        Ok((made, printed)) => {
-            let (texts, reply) = taken_up(package, text, made, printed, note);
-            (texts, Ok(reply))
-        }
-        Err(refusal) => (of_first(package, text), Err(refusal)),
+    if !is_changed(&answer) {
+        return answer;
     }
+    digests.truncate(course.cursor() as usize);
+    answer
 }
 
 impl Past {
@@ -137,13 +115,9 @@ impl Past {
         requires { length «package».now ≤ 65536 }
         ensures { OpensPast «package».now text.now result }
     {
-        match begin(alloc, package, text) {
-            Ok(course) => {
-                let own = Vec::from_slice(alloc, text).ok();
-                Ok(past_of(course, Vec::new(alloc), own))
-            }
-            Err(fault) => Err(fault),
-        }
+        let course = begin(alloc, package, text)?;
+        let own = Vec::from_slice(alloc, text).ok();
+        Ok(past_of(course, Vec::new(alloc), own))
     }
 
     /// The texts of a session, whose digests are kept.
@@ -211,12 +185,8 @@ impl Past {
             && course.steps() == 0
             && let Action::Do(command, target) = *action
         {
-            let Ok(note) = String::from_str(course.alloc(), note) else {
-                return Err(Refusal::Memory);
-            };
-            let Ok(text) = own_text(course, self.text.take()) else {
-                return Err(Refusal::Memory);
-            };
+            let note = String::from_str(course.alloc(), note)?;
+            let text = own_text(course, self.text.take())?;
             return self.act_last(text, command, target, note);
         }
         self.text = None;
@@ -263,7 +233,8 @@ impl Past {
         *self = past_of(course, digests, None);
     }
 
-    /// Does the last command on the first text of a course, which is this, as `do_last` does. The errors are those.
+    /// Does the last command on the first text of a course, which is this: its tree is given up for its value. That text alone is left, or the
+    /// next one beside it. The errors are those of the command.
     fn act_last(
         &mut self,
         text: Vec<u8>,
@@ -274,8 +245,8 @@ impl Past {
         requires short { length (string_bytes note) ≤ note_limit }
         requires first { (course : SessionState) × (self.old ≡ Form.Course course) × (length (session_history course).texts ≡ 1) }
         requires text { text.items ≡ present (past_history self.old) }
-        ensures makes { MakesOrWants (a.Do command.now target.now) (string_bytes note) (past_history self.old) result (past_history self.new) }
-        ensures form { ActsIn true (a.Do command.now target.now) (string_bytes note) self.old result self.new }
+        ensures makes { MakesOrWants (Do command.now target.now) (string_bytes note) (past_history self.old) result (past_history self.new) }
+        ensures form { ActsIn true (Do command.now target.now) (string_bytes note) self.old result self.new }
     {
         let alloc = *text.allocator();
         self.seen = Seen::none();
@@ -284,8 +255,17 @@ impl Past {
         let Form::Course(course) = mem::replace(&mut self.form, Form::Alone(nothing)) else {
             unreachable!()
         };
-        let (texts, answer) = do_last(course, text, command, target, note);
-        self.form = Form::Alone(texts);
-        answer
+        let (tree, package) = course.into_first();
+        match meant(alloc, command, target, package.as_bytes(), tree, text.len()) {
+            Ok((made, printed)) => {
+                let (texts, reply) = taken_up(package, text, made, printed, note);
+                self.form = Form::Alone(texts);
+                Ok(reply)
+            }
+            Err(refusal) => {
+                self.form = Form::Alone(of_first(package, text));
+                Err(refusal)
+            }
+        }
     }
 }

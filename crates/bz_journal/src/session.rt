@@ -1,6 +1,6 @@
 //! A session: the history of one file, with the SHA-256 of each text.
 ghost use Rattle.std.specs.Prelude.{◌≡◌, ◌≤◌, ◌<◌, ◌+◌, ◌++◌, List, map, slice_get, option_map, vec_len, vec_capacity, Err, IfOk, OnOk, OnErr, IsOk, [], length, Result};
-ghost use Rattle.bz_journal.specs.Clauses.{HasActed, IsKept, IsSession, IsSmall, IsWrittenSince, KeepsPair, MakesText, OpensText, Refusal, Reply, Runs, action_in, limit, listing, present, session_history, session_trail, sha256, spell_node};
+ghost use Rattle.bz_journal.specs.Clauses.{HasActed, HoldsState, IsSmall, IsWrittenSince, KeepsPair, MakesText, OpensText, Refusal, Reply, Runs, action_in, limit, listing, present, session_history, session_trail, sha256, spell_node};
 ghost use Rattle.bz_edit.specs.Steps.{weight as weight_held};
 
 use crate::action::{Action, Reply, is_changed};
@@ -9,9 +9,10 @@ use crate::digest::digest_of;
 use crate::doing::{Seen, act};
 use crate::keeping::{KeepFault, Written, persist};
 use crate::listing::listed;
-use bz_edit::laws::texts_kept;
+use bz_edit::laws::{small_steps, steps_lead, texts_kept};
 use bz_edit::{Step, put_after, weight};
 use bz_files::Files;
+use bz_grammar::laws::one_reading;
 use bz_grammar::{ReadFault, Tree};
 use bz_items::{Memory, Text};
 use bz_journal_format::KeptLines;
@@ -119,12 +120,12 @@ impl Session {
 
     /// What a session keeps. Nothing is done.
     pub(crate) fn holds(&self)
-        ensures own { IsSession self.now }
-        ensures kept { IsKept (session_history self.now) }
-        ensures text { spell_node self.now.tree ≡ present (session_history self.now) }
-        ensures steps { length self.now.steps + 1 ≡ length (session_history self.now).texts }
+        ensures { HoldsState self.now }
     {
+        one_reading();
         texts_kept();
+        steps_lead();
+        small_steps();
         let _tree = &self.tree;
     }
 
@@ -140,10 +141,7 @@ impl Session {
     pub fn weight(&self, i: u32) -> Option<u64>
         ensures { result ≡ option_map weight_held (slice_get self.now.steps i) }
     {
-        match bz_items::at(self.steps.as_slice(), i as usize) {
-            Some(step) => Some(weight(step)),
-            None => None,
-        }
+        bz_items::at(self.steps.as_slice(), i as usize).map(|step| weight(step))
     }
 
     /// The tree of the present text.

@@ -5,21 +5,6 @@ ghost use Rattle.bz_edit.specs.Windows.{AreThere, window_parts};
 use bz_edit::PartWindow;
 use bz_grammar::Part;
 
-/// Whether both lists have the same parts in the same places.
-fn are_same(a: &[Part], b: &[Part]) -> bool
-    ensures { IsTrue result ↔ (a.now ≡ b.now) }
-{
-    if a.len() != b.len() {
-        return false;
-    }
-    for at in 0..a.len() {
-        if !a[at].equals(&b[at]) {
-            return false;
-        }
-    }
-    true
-}
-
 /// Whether the parts have these from a place on.
 fn has_there(parts: &[Part], at: usize, others: &[Part]) -> bool
     requires { at ≤ length parts.now }
@@ -29,8 +14,12 @@ fn has_there(parts: &[Part], at: usize, others: &[Part]) -> bool
     if others.len() > rest.len() {
         return false;
     }
-    let (here, _following) = rest.split_at(others.len());
-    are_same(here, others)
+    for place in 0..others.len() {
+        if !rest[place].equals(&others[place]) {
+            return false;
+        }
+    }
+    true
 }
 
 /// Whether the parts have the same from two places on, as many as `count` says.

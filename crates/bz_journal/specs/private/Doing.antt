@@ -1,6 +1,10 @@
 -- What is done to a session: what is answered, and the session after it.
 use Rattle.std.specs.Prelude.{◌≡◌, ◌⊎◌, ◌↔◌, ◌≤◌, ◌<◌, ◌+◌, ℕ, length, List, [], Option, None, Some, Result, Ok, Err, OnErr, OnOk, IfErr, IfOk}
+use Rattle.std.specs.Option.{unwrap_or}
 use Rattle.bz_grammar.specs.declared.tree.Node.{Node}
+use Rattle.bz_label.specs.declared.target.Target.{Target}
+use Rattle.bz_command_syntax.specs.declared.command.Operation.{Operation}
+use Rattle.bz_command.specs.Effect.{effect, printed}
 use Rattle.bz_value.specs.declared.value.Item.{Item}
 use Rattle.bz_value.specs.declared.refusal.Refusal.{Refusal}
 use Rattle.bz_value.specs.declared.refusal.Refusal.TheVariants.{Memory, TooLarge}
@@ -9,12 +13,20 @@ use Rattle.bz_command.specs.declared.outcome.Ran.{Ran}
 use Rattle.bz_items.specs.Characters.{Bytes}
 use Rattle.bz_edit.specs.Trails.{IsSmall}
 use Rattle.bz_journal.specs.Actions.{Action, Do, Format, Redo, Undo}
-use Rattle.bz_journal.specs.declared.doing.Seen.{Seen}
-use Rattle.bz_journal.specs.Editing.{IsSeenIn}
+use Rattle.bz_journal.specs.declared.answering.Lookups.{Lookups}
 use Rattle.bz_journal.specs.private.Filling.{Overfills}
 use Rattle.bz_journal.specs.History.{Answer, History, IsFree, Leads, MakesOrWants, note_limit}
 use Rattle.bz_journal.specs.Shown.{session_history}
 use Rattle.bz_journal.specs.State.{SessionState, session_trail}
+
+-- the lines that were looked up, or none
+abbrev pub lines_begun : Lookups → List ℕ
+lines_begun lookups = unwrap_or lookups.lines []
+
+-- By these lines a command makes what it makes by those, of any value, and prints the same.
+abbrev pub GivesAlike : Operation → Target → List ℕ → List ℕ → Type 0
+GivesAlike operation target lines others = (current : Bytes) (items : List Item)
+    → (effect operation target current lines items ≡ effect operation target current others items) × (printed operation target current lines items ≡ printed operation target current others items)
 
 -- What a command does to a value in place, of its effect on it and of what it prints; where what it makes is past the limit of a text, it need
 -- not be made. (The value before and after.)
@@ -36,12 +48,6 @@ pub record HasMade (action : Action) (note : Bytes) (s : SessionState) (answer :
   pub makes : MakesOrWants action note (session_history s) answer (session_history t)
   pub unmoved : OnErr answer (t ≡ s)
   pub small : IsSmall (session_trail s) → IsSmall (session_trail t)
-
--- The note isn't too long, and no value is kept beside the session.
-pub record IsReady (note : Bytes) (tree : Node) (seen : Seen) : Type 0 where
-  pub short : length note ≤ note_limit
-  pub none : seen.value ≡ None
-  pub own : IsSeenIn tree seen
 
 -- ---- what is answered at once
 

@@ -29,12 +29,9 @@ item_made_by work = item_made work.command.now work.current.now (option_copied w
 abbrev pub one_where : (Item → NewItem) → Bool → Item → NewItem
 one_where change mark item = if mark then change item else Ok item
 
--- what is made of an item is proper, and of each of these
-abbrev pub IsProperMade : NewItem → Type 0
-IsProperMade one = IfOk one IsProperItem
-
+-- what is made of each item is proper
 abbrev pub AreProperMade : (Item → NewItem) → List Item → Type 0
-AreProperMade change items = AllByRecursion (λ item. IsProperMade (change item)) items
+AreProperMade change items = AllByRecursion (λ item. IfOk (change item) IsProperItem) items
 
 -- how many bytes an item has in a file of its own, and marked items have, each in one of its own
 unfoldable pub alone_length : Item → ℕ
@@ -54,7 +51,3 @@ Grows size differs mark item (Err refusal) = ⊥
 abbrev pub AllGrow : ℕ → Bool → List Bool → List Item → Result (List Item) Refusal → Type 0
 AllGrow size differs marks items (Ok new) = (size ≤ marked_alone marks new) × (differs ≡ true → new ≢ items)
 AllGrow size differs marks items (Err refusal) = ⊥
-
--- they are others, and past the limit of a text even one by one
-abbrev pub Overgrows : List Bool → List Item → Result (List Item) Refusal → Type 0
-Overgrows marks items made = AllGrow (limit + 1) true marks items made

@@ -1,12 +1,28 @@
--- The lines that are kept beside a session for its journal.
-use Rattle.std.specs.Prelude.{map}
+-- What a session keeps, and the lines that are kept beside it for its journal.
+use Rattle.std.specs.Prelude.{◌≡◌, ◌+◌, length, map}
 use Rattle.sha2.specs.Sha256.{sha256}
+use Rattle.bz_grammar.specs.Spell.{spell_node}
 use Rattle.bz_journal_format.specs.FirstLines.{AreFirstLines}
 use Rattle.bz_journal_format.specs.declared.content.Version.TheVariants.{Two}
 use Rattle.bz_journal_format.specs.declared.kept.KeptLines.{KeptLines}
 use Rattle.bz_edit.specs.Shown.{texts_of}
-use Rattle.bz_journal.specs.State.{SessionState, session_trail}
+use Rattle.bz_edit.specs.Trails.{IsSmall}
+use Rattle.bz_resume.specs.Journals.{AreSmall}
+use Rattle.bz_journal.specs.History.{IsKept, present}
+use Rattle.bz_journal.specs.Lasting.{IsSavedSession}
+use Rattle.bz_journal.specs.Shown.{HoldsSteps, session_history}
+use Rattle.bz_journal.specs.State.{SessionState, IsSession, session_trail}
 
 -- they are those of the first digests and of the first steps, as its journal has them
 abbrev pub AreKeptOf : SessionState → KeptLines → Type 0
 AreKeptOf s kept = AreFirstLines Two (map sha256 (texts_of (session_trail s))) s.notes s.steps kept
+
+-- Its history, its text and its steps; and what is saved of it is a journal, of small steps where its own are.
+pub record HoldsState (s : SessionState) : Type 0 where
+  pub own : IsSession s
+  pub kept : IsKept (session_history s)
+  pub text : spell_node s.tree ≡ present (session_history s)
+  pub steps : length s.steps + 1 ≡ length (session_history s).texts
+  pub holds : HoldsSteps s
+  pub journal : IsSavedSession s
+  pub small : IsSmall (session_trail s) → AreSmall (session_history s) s.steps

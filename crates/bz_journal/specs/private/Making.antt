@@ -1,19 +1,24 @@
--- The lines of a tidy value that are other ones than in a tree.
-use Rattle.std.specs.Prelude.{◌≡◌, ◌⊎◌, ◌≤◌, List, length, Option, IfErr, IfOk, IfSome, Result}
+-- The lines of a tidy value that are other ones than in a tree, and what was looked up that outlives them.
+use Rattle.std.specs.Prelude.{◌≡◌, ◌⊎◌, ◌≤◌, ◌==◌, ◌+◌, ◌-◌, ℕ, true, List, [], ◌∷◌, ◌++◌, length, map, take, drop, Option, Some, IfErr, IfOk, IfSome, Result}
+use Rattle.std.specs.List.{flat_map, list_any}
 use Rattle.bz_edit.specs.Windows.{AreThere, with_windows}
 use Rattle.bz_edit.specs.declared.part_windows.PartWindow.{PartWindow}
 use Rattle.bz_grammar.specs.declared.tree.Node.{Node}
+use Rattle.bz_grammar.specs.declared.tree.Part.{Part}
 use Rattle.bz_grammar.specs.Legal.{Reads}
-use Rattle.bz_grammar.specs.Spell.{depth_of, depth_limit}
+use Rattle.bz_grammar.specs.Spell.{depth_of, depth_limit, leaves_part, spell_part}
+use Rattle.bz_grammar.specs.Statements.{first_gap, fronts_in, newlines, node_parts}
 use Rattle.bz_items.specs.Characters.{Bytes}
 use Rattle.bz_value.specs.declared.value.Item.{Item}
+use Rattle.bz_value.specs.declared.windows.Window.{Window}
 use Rattle.bz_value.specs.declared.refusal.Refusal.{Refusal}
 use Rattle.bz_value.specs.declared.refusal.Refusal.TheVariants.{Memory}
 use Rattle.bz_value.specs.Proper.{IsProper}
 use Rattle.bz_layout.specs.LaidOut.{laid_out}
 use Rattle.bz_layout.specs.Written.{layout}
 use Rattle.bz_passes.specs.Passes.{tidied}
-use Rattle.bz_rule.specs.Index.{IsIndexOf}
+use Rattle.bz_rule.specs.Held.{held_name}
+use Rattle.bz_rule.specs.Index.{Index, IsIndexOf, places_from}
 use Rattle.bz_journal.specs.Meaning.{refuses, written}
 use Rattle.bz_journal.specs.declared.making.Made.{Made}
 
@@ -35,3 +40,42 @@ pub record MakesLines (file : List Item) (tree : Node) (result : Result Made Ref
   pub ok : IfOk result (λ made. IsMadeOf made tree (tidied file))
   pub proper : IsProper file
   pub err : IfErr result (λ refusal. ((printed : Option Bytes) → written file printed ≡ refuses refusal) ⊎ (refusal ≡ Memory))
+
+-- ---- an index of names
+
+-- The item has a name, of which this place is listed, whatever items the index is of.
+abbrev pub HasListedName : Index → ℕ → Item → Type 0
+HasListedName index at item = (name : Bytes) × (held_name item ≡ Some name)
+    × ((items : List Item) → IsIndexOf index items → list_any (λ place. place == at) (places_from 0 name items) ≡ true)
+
+-- the same of items from this place on
+abbrev pub HaveListedNames : Index → ℕ → List Item → Type 0
+HaveListedNames index at [] = Unit {0}
+HaveListedNames index at (item ∷ items) = HasListedName index at item × HaveListedNames index (at + 1) items
+
+-- In each window there are as many items as were, and those that came are listed. (From this place on, the windows and the items.)
+abbrev pub HaveListedNamesIn : Index → ℕ → List Window → List Item → Type 0
+HaveListedNamesIn index at [] items = Unit {0}
+HaveListedNamesIn index at (w ∷ ws) items = (w.gone ≡ w.come) × (w.from + w.come ≤ length items) × HaveListedNames index (at + w.from) (take w.come (drop w.from items))
+    × HaveListedNamesIn index (at + w.from + w.come) ws (drop (w.from + w.come) items)
+
+-- ---- the lines on which statements begin, where one part of a file takes the place of another
+
+-- a line that has more newlines in front of it by those that come, and fewer by those that go
+abbrev pub moved : ℕ → ℕ → ℕ → ℕ
+moved gone come line = line + come - gone
+
+-- the lines with those from a place on moved
+abbrev pub moved_from : ℕ → ℕ → ℕ → List ℕ → List ℕ
+moved_from from gone come lines = take from lines ++ map (moved gone come) (drop from lines)
+
+-- Such parts are in this part of a file: a statement, and the end of its line.
+pub record IsLineOfOne (part : Part) (parts : List Part) : Type 0 where
+  pub count : length parts ≡ 2
+  pub begun : (front : List ℕ) → fronts_in front (node_parts part) ≡ (front ++ first_gap (flat_map leaves_part (take 1 parts))) ∷ []
+
+-- The statements of both parts begin on the same lines, where the parts do, and this many newlines are in the one and in the other.
+pub record IsLike (old new : Part) (gone come : ℕ) : Type 0 where
+  pub begun : (front : List ℕ) → fronts_in front (node_parts new) ≡ fronts_in front (node_parts old)
+  pub gone_is : gone ≡ newlines (spell_part old)
+  pub come_is : come ≡ newlines (spell_part new)

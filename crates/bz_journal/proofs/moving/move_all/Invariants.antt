@@ -1,5 +1,5 @@
 use Rattle.std.proofs.Common.{◌≡◌, ◌++◌, map, take, drop}
-use Rattle.bz_journal.specs.private.Moving.{moved}
+use Rattle.bz_journal.specs.private.Making.{moved}
 use Rattle.bz_journal.proofs.moving.move_all.Given as goal
 
 abbrev pub invariant-loop-line : goal.invariant-loop-line

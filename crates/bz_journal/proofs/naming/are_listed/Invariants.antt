@@ -1,5 +1,5 @@
 use Rattle.std.proofs.Common.{◌+◌, drop}
-use Rattle.bz_journal.specs.private.Naming.{HaveListedNames}
+use Rattle.bz_journal.specs.private.Making.{HaveListedNames}
 use Rattle.bz_journal.proofs.naming.are_listed.Given as goal
 
 -- all are listed, where those from here on are

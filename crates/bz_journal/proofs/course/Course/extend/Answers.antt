@@ -10,7 +10,7 @@ use Rattle.bz_journal_format.specs.declared.content.Version.TheVariants.{Two}
 use Rattle.bz_journal.specs.History.{most_steps}
 use Rattle.bz_journal.specs.private.Kept.{AreKeptOf}
 use Rattle.bz_journal.specs.State.{SessionState, IsSession, session_trail}
-use Rattle.bz_journal.proofs.Kept.{HasExtended, as_before, extended, kept_on, session_present}
+use Rattle.bz_journal.proofs.Kept.{as_before, extended, kept_on, session_present}
 use Rattle.bz_journal.proofs.course.Course.extend.Goals as goal
 
 pub take_up-requires-clause-other : goal.take_up-requires-clause-other
@@ -31,7 +31,7 @@ invariant_of-self-2 c =
     ∙ ap (λ (d : Bytes). take c.self.inside.cursor c.self.inside.notes.items ++ d ∷ []) (c.in_ok-note.ensures ∙ c.as_bytes.ensures.value) in
     let takes : TakesUp (session_trail s) next (trail_at c.take_up.new.tree c.take_up.new.steps.items (c.self.inside.cursor + 1)) = c.in_ok-take_up.ensures.ok in
     let steps = c.take_up.new.steps.items in (
-      HasExtended.session (extended c.texts_kept.ensures s next c.take_up.new.tree steps c.put_after.new.items.items c.args.note.now c.self.invariant.0 room (c.requires.short, search rules) takes notes),
+      extended c.texts_kept.ensures s next c.take_up.new.tree steps c.put_after.new.items.items c.args.note.now c.self.invariant.0 room (c.requires.short, search rules) takes notes,
       kept_on c.texts_kept.ensures s next c.take_up.new.tree steps c.put_after.new.items.items c.args.note.now c.drop_past.new.self c.self.invariant.0 takes notes c.drop_past.ensures.few.0 c.drop_past.ensures.few.1
           (c.drop_past.ensures.first Two (map sha256 (texts_of (session_trail s))) s.notes s.steps c.self.invariant.1),
     )

@@ -1,17 +1,17 @@
-use Rattle.std.proofs.Common.{◌≡◌, ◌∙◌, ap, arith, length, map, refl, subst, sym}
+use Rattle.std.proofs.Common.{◌≡◌, ◌∙◌, ap, arith, length, map, sym}
 use Rattle.std.proofs.lemmas.Result.{IfOk-weaker}
 use Rattle.sha2.specs.Sha256.{sha256}
 use Rattle.bz_edit.specs.Shown.{texts_of}
 use Rattle.bz_journal_format.specs.declared.content.Record.{Record}
 use Rattle.bz_journal_format.specs.declared.content.Version.TheVariants.{Two}
 use Rattle.bz_journal_format.specs.Texts.{record_text}
-use Rattle.bz_resume.proofs.Saves.{is_saved, record_made}
+use Rattle.bz_resume.proofs.Saves.{record_made}
 use Rattle.bz_resume.specs.Journals.{record_of}
 use Rattle.bz_journal.specs.History.{present}
 use Rattle.bz_journal.specs.Shown.{session_history}
-use Rattle.bz_journal.specs.State.{SessionState, IsSession, session_trail}
+use Rattle.bz_journal.specs.State.{SessionState, session_trail}
 use Rattle.bz_journal.proofs.Kept.{first_of_same}
-use Rattle.bz_journal.proofs.Resuming.{may_save, same_state}
+use Rattle.bz_journal.proofs.Resuming.{same_state}
 use Rattle.bz_journal.proofs.course.Course.journal.Goals as goal
 
 pub record_bytes-requires-clause-noted : goal.record_bytes-requires-clause-noted
@@ -43,9 +43,3 @@ returns-clause-stored c =
     let saved : record_of (session_history lent) lent.steps ≡ record_of (session_history c.args.self.now) c.args.self.now.steps = ap (λ (s : SessionState). record_of (session_history s) s.steps) same in
     IfOk-weaker c.record_bytes.result _ _
     (λ bytes is. is ∙ ap (λ (r : Record). record_text Two r) (record_made (session_history lent) lent.steps c.args.text.now c.args.digests.now text digests ∙ saved)) c.record_bytes.ensures.ok
-
-pub returns-clause-journal : goal.returns-clause-journal
-returns-clause-journal c =
-    let s : SessionState = c.args.self.now in
-    let own : IsSession s = subst (λ (t : SessionState). IsSession t) c.self.view_is c.self.invariant.0 in
-    is_saved (session_history s) s.steps s.tree own.trail refl own.noted (may_save s own)

@@ -7,5 +7,5 @@ use Rattle.bz_journal.proofs.past.Past.act_noted.Goals as goal
 pub returns-clause-acts : goal.returns-clause-acts
 returns-clause-acts c =
     let short : length c.args.note.now ≤ note_limit = search rules in
-    last_acts c.in-Do.command.now c.in-Do.target.now (action_in c.args.action.now) c.args.note.now (string_bytes c.in-Ok.note) c.args.self.now c.in-Course.course c.act_last.result c.act_last.new.self
-    (made_as c.args.self.now _ _ _ c.make_course.ensures c.self.view_is c.in-Course.is) (ap action_in c.in-Do.is) c.in-Ok.ensures.ok short c.act_last.ensures.makes
+    last_acts c.in-Do.command.now c.in-Do.target.now (action_in c.args.action.now) c.args.note.now (string_bytes c.in_ok-note.note) c.args.self.now c.in-Course.course c.act_last.result c.act_last.new.self
+    (made_as c.args.self.now _ _ _ c.make_course.ensures c.self.view_is c.in-Course.is) (ap action_in c.in-Do.is) c.in_ok-note.ensures.ok short c.act_last.ensures.makes

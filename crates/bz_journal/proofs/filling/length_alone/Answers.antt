@@ -3,9 +3,9 @@ use Rattle.std.proofs.lemmas.Grind.{common_steps}
 use Rattle.std.proofs.lemmas.List.Elements.{All-from_recursion}
 use Rattle.bz_value.specs.Proper.{IsProper, IsProperItem}
 use Rattle.bz_value.specs.declared.value.Item.{Item}
-use Rattle.bz_journal.proofs.filling.file_of.Goals as goal
+use Rattle.bz_journal.proofs.filling.length_alone.Goals as goal
 
-pub invariant_of-result : goal.invariant_of-result
-invariant_of-result c =
-    let one : c.from_vec.result ≡ c.args.item ∷ [] = grind (arith, common_steps) in
+pub invariant_of-file : goal.invariant_of-file
+invariant_of-file c =
+    let one : c.from_vec-items.result ≡ c.args.item ∷ [] = grind (arith, common_steps) in
     subst (λ (items : List Item). IsProper items) (sym one) (All-from_recursion IsProperItem (c.args.item ∷ []) (c.requires, tt))

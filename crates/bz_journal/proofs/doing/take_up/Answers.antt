@@ -1,0 +1,62 @@
+use Rattle.std.proofs.Common.{◌≡◌, ◌∙◌, Err, List, Ok, ap, length, subst, sym}
+use Rattle.std.specs.Prelude.{IfSome}
+use Rattle.bz_edit.specs.Windows.{with_windows}
+use Rattle.bz_grammar.specs.declared.tree.Node.{Node}
+use Rattle.bz_grammar.specs.Legal.{Reads}
+use Rattle.bz_grammar.specs.Spell.{spell_node}
+use Rattle.bz_grammar.specs.Statements.{lines_of}
+use Rattle.bz_items.specs.Characters.{Bytes}
+use Rattle.bz_value.specs.declared.value.Item.{Item}
+use Rattle.bz_hosts.specs.View.{view_of}
+use Rattle.bz_layout.specs.Written.{layout}
+use Rattle.bz_passes.specs.Passes.{tidied}
+use Rattle.bz_build_format.specs.Meaning.{IsWritten, Meaning}
+use Rattle.bz_rule.specs.Index.{IsIndexOf}
+use Rattle.bz_journal.specs.Editing.{IsTidyLayoutOf}
+use Rattle.bz_journal.specs.History.{after_meaning}
+use Rattle.bz_journal.specs.Shown.{session_history}
+use Rattle.bz_journal.specs.private.Doing.{EndsAt}
+use Rattle.bz_journal.proofs.Edited.{refused_end, value_taken}
+use Rattle.bz_journal.proofs.MadeLines.{lines_written}
+use Rattle.bz_journal.proofs.doing.take_up.Goals as goal
+
+pub returns-in-Err-clause-end : goal.returns-in-Err-clause-end
+returns-in-Err-clause-end c = λ file made.
+    let own = rw c.in-Err.is at made in
+    refused_end c.args.note.now c.args.course.now file c.args.printed c.in-Err.refusal own.err
+
+pub returns-in-Ok-take_up-clause-end : goal.returns-in-Ok-take_up-clause-end
+returns-in-Ok-take_up-clause-end c = λ file made.
+    let own = rw c.in-Ok.is at made in
+    subst (λ (m : Meaning). EndsAt (after_meaning c.args.note.now (session_history c.args.course.now) m) c.args.course.now (Ok c.in-Ok-take_up.reply) c.take_up.new.self)
+    (lines_written c.in-Ok.made.windows c.args.course.now.tree file c.args.printed own.ok.lines) c.in-Ok-take_up.ensures
+
+pub returns-in-Err-take_up-clause-end : goal.returns-in-Err-take_up-clause-end
+returns-in-Err-take_up-clause-end c = λ file made.
+    let own = rw c.in-Ok.is at made in
+    subst (λ (m : Meaning). EndsAt (after_meaning c.args.note.now (session_history c.args.course.now) m) c.args.course.now (Err c.in-Err-take_up.refusal) c.take_up.new.self)
+    (lines_written c.in-Ok.made.windows c.args.course.now.tree file c.args.printed own.ok.lines) c.in-Err-take_up.ensures
+
+pub returns-in-Ok-take_up-clause-seen : goal.returns-in-Ok-take_up-clause-seen
+returns-in-Ok-take_up-clause-seen c =
+    let (file, makes) = rw c.in-Ok.is at c.requires.made in
+    let made = makes.ok in
+    let here : Node = c.present.result.now in
+    let end = subst (λ (m : Meaning). EndsAt (after_meaning c.args.note.now (session_history c.args.course.now) m) c.args.course.now (Ok c.in-Ok-take_up.reply) c.take_up.new.self)
+    (lines_written c.in-Ok.made.windows c.args.course.now.tree file c.args.printed made.lines) c.in-Ok-take_up.ensures in
+    let laid : IsTidyLayoutOf file here = value_taken c.written_is_laid_out.ensures file c.args.printed c.args.note.now (session_history c.args.course.now) (session_history c.take_up.new.self) c.in-Ok-take_up.reply here
+    makes.proper c.present-before.ensures.within end.made c.reads_back.ensures c.present.ensures.text in
+    let reads : Reads (layout (tidied file)) here = subst (λ (t : Bytes). Reads t here) laid.2 c.reads_back.ensures in
+    let next : with_windows c.in-Ok.made.windows c.args.course.now.tree ≡ here = c.one_reading.ensures (layout (tidied file)) _ here made.lines.reads reads in
+    let moved : with_windows c.as_slice.result.now c.present-before.result.now ≡ c.take_up.new.self.tree =
+    ap (λ ws. with_windows ws c.present-before.result.now) c.as_slice.ensures ∙ ap (with_windows c.in-Ok.made.windows) c.present-before.ensures.tree ∙ next ∙ c.present.ensures.tree in
+    let seen : tidied file ≡ view_of c.take_up.new.self.tree = sym laid.1 ∙ ap view_of c.present.ensures.tree in
+    record {
+      value = subst (λ (xs : List Item). IfSome c.in-Ok.made.value (λ own. own ≡ xs)) seen made.own;
+      looked = record {
+        named = subst (λ (xs : List Item). IfSome c.in-Ok.made.names (λ index. IsIndexOf index xs)) seen made.named;
+        begun = subst (λ (n : Node). IfSome c.begins_after-lines.result (λ own. own ≡ lines_of n)) moved c.begins_after-lines.ensures;
+      };
+      written = λ _. subst (λ (n : Node). IsWritten (view_of n) n) c.present.ensures.tree (subst (λ (xs : List Item). IsWritten xs here) (sym laid.1) laid.0);
+      length_is = λ _. made.length_is ∙ sym (ap length laid.2) ∙ ap (λ (n : Node). length (spell_node n)) c.present.ensures.tree;
+    }
