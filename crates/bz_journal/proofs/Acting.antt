@@ -3,26 +3,13 @@ use Rattle.std.proofs.Common.{◌≡◌, ◌⊎◌, ◌≤◌, ◌<◌, length, 
 use Rattle.std.specs.Prelude.{IsOk, OnErr, OnOk}
 use Rattle.std.specs.Str.{bytes_eq}
 use Rattle.std.proofs.lemmas.Slice.Eq.{bytes_eq-Decides}
-use Rattle.bz_items.specs.Characters.{Bytes}
-use Rattle.bz_grammar.specs.declared.tree.Node.{Node}
-use Rattle.bz_grammar.specs.Legal.{Reads}
-use Rattle.bz_grammar.specs.Spell.{spell_node}
-use Rattle.bz_grammar.specs.Statements.{lines_of}
-use Rattle.bz_label.specs.declared.target.Target.{Target}
-use Rattle.bz_value.specs.declared.value.Item.{Item}
-use Rattle.bz_hosts.specs.View.{view_of}
-use Rattle.bz_command_syntax.specs.declared.command.Operation.{Operation}
-use Rattle.bz_command.specs.Effect.{effect, printed}
-use Rattle.bz_value.specs.declared.refusal.Refusal.{Refusal}
-use Rattle.bz_value.specs.declared.refusal.Refusal.TheVariants.{Memory}
-use Rattle.bz_journal.specs.Actions.{Action, Do, Format}
-use Rattle.bz_journal.specs.declared.action.Reply.{Reply}
-use Rattle.bz_journal.specs.Meaning.{Meaning, gives, refuses, printed_answer, EffectMeans, Means, written}
-use Rattle.bz_journal.specs.History.{History, Answer, present, unchanged, after_meaning, after_text, note_limit, IsFormat, MakesOrWants}
-use Rattle.bz_journal.specs.Keeping.{HasActed}
-use Rattle.bz_journal.specs.Shown.{IsOverEven, session_history}
-use Rattle.bz_journal.specs.State.{SessionState, session_trail}
-use Rattle.bz_edit.specs.Trails.{IsSmall}
+use Rattle.bz_journal.specs.Clauses.{Action, Answer, Bytes, Do, Format, HasActed, History, IsSmall, Item, MakesOrWants, Means, Node, Refusal, Reply}
+use Rattle.bz_journal.specs.Clauses.{SessionState, after_meaning, after_text, effect, gives, lines_of, note_limit, present, printed, printed_answer, refuses}
+use Rattle.bz_journal.specs.Clauses.{session_history, session_trail, spell_node, unchanged, view_of, written}
+use Rattle.bz_journal.specs.Words.{Memory, Operation, Reads, Target}
+use Rattle.bz_journal.specs.Meaning.{Meaning, EffectMeans}
+use Rattle.bz_journal.specs.History.{IsFormat}
+use Rattle.bz_journal.specs.Shown.{IsOverEven}
 
 -- ---- commands, in a history
 

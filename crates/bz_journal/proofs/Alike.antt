@@ -1,12 +1,11 @@
 -- Histories that differ at most in the number of the text that was present before.
 use Rattle.std.proofs.Common.{◌≡◌, ◌-◌, ◌+◌, ℕ, List, [], ◌∷◌, length, Bool, true, false, inl, inr, refl, sym, ap, ◌∙◌, subst, nat_lt, if◌then◌else◌}
 use Rattle.std.specs.Prelude.{◌==◌, bytes_eq}
-use Rattle.bz_items.specs.Characters.{Bytes}
-use Rattle.bz_journal.specs.Actions.{Action}
-use Rattle.bz_journal.specs.Actions.{Do, Format, Undo, Redo}
-use Rattle.bz_journal.specs.Meaning.{Meaning, gives, refuses}
-use Rattle.bz_journal.specs.History.{History, Answer, Acts, IsFree, Makes, Runs, after_meaning, most_steps, present, redone, undone}
-use Rattle.bz_journal.specs.Lasting.{AlikeActs, AlikeGoesOn, AreAlike}
+use Rattle.bz_journal.specs.Clauses.{Action, Acts, AlikeActs, AlikeGoesOn, Answer, Bytes, Do, Format, History, Redo, Runs, Undo, after_meaning, gives}
+use Rattle.bz_journal.specs.Clauses.{most_steps, present, refuses}
+use Rattle.bz_journal.specs.Meaning.{Meaning}
+use Rattle.bz_journal.specs.History.{IsFree, Makes, redone, undone}
+use Rattle.bz_journal.specs.Lasting.{AreAlike}
 
 -- the history with this number of the text that was present before
 abbrev after_at : History → ℕ → History

@@ -2,15 +2,11 @@
 use Rattle.std.proofs.Common.{◌≡◌, ◌≤◌, ◌<◌, ◌+◌, arith, ℕ, true, false, length, Some, Ok, Err, inl, inr, refl, sym, ap, nat_lt}
 use Rattle.std.proofs.lemmas.Bool.Decides.{nat_tests}
 use Rattle.std.specs.Prelude.{IsOk, OnOk}
-use Rattle.bz_items.specs.Characters.{Bytes}
-use Rattle.bz_value.specs.declared.refusal.Refusal.{Refusal}
-use Rattle.bz_journal.specs.Actions.{Action, Do, Format, Redo, Undo}
+use Rattle.bz_journal.specs.Clauses.{Action, Acts, Answer, Bytes, Do, Format, HasActed, History, IsAtOnce, Redo, Refusal, SessionState, Undo, note_limit}
+use Rattle.bz_journal.specs.Clauses.{session_history, session_trail}
 use Rattle.bz_journal.specs.declared.action.Reply.TheVariants.{Moved}
-use Rattle.bz_journal.specs.History.{Acts, Answer, History, IsFormat, IsFree, Leads, note_limit, redone, undone}
-use Rattle.bz_journal.specs.Keeping.{HasActed}
-use Rattle.bz_journal.specs.Shown.{IsOverEven, session_history}
-use Rattle.bz_journal.specs.State.{SessionState, session_trail}
-use Rattle.bz_journal.specs.private.Doing.{IsAtOnce}
+use Rattle.bz_journal.specs.History.{IsFormat, IsFree, Leads, redone, undone}
+use Rattle.bz_journal.specs.Shown.{IsOverEven}
 use Rattle.bz_journal.proofs.Edited.{stays_put}
 
 -- ---- what that means of a session, and of texts alone

@@ -2,15 +2,8 @@
 use Rattle.std.proofs.Common.{◌≡◌, ◌∙◌, ◌+◌, ◌<◌, Ok, ℕ, zero, suc, List, [], ◌∷◌, ◌++◌, length, map, take, ap, arith, length-append, refl, subst, sym}
 use Rattle.std.specs.Prelude.{slice_index_or}
 use Rattle.std.proofs.lemmas.List.{map-append, take-map, take_all, take_more}
-use Rattle.sha2.specs.Sha256.{sha256}
-use Rattle.bz_grammar.specs.declared.tree.Node.{Node}
-use Rattle.bz_edit.specs.Shown.{texts_of}
-use Rattle.bz_edit.specs.declared.edit.Edit.{Edit}
-use Rattle.bz_edit.specs.Trails.{trail_at}
-use Rattle.bz_items.specs.Characters.{Bytes}
+use Rattle.bz_journal.specs.Clauses.{Answer, AreFirstDigests, Bytes, Edit, History, Node, present, sha256, texts_of, trail_at}
 use Rattle.bz_journal.specs.declared.action.Reply.TheVariants.{Changed}
-use Rattle.bz_journal.specs.Editing.{AreFirstDigests}
-use Rattle.bz_journal.specs.History.{Answer, History, present}
 use Rattle.bz_journal.proofs.Following.{Goes}
 
 pub put_one : (n : ℕ) (digests made texts : List Bytes) (text digest : Bytes) → digests ≡ map sha256 texts → digest ≡ sha256 text → made ≡ take n digests ++ digest ∷ []

@@ -1,31 +1,13 @@
 -- What a command on the value beside a session does is what the history says.
 use Rattle.std.proofs.Common.{◌≡◌, [], ◌≢◌, ◌⊎◌, ◌<◌, ◌∙◌, ℕ, inl, inr, List, length, Result, Ok, Err, Option, refl, sym, subst, ap}
 use Rattle.std.specs.Prelude.{OnErr}
-use Rattle.bz_grammar.specs.declared.tree.Node.{Node}
-use Rattle.bz_grammar.specs.Legal.{Reads}
-use Rattle.bz_grammar.specs.Spell.{spell_node}
-use Rattle.bz_grammar.specs.Statements.{lines_of}
-use Rattle.bz_label.specs.declared.target.Target.{Target}
-use Rattle.bz_value.specs.declared.value.Item.{Item}
-use Rattle.bz_items.specs.Characters.{Bytes}
-use Rattle.bz_value.specs.Proper.{IsProper}
-use Rattle.bz_hosts.specs.View.{view_of}
-use Rattle.bz_command_syntax.specs.declared.command.Operation.{Operation}
-use Rattle.bz_command.specs.Effect.{effect, printed}
-use Rattle.bz_command.specs.declared.outcome.Ran.{Ran}
-use Rattle.bz_passes.specs.Passes.{tidied}
+use Rattle.bz_journal.specs.Clauses.{Answer, Bytes, Do, EndsAt, GivesAlike, History, Item, MakesOrWants, Means, Node, Overfills, Refusal, Reply, RunsIn}
+use Rattle.bz_journal.specs.Clauses.{SessionState, WrittenIsLaidOut, after_meaning, effect, gives, lines_of, present, printed, printed_answer, refuses}
+use Rattle.bz_journal.specs.Clauses.{session_history, spell_node, tidied, unchanged, view_of, written}
+use Rattle.bz_journal.specs.Words.{IsProper, Memory, Operation, Ran, Reads, Target, TooLarge}
 use Rattle.bz_build_format.proofs.Writes.{written_too_large}
-use Rattle.bz_value.specs.declared.refusal.Refusal.{Refusal}
-use Rattle.bz_value.specs.declared.refusal.Refusal.TheVariants.{Memory, TooLarge}
-use Rattle.bz_journal.specs.Actions.{Do}
-use Rattle.bz_journal.specs.declared.action.Reply.{Reply}
-use Rattle.bz_journal.specs.Meaning.{Meaning, Means, gives, refuses, printed_answer, written, EffectMeans}
-use Rattle.bz_journal.specs.History.{History, Answer, present, unchanged, after_meaning, MakesOrWants}
-use Rattle.bz_journal.specs.Editing.{IsTidyLayoutOf, WrittenIsLaidOut}
-use Rattle.bz_journal.specs.Shown.{session_history}
-use Rattle.bz_journal.specs.State.{SessionState}
-use Rattle.bz_journal.specs.private.Doing.{EndsAt, GivesAlike, RunsIn}
-use Rattle.bz_journal.specs.private.Filling.{Overfills}
+use Rattle.bz_journal.specs.Meaning.{Meaning, EffectMeans}
+use Rattle.bz_journal.specs.Editing.{IsTidyLayoutOf}
 use Rattle.bz_journal.proofs.Acting.{acts_by, acts_refused, acts_same}
 
 -- ---- what a command means by its effect on the value that was seen of a tree, and what it prints of that, by lines that give the same as those of the tree

@@ -3,15 +3,13 @@ use Rattle.std.proofs.Common.{◌≡◌, ◌≢◌, ◌∙◌, ◌+◌, ◌-◌,
 use Rattle.std.specs.Prelude.{◌==◌, bytes_eq}
 use Rattle.std.proofs.lemmas.List.{get_or-take, get_or_append_left, length-take-le}
 use Rattle.bz_resume.specs.Resuming.{FollowsKept}
-use Rattle.bz_items.specs.Characters.{Bytes}
-use Rattle.bz_value.specs.declared.refusal.Refusal.{Refusal}
-use Rattle.bz_value.specs.declared.refusal.Refusal.TheVariants.{TooFar, Full, Memory, NoteTooLong}
-use Rattle.bz_journal.specs.Actions.{Action}
-use Rattle.bz_journal.specs.Actions.{Do, Format, Undo, Redo}
+use Rattle.bz_journal.specs.Clauses.{Action, Acts, Answer, Bytes, Do, Format, History, Redo, Refusal, Undo, after_meaning, changed, gives, most_steps, present}
+use Rattle.bz_journal.specs.Clauses.{refuses, unchanged}
+use Rattle.bz_journal.specs.Words.{Full, Memory, NoteTooLong, TooFar}
 use Rattle.bz_journal.specs.declared.action.Reply.TheVariants.{Changed, Moved}
-use Rattle.bz_journal.specs.Meaning.{Meaning, gives, refuses}
+use Rattle.bz_journal.specs.Meaning.{Meaning}
 use Rattle.bz_journal.proofs.Formatting.{present_changed}
-use Rattle.bz_journal.specs.History.{History, Answer, Acts, Makes, after_meaning, changed, most_steps, present, unchanged}
+use Rattle.bz_journal.specs.History.{Makes}
 
 -- What an action leaves: after the answer Changed a new text is after the present one, and is present; else the texts stay. Where the
 -- present text has another number then, the history follows the one before.

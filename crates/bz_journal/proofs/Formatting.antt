@@ -3,15 +3,12 @@ use Rattle.std.proofs.Common.{◌≡◌, ◌<◌, ◌+◌, ◌∙◌, ℕ, [], �
 use Rattle.std.specs.Str.{bytes_eq}
 use Rattle.std.proofs.lemmas.Slice.Eq.{bytes_eq-Decides}
 use Rattle.std.proofs.Math.Seq.{get_or-append_seam}
-use Rattle.bz_items.specs.Characters.{Bytes}
-use Rattle.bz_hosts.specs.View.{view_of}
-use Rattle.bz_value.specs.declared.refusal.Refusal.TheVariants.{Full}
-use Rattle.bz_journal.specs.Actions.{Format}
-use Rattle.bz_journal.specs.declared.action.Reply.{Reply}
+use Rattle.bz_journal.specs.Clauses.{Answer, Bytes, Format, History, IsFormatted, MakesOrWants, Reply, after_meaning, after_text, changed, gives, most_steps}
+use Rattle.bz_journal.specs.Clauses.{present, refuses, unchanged, view_of}
+use Rattle.bz_journal.specs.Words.{Full}
 use Rattle.bz_journal.specs.declared.action.Reply.TheVariants.{Changed}
-use Rattle.bz_journal.specs.Meaning.{Meaning, gives, refuses, Formats}
-use Rattle.bz_build_format.specs.Fixed.{IsFormatted, FixedPoint}
-use Rattle.bz_journal.specs.History.{History, Answer, present, changed, unchanged, after_text, after_meaning, most_steps, MakesOrWants}
+use Rattle.bz_journal.specs.Meaning.{Meaning, Formats}
+use Rattle.bz_build_format.specs.Fixed.{FixedPoint}
 use Rattle.bz_build_format.proofs.Writes.{IsGiven, given}
 
 -- formatting prints nothing

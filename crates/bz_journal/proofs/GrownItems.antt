@@ -4,16 +4,11 @@ use Rattle.std.specs.Prelude.{if◌then◌else◌}
 use Rattle.std.specs.List.{AllByRecursion}
 use Rattle.std.proofs.lemmas.Bool.{false≢true}
 use Rattle.std.proofs.lemmas.List.Elements.{recursion_from_All}
-use Rattle.bz_grammar.specs.Spell.{limit}
-use Rattle.bz_value.specs.declared.value.Expr.{Expr}
-use Rattle.bz_value.specs.declared.value.Item.{Item}
-use Rattle.bz_items.specs.Characters.{Bytes}
-use Rattle.bz_value.specs.Proper.{IsProper, IsProperItem}
+use Rattle.bz_journal.specs.Clauses.{AllGrow, AreProperMade, Bytes, Grows, IsProperItem, Item, Overfills, Refusal, alone_length, limit, on_meant, one_where}
+use Rattle.bz_journal.specs.Words.{Expr, IsProper, NewItem, Operation}
 use Rattle.bz_command_syntax.specs.Proper.{IsProperCommand}
-use Rattle.bz_command_syntax.specs.declared.command.Operation.{Operation}
-use Rattle.bz_value.specs.declared.refusal.Refusal.{Refusal}
-use Rattle.bz_command.specs.Effect.{NewItem, on_each, on_meant, source_of, with_item_first}
-use Rattle.bz_journal.specs.private.Filling.{AllGrow, Grows, Overfills, AreProperMade, alone_length, marked_alone, item_made, one_where}
+use Rattle.bz_command.specs.Effect.{on_each, source_of, with_item_first}
+use Rattle.bz_journal.specs.private.Filling.{marked_alone, item_made}
 use Rattle.bz_command.proofs.ProperEffects.{each_keeps}
 use Rattle.bz_journal.proofs.HeldAlone.{held_alone}
 

@@ -1,9 +1,8 @@
 -- What is hashed of a tree.
 use Rattle.std.proofs.Common.{◌≡◌}
 use Rattle.std.specs.List.{flat_map}
-use Rattle.bz_grammar.specs.declared.tree.Node.{Node}
+use Rattle.bz_journal.specs.Clauses.{Node, spell_part}
 use Rattle.bz_grammar.specs.declared.tree.Part as p
-use Rattle.bz_grammar.specs.Spell.{spell_part}
 use Rattle.bz_grammar.proofs.Spells as below
 
 -- the spelling of a node that is a part is that of its parts

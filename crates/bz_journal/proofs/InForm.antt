@@ -1,13 +1,8 @@
 -- The course of what a run has of a file, and the last command on it.
 use Rattle.std.proofs.Common.{◌≡◌, ◌≤◌, length, ap, subst, sym, ◌∙◌, inr}
-use Rattle.bz_items.specs.Characters.{Bytes}
-use Rattle.bz_label.specs.declared.target.Target.{Target}
-use Rattle.bz_command_syntax.specs.declared.command.Operation.{Operation}
-use Rattle.bz_journal.specs.Actions.{Action, Do}
+use Rattle.bz_journal.specs.Clauses.{Action, Acts, Answer, Bytes, Do, History, MakesOrWants, SessionState, note_limit, session_history}
+use Rattle.bz_journal.specs.Words.{Operation, Target}
 use Rattle.bz_journal.specs.Forms.{past_history}
-use Rattle.bz_journal.specs.History.{Acts, Answer, History, MakesOrWants, note_limit}
-use Rattle.bz_journal.specs.Shown.{session_history}
-use Rattle.bz_journal.specs.State.{SessionState}
 use Rattle.bz_journal.specs.private.Courses.{IsCourseOf, HasCourse}
 use Rattle.bz_journal.specs.declared.past.Form.{Form}
 use Rattle.bz_journal.specs.declared.past.Form.TheVariants as f

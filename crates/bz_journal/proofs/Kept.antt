@@ -2,22 +2,12 @@
 use Rattle.std.proofs.Common.{◌≡◌, ◌<◌, ◌+◌, ◌-◌, ℕ, zero, suc, List, [], ◌∷◌, ◌++◌, length, take, refl, sym, ap, subst, ◌∙◌, ◌≤◌, map, arith, length-append, length-take-le}
 use Rattle.std.specs.List.{AllByRecursion}
 use Rattle.std.proofs.lemmas.List.{length-map, take-map, take_at}
-use Rattle.sha2.specs.Sha256.{sha256}
-use Rattle.bz_grammar.specs.declared.tree.Node.{Node}
-use Rattle.bz_grammar.specs.Spell.{spell_node}
-use Rattle.bz_edit.specs.declared.edit.Edit.{Edit}
-use Rattle.bz_edit.specs.Trails.{IsSmall, IsTrail, trail_at}
-use Rattle.bz_edit.specs.Shown.{Moves, TakesUp, TrailsKeep, texts_of}
+use Rattle.bz_journal.specs.Clauses.{Bytes, Edit, IsKept, IsSession, IsSmall, IsTrail, Node, SessionState, changed, most_steps, present, session_history}
+use Rattle.bz_journal.specs.Clauses.{session_trail, sha256, spell_node, texts_of, trail_at}
+use Rattle.bz_journal.specs.Words.{AreFirstLines, IsNote, KeptLines, Two}
+use Rattle.bz_edit.specs.Shown.{Moves, TakesUp, TrailsKeep}
 use Rattle.bz_journal_format.proofs.Beginnings.{lines_stay}
-use Rattle.bz_journal_format.specs.FirstLines.{AreFirstLines}
-use Rattle.bz_journal_format.specs.Texts.{IsNote}
-use Rattle.bz_journal_format.specs.declared.content.Version.TheVariants.{Two}
-use Rattle.bz_journal_format.specs.declared.kept.KeptLines.{KeptLines}
-use Rattle.bz_items.specs.Characters.{Bytes}
-use Rattle.bz_journal.specs.History.{IsKept, changed, most_steps, present}
-use Rattle.bz_journal.specs.State.{SessionState, IsSession, session_trail}
 use Rattle.bz_journal.specs.private.Kept.{AreKeptOf}
-use Rattle.bz_journal.specs.Shown.{session_history}
 
 pub session_kept : TrailsKeep → (s : SessionState) → IsSession s → IsKept (session_history s)
 session_kept keep s h =

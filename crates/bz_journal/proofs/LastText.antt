@@ -1,16 +1,9 @@
 -- What is done to the texts of a file that are kept alone.
 use Rattle.std.proofs.Common.{◌≡◌, ◌∙◌, arith, ℕ, List, [], ◌∷◌, length, Option, Ok, refl, sym, ap, subst, inl}
 use Rattle.std.specs.Prelude.{slice_index_or}
-use Rattle.bz_grammar.specs.declared.tree.Node.{Node}
-use Rattle.bz_grammar.specs.Spell.{spell_node}
-use Rattle.bz_label.specs.declared.target.Target.{Target}
-use Rattle.bz_items.specs.Characters.{Bytes}
-use Rattle.bz_command_syntax.specs.declared.command.Operation.{Operation}
-use Rattle.bz_journal.specs.Actions.{Do}
-use Rattle.bz_journal.specs.private.Alone.{text_or}
-use Rattle.bz_journal.specs.declared.action.Reply.{Reply}
-use Rattle.bz_journal.specs.Meaning.{Means, gives}
-use Rattle.bz_journal.specs.History.{Answer, History, IsKept, MakesOrWants, after_text, opened, present}
+use Rattle.bz_journal.specs.Clauses.{Answer, Bytes, Do, History, IsKept, MakesOrWants, Means, Node, Reply, after_text, gives, opened, present, spell_node}
+use Rattle.bz_journal.specs.Clauses.{text_or}
+use Rattle.bz_journal.specs.Words.{Operation, Target}
 use Rattle.bz_journal.proofs.Acting.{acts_by}
 
 -- ---- one text

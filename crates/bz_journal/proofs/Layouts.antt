@@ -1,21 +1,13 @@
 -- The trees that commands leave: each is the layout of a tidy value.
 use Rattle.std.proofs.Common.{◌≡◌, ◌<◌, ◌∙◌, List, length, refl, sym, ap, subst, Option, Ok}
-use Rattle.bz_grammar.specs.declared.tree.Node.{Node}
-use Rattle.bz_grammar.specs.Legal.{Reads}
+use Rattle.bz_journal.specs.Clauses.{Answer, Bytes, History, Item, Node, Reply, WrittenIsLaidOut, after_meaning, gives, laid_out, present, printed, refuses}
+use Rattle.bz_journal.specs.Clauses.{tidied, view_of, written}
+use Rattle.bz_journal.specs.Words.{IsProper, Reads}
 use Rattle.bz_grammar.specs.Laws.{OneReading}
-use Rattle.bz_value.specs.declared.value.Item.{Item}
-use Rattle.bz_items.specs.Characters.{Bytes}
-use Rattle.bz_value.specs.Proper.{IsProper}
-use Rattle.bz_hosts.specs.View.{view_of}
-use Rattle.bz_layout.specs.LaidOut.{laid_out}
 use Rattle.bz_layout.specs.Laws.{LayoutIsAccepted, LayoutReadsBack}
 use Rattle.bz_passes.specs.Laws.{ProperStays, TidySettles, TidyStays}
-use Rattle.bz_passes.specs.Passes.{tidied}
-use Rattle.bz_command.specs.Effect.{printed}
-use Rattle.bz_journal.specs.declared.action.Reply.{Reply}
-use Rattle.bz_journal.specs.Meaning.{Meaning, gives, refuses, written}
-use Rattle.bz_journal.specs.History.{History, Answer, present, after_meaning}
-use Rattle.bz_journal.specs.Editing.{IsTidyLayoutOf, WrittenIsLaidOut}
+use Rattle.bz_journal.specs.Meaning.{Meaning}
+use Rattle.bz_journal.specs.Editing.{IsTidyLayoutOf}
 use Rattle.bz_journal.proofs.Formatting.{text_after}
 use Rattle.bz_build_format.proofs.Writes.{IsGiven, given}
 

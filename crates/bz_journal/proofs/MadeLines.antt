@@ -1,26 +1,14 @@
 -- The lines of a value that are other ones than in a tree: with them the tree is that of its layout.
 use Rattle.std.proofs.Common.{◌≡◌, ◌↔◌, ◌≤◌, ◌∙◌, List, [], ◌∷◌, Option, length, refl, sym, ap, subst}
-use Rattle.bz_edit.specs.Windows.{with_windows}
-use Rattle.bz_edit.specs.declared.part_windows.PartWindow.{PartWindow}
+use Rattle.bz_journal.specs.Clauses.{AreLinesOf, AreOver, Bytes, IsTree, Item, Node, depth_limit, depth_of, laid_out, layout, limit, spell_node, tidied}
+use Rattle.bz_journal.specs.Clauses.{with_windows}
+use Rattle.bz_journal.specs.Words.{IsProper, Part, PartWindow, Reads, Window}
 use Rattle.bz_grammar.specs.declared.kind.Kind.{Kind}
-use Rattle.bz_grammar.specs.declared.tree.Node.{Node}
-use Rattle.bz_grammar.specs.declared.tree.Part.{Part}
 use Rattle.bz_grammar.specs.Laws.{OneReading}
-use Rattle.bz_grammar.specs.Legal.{Reads}
-use Rattle.bz_grammar.specs.Spell.{depth_limit, depth_of, limit, spell_node}
-use Rattle.bz_edit.specs.Trails.{IsTree}
-use Rattle.bz_items.specs.Characters.{Bytes}
-use Rattle.bz_value.specs.declared.value.Item.{Item}
-use Rattle.bz_value.specs.Proper.{IsProper}
-use Rattle.bz_value.specs.Windows.{AreOver, AreWithin}
-use Rattle.bz_value.specs.declared.windows.Window.{Window}
-use Rattle.bz_layout.specs.LaidOut.{laid_out}
+use Rattle.bz_value.specs.Windows.{AreWithin}
 use Rattle.bz_layout.specs.Laws.{LayoutIsAccepted}
-use Rattle.bz_layout.specs.Written.{layout}
-use Rattle.bz_passes.specs.Passes.{tidied}
 use Rattle.bz_build_format.specs.Meaning.{gives, written}
 use Rattle.bz_build_format.proofs.Writes.{written_given}
-use Rattle.bz_journal.specs.private.Making.{AreLinesOf}
 
 same_node : (a b : Node) → a.kind ≡ b.kind → a.parts ≡ b.parts → a ≡ b
 same_node a b kind parts =

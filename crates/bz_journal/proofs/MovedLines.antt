@@ -8,18 +8,16 @@ use Rattle.std.proofs.lemmas.Bool.{false≢true}
 use Rattle.std.proofs.lemmas.Grind.{flat_map-append}
 use Rattle.std.proofs.lemmas.List.{append-nil, drop_all, drop_more, length-append, length-map, length-take-le, map-append, take-append-drop, take_more}
 use Rattle.bz_lex.specs.declared.leaf.Leaf.{Leaf}
-use Rattle.bz_grammar.specs.declared.tree.Node.{Node}
-use Rattle.bz_grammar.specs.declared.tree.Part.{Part}
+use Rattle.bz_journal.specs.Clauses.{AreThere, IsLike, IsLineOfOne, Node, fronts, fronts_in, is_node, lines_of, moved, moved_from, newlines, node_parts}
+use Rattle.bz_journal.specs.Clauses.{spell_node, spell_part, with_windows}
+use Rattle.bz_journal.specs.Words.{Part, PartWindow, first_gap, leaves_part}
 use Rattle.bz_grammar.specs.declared.tree.Part.TheVariants as p
-use Rattle.bz_grammar.specs.Spell.{leaves_part, spell_node, spell_part}
-use Rattle.bz_grammar.specs.Statements.{first_gap, fronts, fronts_in, gap_of, is_node, line_following, lines_of, newlines, node_parts}
+use Rattle.bz_grammar.specs.Statements.{gap_of, line_following}
 use Rattle.bz_grammar.proofs.AllLines.{lines_among, lines_in}
 use Rattle.bz_grammar.proofs.Nested.{items_of_row}
 use Rattle.bz_grammar.proofs.Spells.{spell_Node}
 use Rattle.bz_grammar.proofs.Statements.{newlines_append, text_more, text_to}
-use Rattle.bz_edit.specs.Windows.{AreThere, window_parts, with_windows}
-use Rattle.bz_edit.specs.declared.part_windows.PartWindow.{PartWindow}
-use Rattle.bz_journal.specs.private.Making.{IsLike, IsLineOfOne, moved, moved_from}
+use Rattle.bz_edit.specs.Windows.{window_parts}
 
 pub spelled : (n : Node) → spell_part (p.Node n) ≡ spell_node n
 spelled n = spell_Node n

@@ -3,14 +3,10 @@ use Rattle.std.proofs.Common.{arith, ◌≡◌, ◌+◌, ◌++◌, ◌∷◌, �
 use Rattle.std.specs.List.{list_any}
 use Rattle.std.proofs.lemmas.List.{drop-drop, length-drop, length-take-le, map-append, take-append-drop}
 use Rattle.std.proofs.lemmas.Slice.Eq.{bytes_eq-Decides}
-use Rattle.bz_items.specs.Characters.{Bytes}
-use Rattle.bz_value.specs.Windows.{AreOver}
-use Rattle.bz_value.specs.declared.value.Item.{Item}
-use Rattle.bz_value.specs.declared.windows.Window.{Window}
-use Rattle.bz_rule.specs.Index.{Index, IsIndexOf, marked_places, places_from}
-use Rattle.bz_rule.specs.Held.{held_name}
+use Rattle.bz_journal.specs.Clauses.{AreOver, Bytes, HasListedName, HaveListedNames, HaveListedNamesIn, IsIndexOf, Item}
+use Rattle.bz_journal.specs.Words.{Index, Window, held_name, places_from}
+use Rattle.bz_rule.specs.Index.{marked_places}
 use Rattle.bz_rule.specs.Rules.{has_name, is_text}
-use Rattle.bz_journal.specs.private.Making.{HaveListedNamesIn, HaveListedNames, HasListedName}
 
 -- ---- a place that is listed
 

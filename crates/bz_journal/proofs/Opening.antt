@@ -2,18 +2,9 @@
 use Rattle.std.proofs.Common.{◌≡◌, ◌≤◌, ◌<◌, ◌↔◌, ℕ, true, [], length, Result, Ok, Err}
 use Rattle.std.specs.Prelude.{◌≢◌}
 use Rattle.std.specs.Str.{IsValidUpTo}
-use Rattle.bz_lex.specs.declared.fault.ReadFault.{ReadFault}
+use Rattle.bz_journal.specs.Clauses.{Bytes, IsSmall, OpensText, SessionState, limit, opened, session_history, session_trail}
+use Rattle.bz_journal.specs.Words.{Accepted, IsFaultAt, IsOfText, ReadFault, is_of_leaves}
 use Rattle.bz_lex.specs.declared.fault.ReadFault.TheVariants.{NotUtf8, TooLarge, Memory}
-use Rattle.bz_lex.specs.Faults.{is_of_leaves}
-use Rattle.bz_lex.specs.Stops.{IsFaultAt}
-use Rattle.bz_grammar.specs.Faults.{IsOfText}
-use Rattle.bz_grammar.specs.Legal.{Accepted}
-use Rattle.bz_grammar.specs.Spell.{limit}
-use Rattle.bz_edit.specs.Trails.{IsSmall}
-use Rattle.bz_items.specs.Characters.{Bytes}
-use Rattle.bz_journal.specs.History.{opened}
-use Rattle.bz_journal.specs.Shown.{OpensText, session_history}
-use Rattle.bz_journal.specs.State.{SessionState, session_trail}
 
 abbrev AnswersLength : (A : Type 0) → Bytes → Result A ReadFault → Type 0
 AnswersLength A text answer = (answer ≡ Err TooLarge) ↔ (limit < length text)

@@ -3,27 +3,17 @@ use Rattle.std.proofs.Common.{◌≡◌, ◌≢◌, ◌⊎◌, ◌∙◌, inl, i
 use Rattle.std.specs.Prelude.{IfOk, IfErr, IsErrOf}
 use Rattle.std.specs.FinMap.{get}
 use Rattle.std.proofs.lemmas.Bool.{false≢true}
-use Rattle.bz_edit.specs.declared.edit.Edit.{Edit}
-use Rattle.bz_files.specs.Folder.{Folder}
+use Rattle.bz_journal.specs.Clauses.{Action, Answer, Bytes, Edit, HasActed, History, IsSavedSession, KeepsFile, KeepsPair, PairFault, Refusal, Reply}
+use Rattle.bz_journal.specs.Clauses.{SessionState, present, saved, session_history}
+use Rattle.bz_journal.specs.Words.{Folder, Resumes, journal_name, journal_text}
 use Rattle.bz_files.specs.declared.files.Files.{Ghosts as FilesOf}
 use Rattle.bz_files.proofs.Elapsing.{stays}
-use Rattle.bz_items.specs.Characters.{Bytes}
-use Rattle.bz_value.specs.declared.refusal.Refusal.{Refusal}
 use Rattle.bz_resume.proofs.Checking.{never_err}
-use Rattle.bz_resume.specs.Journals.{journal_text}
-use Rattle.bz_resume.specs.Pair.{journal_name}
-use Rattle.bz_resume.specs.Resuming.{KeepsHeld, MayResume, Resumes}
-use Rattle.bz_resume.specs.declared.pair_fault.PairFault.{PairFault}
+use Rattle.bz_resume.specs.Resuming.{KeepsHeld, MayResume}
 use Rattle.bz_resume.specs.declared.pair_fault.PairFault.TheVariants as p
-use Rattle.bz_journal.specs.Actions.{Action}
-use Rattle.bz_journal.specs.declared.action.Reply.{Reply}
 use Rattle.bz_journal.specs.declared.keeping.KeepFault.{KeepFault}
 use Rattle.bz_journal.specs.declared.keeping.KeepFault.TheVariants.{Pair, Refused}
-use Rattle.bz_journal.specs.History.{Answer, History, present}
-use Rattle.bz_journal.specs.Keeping.{HasActed, IsWriteOrOpen, KeepsFile, KeepsPair}
-use Rattle.bz_journal.specs.Lasting.{IsSavedSession, saved}
-use Rattle.bz_journal.specs.Shown.{session_history}
-use Rattle.bz_journal.specs.State.{SessionState}
+use Rattle.bz_journal.specs.Keeping.{IsWriteOrOpen}
 use Rattle.bz_journal.proofs.Following.{Goes, goes}
 
 abbrev Both : PairFault → Type 0

@@ -1,27 +1,16 @@
 -- What is saved of a session, and what is resumed of a journal.
 use Rattle.std.proofs.Common.{◌≡◌, ◌≤◌, ℕ, List, [], length, map, IsUtf8, refl, sym, ap, subst, ◌∙◌, arith}
 use Rattle.std.specs.Prelude.{slice_index_or, Result, Ok, Err, IfOk, IfErr}
-use Rattle.sha2.specs.Sha256.{sha256}
-use Rattle.bz_grammar.specs.declared.tree.Node.{Node}
+use Rattle.bz_journal.specs.Clauses.{AreSmall, Bytes, Edit, GoesOn, History, HoldsState, IsKept, IsKnownSession, IsResumedSession, IsSession, IsSmall, Node}
+use Rattle.bz_journal.specs.Clauses.{SessionState, StandsFor, limit, session_history, session_trail, sha256, spell_node, texts_of, trail_at}
+use Rattle.bz_journal.specs.Words.{Reads, ResumeFault, Trail}
 use Rattle.bz_grammar.specs.Laws.{OneReading}
-use Rattle.bz_grammar.specs.Legal.{Reads}
-use Rattle.bz_grammar.specs.Spell.{spell_node, limit}
-use Rattle.bz_edit.specs.declared.edit.Edit.{Edit}
-use Rattle.bz_edit.specs.Trails.{IsSmall, Trail, trail_at}
-use Rattle.bz_edit.specs.Shown.{SmallIsBetween, SmallIsLeast, TrailsKeep, TrailsLead, texts_of}
-use Rattle.bz_items.specs.Characters.{Bytes}
-use Rattle.bz_resume.specs.declared.fault.ResumeFault.{ResumeFault}
+use Rattle.bz_edit.specs.Shown.{SmallIsBetween, SmallIsLeast, TrailsKeep, TrailsLead}
 use Rattle.bz_resume.specs.declared.fault.ResumeFault.TheVariants as f
 use Rattle.bz_resume.specs.declared.resumed.Resumed.{Resumed}
-use Rattle.bz_resume.specs.Journals.{AreSmall, MaySave}
+use Rattle.bz_resume.specs.Journals.{MaySave}
 use Rattle.bz_resume.specs.Resumed as r
-use Rattle.bz_resume.specs.Resumed.{StandsFor}
 use Rattle.bz_resume.proofs.Saves.{is_saved}
-use Rattle.bz_journal.specs.History.{History, IsKept}
-use Rattle.bz_journal.specs.Lasting.{GoesOn, IsKnownSession, IsResumedSession}
-use Rattle.bz_journal.specs.Shown.{session_history}
-use Rattle.bz_journal.specs.State.{SessionState, IsSession, session_trail}
-use Rattle.bz_journal.specs.private.Kept.{HoldsState}
 use Rattle.bz_journal.proofs.Kept.{session_kept}
 
 -- ---- states

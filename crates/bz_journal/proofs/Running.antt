@@ -1,8 +1,7 @@
 -- A run that goes on.
 use Rattle.std.proofs.Common.{ℕ, ◌≡◌, ◌+◌, ◌<◌, ◌++◌, ◌∷◌, [], List, length, map, take, get_or, refl, sym, ap, subst, ◌∙◌}
 use Rattle.std.proofs.lemmas.List.{map-append, take_more}
-use Rattle.bz_journal.specs.History.{History, Answer, Acts, Runs}
-use Rattle.bz_journal.specs.Actions.{Action, action_in}
+use Rattle.bz_journal.specs.Clauses.{Action, Acts, Answer, History, Runs, action_in}
 use Rattle.bz_journal.specs.declared.action.Action as d
 
 -- by one action

@@ -3,18 +3,12 @@ use Rattle.std.proofs.Common.{◌≡◌, ◌⊎◌, ◌∙◌, inl, inr, ℕ, Li
 use Rattle.std.specs.FinMap.{get}
 use Rattle.std.specs.Str.{bytes_eq}
 use Rattle.std.proofs.lemmas.Slice.Eq.{bytes_eq-Decides}
-use Rattle.bz_edit.specs.declared.edit.Edit.{Edit}
-use Rattle.bz_files.specs.Folder.{Folder}
-use Rattle.bz_items.specs.Characters.{Bytes}
-use Rattle.bz_resume.specs.Pair.{journal_name}
-use Rattle.bz_resume.specs.Resuming.{Holds, IsRecordedBy}
-use Rattle.bz_resume.specs.declared.fault.ResumeFault.{ResumeFault}
+use Rattle.bz_journal.specs.Clauses.{Bytes, Edit, History, IsKnownSession, Journal, SessionState, StoppedIsResumed, present}
+use Rattle.bz_journal.specs.Words.{Folder, Holds, ResumeFault, journal_name, stands}
+use Rattle.bz_resume.specs.Resuming.{IsRecordedBy}
 use Rattle.bz_resume.specs.declared.fault.ResumeFault.TheVariants as f
-use Rattle.bz_resume.specs.Journals.{Journal, stands, text_at}
-use Rattle.bz_journal.specs.History.{History, present}
-use Rattle.bz_journal.specs.Lasting.{IsKnownSession}
-use Rattle.bz_journal.specs.State.{SessionState}
-use Rattle.bz_journal.specs.Lasting.{ResumesAt, StoppedIsResumed}
+use Rattle.bz_resume.specs.Journals.{text_at}
+use Rattle.bz_journal.specs.Lasting.{ResumesAt}
 
 some_same : {X : Type 0} (a b : X) → Some a ≡ Some b → a ≡ b
 some_same a b e = cc

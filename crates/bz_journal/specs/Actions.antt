@@ -1,7 +1,6 @@
 -- What is requested of a session.
 use Rattle.std.specs.Prelude.{ℕ}
-use Rattle.bz_label.specs.declared.target.Target.{Target}
-use Rattle.bz_command_syntax.specs.declared.command.Operation.{Operation}
+use Rattle.bz_journal.specs.Words.{Operation, Target}
 use Rattle.bz_journal.specs.declared.action.Action as d
 use Rattle.bz_journal.specs.declared.action.Action.TheVariants as v
 

@@ -1,18 +1,6 @@
 -- The value beside a session, and the trees that a command leaves.
 use Rattle.std.specs.Prelude.{◌≡◌, ◌<◌, true, List, Option, length, map, take, Ok, IfSome}
-use Rattle.sha2.specs.Sha256.{sha256}
-use Rattle.bz_grammar.specs.declared.tree.Node.{Node}
-use Rattle.bz_grammar.specs.Legal.{Reads}
-use Rattle.bz_grammar.specs.Spell.{spell_node}
-use Rattle.bz_grammar.specs.Statements.{lines_of}
-use Rattle.bz_value.specs.declared.value.Item.{Item}
-use Rattle.bz_items.specs.Characters.{Bytes}
-use Rattle.bz_value.specs.Proper.{IsProper}
-use Rattle.bz_hosts.specs.View.{view_of}
-use Rattle.bz_layout.specs.Written.{layout}
-use Rattle.bz_passes.specs.Passes.{tidied}
-use Rattle.bz_build_format.specs.Meaning.{IsWritten}
-use Rattle.bz_rule.specs.Index.{IsIndexOf}
+use Rattle.bz_journal.specs.Words.{Bytes, IsIndexOf, IsProper, IsWritten, Item, Node, Reads, layout, lines_of, sha256, spell_node, tidied, view_of}
 use Rattle.bz_journal.specs.declared.action.Reply.{Reply}
 use Rattle.bz_journal.specs.declared.answering.Lookups.{Lookups}
 use Rattle.bz_journal.specs.declared.doing.Seen.{Seen}

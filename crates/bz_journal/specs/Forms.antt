@@ -1,12 +1,8 @@
 -- What a run has of a file, a course or texts alone, and what an action does to it.
 use Rattle.std.specs.Prelude.{◌≡◌, ◌≤◌, ℕ, Bool, true, List, length, Option, IfSome, Result, Ok, Err, Vec}
 use Rattle.std.specs.declared.alloc.Global.{Global}
+use Rattle.bz_journal.specs.Words.{Bytes, IsSmall, Operation, ReadFault, Target}
 use Rattle.bz_files.specs.declared.files.Files.{Ghosts as FilesOf}
-use Rattle.bz_edit.specs.Trails.{IsSmall}
-use Rattle.bz_items.specs.Characters.{Bytes}
-use Rattle.bz_label.specs.declared.target.Target.{Target}
-use Rattle.bz_lex.specs.declared.fault.ReadFault.{ReadFault}
-use Rattle.bz_command_syntax.specs.declared.command.Operation.{Operation}
 use Rattle.bz_journal.specs.Actions.{Action, Do}
 use Rattle.bz_journal.specs.Editing.{AreFirstDigests, IsSeenIn}
 use Rattle.bz_journal.specs.History.{Answer, History, present}

@@ -1,10 +1,7 @@
 -- A history of whole texts, and what actions make of it.
 use Rattle.std.specs.Prelude.{◌≡◌, ◌⊎◌, ◌+◌, ◌-◌, ◌<◌, ◌≤◌, ◌==◌, ℕ, List, [], ◌∷◌, ◌++◌, length, take, slice_index_or, nat_lt, bytes_eq, if◌then◌else◌, Option, Some, None, Result, Ok, Err}
 use Rattle.std.specs.List.{All}
-use Rattle.bz_grammar.specs.Legal.{Accepted}
-use Rattle.bz_items.specs.Characters.{Bytes}
-use Rattle.bz_value.specs.declared.refusal.Refusal.{Refusal}
-use Rattle.bz_value.specs.declared.refusal.Refusal.TheVariants.{TooFar, Full, NoteTooLong, Memory}
+use Rattle.bz_journal.specs.Words.{Accepted, Bytes, Full, Memory, NoteTooLong, Refusal, TooFar}
 use Rattle.bz_journal.specs.Actions.{Action}
 use Rattle.bz_journal.specs.Actions.{Do, Format, Undo, Redo}
 use Rattle.bz_journal.specs.declared.action.Reply.{Reply}

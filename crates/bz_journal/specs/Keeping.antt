@@ -1,17 +1,9 @@
 -- What keeping an action leaves: an answer, and a file with its journal.
 use Rattle.std.specs.Prelude.{◌≡◌, ◌≢◌, ◌≤◌, ◌<◌, ◌⊎◌, true, ℕ, List, length, Option, None, Some, Result, Ok, Err, IfErr, IsErrOf, IsOk, OnErr, OnOk}
 use Rattle.std.specs.FinMap.{get}
-use Rattle.bz_edit.specs.declared.edit.Edit.{Edit}
-use Rattle.bz_files.specs.Faults.{Rises}
-use Rattle.bz_files.specs.Folder.{Elapses, Folder}
+use Rattle.bz_journal.specs.Words.{Bytes, Edit, Elapses, Folder, Holds, IsFormatted, IsSmall, OthersStay, Resumes, Rises, Survives, journal_name, journal_text}
 use Rattle.bz_files.specs.declared.files.Files.{Ghosts as FilesOf}
-use Rattle.bz_items.specs.Characters.{Bytes}
-use Rattle.bz_build_format.specs.Fixed.{IsFormatted}
-use Rattle.bz_resume.specs.Journals.{journal_text}
-use Rattle.bz_resume.specs.Pair.{journal_name}
-use Rattle.bz_resume.specs.Resuming.{Holds, OthersStay, Resumes, Survives}
 use Rattle.bz_resume.specs.declared.pair_fault.PairFault.TheVariants as f
-use Rattle.bz_edit.specs.Trails.{IsSmall}
 use Rattle.bz_journal.specs.Actions.{Action}
 use Rattle.bz_journal.specs.declared.action.Reply.{Reply}
 use Rattle.bz_journal.specs.declared.keeping.KeepFault.{KeepFault}

@@ -1,15 +1,8 @@
 -- Histories that outlive the run: what is saved of a session, and what is resumed of a journal.
 use Rattle.std.specs.Prelude.{◌≡◌, ◌⊎◌, ℕ, List, Some, None, Result, Ok, Err}
 use Rattle.std.specs.FinMap.{get}
-use Rattle.bz_edit.specs.declared.edit.Edit.{Edit}
-use Rattle.bz_edit.specs.Trails.{IsSmall}
-use Rattle.bz_files.specs.Folder.{Folder}
-use Rattle.bz_items.specs.Characters.{Bytes}
-use Rattle.bz_resume.specs.declared.fault.ResumeFault.{ResumeFault}
+use Rattle.bz_journal.specs.Words.{AreSmall, Bytes, Edit, Folder, IsSmall, Journal, ResumeFault, Survives, journal_name, journal_text, stands}
 use Rattle.bz_resume.specs.declared.fault.ResumeFault.TheVariants as f
-use Rattle.bz_resume.specs.Pair.{journal_name}
-use Rattle.bz_resume.specs.Resuming.{Survives}
-use Rattle.bz_resume.specs.Journals.{Journal, AreSmall, journal_text, stands}
 use Rattle.bz_journal.specs.Actions.{Action}
 use Rattle.bz_journal.specs.History.{History, Answer, Acts, Runs, present}
 use Rattle.bz_journal.specs.Shown.{session_history}

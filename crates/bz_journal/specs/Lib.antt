@@ -11,3 +11,4 @@ pub mod Shown
 pub mod Worked
 pub mod State
 pub mod private
+pub mod Words

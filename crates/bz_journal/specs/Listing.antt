@@ -1,9 +1,7 @@
 -- The texts of a history, listed: one line a text, by its digest and the note of the step to it.
 use Rattle.std.specs.Prelude.{◌==◌, ◌+◌, ℕ, List, [], ◌∷◌, ◌++◌, map, codes, decimal, Bool, if◌then◌else◌}
 use Rattle.std.specs.List.{flat_map}
-use Rattle.hex.specs.Hex.{encode_lower}
-use Rattle.sha2.specs.Sha256.{sha256}
-use Rattle.bz_items.specs.Characters.{Bytes, line_feed, space}
+use Rattle.bz_journal.specs.Words.{Bytes, encode_lower, line_feed, sha256, space}
 use Rattle.bz_journal.specs.History.{History}
 
 -- a newline of a note is shown as a backslash and the letter n, so that each text has one line

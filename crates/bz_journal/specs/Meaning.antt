@@ -1,16 +1,6 @@
 -- What a command means on a text.
 use Rattle.std.specs.Prelude.{◌≡◌, ◌≢◌, ◌⊎◌, List, Option, Some, None, Result, Ok, Err, if◌then◌else◌}
-use Rattle.bz_grammar.specs.Legal.{Reads}
-use Rattle.bz_grammar.specs.declared.tree.Node.{Node}
-use Rattle.bz_grammar.specs.Statements.{lines_of}
-use Rattle.bz_label.specs.declared.target.Target.{Target}
-use Rattle.bz_value.specs.declared.value.Item.{Item}
-use Rattle.bz_items.specs.Characters.{Bytes}
-use Rattle.bz_hosts.specs.View.{view_of}
-use Rattle.bz_command_syntax.specs.declared.command.Operation.{Operation}
-use Rattle.bz_value.specs.declared.refusal.Refusal.{Refusal}
-use Rattle.bz_command_syntax.specs.Printing.{prints}
-use Rattle.bz_command.specs.Effect.{effect, printed}
+use Rattle.bz_journal.specs.Words.{Bytes, Item, Node, Operation, Reads, Refusal, Target, effect, lines_of, printed, prints, view_of}
 pub use Rattle.bz_build_format.specs.Meaning.{Meaning, gives, refuses, written, Formats}
 
 -- what is answered beside the text: of a command that prints, what it prints

@@ -1,16 +1,9 @@
 -- A session as contracts see it.
 use Rattle.std.specs.Prelude.{◌≡◌, ◌≢◌, ◌≤◌, ◌<◌, ◌+◌, ◌↔◌, ℕ, true, [], take, length, Result, Err, IfOk, IfErr, OnOk}
 use Rattle.std.specs.Str.{IsValidUpTo}
-use Rattle.bz_grammar.specs.Faults.{IsOfText}
-use Rattle.bz_grammar.specs.Legal.{Accepted}
-use Rattle.bz_grammar.specs.Spell.{limit}
-use Rattle.bz_items.specs.Characters.{Bytes}
-use Rattle.bz_lex.specs.declared.fault.ReadFault.{ReadFault}
+use Rattle.bz_journal.specs.Words.{Accepted, Bytes, HasLeast, IsFaultAt, IsOfText, IsSmall, ReadFault, StepsAreBetween, StepsLead, Trail, are_even}
+use Rattle.bz_journal.specs.Words.{is_of_leaves, limit, steps_back, steps_forward, texts_of}
 use Rattle.bz_lex.specs.declared.fault.ReadFault.TheVariants as f
-use Rattle.bz_lex.specs.Faults.{is_of_leaves}
-use Rattle.bz_lex.specs.Stops.{IsFaultAt}
-use Rattle.bz_edit.specs.Trails.{Trail, HasLeast, IsSmall, steps_back, steps_forward, are_even}
-use Rattle.bz_edit.specs.Shown.{StepsAreBetween, StepsLead, texts_of}
 use Rattle.bz_journal.specs.History.{History, IsKept, opened}
 use Rattle.bz_journal.specs.State.{SessionState, session_trail}
 use Rattle.bz_journal.specs.Actions.{Action}

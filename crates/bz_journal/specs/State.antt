@@ -2,12 +2,7 @@
 use Rattle.std.specs.Prelude.{ℕ, ◌≡◌, ◌≤◌, List, length, refl, IsUtf8}
 use Rattle.std.specs.List.{AllByRecursion}
 use Rattle.std.specs.Coded.{Coded, code_by, coded×, coded_ℕ, coded_list}
-use Rattle.bz_grammar.specs.declared.tree.Node.{Node}
-use Rattle.bz_edit.specs.declared.edit.Edit.{Edit}
-use Rattle.bz_edit.specs.Trails.{Trail, IsTrail, trail_at}
-use Rattle.bz_journal_format.specs.Texts.{IsNote}
-use Rattle.bz_journal_format.specs.declared.content.Version.TheVariants.{Two}
-use Rattle.bz_items.specs.Characters.{Bytes}
+use Rattle.bz_journal.specs.Words.{Bytes, Edit, IsNote, IsTrail, Node, Trail, Two, trail_at}
 use Rattle.bz_journal.specs.History.{most_steps}
 
 -- the tree of the present text, the steps between the texts, a note of each step, the path of the file's package, the number of the

@@ -1,7 +1,6 @@
 -- Worked rows: what undo, redo and new texts make of small histories.
 use Rattle.std.specs.Prelude.{◌≡◌, [], ◌∷◌, codes, Some, None, Ok, Err}
-use Rattle.bz_items.specs.Characters.{Bytes}
-use Rattle.bz_value.specs.declared.refusal.Refusal.TheVariants.{NoTarget, TooFar, Full}
+use Rattle.bz_journal.specs.Words.{Bytes, Full, NoTarget, TooFar}
 use Rattle.bz_journal.specs.declared.action.Reply.TheVariants.{Changed, Same, Printed, Moved}
 use Rattle.bz_journal.specs.Meaning.{gives, refuses}
 use Rattle.bz_journal.specs.History.{History, opened, after_meaning, undone, redone}

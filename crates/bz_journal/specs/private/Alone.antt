@@ -1,6 +1,6 @@
 -- The texts of a file that are kept alone once the last command on it is done.
 use Rattle.std.specs.Prelude.{◌≢◌, ◌≤◌, length, Option, None, Some, IfSome, string_bytes}
-use Rattle.bz_items.specs.Characters.{Bytes}
+use Rattle.bz_journal.specs.Words.{Bytes}
 use Rattle.bz_journal.specs.History.{History, changed, note_limit, opened}
 use Rattle.bz_journal.specs.declared.alone.Made.{Made}
 

@@ -1,6 +1,6 @@
 -- The course of what a run has of a file.
 use Rattle.std.specs.Prelude.{◌≡◌}
-use Rattle.bz_edit.specs.Trails.{IsSmall}
+use Rattle.bz_journal.specs.Words.{IsSmall}
 use Rattle.bz_journal.specs.Shown.{session_history}
 use Rattle.bz_journal.specs.State.{SessionState, session_trail}
 use Rattle.bz_journal.specs.declared.past.Form.{Form}

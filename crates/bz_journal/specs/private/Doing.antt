@@ -1,17 +1,7 @@
 -- What is done to a session: what is answered, and the session after it.
 use Rattle.std.specs.Prelude.{◌≡◌, ◌⊎◌, ◌↔◌, ◌≤◌, ◌<◌, ◌+◌, ℕ, length, List, [], Option, None, Some, Result, Ok, Err, OnErr, OnOk, IfErr, IfOk}
 use Rattle.std.specs.Option.{unwrap_or}
-use Rattle.bz_grammar.specs.declared.tree.Node.{Node}
-use Rattle.bz_label.specs.declared.target.Target.{Target}
-use Rattle.bz_command_syntax.specs.declared.command.Operation.{Operation}
-use Rattle.bz_command.specs.Effect.{effect, printed}
-use Rattle.bz_value.specs.declared.value.Item.{Item}
-use Rattle.bz_value.specs.declared.refusal.Refusal.{Refusal}
-use Rattle.bz_value.specs.declared.refusal.Refusal.TheVariants.{Memory, TooLarge}
-use Rattle.bz_value.specs.Windows.{AreOver}
-use Rattle.bz_command.specs.declared.outcome.Ran.{Ran}
-use Rattle.bz_items.specs.Characters.{Bytes}
-use Rattle.bz_edit.specs.Trails.{IsSmall}
+use Rattle.bz_journal.specs.Words.{AreOver, Bytes, IsSmall, Item, Memory, Node, Operation, Ran, Refusal, Target, TooLarge, effect, printed}
 use Rattle.bz_journal.specs.Actions.{Action, Do, Format, Redo, Undo}
 use Rattle.bz_journal.specs.declared.answering.Lookups.{Lookups}
 use Rattle.bz_journal.specs.private.Filling.{Overfills}

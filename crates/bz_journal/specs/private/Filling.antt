@@ -2,17 +2,7 @@
 use Rattle.std.specs.Prelude.{◌≡◌, ◌≢◌, ◌≤◌, ◌<◌, ◌+◌, ℕ, Bool, true, List, [], ◌∷◌, Option, Result, Ok, Err, IfOk, length, if◌then◌else◌}
 use Rattle.std.specs.List.{AllByRecursion}
 use Rattle.std.specs.Option.{option_copied}
-use Rattle.bz_grammar.specs.Spell.{limit}
-use Rattle.bz_value.specs.declared.value.Expr.{Expr}
-use Rattle.bz_value.specs.declared.value.Item.{Item}
-use Rattle.bz_value.specs.declared.refusal.Refusal.{Refusal}
-use Rattle.bz_value.specs.Proper.{IsProperItem}
-use Rattle.bz_items.specs.Characters.{Bytes}
-use Rattle.bz_layout.specs.Written.{layout}
-use Rattle.bz_passes.specs.Passes.{tidied}
-use Rattle.bz_command_syntax.specs.declared.command.Operation.{Operation}
-use Rattle.bz_command.specs.Effect.{NewItem, on_one}
-use Rattle.bz_command.specs.declared.ruling.Work.{Work}
+use Rattle.bz_journal.specs.Words.{Bytes, Expr, IsProperItem, Item, NewItem, Operation, Refusal, Work, layout, limit, on_one, tidied}
 
 -- what is made of items is something else, and past the limit of a text
 abbrev pub Overfills : List Item → Result (List Item) Refusal → Type 0

@@ -1,13 +1,6 @@
 -- What a session keeps, and the lines that are kept beside it for its journal.
 use Rattle.std.specs.Prelude.{◌≡◌, ◌+◌, length, map}
-use Rattle.sha2.specs.Sha256.{sha256}
-use Rattle.bz_grammar.specs.Spell.{spell_node}
-use Rattle.bz_journal_format.specs.FirstLines.{AreFirstLines}
-use Rattle.bz_journal_format.specs.declared.content.Version.TheVariants.{Two}
-use Rattle.bz_journal_format.specs.declared.kept.KeptLines.{KeptLines}
-use Rattle.bz_edit.specs.Shown.{texts_of}
-use Rattle.bz_edit.specs.Trails.{IsSmall}
-use Rattle.bz_resume.specs.Journals.{AreSmall}
+use Rattle.bz_journal.specs.Words.{AreFirstLines, AreSmall, IsSmall, KeptLines, Two, sha256, spell_node, texts_of}
 use Rattle.bz_journal.specs.History.{IsKept, present}
 use Rattle.bz_journal.specs.Lasting.{IsSavedSession}
 use Rattle.bz_journal.specs.Shown.{HoldsSteps, session_history}

@@ -1,24 +1,9 @@
 -- The lines of a tidy value that are other ones than in a tree, and what was looked up that outlives them.
 use Rattle.std.specs.Prelude.{◌≡◌, ◌⊎◌, ◌≤◌, ◌==◌, ◌+◌, ◌-◌, ℕ, true, List, [], ◌∷◌, ◌++◌, length, map, take, drop, Option, Some, IfErr, IfOk, IfSome, Result}
 use Rattle.std.specs.List.{flat_map, list_any}
-use Rattle.bz_edit.specs.Windows.{AreThere, with_windows}
-use Rattle.bz_edit.specs.declared.part_windows.PartWindow.{PartWindow}
-use Rattle.bz_grammar.specs.declared.tree.Node.{Node}
-use Rattle.bz_grammar.specs.declared.tree.Part.{Part}
-use Rattle.bz_grammar.specs.Legal.{Reads}
-use Rattle.bz_grammar.specs.Spell.{depth_of, depth_limit, leaves_part, spell_part}
-use Rattle.bz_grammar.specs.Statements.{first_gap, fronts_in, newlines, node_parts}
-use Rattle.bz_items.specs.Characters.{Bytes}
-use Rattle.bz_value.specs.declared.value.Item.{Item}
-use Rattle.bz_value.specs.declared.windows.Window.{Window}
-use Rattle.bz_value.specs.declared.refusal.Refusal.{Refusal}
-use Rattle.bz_value.specs.declared.refusal.Refusal.TheVariants.{Memory}
-use Rattle.bz_value.specs.Proper.{IsProper}
-use Rattle.bz_layout.specs.LaidOut.{laid_out}
-use Rattle.bz_layout.specs.Written.{layout}
-use Rattle.bz_passes.specs.Passes.{tidied}
-use Rattle.bz_rule.specs.Held.{held_name}
-use Rattle.bz_rule.specs.Index.{Index, IsIndexOf, places_from}
+use Rattle.bz_journal.specs.Words.{AreThere, Bytes, Index, IsIndexOf, IsProper, Item, Memory, Node, Part, PartWindow, Reads, Refusal, Window, depth_limit}
+use Rattle.bz_journal.specs.Words.{depth_of, first_gap, fronts_in, held_name, laid_out, layout, leaves_part, newlines, node_parts, places_from, spell_part}
+use Rattle.bz_journal.specs.Words.{tidied, with_windows}
 use Rattle.bz_journal.specs.Meaning.{refuses, written}
 use Rattle.bz_journal.specs.declared.making.Made.{Made}
 

@@ -1,7 +1,5 @@
 use Rattle.std.proofs.Common.{◌≡◌, ◌∙◌, ap, false, inl, is_some, refl, sym, true≢false, Option, None, Some}
-use Rattle.bz_hosts.specs.View.{view_of}
-use Rattle.bz_journal.specs.Shown.{session_history}
-use Rattle.bz_journal.specs.State.{SessionState}
+use Rattle.bz_journal.specs.Clauses.{SessionState, session_history, view_of}
 use Rattle.bz_journal.proofs.Edited.{edited_refused, edited_same}
 use Rattle.bz_journal.proofs.answering.answer_of.Goals as goal
 

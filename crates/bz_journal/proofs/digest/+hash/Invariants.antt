@@ -1,7 +1,6 @@
 use Rattle.std.proofs.Common.{◌++◌, take, List, ℕ}
 use Rattle.std.specs.List.{flat_map}
-use Rattle.sha2.specs.Hashers.{Holds256}
-use Rattle.bz_grammar.specs.Spell.{spell_part}
+use Rattle.bz_journal.specs.Clauses.{Holds256, spell_part}
 use Rattle.bz_journal.proofs.digest.+hash.Given as goal
 
 -- what was hashed before, and after it the text of the parts so far

@@ -1,11 +1,9 @@
 use Rattle.std.proofs.Common.{◌≡◌, ◌∙◌, ◌+◌, ◌<◌, [], List, arith, ap, length, map, subst, sym}
 use Rattle.std.specs.Prelude.{slice_index_or}
 use Rattle.std.proofs.lemmas.List.{take_all}
-use Rattle.sha2.specs.Sha256.{sha256}
-use Rattle.bz_grammar.specs.Spell.{spell_node}
-use Rattle.bz_edit.specs.Shown.{Moves, texts_of}
-use Rattle.bz_edit.specs.Trails.{Trail, trail_at}
-use Rattle.bz_items.specs.Characters.{Bytes}
+use Rattle.bz_journal.specs.Clauses.{Bytes, sha256, spell_node, texts_of, trail_at}
+use Rattle.bz_journal.specs.Words.{Trail}
+use Rattle.bz_edit.specs.Shown.{Moves}
 use Rattle.bz_journal.proofs.Digested.{hash_next}
 use Rattle.bz_journal.proofs.digests.hashed_from.Goals as goal
 

@@ -1,7 +1,5 @@
 use Rattle.std.proofs.Common.{◌≡◌, ◌+◌, length, map, take}
-use Rattle.sha2.specs.Sha256.{sha256}
-use Rattle.bz_edit.specs.Shown.{texts_of}
-use Rattle.bz_edit.specs.Trails.{IsTrail, trail_at}
+use Rattle.bz_journal.specs.Clauses.{IsTrail, sha256, texts_of, trail_at}
 use Rattle.bz_journal.proofs.digests.hashed_from.Given as goal
 
 -- the tree is that of the text with this number, the texts stay, and the digests are those up to it

@@ -1,6 +1,5 @@
 use Rattle.std.proofs.Common.{◌≡◌, ◌+◌, length, rules}
-use Rattle.sha2.specs.Sha256.{sha256}
-use Rattle.bz_journal.specs.Shown.{session_history}
+use Rattle.bz_journal.specs.Clauses.{session_history, sha256}
 use Rattle.bz_journal.proofs.Digested.{all_first}
 use Rattle.bz_journal.proofs.digests.known.Goals as goal
 

@@ -1,7 +1,6 @@
 use Rattle.std.proofs.Common.{◌≡◌, ◌∙◌, ◌<◌, ◌++◌, ◌∷◌, [], ap, length, rules, subst, sym, ℕ, List}
 use Rattle.std.specs.Prelude.{slice_index_or}
-use Rattle.bz_items.specs.Characters.{Bytes}
-use Rattle.bz_journal.specs.Shown.{session_history}
+use Rattle.bz_journal.specs.Clauses.{Bytes, session_history}
 use Rattle.bz_journal.proofs.Digested.{learn_next}
 use Rattle.bz_journal.proofs.digests.learn.Goals as goal
 

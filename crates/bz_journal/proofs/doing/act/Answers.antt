@@ -1,6 +1,5 @@
 use Rattle.std.proofs.Common.{ap, subst, sym}
-use Rattle.bz_journal.specs.Actions.{Action, Do, Redo, Undo, action_in}
-use Rattle.bz_journal.specs.Keeping.{HasActed}
+use Rattle.bz_journal.specs.Clauses.{Action, Do, HasActed, Redo, Undo, action_in}
 use Rattle.bz_journal.proofs.Acting.{has_gone}
 use Rattle.bz_journal.proofs.AtOnce.{acted_at_once}
 use Rattle.bz_journal.proofs.doing.act.Goals as goal

@@ -1,10 +1,6 @@
 use Rattle.std.proofs.Common.{◌∙◌, List, ap, refl, subst, sym}
 use Rattle.std.proofs.lemmas.Bool.{false≢true}
-use Rattle.bz_grammar.specs.declared.tree.Node.{Node}
-use Rattle.bz_value.specs.declared.value.Item.{Item}
-use Rattle.bz_journal.specs.Shown.{session_history}
-use Rattle.bz_journal.specs.State.{SessionState}
-use Rattle.bz_journal.specs.private.Making.{MakesLines}
+use Rattle.bz_journal.specs.Clauses.{Item, MakesLines, Node, SessionState, session_history}
 use Rattle.bz_journal.proofs.Edited.{edited_made, edited_refused, edited_same}
 use Rattle.bz_journal.proofs.doing.edit.Goals as goal
 

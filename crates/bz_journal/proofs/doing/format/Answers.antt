@@ -1,7 +1,5 @@
 use Rattle.std.proofs.Common.{subst}
-use Rattle.bz_grammar.specs.declared.tree.Node.{Node}
-use Rattle.bz_journal.specs.Shown.{session_history}
-use Rattle.bz_journal.specs.private.Making.{MakesLines}
+use Rattle.bz_journal.specs.Clauses.{MakesLines, Node, session_history}
 use Rattle.bz_journal.proofs.Acting.{formats_made}
 use Rattle.bz_journal.proofs.Formatting.{formatted_after}
 use Rattle.bz_journal.proofs.doing.format.Goals as goal

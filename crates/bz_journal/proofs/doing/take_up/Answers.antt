@@ -1,21 +1,10 @@
 use Rattle.std.proofs.Common.{◌≡◌, ◌∙◌, Err, List, Ok, ap, length, subst, sym}
 use Rattle.std.specs.Prelude.{IfSome}
-use Rattle.bz_edit.specs.Windows.{with_windows}
-use Rattle.bz_grammar.specs.declared.tree.Node.{Node}
-use Rattle.bz_grammar.specs.Legal.{Reads}
-use Rattle.bz_grammar.specs.Spell.{spell_node}
-use Rattle.bz_grammar.specs.Statements.{lines_of}
-use Rattle.bz_items.specs.Characters.{Bytes}
-use Rattle.bz_value.specs.declared.value.Item.{Item}
-use Rattle.bz_hosts.specs.View.{view_of}
-use Rattle.bz_layout.specs.Written.{layout}
-use Rattle.bz_passes.specs.Passes.{tidied}
-use Rattle.bz_build_format.specs.Meaning.{IsWritten, Meaning}
-use Rattle.bz_rule.specs.Index.{IsIndexOf}
+use Rattle.bz_journal.specs.Clauses.{Bytes, EndsAt, IsIndexOf, IsWritten, Item, Node, after_meaning, layout, lines_of, session_history, spell_node, tidied}
+use Rattle.bz_journal.specs.Clauses.{view_of, with_windows}
+use Rattle.bz_journal.specs.Words.{Reads}
+use Rattle.bz_build_format.specs.Meaning.{Meaning}
 use Rattle.bz_journal.specs.Editing.{IsTidyLayoutOf}
-use Rattle.bz_journal.specs.History.{after_meaning}
-use Rattle.bz_journal.specs.Shown.{session_history}
-use Rattle.bz_journal.specs.private.Doing.{EndsAt}
 use Rattle.bz_journal.proofs.Edited.{refused_end, value_taken}
 use Rattle.bz_journal.proofs.MadeLines.{lines_written}
 use Rattle.bz_journal.proofs.doing.take_up.Goals as goal

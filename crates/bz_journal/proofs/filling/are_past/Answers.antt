@@ -1,9 +1,8 @@
 use Rattle.std.proofs.Common.{rules, ◌≡◌, ◌-◌, ◌∙◌, Bool, ◌||◌, List, ◌∷◌, ap, sym, subst}
 use Rattle.std.proofs.lemmas.Bool.{eqb-true}
 use Rattle.std.proofs.lemmas.Slice.Zip.{Zip-more, either_empty_from_Zip}
-use Rattle.bz_value.specs.declared.value.Item.{Item}
-use Rattle.bz_command.specs.Effect.{NewItem}
-use Rattle.bz_journal.specs.private.Filling.{AreProperMade, item_made_by}
+use Rattle.bz_journal.specs.Clauses.{AreProperMade, Item, item_made_by}
+use Rattle.bz_journal.specs.Words.{NewItem}
 use Rattle.bz_journal.proofs.GrownItems.{AreTried, all_tried, next_tried}
 use Rattle.bz_journal.proofs.filling.are_past.Goals as goal
 use Rattle.bz_journal.proofs.filling.are_past.Goals.{else-differs, then-differs}

@@ -1,8 +1,5 @@
 use Rattle.std.proofs.Common.{◌≡◌, ◌≢◌, ◌∙◌, ap, refl, subst, sym}
-use Rattle.bz_journal.specs.History.{present}
-use Rattle.bz_journal.specs.Lasting.{IsSavedSession, saved}
-use Rattle.bz_journal.specs.Shown.{session_history}
-use Rattle.bz_journal.specs.State.{SessionState}
+use Rattle.bz_journal.specs.Clauses.{IsSavedSession, SessionState, present, saved, session_history}
 use Rattle.bz_journal.proofs.Following.{has_moved}
 use Rattle.bz_journal.proofs.keeping.written_since.Goals as goal
 

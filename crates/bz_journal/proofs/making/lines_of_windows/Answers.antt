@@ -1,11 +1,7 @@
 use Rattle.std.proofs.Common.{◌≤◌, ◌∙◌, List, length, subst, sym}
-use Rattle.bz_grammar.specs.Spell.{limit}
-use Rattle.bz_hosts.specs.View.{view_of}
-use Rattle.bz_items.specs.Characters.{Bytes}
+use Rattle.bz_journal.specs.Clauses.{Bytes, Item, layout, limit, view_of}
+use Rattle.bz_journal.specs.Words.{IsProper}
 use Rattle.bz_layout.specs.Windows.{IsLayoutOf}
-use Rattle.bz_layout.specs.Written.{layout}
-use Rattle.bz_value.specs.declared.value.Item.{Item}
-use Rattle.bz_value.specs.Proper.{IsProper}
 use Rattle.bz_journal.proofs.MadeLines.{are_within, lines_read}
 use Rattle.bz_journal.proofs.making.lines_of_windows.Goals as goal
 

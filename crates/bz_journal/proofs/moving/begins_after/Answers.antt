@@ -1,7 +1,6 @@
 use Rattle.std.proofs.Common.{◌∙◌, ◌+◌, [], ap, arith, length, refl, sym}
 use Rattle.std.proofs.lemmas.List.{take_at}
-use Rattle.bz_grammar.specs.declared.tree.Node.{Node}
-use Rattle.bz_journal.specs.private.Making.{moved_from}
+use Rattle.bz_journal.specs.Clauses.{Node, moved_from}
 use Rattle.bz_journal.proofs.MovedLines.{one_of, shifts}
 use Rattle.bz_journal.proofs.moving.begins_after.Goals as goal
 

@@ -1,7 +1,6 @@
 use Rattle.std.proofs.Common.{◌∙◌, sym}
 use Rattle.std.proofs.lemmas.Bool.{false≢true}
-use Rattle.bz_journal.specs.Actions.{action_in}
-use Rattle.bz_journal.specs.Shown.{session_history}
+use Rattle.bz_journal.specs.Clauses.{action_in, session_history}
 use Rattle.bz_journal.proofs.Digested.{first_cut, first_stay}
 use Rattle.bz_journal.proofs.Following.{goes}
 use Rattle.bz_journal.proofs.past.act_in.Goals as goal

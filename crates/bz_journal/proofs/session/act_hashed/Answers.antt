@@ -1,10 +1,6 @@
 use Rattle.std.proofs.Common.{◌∙◌, ap, map, sym}
 use Rattle.std.proofs.lemmas.Bool.{false≢true}
-use Rattle.sha2.specs.Sha256.{sha256}
-use Rattle.bz_grammar.specs.Spell.{spell_node}
-use Rattle.bz_journal.specs.Actions.{action_in}
-use Rattle.bz_journal.specs.History.{History}
-use Rattle.bz_journal.specs.Shown.{session_history}
+use Rattle.bz_journal.specs.Clauses.{History, action_in, session_history, sha256, spell_node}
 use Rattle.bz_journal.proofs.Digested.{digest_put}
 use Rattle.bz_journal.proofs.Following.{Goes, goes}
 use Rattle.bz_journal.proofs.session.act_hashed.Goals as goal

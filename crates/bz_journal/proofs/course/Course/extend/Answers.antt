@@ -1,15 +1,9 @@
 use Rattle.std.proofs.Common.{List, refl, map, ◌≡◌, ◌<◌, ◌+◌, ◌++◌, ◌∷◌, [], ◌∙◌, ap, sym, subst, rules, take, string_bytes}
-use Rattle.sha2.specs.Sha256.{sha256}
-use Rattle.bz_edit.specs.Windows.{with_windows}
-use Rattle.bz_grammar.specs.declared.tree.Node.{Node}
-use Rattle.bz_grammar.specs.Spell.{spell_node}
-use Rattle.bz_items.specs.Characters.{Bytes}
-use Rattle.bz_edit.specs.Shown.{TakesUp, texts_of}
-use Rattle.bz_edit.specs.Trails.{IsSmall, trail_at}
-use Rattle.bz_journal_format.specs.declared.content.Version.TheVariants.{Two}
-use Rattle.bz_journal.specs.History.{most_steps}
+use Rattle.bz_journal.specs.Clauses.{Bytes, IsSession, IsSmall, Node, SessionState, most_steps, session_trail, sha256, spell_node, texts_of, trail_at}
+use Rattle.bz_journal.specs.Clauses.{with_windows}
+use Rattle.bz_journal.specs.Words.{Two}
+use Rattle.bz_edit.specs.Shown.{TakesUp}
 use Rattle.bz_journal.specs.private.Kept.{AreKeptOf}
-use Rattle.bz_journal.specs.State.{SessionState, IsSession, session_trail}
 use Rattle.bz_journal.proofs.Kept.{as_before, extended, kept_on, session_present}
 use Rattle.bz_journal.proofs.course.Course.extend.Goals as goal
 

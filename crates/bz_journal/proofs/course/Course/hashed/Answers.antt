@@ -1,8 +1,6 @@
 use Rattle.std.proofs.Common.{◌∙◌, ◌-◌, arith, ap, map, refl}
 use Rattle.std.proofs.lemmas.Result.{IfOk-weaker}
-use Rattle.sha2.specs.Sha256.{sha256}
-use Rattle.bz_edit.specs.Shown.{texts_of}
-use Rattle.bz_journal.specs.State.{SessionState, session_trail}
+use Rattle.bz_journal.specs.Clauses.{SessionState, session_trail, sha256, texts_of}
 use Rattle.bz_journal.proofs.Digested.{same_texts}
 use Rattle.bz_journal.proofs.course.Course.hashed.Goals as goal
 

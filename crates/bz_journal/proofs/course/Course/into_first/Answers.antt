@@ -1,8 +1,5 @@
 use Rattle.std.proofs.Common.{◌≡◌, subst, sym}
-use Rattle.bz_grammar.specs.Spell.{spell_node}
-use Rattle.bz_journal.specs.History.{opened}
-use Rattle.bz_journal.specs.Shown.{session_history}
-use Rattle.bz_journal.specs.State.{SessionState}
+use Rattle.bz_journal.specs.Clauses.{SessionState, opened, session_history, spell_node}
 use Rattle.bz_journal.proofs.LastText.{opened_first}
 use Rattle.bz_journal.proofs.course.Course.into_first.Goals as goal
 

@@ -1,11 +1,7 @@
 use Rattle.std.proofs.Common.{◌≡◌, ◌↔◌, ◌∙◌, IsTrue, List, ap, subst, sym}
-use Rattle.bz_edit.specs.Windows.{window_parts, with_windows}
-use Rattle.bz_grammar.specs.declared.tree.Node.{Node}
-use Rattle.bz_grammar.specs.declared.tree.Part.{Part}
-use Rattle.bz_grammar.specs.Legal.{Reads}
-use Rattle.bz_grammar.specs.Spell.{spell_node}
-use Rattle.bz_journal.specs.History.{present}
-use Rattle.bz_journal.specs.Shown.{session_history}
+use Rattle.bz_journal.specs.Clauses.{Node, present, session_history, spell_node, with_windows}
+use Rattle.bz_journal.specs.Words.{Part, Reads}
+use Rattle.bz_edit.specs.Windows.{window_parts}
 use Rattle.bz_journal.proofs.MadeLines.{parts_stay}
 use Rattle.bz_journal.proofs.course.Course.is_present.Goals as goal
 

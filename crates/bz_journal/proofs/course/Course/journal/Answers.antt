@@ -1,15 +1,11 @@
 use Rattle.std.proofs.Common.{◌≡◌, ◌∙◌, ap, arith, length, map, sym}
 use Rattle.std.proofs.lemmas.Result.{IfOk-weaker}
-use Rattle.sha2.specs.Sha256.{sha256}
-use Rattle.bz_edit.specs.Shown.{texts_of}
+use Rattle.bz_journal.specs.Clauses.{SessionState, present, session_history, session_trail, sha256, texts_of}
+use Rattle.bz_journal.specs.Words.{Two}
 use Rattle.bz_journal_format.specs.declared.content.Record.{Record}
-use Rattle.bz_journal_format.specs.declared.content.Version.TheVariants.{Two}
 use Rattle.bz_journal_format.specs.Texts.{record_text}
 use Rattle.bz_resume.proofs.Saves.{record_made}
 use Rattle.bz_resume.specs.Journals.{record_of}
-use Rattle.bz_journal.specs.History.{present}
-use Rattle.bz_journal.specs.Shown.{session_history}
-use Rattle.bz_journal.specs.State.{SessionState, session_trail}
 use Rattle.bz_journal.proofs.Kept.{first_of_same}
 use Rattle.bz_journal.proofs.Resuming.{same_state}
 use Rattle.bz_journal.proofs.course.Course.journal.Goals as goal

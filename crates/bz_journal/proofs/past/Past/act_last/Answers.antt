@@ -1,8 +1,6 @@
 use Rattle.std.proofs.Common.{◌≡◌, ◌∙◌, Err, ap, string_bytes, subst, sym}
-use Rattle.bz_grammar.specs.Spell.{spell_node}
-use Rattle.bz_journal.specs.Actions.{Do}
+use Rattle.bz_journal.specs.Clauses.{Do, History, MakesOrWants, opened, present, spell_node}
 use Rattle.bz_journal.specs.Forms.{past_history}
-use Rattle.bz_journal.specs.History.{History, MakesOrWants, opened, present}
 use Rattle.bz_journal.specs.declared.past.Form.{Form}
 use Rattle.bz_journal.proofs.Acting.{acts_refused}
 use Rattle.bz_journal.proofs.LastText.{last_done}

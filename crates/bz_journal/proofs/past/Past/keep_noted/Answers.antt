@@ -1,11 +1,6 @@
 use Rattle.std.proofs.Common.{ℕ, subst, sym}
-use Rattle.bz_journal.specs.Actions.{Action, action_in}
-use Rattle.bz_journal.specs.Editing.{IsSeenIn}
+use Rattle.bz_journal.specs.Clauses.{Action, History, IsSeenIn, IsWrittenSince, Keeps, KeepsFile, KeepsPair, SessionState, action_in, session_history}
 use Rattle.bz_journal.specs.Forms.{past_history}
-use Rattle.bz_journal.specs.History.{History}
-use Rattle.bz_journal.specs.Keeping.{IsWrittenSince, Keeps, KeepsFile, KeepsPair}
-use Rattle.bz_journal.specs.Shown.{session_history}
-use Rattle.bz_journal.specs.State.{SessionState}
 use Rattle.bz_journal.specs.declared.past.Form.{Form}
 use Rattle.bz_journal.proofs.InForm.{made_as, same_history}
 use Rattle.bz_journal.proofs.Persisting.{file_unkept}

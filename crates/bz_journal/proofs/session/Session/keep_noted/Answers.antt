@@ -1,8 +1,6 @@
 use Rattle.std.proofs.Common.{◌∙◌, ℕ, subst}
 use Rattle.std.proofs.lemmas.Result.{IfOk-weaker}
-use Rattle.bz_journal.specs.Actions.{action_in}
-use Rattle.bz_journal.specs.Keeping.{IsWrittenSince}
-use Rattle.bz_journal.specs.State.{SessionState}
+use Rattle.bz_journal.specs.Clauses.{IsWrittenSince, SessionState, action_in}
 use Rattle.bz_journal.proofs.session.Session.keep_noted.Goals as goal
 
 pub returns : goal.returns

@@ -1,8 +1,5 @@
 use Rattle.std.proofs.Common.{◌≡◌, ◌∙◌, ap, map, rules, subst, sym, refl, string_bytes}
-use Rattle.sha2.specs.Sha256.{sha256}
-use Rattle.bz_edit.specs.Shown.{texts_of}
-use Rattle.bz_edit.specs.Trails.{trail_at}
-use Rattle.bz_journal.specs.State.{SessionState, IsSession}
+use Rattle.bz_journal.specs.Clauses.{IsSession, SessionState, sha256, texts_of, trail_at}
 use Rattle.bz_journal.proofs.Resuming.{knows, lasts, same_state}
 use Rattle.bz_journal.proofs.session.Session.of_resumed.Goals as goal
 

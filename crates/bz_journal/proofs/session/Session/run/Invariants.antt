@@ -1,11 +1,5 @@
 use Rattle.std.proofs.Common.{◌≡◌, ◌≤◌, ◌+◌, ◌-◌, ◌++◌, List, map, take, length, vec_len, vec_capacity, Result}
-use Rattle.bz_value.specs.declared.refusal.Refusal.{Refusal}
-use Rattle.bz_journal.specs.Actions.{action_in}
-use Rattle.bz_journal.specs.History.{Runs}
-use Rattle.bz_edit.specs.Trails.{IsSmall}
-use Rattle.bz_journal.specs.Shown.{session_history}
-use Rattle.bz_journal.specs.State.{session_trail}
-use Rattle.bz_journal.specs.declared.action.Reply.{Reply}
+use Rattle.bz_journal.specs.Clauses.{IsSmall, Refusal, Reply, Runs, action_in, session_history, session_trail}
 use Rattle.bz_journal.proofs.session.Session.run.Given as goal
 
 -- the replies so far are those of the actions so far, and there is room for the others
