@@ -1,11 +1,13 @@
 -- What a session's action does is what the history says.
-use Rattle.std.proofs.Common.{◌≡◌, ◌⊎◌, ◌≤◌, ◌<◌, length, inl, inr, true, ℕ, Result, Ok, Err, List, Option, None, refl, sym, subst, ap, ◌∙◌}
+use Rattle.std.proofs.Common.{arith, nat_lt, Bool, false, ◌≡◌, ◌⊎◌, ◌≤◌, ◌<◌, length, inl, inr, true, ℕ, Result, Ok, Err, List, Option, None, refl, sym, subst, ap, ◌∙◌}
 use Rattle.std.specs.Prelude.{IsOk, OnErr, OnOk}
 use Rattle.std.specs.Str.{bytes_eq}
 use Rattle.std.proofs.lemmas.Slice.Eq.{bytes_eq-Decides}
 use Rattle.bz_journal.specs.Clauses.{Action, Answer, Bytes, Do, Format, HasActed, History, IsSmall, Item, MakesOrWants, Means, Node, Refusal, Reply}
 use Rattle.bz_journal.specs.Clauses.{SessionState, after_meaning, after_text, effect, gives, lines_of, note_limit, present, printed, printed_answer, refuses}
-use Rattle.bz_journal.specs.Clauses.{session_history, session_trail, spell_node, unchanged, view_of, written}
+use Rattle.bz_journal.specs.Clauses.{EndsAt, changed, most_steps, session_history, session_trail, spell_node, unchanged, view_of, written}
+use Rattle.std.proofs.lemmas.Bool.Decides.{nat_tests}
+use Rattle.bz_journal.specs.declared.action.Reply.TheVariants.{Changed}
 use Rattle.bz_journal.specs.Words.{Memory, Operation, Reads, Target}
 use Rattle.bz_journal.specs.Meaning.{Meaning, EffectMeans}
 use Rattle.bz_journal.specs.History.{IsFormat}
@@ -59,3 +61,17 @@ has_gone action note s answer t none within short makes unmoved even small = rec
   even = λ _. even;
   small = small;
 }
+
+-- ---- another text
+
+not_true : (b : Bool) → (b ≡ true → ⊥) → b ≡ false
+not_true true none = absurd (none refl)
+not_true false none = refl
+
+-- another text is taken up, where there is room
+pub ends_changed : (note : Bytes) (s t : SessionState) (text : Bytes) (printed : Option Bytes) → (text ≡ present (session_history s) → ⊥) → s.cursor < most_steps
+    → session_history t ≡ changed note (session_history s) text → (IsSmall (session_trail s) → IsSmall (session_trail t)) → EndsAt (after_text note (session_history s) text printed) s (Ok Changed) t
+ends_changed note s t text printed other room new small =
+    let apart : bytes_eq text (present (session_history s)) ≡ false = not_true _ (λ same. other ((bytes_eq-Decides text (present (session_history s))).0 same)) in
+    let below : nat_lt s.cursor most_steps ≡ true = grind (arith, nat_tests) in
+    record { made = inl (rw (apart, below, new) refl); unmoved = tt; small = small }

@@ -76,23 +76,6 @@ pub(crate) fn taken_up(
     (texts, Reply::Changed)
 }
 
-/// Takes up another text in a course, with a note. The error: memory was refused.
-fn take_up_again(course: Course, made: &Made) -> Result<Course, Memory>
-    requires short { length (string_bytes made.now.note) ≤ note_limit }
-    requires other { made.now.text ≢ present (session_history course) }
-    ensures made { IfOk result (λ new. session_history new ≡ changed (string_bytes made.now.note) (session_history course) made.now.text) }
-    ensures small { IsSmall (session_trail course) → IfOk result (λ new. IsSmall (session_trail new)) }
-{
-    let mut course = course;
-    let Ok(windows) = read_text(course.alloc(), course.present(), made.text.as_slice()) else {
-        return Err(AllocError);
-    };
-    match course.take_up(windows, None, made.note.as_str()) {
-        Ok(_) => Ok(course),
-        Err(_) => Err(AllocError),
-    }
-}
-
 impl Alone {
     /// The number of the present text, which is the last one; the first is 0.
     pub(crate) fn cursor(&self) -> u32
@@ -125,9 +108,16 @@ impl Alone {
         let Ok(course) = begin(alloc, self.package.as_str(), self.first.as_slice()) else {
             return Err(AllocError);
         };
-        match &self.made {
-            Some(made) => take_up_again(course, made),
-            None => Ok(course),
+        let Some(made) = &self.made else {
+            return Ok(course);
+        };
+        let mut course = course;
+        let Ok(windows) = read_text(course.alloc(), course.present(), made.text.as_slice()) else {
+            return Err(AllocError);
+        };
+        match course.take_up(windows, None, made.note.as_str()) {
+            Ok(_) => Ok(course),
+            Err(_) => Err(AllocError),
         }
     }
 

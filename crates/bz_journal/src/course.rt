@@ -228,37 +228,22 @@ impl Course {
         requires there { AreThere windows self.old.tree.parts }
         ensures { EndsAt (after_text note.now (session_history self.old) (spell_node (with_windows windows self.old.tree)) printed) self.old result self.new }
     {
+        texts_kept();
         if self.is_present(windows.as_slice()) {
             return Ok(unchanged(printed));
         }
-        if self.cursor() >= MOST_STEPS {
+        let cursor = self.cursor;
+        if cursor >= MOST_STEPS {
             return Err(Refusal::Full);
         }
-        self.extend(windows, note)?;
-        Ok(Reply::Changed)
-    }
-
-    /// Puts the text of the tree with these windows after the present one, with a note. The error: a growth was refused.
-    fn extend(&mut self, windows: Items<PartWindow>, note: &str) -> Result<(), Memory>
-        requires next { IsTree (with_windows windows self.old.tree) }
-        requires there { AreThere windows self.old.tree.parts }
-        requires other { spell_node (with_windows windows self.old.tree) ≡ present (session_history self.old) → ⊥ }
-        requires room { self.old.cursor < most_steps }
-        requires short { length note.now ≤ note_limit }
-        ensures ok { OnOk result (session_history self.new ≡ changed note.now (session_history self.old) (spell_node (with_windows windows self.old.tree))) }
-        ensures err { OnErr result (self.new ≡ self.old) }
-        ensures small { IsSmall (session_trail self.old) → IsSmall (session_trail self.new) }
-    {
-        texts_kept();
         let note = Text::from_slice(self.alloc(), note.as_bytes())?;
         self.notes.reserve(1)?;
-        let cursor = self.cursor;
         take_up(&mut self.tree, &mut self.steps, cursor as usize, windows)?;
         self.kept.drop_past(cursor);
         put_after(&mut self.notes, cursor as usize, note);
         self.before = cursor;
         self.cursor = cursor + 1;
-        Ok(())
+        Ok(Reply::Changed)
     }
 }
 
