@@ -1,15 +1,15 @@
 -- What a session's action does is what the history says.
-use Rattle.std.proofs.Common.{arith, nat_lt, Bool, false, ◌≡◌, ◌⊎◌, ◌≤◌, ◌<◌, length, inl, inr, true, ℕ, Result, Ok, Err, List, Option, None, refl, sym, subst, ap, ◌∙◌}
+use Rattle.std.proofs.Common.{arith, nat_lt, Bool, false, ◌≡◌, ◌⊎◌, ◌≤◌, ◌<◌, length, inl, inr, true, Ok, Err, List, Option, None, refl, subst, ap}
 use Rattle.std.specs.Prelude.{IsOk, OnErr, OnOk}
 use Rattle.std.specs.Str.{bytes_eq}
 use Rattle.std.proofs.lemmas.Slice.Eq.{bytes_eq-Decides}
 use Rattle.bz_journal.specs.Clauses.{Action, Answer, Bytes, Do, Format, HasActed, History, IsSmall, Item, MakesOrWants, Means, Node, Refusal, Reply}
-use Rattle.bz_journal.specs.Clauses.{SessionState, after_meaning, after_text, effect, gives, lines_of, note_limit, present, printed, printed_answer, refuses}
+use Rattle.bz_journal.specs.Clauses.{SessionState, after_meaning, after_text, gives, note_limit, present, printed, refuses}
 use Rattle.bz_journal.specs.Clauses.{EndsAt, changed, most_steps, session_history, session_trail, spell_node, unchanged, view_of, written}
 use Rattle.std.proofs.lemmas.Bool.Decides.{nat_tests}
 use Rattle.bz_journal.specs.declared.action.Reply.TheVariants.{Changed}
 use Rattle.bz_journal.specs.Words.{Memory, Operation, Reads, Target}
-use Rattle.bz_journal.specs.Meaning.{Meaning, EffectMeans}
+use Rattle.bz_journal.specs.Meaning.{Meaning}
 use Rattle.bz_journal.specs.History.{IsFormat}
 use Rattle.bz_journal.specs.Shown.{IsOverEven}
 

@@ -1,5 +1,5 @@
 -- What a command on the value beside a session does is what the history says.
-use Rattle.std.proofs.Common.{◌≡◌, [], ◌≢◌, ◌⊎◌, ◌<◌, ◌∙◌, ℕ, inl, inr, List, length, Result, Ok, Err, Option, refl, sym, subst, ap}
+use Rattle.std.proofs.Common.{◌≡◌, [], ◌⊎◌, ◌<◌, ◌∙◌, ℕ, inl, inr, List, length, Result, Ok, Err, Option, refl, sym, subst, ap}
 use Rattle.std.specs.Prelude.{OnErr}
 use Rattle.bz_journal.specs.Clauses.{Answer, Bytes, Do, EndsAt, GivesAlike, History, Item, MakesOrWants, Means, Node, Overfills, Refusal, Reply, RunsIn}
 use Rattle.bz_journal.specs.Clauses.{SessionState, WrittenIsLaidOut, after_meaning, effect, gives, lines_of, present, printed, printed_answer, refuses}

@@ -1,8 +1,8 @@
 -- What the histories of sessions keep, and what a new text makes of a session.
-use Rattle.std.proofs.Common.{◌≡◌, ◌<◌, ◌+◌, ◌-◌, ℕ, zero, suc, List, [], ◌∷◌, ◌++◌, length, take, refl, sym, ap, subst, ◌∙◌, ◌≤◌, map, arith, length-append, length-take-le}
+use Rattle.std.proofs.Common.{◌≡◌, ◌<◌, ◌+◌, ℕ, zero, suc, List, [], ◌∷◌, ◌++◌, length, take, sym, ap, subst, ◌∙◌, ◌≤◌, map, arith, length-append, length-take-le}
 use Rattle.std.specs.List.{AllByRecursion}
 use Rattle.std.proofs.lemmas.List.{length-map, take-map, take_at}
-use Rattle.bz_journal.specs.Clauses.{Bytes, Edit, IsKept, IsSession, IsSmall, IsTrail, Node, SessionState, changed, most_steps, present, session_history}
+use Rattle.bz_journal.specs.Clauses.{Bytes, Edit, IsKept, IsSession, IsTrail, Node, SessionState, most_steps, present, session_history}
 use Rattle.bz_journal.specs.Clauses.{session_trail, sha256, spell_node, texts_of, trail_at}
 use Rattle.bz_journal.specs.Words.{AreFirstLines, IsNote, KeptLines, Two}
 use Rattle.bz_edit.specs.Shown.{Moves, TakesUp, TrailsKeep}

@@ -1,7 +1,7 @@
 -- What is done to a session: what is answered, and the session after it.
 use Rattle.std.specs.Prelude.{◌≡◌, ◌⊎◌, ◌↔◌, ◌≤◌, ◌<◌, ◌+◌, ℕ, length, List, [], Option, None, Some, Result, Ok, Err, OnErr, OnOk, IfErr, IfOk}
 use Rattle.std.specs.Option.{unwrap_or}
-use Rattle.bz_journal.specs.Words.{AreOver, Bytes, IsSmall, Item, Memory, Node, Operation, Ran, Refusal, Target, TooLarge, effect, printed}
+use Rattle.bz_journal.specs.Words.{AreOver, Bytes, IsSmall, Item, Memory, Operation, Ran, Refusal, Target, TooLarge, effect, printed}
 use Rattle.bz_journal.specs.Actions.{Action, Do, Format, Redo, Undo}
 use Rattle.bz_journal.specs.declared.answering.Lookups.{Lookups}
 use Rattle.bz_journal.specs.private.Filling.{Overfills}

@@ -1,6 +1,6 @@
 use Rattle.std.proofs.Common.{List, refl, map, ◌≡◌, ◌<◌, ◌+◌, ◌++◌, ◌∷◌, [], ◌∙◌, ap, sym, subst, rules, take, string_bytes, Ok}
 use Rattle.std.proofs.lemmas.Bool.{false≢true}
-use Rattle.bz_journal.specs.Clauses.{Bytes, IsSession, IsSmall, Node, SessionState, most_steps, session_trail, sha256, spell_node, texts_of, trail_at}
+use Rattle.bz_journal.specs.Clauses.{Bytes, IsSession, Node, SessionState, most_steps, session_trail, sha256, spell_node, texts_of, trail_at}
 use Rattle.bz_journal.specs.Clauses.{EndsAt, after_text, changed, present, session_history, with_windows}
 use Rattle.bz_journal.specs.Words.{Two}
 use Rattle.bz_edit.specs.Shown.{TakesUp}
