@@ -5,8 +5,6 @@ import subprocess
 # in a hook these say where the repository of the hook is, which need not be the one of the folder
 LOCAL = ("GIT_DIR", "GIT_WORK_TREE", "GIT_INDEX_FILE", "GIT_PREFIX", "GIT_OBJECT_DIRECTORY", "GIT_COMMON_DIR")
 NO_REPOSITORY = b"not a git repository"
-# the mode of a submodule, and how the row of a file begins that git doesn't know yet
-SUBMODULE, UNKNOWN = b" 160000 ", b"? "
 
 
 class GitError(Exception):
@@ -18,21 +16,22 @@ def environment():
     return {**rest, "LC_ALL": "C", "GIT_OPTIONAL_LOCKS": "0"}
 
 
-def begun(folder, *words):
+def begun(folder, *words, stdin=subprocess.DEVNULL):
     """Starts git in a folder, so that others may run beside it; None where there is no git."""
-    how = {"stdin": subprocess.DEVNULL, "stdout": subprocess.PIPE, "stderr": subprocess.PIPE, "env": environment()}
+    how = {"stdin": stdin, "stdout": subprocess.PIPE, "stderr": subprocess.PIPE, "env": environment()}
     try:
         return subprocess.Popen(["git", "-C", folder, *words], **how)
     except FileNotFoundError:
         return None
 
 
-def ended(process):
-    """The status and standard output of git; None where there is no git or no repository. Raises GitError on any other fault."""
+def ended(process, given=None):
+    """The status and standard output of git, which may be given something as its standard input; None where there is no git or no repository.
+    Raises GitError on any other fault."""
     if process is None:
         return None
     try:
-        out, err = process.communicate()
+        out, err = process.communicate(given)
     except BaseException:  # a signal that ends the run ends git, too
         process.kill()
         raise
@@ -53,23 +52,25 @@ def names_in(output):
     return [os.fsdecode(name) for name in output.split(b"\0") if name]
 
 
-def listed(folder):
-    """What is below a folder and not ignored: the names of files, and those of repositories in it, without those in these; None where
-    there is no repository, or it ignores this very folder. A link or a file that is gone may be among them."""
+def known(folder):
+    """The names of what git knows below a folder: files, links and submodules, some of which may be gone; None where there is no repository,
+    or it ignores this very folder. No folder is read for it."""
     ignoring = begun(folder, "check-ignore", "-q", ".")
-    listing = begun(folder, "ls-files", "-z", "-t", "--stage", "--cached", "--others", "--exclude-standard")
-    known, ignored = ended(listing), ended(ignoring)
-    if known is None or ignored[0] == 0:
+    listing = begun(folder, "ls-files", "-z", "--cached")
+    names, ignored = ended(listing), ended(ignoring)
+    if names is None or (ignored is not None and ignored[0] == 0):
         return None
-    files, inner = [], []
-    for row in known[1].split(b"\0")[:-1]:
-        if row.startswith(UNKNOWN):
-            name = row.removeprefix(UNKNOWN)
-            (inner if name.endswith(b"/") else files).append(os.fsdecode(name.rstrip(b"/")))
-        else:
-            head, _, name = row.partition(b"\t")
-            (inner if SUBMODULE in head else files).append(os.fsdecode(name))
-    return files, inner
+    return names_in(names[1])
+
+
+def ignored(folder, names):
+    """Those of the names below a folder that git ignores."""
+    if not names:
+        return set()
+    process = begun(folder, "check-ignore", "-z", "--stdin", stdin=subprocess.PIPE)
+    # (a name that begins with a colon would mean something else)
+    answer = ended(process, b"".join(b"./" + os.fsencode(name) + b"\0" for name in names))
+    return {name.removeprefix("./") for name in names_in(answer[1])} if answer else set()
 
 
 def changed_since(folder, revision):

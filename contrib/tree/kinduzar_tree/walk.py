@@ -11,6 +11,7 @@ from . import git
 from .names import ROOT_NAMES, root_above
 
 IGNORE = ".bazelignore"
+FOLDER, UNNOTED = os.O_RDONLY | os.O_DIRECTORY | os.O_CLOEXEC, getattr(os, "O_NOATIME", 0)
 
 
 class Found:
@@ -37,40 +38,61 @@ def below(folder, wanted):
     pending = [""]
     while pending:
         front = pending.pop()
-        place = os.path.join(folder, front)
-        names, inner = git.listed(place) or walked(place, found, front)
+        names, inner = walked(os.path.join(folder, front), found, front, wanted)
         for name in names:
-            if wanted(os.path.basename(name)):
-                found.add(folder, os.path.join(front, name))
-        pending += [os.path.join(front, name) for name in inner if is_repository(os.path.join(place, name))]
+            found.add(folder, os.path.join(front, name))
+        pending += [os.path.join(front, name) for name in inner]
     return without_ignored(folder, found)
 
 
-def is_repository(folder):
-    return not os.path.islink(folder) and os.path.lexists(os.path.join(folder, ".git"))
-
-
-def walked(folder, found, front):
-    """The names of all files below a folder that is in no repository, and the repositories in it; folders that cannot be read are added
-    to what is found."""
-    names, inner, pending = [], [], [""]
-    while pending:
-        here = pending.pop()
-        try:
-            with os.scandir(os.path.join(folder, here)) as entries:
-                rows = [(entry.name, entry.is_dir(follow_symlinks=False)) for entry in entries]
-        except OSError:
-            found.closed.append(os.path.join(front, here))
-            continue
-        if here and any(name == ".git" for name, _ in rows):
-            inner.append(here)
-            continue
-        for name, is_folder in rows:
-            if not is_folder:
-                names.append(os.path.join(here, name))
-            elif name != ".git":
-                pending.append(os.path.join(here, name))
+def walked(folder, found, front, wanted):
+    """The names of the files below a folder that are wanted, and the repositories in it; folders that cannot be read are added to what is
+    found. What git ignores is passed over; git is asked of what it doesn't know alone, and of all that is as deep at once."""
+    known = git.known(folder)
+    tracked = with_folders(known or [])
+    names, inner, level = [], [], [""]
+    while level:
+        files, folders = [], []
+        for here in level:
+            try:
+                rows = rows_of(os.path.join(folder, here))
+            except OSError:
+                found.closed.append(os.path.join(front, here))
+                continue
+            if here and any(name == ".git" for name, _ in rows):
+                inner.append(here)
+                continue
+            files += [os.path.join(here, name) for name, is_folder in rows if not is_folder and wanted(name)]
+            folders += [os.path.join(here, name) for name, is_folder in rows if is_folder and name != ".git"]
+        passed = set() if known is None else git.ignored(folder, [name for name in files + folders if name not in tracked])
+        names += [name for name in files if name not in passed]
+        level = [name for name in folders if name not in passed]
     return names, inner
+
+
+def with_folders(names):
+    """These names, and those of the folders that they are in."""
+    all_names = set(names)
+    for name in names:
+        above = os.path.dirname(name)
+        while above and above not in all_names:
+            all_names.add(above)
+            above = os.path.dirname(above)
+    return all_names
+
+
+def rows_of(folder):
+    """The names in a folder, each with whether it is a folder. That it was read is not noted in it where the system lets that be left out,
+    since a disk would be kept busy by these notes while the files are written."""
+    try:
+        place = os.open(folder, FOLDER | UNNOTED)
+    except PermissionError:  # another user's folder
+        place = os.open(folder, FOLDER)
+    try:
+        with os.scandir(place) as entries:
+            return [(entry.name, entry.is_dir(follow_symlinks=False)) for entry in entries]
+    finally:
+        os.close(place)
 
 
 # ---- what .bazelignore names
