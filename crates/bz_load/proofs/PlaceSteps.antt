@@ -1,5 +1,5 @@
 -- Places by their numbers, and an item that is put in.
-use Rattle.std.proofs.Common.{◌≡◌, ℕ, zero, suc, ◌+◌, ◌≤◌, Bool, true, false, ◌||◌, List, [], ◌∷◌, length, get_or, map, refl, sym, ap, ◌∙◌, arith, true≢false, inl, inr}
+use Rattle.std.proofs.Common.{◌≡◌, ℕ, zero, suc, ◌+◌, ◌-◌, ◌≤◌, ◌<◌, Bool, true, false, ◌||◌, List, [], ◌∷◌, length, drop, get_or, map, refl, sym, ap, ◌∙◌, subst, arith, true≢false, inl, inr}
 use Rattle.std.specs.Prelude.{Some, None, if◌then◌else◌}
 use Rattle.std.specs.List.{AllByRecursion, list_any, insert, remove, find}
 use Rattle.std.specs.Option.{option_map_or}
@@ -60,6 +60,23 @@ ends_alike other another passed (x ∷ xs) some = elim (cases_Bool (is_load_item
       ap (next_end other passed xs) e
       ∙ (ends_alike other another (passed + 1) xs (sym (ap (λ z. z || list_any is_load_item xs) e) ∙ some) ∙ sym (ap (next_end another passed xs) e))
 ]
+
+-- the item after which no load is left, if it is one
+end_here : (other passed n : ℕ) (xs : List Item) (d : Item) → n < length xs → is_load_item (get_or xs n d) ≡ true
+    → ((place : ℕ) → loads_end place (passed + suc n) (drop (suc n) xs) ≡ place) → loads_end other passed xs ≡ passed + suc n
+end_here other passed n [] d lt is left = absurd (omega (arith, lt))
+end_here other passed zero (x ∷ xs) d lt is left = ap (next_end other passed xs) is ∙ left (passed + 1)
+end_here other passed (suc n) (x ∷ xs) d lt is left =
+    let same : passed + 1 + suc n ≡ passed + suc (suc n) = omega arith in
+    end_here (if is_load_item x then passed + 1 else other) (passed + 1) n xs d (omega (arith, lt)) is (λ place. subst (λ k. loads_end place k (drop (suc n) xs) ≡ place) (sym same) (left place)) ∙ same
+
+pub last_load : (other at : ℕ) (xs : List Item) (x : Item) → 0 < at → at ≤ length xs → x ≡ get_or xs (at - 1) x → is_load_item x ≡ true
+    → ((place : ℕ) → loads_end place at (drop at xs) ≡ place) → at ≡ loads_end other 0 xs
+last_load other zero xs x some le is load left = absurd (omega (arith, some))
+last_load other (suc n) xs x some le is load left =
+    let place : suc n - 1 ≡ n = omega arith in
+    let same : 0 + suc n ≡ suc n = omega arith in
+    sym (end_here other 0 n xs x (omega (arith, le)) (ap (λ k. is_load_item (get_or xs k x)) (sym place) ∙ (ap is_load_item (sym is) ∙ load)) (λ e. ap (λ k. loads_end e k (drop (suc n) xs)) same ∙ left e) ∙ same)
 
 -- ---- the first one that passes
 

@@ -91,11 +91,12 @@ pub(crate) fn place_after_loads(items: &[Item], other: usize) -> usize
     ensures within { result ≤ length items.now }
     ensures place { result ≡ loads_end other 0 items.now }
 {
-    let mut place = other;
-    for at in 0..items.len() {
-        if is_load(&items[at]) {
-            place = at + 1;
+    let mut place = items.len();
+    while place > 0 {
+        if is_load(&items[place - 1]) {
+            return place;
         }
+        place -= 1;
     }
-    place
+    other
 }

@@ -1,9 +1,12 @@
-use Rattle.std.proofs.Common.{◌≡◌, ◌≤◌, drop, length}
+use Rattle.std.proofs.Common.{◌≡◌, ◌≤◌, ℕ, drop, length}
 use Rattle.bz_load.specs.Loads.{loads_end}
 use Rattle.bz_load.proofs.readings.place_after_loads.Given as goal
 
-abbrev pub invariant-loop-at : goal.invariant-loop-at
-invariant-loop-at l = record {
-  place : loads_end l.place l.at (drop l.at l.items) ≡ loads_end l.other 0 l.items;
+abbrev pub invariant-loop-place : goal.invariant-loop-place
+invariant-loop-place l = record {
+  left : (other : ℕ) → loads_end other l.place (drop l.place l.items) ≡ other;
   within : l.place ≤ length l.items;
 }
+
+abbrev pub decreases-loop-place : goal.decreases-loop-place
+decreases-loop-place l = l.place
