@@ -9,7 +9,7 @@ use Rattle.bz_grammar.specs.declared.tree.Node.{Node}
 use Rattle.bz_grammar.specs.declared.tree.Part.{Part}
 use Rattle.bz_grammar.specs.declared.tree.Part.TheVariants as p
 use Rattle.bz_grammar.specs.Joined.{last_token, AreWholeLines, file_with, LinesJoin}
-use Rattle.bz_grammar.specs.Legal.{Legal, Reads}
+use Rattle.bz_grammar.specs.Legal.{LegalBuild, Reads}
 use Rattle.bz_grammar.specs.Spell.{leaves_part, limit, spell_node, spell_part}
 use Rattle.bz_grammar.specs.Split.{LinesSplit, bare_end}
 use Rattle.bz_grammar.proofs.Spells.{leaves_Node}
@@ -54,12 +54,12 @@ module _ (join : LinesJoin) where
       (whole_both xs ys h.0 g.0, subst (λ ps. Reads (s ++ t) (file_with ps)) (sym (append_assoc xs ys (bare_end ∷ []))) (read_after s t xs (file_with (ys ++ bare_end ∷ [])) h g.1 le))
 
   -- no lines
-  pub no_lines : Legal (file_with (bare_end ∷ [])) → ReadAsLines [] []
+  pub no_lines : LegalBuild (file_with (bare_end ∷ [])) → ReadAsLines [] []
   no_lines h = (refl, (h, refl, omega arith))
 
   -- the lines of a tree that ends with a line, without its end
   pub lines_of_read : (text : Bytes) (tree : Node) (old new : List Part) (last : Option Part) → Reads text tree → EndsWithLine tree → old ≡ tree.parts
-      → MatchOption last ((old ≡ []) × (new ≡ [])) (λ x. old ≡ new ++ x ∷ []) → Legal (file_with (bare_end ∷ [])) → ReadAsLines text new
+      → MatchOption last ((old ≡ []) × (new ≡ [])) (λ x. old ≡ new ++ x ∷ []) → LegalBuild (file_with (bare_end ∷ [])) → ReadAsLines text new
   lines_of_read text tree old new last reads ends own h bare =
       let same : new ≡ ends.lines = popped old new ends.lines (p.Leaf ends.end) last h (own ∙ ends.parts) in
       let le : length (text ++ []) ≤ limit = subst (λ t. length t ≤ limit) (sym (append-nil text)) reads.2 in
@@ -70,34 +70,34 @@ module _ (join : LinesJoin) where
 -- ---- parts of a legal file
 
 module _ (split : LinesSplit) where
-  bare_of : (xs : List Part) → 0 < length xs → Legal (file_with xs) → Legal (file_with (bare_end ∷ []))
+  bare_of : (xs : List Part) → 0 < length xs → LegalBuild (file_with xs) → LegalBuild (file_with (bare_end ∷ []))
   bare_of [] some h = absurd omega (arith, some)
   bare_of (x ∷ xs) some h = (split [] x xs h).0
 
-  front_of : (xs ys : List Part) → 0 < length ys → Legal (file_with (xs ++ ys)) → Legal (file_with (xs ++ bare_end ∷ []))
+  front_of : (xs ys : List Part) → 0 < length ys → LegalBuild (file_with (xs ++ ys)) → LegalBuild (file_with (xs ++ bare_end ∷ []))
   front_of xs [] some h = absurd omega (arith, some)
   front_of xs (y ∷ ys) some h = (split xs y ys h).0
 
-  following : (xs ys : List Part) → 0 < length ys → Legal (file_with (xs ++ ys)) → Legal (file_with ys)
+  following : (xs ys : List Part) → 0 < length ys → LegalBuild (file_with (xs ++ ys)) → LegalBuild (file_with ys)
   following xs [] some h = absurd omega (arith, some)
   following xs (y ∷ ys) some h = (split xs y ys h).1
 
   -- a file without lines
-  pub bare_legal : (n : ℕ) (ps : List Part) → n < length ps → Legal (file_with ps) → Legal (file_with (bare_end ∷ []))
+  pub bare_legal : (n : ℕ) (ps : List Part) → n < length ps → LegalBuild (file_with ps) → LegalBuild (file_with (bare_end ∷ []))
   bare_legal n ps lt h = bare_of ps (omega (arith, lt)) h
 
   -- what is after lines
-  pub legal_after : (n : ℕ) (ps : List Part) → n < length ps → Legal (file_with ps) → Legal (file_with (drop n ps))
-  legal_after n ps lt h = following (take n ps) (drop n ps) (omega (arith, lt, length-drop n ps)) (subst (λ qs. Legal (file_with qs)) (sym (take-append-drop n ps)) h)
+  pub legal_after : (n : ℕ) (ps : List Part) → n < length ps → LegalBuild (file_with ps) → LegalBuild (file_with (drop n ps))
+  legal_after n ps lt h = following (take n ps) (drop n ps) (omega (arith, lt, length-drop n ps)) (subst (λ qs. LegalBuild (file_with qs)) (sym (take-append-drop n ps)) h)
 
   -- the first lines
-  pub first_lines : (n : ℕ) (ps : List Part) → n < length ps → Legal (file_with ps) → AreWholeLines (take n ps) → length (spelled_parts (take n ps)) ≤ limit → ReadAsLines (spelled_parts (take n ps)) (take n ps)
+  pub first_lines : (n : ℕ) (ps : List Part) → n < length ps → LegalBuild (file_with ps) → AreWholeLines (take n ps) → length (spelled_parts (take n ps)) ≤ limit → ReadAsLines (spelled_parts (take n ps)) (take n ps)
   first_lines n ps lt h whole le =
-      let front : Legal (file_with (take n ps ++ bare_end ∷ [])) =
-      front_of (take n ps) (drop n ps) (omega (arith, lt, length-drop n ps)) (subst (λ qs. Legal (file_with qs)) (sym (take-append-drop n ps)) h) in
+      let front : LegalBuild (file_with (take n ps ++ bare_end ∷ [])) =
+      front_of (take n ps) (drop n ps) (omega (arith, lt, length-drop n ps)) (subst (λ qs. LegalBuild (file_with qs)) (sym (take-append-drop n ps)) h) in
       (whole, (front, bare_text (take n ps), le))
 
   -- lines that follow others
-  pub next_lines : (m n : ℕ) (ps : List Part) → m + n < length ps → Legal (file_with ps) → AreWholeLines (take n (drop m ps)) → length (spelled_parts (take n (drop m ps))) ≤ limit
+  pub next_lines : (m n : ℕ) (ps : List Part) → m + n < length ps → LegalBuild (file_with ps) → AreWholeLines (take n (drop m ps)) → length (spelled_parts (take n (drop m ps))) ≤ limit
       → ReadAsLines (spelled_parts (take n (drop m ps))) (take n (drop m ps))
   next_lines m n ps lt h whole le = first_lines n (drop m ps) (omega (arith, lt, length-drop m ps)) (legal_after m ps (omega (arith, lt)) h) whole le

@@ -12,8 +12,8 @@ use Rattle.bz_grammar.specs.declared.kind.Kind.TheVariants as k
 use Rattle.bz_grammar.specs.declared.tree.Node.{Node}
 use Rattle.bz_grammar.specs.declared.tree.Part.{Part, Row_of-Part, end_of-Part, more_of-Part, Node', items-the_row-Part}
 use Rattle.bz_grammar.specs.declared.tree.Part.TheVariants as p
-use Rattle.bz_grammar.specs.Laws.{LegalByLines}
-use Rattle.bz_grammar.specs.Legal.{IsNonterminal, Legal, LegalBzl, LegalBzlPart, LegalBzlRow}
+use Rattle.bz_grammar.proofs.Build.{file_lines}
+use Rattle.bz_grammar.specs.Legal.{IsNonterminal, LegalBuild, Legal, LegalPart, LegalRow}
 use Rattle.bz_grammar.specs.Shapes as s
 use Rattle.bz_grammar.specs.Shapes.{Nonterminal, Terminal, Shape, Fits, Several, bzl_shape, nonterminal_has_kind, tok, done, has_token, is_class, is_one_of}
 use Rattle.bz_grammar.specs.Spell.{leaves_of, leaves_part, leaves_row}
@@ -223,14 +223,14 @@ module _ (silent : Class → Bytes → Bool) (quiet : (l : Leaf) → is_one_of m
   node_kept (sequence opener closer) kind xs ws h = form_words (bare_head kind (take (lead kind) xs) (before_marks (drop (suc (lead kind)) xs))) ∙ h
 
   mutual
-    part_kept : (x : Part) → LegalBzlPart x → Kept x
+    part_kept : (x : Part) → LegalPart x → Kept x
     part_kept (p.Leaf l) h = sym (append-nil (leaf_words silent l))
     part_kept (Node' kind m r) h =
         let xs : List Part = items-the_row-Part _ r in
         ap (λ ys. expr_words (node_syntax (frame kind) kind ys)) (syntax_map _ r)
         ∙ (node_kept (frame kind) kind (map part_syntax xs) (parts_words xs) (row_left (bzl_shape kind) (first_turn (frame kind) kind) (kind_leads kind) xs (row_kept _ r h.1) h.0) ∙ sym (row_leaves _ r))
 
-    row_kept : (m : _) (r : Row_of-Part m) → LegalBzlRow r → AllByRecursion Kept (items-the_row-Part m r)
+    row_kept : (m : _) (r : Row_of-Part m) → LegalRow r → AllByRecursion Kept (items-the_row-Part m r)
     row_kept m end_of-Part h = tt
     row_kept m (more_of-Part x rest) h = (part_kept x h.0, row_kept _ rest h.1)
 
@@ -240,7 +240,7 @@ module _ (silent : Class → Bytes → Bool) (quiet : (l : Leaf) → is_one_of m
 
   -- ---- BUILD files
 
-  lines_kept : (xs : List Part) → Several (IsNonterminal s.line) (Fits IsNonterminal (tok s.end done)) xs → AllByRecursion LegalBzlPart xs → all_words (lines_program xs) ≡ parts_words xs
+  lines_kept : (xs : List Part) → Several (IsNonterminal s.line) (Fits IsNonterminal (tok s.end done)) xs → AllByRecursion LegalPart xs → all_words (lines_program xs) ≡ parts_words xs
   lines_kept [] h g = absurd h
   lines_kept (p.Leaf l ∷ []) (inl h) g = sym (nothing_before (part_words (p.Leaf l)) [] (quiet_part s.end (p.Leaf l) refl h.0))
   lines_kept (p.Leaf l ∷ y ∷ xs) (inl h) g = absurd h.1
@@ -426,7 +426,7 @@ module _ (silent : Class → Bytes → Bool) (quiet : (l : Leaf) → is_one_of m
     node_suite _ xs i h g = no_such i
 
     mutual
-      part_known : (x : Part) → LegalBzlPart x → Known x
+      part_known : (x : Part) → LegalPart x → Known x
       part_known (p.Leaf l) h = record { kept = part_kept (p.Leaf l) h; statement = λ i. no_such i; suite = λ i. no_such i }
       part_known (Node' kind m r) h =
           let known : AllByRecursion Known (items-the_row-Part _ r) = row_known _ r h.1 in
@@ -436,7 +436,7 @@ module _ (silent : Class → Bytes → Bool) (quiet : (l : Leaf) → is_one_of m
             suite = λ i. ap (λ xs. program_words (suite_statements kind xs)) (parsed_rows _ r) ∙ (node_suite kind (items-the_row-Part _ r) i h.0 known ∙ sym (row_leaves _ r));
           }
 
-      row_known : (m : _) (r : Row_of-Part m) → LegalBzlRow r → AllByRecursion Known (items-the_row-Part m r)
+      row_known : (m : _) (r : Row_of-Part m) → LegalRow r → AllByRecursion Known (items-the_row-Part m r)
       row_known m end_of-Part h = tt
       row_known m (more_of-Part x rest) h = (part_known x h.0, row_known _ rest h.1)
 
@@ -450,10 +450,10 @@ module _ (silent : Class → Bytes → Bool) (quiet : (l : Leaf) → is_one_of m
     end_kept (p.Leaf l ∷ y ∷ xs) h = absurd h.1
 
     -- the tokens of a tree are those of its program
-    tree_kept : (tree : Node) → LegalBzl tree → flat_map (leaf_words silent) (leaves_of tree) ≡ program_words (bzl_tree_program tree)
+    tree_kept : (tree : Node) → Legal tree → flat_map (leaf_words silent) (leaves_of tree) ≡ program_words (bzl_tree_program tree)
     tree_kept tree h =
         let fits : Fits IsNonterminal (bzl_shape k.File) tree.parts = subst (λ kd. Fits IsNonterminal (bzl_shape kd) tree.parts) h.file.root h.file.shapes.0 in
-        parts_leaves tree.parts ∙ sym (several_kept (Fits IsNonterminal (tok s.end done)) end_kept tree.parts fits (all_mapped LegalBzlPart Known part_known tree.parts h.file.shapes.1))
+        parts_leaves tree.parts ∙ sym (several_kept (Fits IsNonterminal (tok s.end done)) end_kept tree.parts fits (all_mapped LegalPart Known part_known tree.parts h.file.shapes.1))
 
 -- ---- how often
 
@@ -490,21 +490,21 @@ module _ (class : Class) (token : Bytes) (other : is_mark_between class token �
   counted f number h [] = refl
   counted f number h (x ∷ xs) = joined (number x) (total number xs) (f x) (flat_map f xs) (h x) (counted f number h xs)
 
-  tree_count : LegalByLines → (n : Node) → Legal n → token_times class token (tree_program n) ≡ leaf_times class token n
-  tree_count by_lines n h =
-      let fits : Fits IsNonterminal (s.shape k.File) n.parts = subst (λ kd. Fits IsNonterminal (s.shape kd) n.parts) h.file.root h.file.shapes.0 in
+  tree_count : (n : Node) → LegalBuild n → token_times class token (tree_program n) ≡ leaf_times class token n
+  tree_count n h =
+      let fits : Fits IsNonterminal (s.shape k.File) n.parts = file_lines n h in
       sym (counted (expr_words silent quiet) (token_sum (one_if_token class token)) expr_count (tree_program n))
-      ∙ (ap length (lines_kept silent quiet n.parts fits ((by_lines n).0 h).0.file.shapes.1 ∙ sym (parts_leaves silent quiet n.parts))
+      ∙ (ap length (lines_kept silent quiet n.parts fits h.legal.file.shapes.1 ∙ sym (parts_leaves silent quiet n.parts))
       ∙ counted (leaf_words silent) (λ l. one_if_token class token l.class l.token) (λ l. word_count (is_class l.class class && bytes_eq l.token token) (l.class, l.token)) (leaves_of n))
 
-pub tree_tokens : LegalByLines → TreeProgramsKeepTokens
-tree_tokens by_lines n h class token other = tree_count class token other by_lines n h
+pub tree_tokens : TreeProgramsKeepTokens
+tree_tokens n h class token other = tree_count class token other n h
 
-pub formatted_tokens : LegalByLines → FixedPoint → FormattingKeepsTokens
-formatted_tokens by_lines fixed text formatted formats tree new h i class token string separator =
-    sym (tree_tokens by_lines new i.0 class token separator)
+pub formatted_tokens : FixedPoint → FormattingKeepsTokens
+formatted_tokens fixed text formatted formats tree new h i class token string separator =
+    sym (tree_tokens new i.0 class token separator)
     ∙ ((fixed text formatted formats).tokens tree new h i class token string
-    ∙ tree_tokens by_lines tree h.0 class token separator)
+    ∙ tree_tokens tree h.0 class token separator)
 
 pub formatted_words : BzlFixedPoint → FormattingKeepsWords
 formatted_words fixed text formatted formats tree new h i =

@@ -11,7 +11,7 @@ use Rattle.bz_items.specs.Characters.{Bytes}
 use Rattle.bz_grammar.specs.declared.tree.Node.{Node}
 use Rattle.bz_grammar.specs.declared.tree.Part.{Part}
 use Rattle.bz_grammar.specs.Joined.{AreWholeLines, file_with, LinesJoin}
-use Rattle.bz_grammar.specs.Legal.{Accepted, Legal, Reads}
+use Rattle.bz_grammar.specs.Legal.{Accepted, IsBuild, Legal, LegalBuild, Reads}
 use Rattle.bz_grammar.specs.Spell.{limit, spell_node, spell_part}
 use Rattle.bz_grammar.specs.Split.{LinesSplit, bare_end}
 use Rattle.bz_grammar.specs.Laws.{OneReading}
@@ -60,8 +60,8 @@ cut_so from at stay count reach parts left kept text rest middle passed within i
 
 module _ (join : LinesJoin) (split : LinesSplit) where
   -- lines in the place of parts, among lines
-  pub put_so : (reach from gone : ℕ) (parts lines : List Part) (text : Bytes) → from + gone ≤ reach → reach < length parts → Legal (file_with parts)
-      → AreWholeLines (take from parts) → AreWholeLines (take (reach - (from + gone)) (drop (from + gone) parts)) → (Legal (file_with (bare_end ∷ [])) → ReadAsLines text lines)
+  pub put_so : (reach from gone : ℕ) (parts lines : List Part) (text : Bytes) → from + gone ≤ reach → reach < length parts → LegalBuild (file_with parts)
+      → AreWholeLines (take from parts) → AreWholeLines (take (reach - (from + gone)) (drop (from + gone) parts)) → (LegalBuild (file_with (bare_end ∷ [])) → ReadAsLines text lines)
       → IsPutAmong reach parts (window from gone lines) (spelled_parts (take from parts) ++ (text ++ spelled_parts (take (reach - (from + gone)) (drop (from + gone) parts))))
   put_so reach from gone parts lines text le lt h whole also own =
       let before : Bytes = spelled_parts (take from parts) in
@@ -77,7 +77,7 @@ module _ (join : LinesJoin) (split : LinesSplit) where
       )
 
   -- lines in the place of parts, before the end of a file
-  pub end_kept : (reach : ℕ) (parts : List Part) (end : Part) (text before : Bytes) (w : PartWindow) → reach ≡ length parts - 1 → reach < length parts → end ≡ get_or parts reach end → text ≡ before ++ spell_part end → Legal (file_with parts)
+  pub end_kept : (reach : ℕ) (parts : List Part) (end : Part) (text before : Bytes) (w : PartWindow) → reach ≡ length parts - 1 → reach < length parts → end ≡ get_or parts reach end → text ≡ before ++ spell_part end → LegalBuild (file_with parts)
       → IsPutAmong reach parts w before → length text ≤ limit → AreRead text (w ∷ []) parts
   end_kept reach parts end text before w size inside is ends h put le =
       let tail : List Part = drop reach parts in
@@ -100,7 +100,7 @@ module _ (join : LinesJoin) (split : LinesSplit) where
       )
 
   -- a file in the place of all parts after lines
-  pub read_at_end : (at : ℕ) (parts : List Part) (text rest : Bytes) (w : PartWindow) → at < length parts → Legal (file_with parts) → AreWholeLines (take at parts) → w.from ≡ at → w.from + w.gone ≡ length parts → Reads rest (file_with w.parts)
+  pub read_at_end : (at : ℕ) (parts : List Part) (text rest : Bytes) (w : PartWindow) → at < length parts → LegalBuild (file_with parts) → AreWholeLines (take at parts) → w.from ≡ at → w.from + w.gone ≡ length parts → Reads rest (file_with w.parts)
       → text ≡ spelled_parts (take at parts) ++ rest → length text ≤ limit → AreRead text (w ∷ []) parts
   read_at_end at parts text rest w within h whole from all reads is le =
       let before : Bytes = spelled_parts (take at parts) in
@@ -191,14 +191,14 @@ pub record AreBefore (parts : List Part) (total : Bytes) (read : List PartWindow
   pub text : total ≡ spelled_parts made ++ text_with texts left
   pub among : AreAmong texts left
   pub counted : kept + length left ≤ length parts
-  pub legal : Legal (file_with left)
+  pub legal : LegalBuild (file_with left)
 
 -- a file has at least its end
-some_parts : (parts : List Part) → Legal (file_with parts) → 0 < length parts
-some_parts [] h = absurd h.file.shapes.0
+some_parts : (parts : List Part) → LegalBuild (file_with parts) → 0 < length parts
+some_parts [] h = absurd h.legal.file.shapes.0
 some_parts (x ∷ parts) h = omega arith
 
-pub begun : (split : LinesSplit) (join : LinesJoin) (parts : List Part) (texts : List TextWindow) → Legal (file_with parts) → AreAmong texts parts → AreBefore parts (text_with texts parts) [] 0 parts texts
+pub begun : (split : LinesSplit) (join : LinesJoin) (parts : List Part) (texts : List TextWindow) → LegalBuild (file_with parts) → AreAmong texts parts → AreBefore parts (text_with texts parts) [] 0 parts texts
 begun split join parts texts h among = record {
   made = [];
   lines = no_lines join (bare_legal split 0 parts (some_parts parts h) h);
@@ -304,24 +304,30 @@ texts_spelled (t ∷ ts) (w ∷ ws) parts (from, gone, text, others) =
     ∙ (ap (λ s. spelled_parts (take w.from parts) ++ s) (text_append w.parts tail ∙ (ap (λ s. s ++ spelled_parts tail) (sym text) ∙ ap (λ s. t.text ++ s) (texts_spelled ts ws (drop (w.from + w.gone) parts) others)))
     ∙ (ap (λ k. spelled_parts (take k parts) ++ (t.text ++ text_with ts (drop (w.from + w.gone) parts))) (sym from) ∙ ap (λ k. spelled_parts (take t.from parts) ++ (t.text ++ text_with ts (drop k parts))) (sym same)))
 
-new_reads : (ts : List TextWindow) (ws : List PartWindow) (tree : Node) → AreTextsOf ts ws → AreThere ws tree.parts → Legal (with_windows ws tree) → length (spell_node (with_windows ws tree)) ≤ limit
+new_reads : (ts : List TextWindow) (ws : List PartWindow) (tree : Node) → AreTextsOf ts ws → AreThere ws tree.parts → LegalBuild (with_windows ws tree) → length (spell_node (with_windows ws tree)) ≤ limit
     → AreAmong ts tree.parts × Reads (text_with ts tree.parts) (with_windows ws tree)
 new_reads ts ws tree h there legal le =
     (texts_among ts ws tree.parts h there, subst (λ s. Reads s (with_windows ws tree)) (texts_spelled ts ws tree.parts h) (legal, refl, le))
 
 -- what is required of windows of texts
 pub required : (ts slice : List TextWindow) (tree : Node) (parts : List Part) → slice ≡ ts → parts ≡ tree.parts
-    → ((new : List PartWindow) × AreTextsOf ts new × AreThere new tree.parts × Legal (with_windows new tree) × (length (spell_node (with_windows new tree)) ≤ limit)) → AreAmong slice parts × Accepted (text_with slice parts)
+    → ((new : List PartWindow) × AreTextsOf ts new × AreThere new tree.parts × LegalBuild (with_windows new tree) × (length (spell_node (with_windows new tree)) ≤ limit)) → AreAmong slice parts × Accepted (text_with slice parts)
 required ts slice tree parts e d r =
     let own = new_reads ts r.0 tree r.1 r.2 r.3 r.4 in
     subst (λ l. AreAmong l parts × Accepted (text_with l parts)) (sym e) (subst (λ ps. AreAmong ts ps × Accepted (text_with ts ps)) (sym d) (own.0, (with_windows r.0 tree, own.1)))
 
 -- two lists of windows with the same texts make the same tree
 pub one_tree : OneReading → (ts slice : List TextWindow) (tree : Node) (parts : List Part) (new read : List PartWindow) → slice ≡ ts → parts ≡ tree.parts → AreThere read tree.parts × Reads (text_with slice parts) (with_windows read tree)
-    → AreTextsOf ts new → AreThere new tree.parts → Legal (with_windows new tree) → length (spell_node (with_windows new tree)) ≤ limit → AreThere read tree.parts × (with_windows read tree ≡ with_windows new tree)
+    → AreTextsOf ts new → AreThere new tree.parts → LegalBuild (with_windows new tree) → length (spell_node (with_windows new tree)) ≤ limit → AreThere read tree.parts × (with_windows read tree ≡ with_windows new tree)
 one_tree one ts slice tree parts new read e d (found, reads) texts there legal le =
     let here : Reads (text_with ts tree.parts) (with_windows read tree) = subst (λ l. Reads (text_with l tree.parts) (with_windows read tree)) e (subst (λ ps. Reads (text_with slice ps) (with_windows read tree)) d reads) in
     (found, one (text_with ts tree.parts) (with_windows read tree) (with_windows new tree) here (new_reads ts new tree texts there legal le).1)
+
+-- the file of the parts of a BUILD file's tree
+pub file_legal : (root tree : Node) (parts : List Part) → root ≡ tree → Legal root → IsBuild tree → parts ≡ root.parts → LegalBuild (file_with parts)
+file_legal root tree parts is h build e =
+    let own : LegalBuild root = record { legal = h; build = subst IsBuild (sym is) build } in
+    subst (λ ps. LegalBuild (file_with ps)) (sym e) (subst LegalBuild (ap (λ kind. (let m : Node = record { kind = kind; parts = root.parts } in m)) h.file.root) own)
 
 -- windows with which a tree reads as a text, as the tree says it
 pub tree_read : (tree : Node) (parts : List Part) (text : Bytes) (ws : List PartWindow) → Legal tree → parts ≡ tree.parts → AreRead text ws parts → AreThere ws tree.parts × Reads text (with_windows ws tree)

@@ -5,7 +5,7 @@ use Rattle.bz_token.specs.declared.class.Class.{Class}
 use Rattle.bz_token.specs.declared.class.Class.TheVariants as c
 use Rattle.bz_lex.specs.declared.leaf.Leaf.{Leaf}
 use Rattle.bz_grammar.specs.declared.tree.Node.{Node}
-use Rattle.bz_grammar.specs.Legal.{Legal, Reads, ReadsBzl}
+use Rattle.bz_grammar.specs.Legal.{LegalBuild, Reads, ReadsBzl}
 use Rattle.bz_grammar.specs.Shapes.{Terminal, is_class, is_one_of, close_curly, close_round, close_square, colon_mark, comma_mark, end, newline, open_curly, open_round, open_square, semicolon}
 use Rattle.bz_grammar.specs.Spell.{leaves_of}
 use Rattle.bz_value.specs.declared.value.Item.{Item}
@@ -73,7 +73,7 @@ leaf_times class token tree = total (λ leaf. one_if_token class token leaf.clas
 
 -- Every other token of a legal tree is in its program as often.
 abbrev pub TreeProgramsKeepTokens : Type 0
-TreeProgramsKeepTokens = (tree : Node) → Legal tree → (class : Class) (token : Bytes) → is_mark_between class token ≡ false → token_times class token (tree_program tree) ≡ leaf_times class token tree
+TreeProgramsKeepTokens = (tree : Node) → LegalBuild tree → (class : Class) (token : Bytes) → is_mark_between class token ≡ false → token_times class token (tree_program tree) ≡ leaf_times class token tree
 
 -- Of every text, each token that is neither a string nor such a mark is in the formatted text as often.
 abbrev pub FormattingKeepsTokens : Type 0

@@ -4,7 +4,7 @@ ghost use Rattle.bz_build_format.specs.TreePrograms.{ViewsKeepPrograms, BzlViews
 
 use bz_bzl_layout::{level_keeps_comments, level_keeps_program, level_stays};
 use bz_bzl_value::bzl_comments_kept;
-use bz_grammar::laws::{legal_by_lines, one_bzl_reading, one_reading};
+use bz_grammar::laws::{one_bzl_reading, one_reading};
 use bz_hosts::{comments_kept, views_are_proper};
 use bz_layout::{layout_is_accepted, layout_reads_back};
 use bz_passes::{
@@ -43,7 +43,6 @@ pub fn tokens_kept()
     ensures program { TreeProgramsKeepTokens }
     ensures formatted { FormattingKeepsTokens }
 {
-    legal_by_lines();
     formatted_once();
 }
 

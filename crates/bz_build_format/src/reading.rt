@@ -4,7 +4,7 @@ ghost use Rattle.bz_items.specs.Characters.{line_feed};
 ghost use Rattle.bz_lex.specs.declared.leaf.Leaf.{Leaf as Token};
 ghost use Rattle.bz_grammar.specs.declared.tree.Part.{Part as Line};
 ghost use Rattle.bz_grammar.specs.Joined.{AreWholeLines, file_with};
-ghost use Rattle.bz_grammar.specs.Legal.{Accepted, Legal, Reads};
+ghost use Rattle.bz_grammar.specs.Legal.{Accepted, IsBuild, LegalBuild, Reads};
 ghost use Rattle.bz_grammar.specs.Spell.{limit, spell_node};
 ghost use Rattle.bz_grammar.specs.Split.{bare_end};
 ghost use Rattle.bz_edit.specs.Windows.{AreThere, with_windows};
@@ -45,7 +45,7 @@ fn are_whole_lines(parts: &[Part]) -> bool
 
 /// The lines that a text of whole lines reads as; none where it is another one, or a growth was refused.
 fn lines_read(alloc: Global, text: &[u8]) -> Option<Items<Part>>
-    ensures { IfSome result (λ lines. Legal (file_with (bare_end ∷ [])) → ReadAsLines text.now lines) }
+    ensures { IfSome result (λ lines. LegalBuild (file_with (bare_end ∷ [])) → ReadAsLines text.now lines) }
 {
     lines_join();
     if text.is_empty() {
@@ -74,7 +74,7 @@ fn lines_at(
 ) -> Option<PartWindow>
     requires within { from + gone ≤ reach }
     requires reach { reach < length parts.now }
-    requires legal { Legal (file_with parts.now) }
+    requires legal { LegalBuild (file_with parts.now) }
     ensures { IfSome result (λ new. IsPutAmong reach parts.now new (spelled_parts (take from parts.now) ++ (text.now ++ spelled_parts (take (reach - (from + gone)) (drop (from + gone) parts.now))))) }
 {
     lines_join();
@@ -101,7 +101,7 @@ fn cut_lines(
 ) -> Option<PartWindow>
     requires within { from ≤ reach }
     requires reach { reach < length parts.now }
-    requires legal { Legal (file_with parts.now) }
+    requires legal { LegalBuild (file_with parts.now) }
     ensures { IfSome result (λ new. IsPutAmong reach parts.now new (spelled_parts (take from parts.now) ++ text.now)) }
 {
     let (at, rest) = same(Side::Front, &parts[from..reach], text);
@@ -149,7 +149,7 @@ fn end_window(
 ) -> Result<PartWindow, ReadFault>
     requires from { from < length parts.now }
     requires whole { AreWholeLines (take from parts.now) }
-    requires legal { Legal (file_with parts.now) }
+    requires legal { LegalBuild (file_with parts.now) }
     requires short { length (spelled_parts (take from parts.now) ++ text.now) ≤ limit }
     ensures ok { IfOk result (λ new. AreRead (spelled_parts (take from parts.now) ++ text.now) (new ∷ []) parts.now) }
     ensures err { IfErr result (λ fault. (Accepted text.now → ⊥) ⊎ (fault ≡ ReadFault.Memory)) }
@@ -198,7 +198,7 @@ fn push_window(
 
 /// The windows of parts, each of the text of one window. None where one isn't read by itself, or a growth was refused.
 fn each_read(alloc: Global, parts: &[Part], windows: &[TextWindow]) -> Option<Items<PartWindow>>
-    requires legal { Legal (file_with parts.now) }
+    requires legal { LegalBuild (file_with parts.now) }
     requires among { AreAmong windows.now parts.now }
     requires short { length (text_with windows.now parts.now) ≤ limit }
     ensures { IfSome result (λ read. AreRead (text_with windows.now parts.now) read parts.now) }
@@ -262,15 +262,16 @@ fn whole_text(alloc: Global, parts: &[Part], windows: &[TextWindow]) -> Result<T
     Ok(Text::from_vec(out))
 }
 
-/// The parts of windows of texts that take the place of parts of a tree: as few as differ. Required is that the texts are what some parts
+/// The parts of windows of texts that take the place of parts of a BUILD file's tree: as few as differ. Required is that the texts are what some parts
 /// spell, with which the tree is legal. The error: a growth was refused.
 pub fn read_windows(
     alloc: Global,
     tree: &Tree,
     windows: Items<TextWindow>,
 ) -> Result<Items<PartWindow>, Memory>
-    requires { (new : List PartWindow) × AreTextsOf windows new × AreThere new tree.now.parts × Legal (with_windows new tree.now) × (length (spell_node (with_windows new tree.now)) ≤ limit) }
-    ensures { (new : List PartWindow) → AreTextsOf windows new → AreThere new tree.now.parts → Legal (with_windows new tree.now) → length (spell_node (with_windows new tree.now)) ≤ limit
+    requires build { IsBuild tree.now }
+    requires texts { (new : List PartWindow) × AreTextsOf windows new × AreThere new tree.now.parts × LegalBuild (with_windows new tree.now) × (length (spell_node (with_windows new tree.now)) ≤ limit) }
+    ensures { (new : List PartWindow) → AreTextsOf windows new → AreThere new tree.now.parts → LegalBuild (with_windows new tree.now) → length (spell_node (with_windows new tree.now)) ≤ limit
         → IfOk result (λ read. AreThere read tree.now.parts × (with_windows read tree.now ≡ with_windows new tree.now)) }
 {
     one_reading();
@@ -287,9 +288,10 @@ pub fn read_windows(
     }
 }
 
-/// The parts that take the place of those of a tree with which it spells a text: as few as differ. The error: the text isn't accepted, or a
+/// The parts that take the place of those of a BUILD file's tree with which it spells a text: as few as differ. The error: the text isn't accepted, or a
 /// growth was refused.
 pub fn read_text(alloc: Global, tree: &Tree, text: &[u8]) -> Result<Items<PartWindow>, ReadFault>
+    requires { IsBuild tree.now }
     ensures ok { IfOk result (λ read. AreThere read tree.now.parts × Reads text.now (with_windows read tree.now)) }
     ensures err { IfErr result (λ fault. (Accepted text.now → ⊥) ⊎ (fault ≡ ReadFault.Memory)) }
 {

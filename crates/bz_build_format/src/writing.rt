@@ -1,7 +1,7 @@
 //! Texts of new values, and trees of them.
 ghost use Rattle.std.specs.Prelude.{◌≡◌, ◌⊎◌, ◌<◌, ◌≤◌, Option, IfOk, IfErr, length};
 ghost use Rattle.bz_items.specs.Characters.{Bytes};
-ghost use Rattle.bz_grammar.specs.Legal.{Reads};
+ghost use Rattle.bz_grammar.specs.Legal.{IsBuild, Reads};
 ghost use Rattle.bz_grammar.specs.Spell.{depth_limit, depth_of, limit, spell_node};
 ghost use Rattle.bz_hosts.specs.View.{view_of};
 ghost use Rattle.bz_layout.specs.Flags.{flags};
@@ -19,8 +19,9 @@ use bz_tree::parse;
 use bz_value::{File, Refusal};
 use std::alloc::Global;
 
-/// What a tree spells reads as it.
+/// What the tree of a BUILD file spells reads as it.
 pub fn reads_back(tree: &Tree)
+    requires { IsBuild tree.now }
     ensures { Reads (spell_node tree.now) tree.now }
 {
     let _root = &tree.root;

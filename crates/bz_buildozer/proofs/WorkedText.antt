@@ -1,7 +1,7 @@
 -- The worked text is accepted, and `set size small` means the other text of it, by computation.
 use Rattle.std.specs.Str.{is_utf8, chars}
 use lib.Utf8.{encode}
-use Rattle.std.proofs.Common.{◌≡◌, inl, inr, ℕ, List, [], ◌∷◌, length, take, drop, codes, bytes_eq, leb-true, Bool, true, false, IsUtf8, Some, None, refl, ap, true≢false}
+use Rattle.std.proofs.Common.{◌≡◌, ◌<◌, leb, suc, inl, inr, ℕ, List, [], ◌∷◌, length, take, drop, codes, bytes_eq, leb-true, Bool, true, false, IsUtf8, Some, None, refl, ap, true≢false}
 use Rattle.std.proofs.lemmas.Str.{IsUtf8-from_is_utf8}
 use Rattle.bz_token.specs.declared.class.Class.{Class}
 use Rattle.bz_token.specs.declared.class.Class.TheVariants as c
@@ -14,6 +14,7 @@ use Rattle.bz_lex.specs.Leaves.{AreCoded}
 use Rattle.bz_lex.specs.Gaps.{nothing}
 use Rattle.bz_grammar.specs.declared.kind.Kind.{Kind}
 use Rattle.bz_grammar.specs.declared.kind.Kind.TheVariants as k
+use Rattle.bz_grammar.specs.Kinds.{kind_number}
 use Rattle.bz_grammar.specs.declared.tree.Node.{Node}
 use Rattle.bz_grammar.specs.declared.tree.Part.{Part}
 use Rattle.bz_grammar.specs.declared.tree.Part.TheVariants as p
@@ -54,7 +55,7 @@ gaps : AtParts Stands Begins Begins tree.parts
 unfolding Rattle.bz_grammar.specs.declared.tree.Part.TheBlock.hidden-the_row-Part-0 denote.Hole.Carrier.hidden
 gaps =
     let named : AtLeaves Stands Within argument = (nothing refl, (nothing refl, (nothing refl, tt))) in
-    let called : AtLeaves Stands Begins call = ((nothing refl, refl), (nothing refl, (named, (nothing refl, tt)))) in
+    let called : AtLeaves Stands Begins call = (nothing refl, (nothing refl, (named, (nothing refl, tt)))) in
     (((called, tt), ((false, nothing refl), tt)), ((false, nothing refl), tt))
 
 -- From a place of the text on, this many bytes are a token where the machine stops after them.
@@ -79,10 +80,16 @@ coded =
     let value : AreCoded (drop 3 (leaves_of tree)) = (coded_leaf (codes "=") refl, (coded_leaf (codes "\"x\"") refl, (coded_leaf (codes ")") refl, (coded_leaf (codes "\n") refl, (coded_leaf [] refl, tt))))) in
     (coded_leaf (codes "f") refl, (coded_leaf (codes "(") refl, (coded_leaf (codes "name") refl, value)))
 
+older : (kind : Kind) → leb (suc (kind_number kind)) (kind_number k.Def) ≡ true → kind_number kind < kind_number k.Def
+older kind is = leb-true (suc (kind_number kind)) (kind_number k.Def) is
+
 reads : Reads text_read tree
 unfolding Rattle.bz_grammar.specs.declared.tree.Part.TheBlock.hidden-the_row-Part-0 denote.Hole.Carrier.hidden
 reads = (
-  record { file = record { root = refl; shapes = shapes }; gaps = gaps; tokens = tokens; coded = coded; depth = leb-true (depth_of tree) depth_limit refl },
+  record {
+    legal = record { file = record { root = refl; shapes = shapes }; gaps = gaps; indents = ((refl, (tt, ((λ _. refl), tt))), (tt, tt)); tokens = tokens; coded = coded; depth = leb-true (depth_of tree) depth_limit refl };
+    build = ((older k.Line refl, ((older k.Bare refl, ((older k.Call refl, (tt, (tt, ((older k.Named refl, (tt, (tt, (tt, tt)))), (tt, tt))))), tt)), (tt, tt))), (tt, tt));
+  },
   refl,
   leb-true (length text_read) limit refl,
 )

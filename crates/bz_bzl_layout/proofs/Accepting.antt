@@ -1,6 +1,6 @@
 -- The layout of a proper value of a .bzl file is accepted.
 use Rattle.std.specs.Prelude.{◌≤◌, List, length}
-use Rattle.bz_grammar.specs.Legal.{LegalBzl, ReadsBzl}
+use Rattle.bz_grammar.specs.Legal.{Legal, ReadsBzl}
 use Rattle.bz_grammar.specs.Spell.{depth_of, depth_limit, limit}
 use Rattle.bz_bzl_value.specs.declared.value.BzlItem.{BzlItem}
 use Rattle.bz_bzl_value.specs.Proper.{IsProperBzl}
@@ -12,7 +12,7 @@ use Rattle.bz_bzl_layout.proofs.Spelled.{bzl_spelled}
 use Rattle.bz_bzl_layout.proofs.StatementTokens.{bzl_gaps, bzl_coded, bzl_tokens}
 
 -- what is laid out of a proper value is legal, where it is not too deep
-pub bzl_legal : (items : List BzlItem) → IsProperBzl items → depth_of (bzl_laid_out items) ≤ depth_limit → LegalBzl (bzl_laid_out items)
+pub bzl_legal : (items : List BzlItem) → IsProperBzl items → depth_of (bzl_laid_out items) ≤ depth_limit → Legal (bzl_laid_out items)
 bzl_legal items h d = record {
   file = bzl_file items h;
   gaps = bzl_gaps items h;

@@ -22,7 +22,7 @@ use Rattle.bz_bzl_value.specs.Proper.{IsProperStatement, AreProperBranches, AreP
 use Rattle.bz_bzl_value.specs.View.{stated, indented_lines_before}
 use Rattle.bz_bzl_value.proofs.Parts.{part_of as stated_part}
 use Rattle.bz_bzl_layout.specs.Layout.{indented_lines}
-use Rattle.bz_bzl_layout.specs.LaidOut.{gap_to_margin, left_after, left_branches, left_statements, statement_part, statement_parts, branch_parts}
+use Rattle.bz_bzl_layout.specs.LaidOut.{first_kind, gap_to_margin, left_after, left_branches, left_statements, statement_part, statement_parts, branch_parts}
 use Rattle.bz_bzl_layout.proofs.BackLines.{Lines, no_lines, comments_at, gap_lines}
 use Rattle.bz_bzl_layout.proofs.BackHeads.{header_first}
 use Rattle.bz_bzl_layout.proofs.BackProper.{headers_read}
@@ -107,7 +107,7 @@ pub statement_first : (m : ℕ) (lines : Bytes) (x : Statement) → IsProperStat
 statement_first m lines (Simple x) h =
     ap (λ z. z.gap) (stated_part (statement_part m lines (Simple x))) ∙ (node_first k.Line _ ∙ (expr_back x (readable Begins x h.1)).gap (gap_to_margin m lines (comments_of x).before) m)
 statement_first m lines (Compound' size own) h =
-    ap (λ z. z.gap) (stated_part (statement_part m lines (Compound' size own))) ∙ (node_first _ (branch_parts m lines own) ∙ branches_first m lines _ own h.0)
+    ap (λ z. z.gap) (stated_part (statement_part m lines (Compound' size own))) ∙ (node_first (first_kind own) (branch_parts m lines own) ∙ branches_first m lines _ own h.0)
 
 -- the lines before the next statement, those that are left after the one before it first
 pub statements_before : (m : ℕ) (n : _) (r : Row_of-Statement n) → AreProperStatements r → (gap : Bytes) (lines rest : Lines) → AreLines gap lines →

@@ -14,7 +14,7 @@ use Rattle.bz_grammar.specs.declared.tree.Part.{Part}
 use Rattle.bz_grammar.specs.declared.tree.Part.TheVariants as p
 use Rattle.bz_grammar.specs.Spell.{leaves_part, deepest}
 use Rattle.bz_grammar.specs.Shapes.{Shape, Fits, tok, one_keyword}
-use Rattle.bz_grammar.specs.Legal.{IsNonterminal, LegalBzlPart}
+use Rattle.bz_grammar.specs.Legal.{IsNonterminal, LegalPart}
 use Rattle.bz_grammar.specs.Indents.{first_indent, Indented, Owned, AreIndented}
 use Rattle.bz_grammar.specs.Spots.{Begins}
 use Rattle.bz_grammar.proofs.Balance.{no_such}
@@ -113,7 +113,7 @@ first_leaf gap ls ms h = ap (λ z. first_indent (z ++ ms)) h.2 ∙ ap indent h.3
 -- ---- the parts of a statement
 
 -- a header at its indent: its first token has that, and no other one is an elif or an else
-parts_owned : (i gap : Bytes) (xs : List Part) (word : Bytes) (rest : Shape) → indent gap ≡ i → FirstAt gap xs → Fits IsNonterminal (tok (one_keyword word) rest) xs → AllByRecursion LegalBzlPart xs →
+parts_owned : (i gap : Bytes) (xs : List Part) (word : Bytes) (rest : Shape) → indent gap ≡ i → FirstAt gap xs → Fits IsNonterminal (tok (one_keyword word) rest) xs → AllByRecursion LegalPart xs →
     ((d : ℕ) (ps : List Part) → Fits (At d) rest ps → AllByRecursion (Owned i) ps) → AllByRecursion (Owned i) xs
 parts_owned i gap [] word rest e f h l plain = absurd f
 parts_owned i gap (x ∷ xs) word rest e f h l plain =

@@ -11,7 +11,7 @@ use Rattle.bz_grammar.specs.declared.tree.Part.TheVariants as p
 use Rattle.bz_grammar.specs.Shapes as s
 use Rattle.bz_grammar.specs.Shapes.{Shape, Fits, Several, no_more, once_more, bzl_shape, nonterminal_has_kind, is_kind, one_keyword}
 use Rattle.bz_grammar.specs.Suites.{def_header}
-use Rattle.bz_grammar.specs.Legal.{IsNonterminal, LegalBzlPart, IsBzlFile}
+use Rattle.bz_grammar.specs.Legal.{IsNonterminal, LegalPart, IsFile}
 use Rattle.bz_grammar.specs.Spots.{Spot, Begins}
 use Rattle.bz_grammar.proofs.Balance.{no_such}
 use Rattle.bz_grammar.proofs.Trees.{of_bzl_shapes}
@@ -171,7 +171,7 @@ is_small (Form' kind z parts z' items end split open_break comments) h gap m = s
 
 -- ---- each part has the shape of its kind
 
-expr_legal : (here : Spot) (x : Expr) → ProperBy line_shape here x → (gap : Bytes) (m : ℕ) → LegalBzlPart (part_of x gap m)
+expr_legal : (here : Spot) (x : Expr) → ProperBy line_shape here x → (gap : Bytes) (m : ℕ) → LegalPart (part_of x gap m)
 expr_legal here x h gap m = as_bzl (part_of x gap m) ((laid_out_good here x h).legal gap m)
 
 -- what holds of marks and of all that is laid out of an expression holds of each part of a header
@@ -187,11 +187,11 @@ module _ (P : Part → Type 0) (marks : (gap : Bytes) (n : ℕ) → P (p.Leaf (r
       (brackets_each (is_def f) (map piece_part (laid_out_body f m 41))
       (body_each P marks (is_broken f.kind f.seq.split f.seq.items f.seq.end) (is_tuple f.kind && nat_eq (length f.seq.items) 1) m 41 f.seq.end (layouts f.seq.items) (parameters_all (λ x. (gap : Bytes) (m : ℕ) → P (x.1 gap m)) laid_out f.seq.items h.proper.parameters)))
 
-pub header_legal : (m : ℕ) (gap : Bytes) (f : Form) → Heading f → AllByRecursion LegalBzlPart (header_parts m gap f)
-header_legal m gap f h = header_each LegalBzlPart (λ gap n. tt) expr_legal m gap f h
+pub header_legal : (m : ℕ) (gap : Bytes) (f : Form) → Heading f → AllByRecursion LegalPart (header_parts m gap f)
+header_legal m gap f h = header_each LegalPart (λ gap n. tt) expr_legal m gap f h
 
 mutual
-  statement_legal : (x : Statement) → IsProperStatement x → (m : ℕ) (lines : Bytes) → LegalBzlPart (statement_part m lines x)
+  statement_legal : (x : Statement) → IsProperStatement x → (m : ℕ) (lines : Bytes) → LegalPart (statement_part m lines x)
   statement_legal (Simple x) h m lines =
       let gap : Bytes = gap_to_margin m lines (comments_of x).before in
       of_bzl_shapes (record { kind = k.Line; parts = part_of x gap m ∷ newline_part (comments_of x).suffix ∷ [] })
@@ -199,22 +199,22 @@ mutual
   statement_legal (Compound' size own) h m lines =
       of_bzl_shapes (record { kind = first_kind own; parts = branch_parts m lines own }) (branches_fit _ own m lines h.0, branches_legal _ own (headings (heads own) h.0) h.1 m lines)
 
-  branches_legal : (n : _) (r : Row_of-Branch n) → Headings (heads r) → AreProperBranches r → (m : ℕ) (lines : Bytes) → AllByRecursion LegalBzlPart (branch_parts m lines r)
+  branches_legal : (n : _) (r : Row_of-Branch n) → Headings (heads r) → AreProperBranches r → (m : ℕ) (lines : Bytes) → AllByRecursion LegalPart (branch_parts m lines r)
   branches_legal n end_of-Branch g h m lines = tt
   branches_legal n (more_of-Branch head size statements end rest) g h m lines =
-      all_joined LegalBzlPart (header_parts m (gap_to_margin m lines head.comments.before) head) _ (header_legal m (gap_to_margin m lines head.comments.before) head g.0) (
+      all_joined LegalPart (header_parts m (gap_to_margin m lines head.comments.before) head) _ (header_legal m (gap_to_margin m lines head.comments.before) head g.0) (
         of_bzl_shapes (record { kind = k.Suite; parts = newline_part head.comments.suffix ∷ statement_parts (m + 4) [] statements })
             (suite_fits _ statements (m + 4) head.comments.suffix h.0 h.1, (tt, statements_legal _ statements h.1 (m + 4) [])),
         branches_legal _ rest g.1 h.3 m (left_statements (m + 4) [] statements ++ indented_lines (m + 4) end),
       )
 
-  statements_legal : (n : _) (r : Row_of-Statement n) → AreProperStatements r → (m : ℕ) (lines : Bytes) → AllByRecursion LegalBzlPart (statement_parts m lines r)
+  statements_legal : (n : _) (r : Row_of-Statement n) → AreProperStatements r → (m : ℕ) (lines : Bytes) → AllByRecursion LegalPart (statement_parts m lines r)
   statements_legal n end_of-Statement h m lines = tt
   statements_legal n (more_of-Statement x rest) h m lines = (statement_legal x h.0 m lines, statements_legal _ rest h.1 m (left_after m x))
 
 -- ---- the file
 
-lines_fit : (xs : List BzlItem) → AllByRecursion IsProperBzlItem xs → (lines : Bytes) → Fits IsNonterminal (bzl_shape k.File) (bzl_lines lines xs) × AllByRecursion LegalBzlPart (bzl_lines lines xs)
+lines_fit : (xs : List BzlItem) → AllByRecursion IsProperBzlItem xs → (lines : Bytes) → Fits IsNonterminal (bzl_shape k.File) (bzl_lines lines xs) × AllByRecursion LegalPart (bzl_lines lines xs)
 lines_fit [] h lines = (inl (refl, tt), (tt, tt))
 lines_fit (b.Block texts ∷ xs) h lines = lines_fit xs h.1 ((lines ++ indented_lines 0 texts) ++ before_others (b.Block texts) xs)
 lines_fit (b.Statement x ∷ xs) h lines =
@@ -222,5 +222,5 @@ lines_fit (b.Statement x ∷ xs) h lines =
     (inr (statement_nonterminal x 0 lines h.0, w.0), (statement_legal x h.0 0 lines, w.1))
 
 -- the tree of the layout of a proper value is a file by its shapes
-pub bzl_file : (items : List BzlItem) → IsProperBzl items → IsBzlFile (bzl_laid_out items)
+pub bzl_file : (items : List BzlItem) → IsProperBzl items → IsFile (bzl_laid_out items)
 bzl_file items h = record { root = refl; shapes = lines_fit items (recursion_from_All IsProperBzlItem items h) [] }

@@ -8,7 +8,7 @@ use Rattle.bz_grammar.specs.declared.kind.Kind.{Kind}
 use Rattle.bz_grammar.specs.declared.kind.Kind.TheVariants as k
 use Rattle.bz_grammar.specs.declared.tree.Node.{Node}
 use Rattle.bz_grammar.specs.declared.tree.Part.TheVariants as p
-use Rattle.bz_grammar.specs.Spots.{Spot, Begins, Along, after_node, after_part, AtLeaves, AtParts, BzlStands}
+use Rattle.bz_grammar.specs.Spots.{Spot, Begins, Along, after_node, after_part, AtLeaves, AtParts, Stands}
 use Rattle.bz_grammar.proofs.Nested.{row_of, items_of_row}
 use Rattle.bz_grammar.proofs.Balance.{no_such, row_of_parts}
 use Rattle.bz_value.specs.declared.value.Expr.{Expr, Token, Form'}
@@ -27,7 +27,7 @@ use Rattle.bz_bzl_layout.proofs.GapLines.{OfLines}
 
 -- a leaf is where it may be, and is of texts of characters
 pub record IsPut (here : Spot) (leaf : Leaf) : Type 0 where
-  pub stands : BzlStands here leaf
+  pub stands : Stands here leaf
   pub coded : IsCodedLeaf leaf
 
 pub is_put : (here : Spot) (l : Leaf) → Placed here l → IsPut here l

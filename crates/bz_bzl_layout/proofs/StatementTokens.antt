@@ -13,7 +13,7 @@ use Rattle.bz_grammar.specs.declared.tree.Node.{Node}
 use Rattle.bz_grammar.specs.declared.tree.Part.{Part}
 use Rattle.bz_grammar.specs.declared.tree.Part.TheVariants as p
 use Rattle.bz_grammar.specs.Spell.{leaves_part, leaves_of}
-use Rattle.bz_grammar.specs.Spots.{Spot, Begins, Along, AtLeaves, AtParts, AreTokens, BzlStands}
+use Rattle.bz_grammar.specs.Spots.{Spot, Begins, Along, AtLeaves, AtParts, AreTokens, Stands}
 use Rattle.bz_grammar.proofs.Balance.{parts_join}
 use Rattle.bz_grammar.proofs.Spells.{leaves_Node}
 use Rattle.bz_value.specs.Proper.{IsComment, comments_of}
@@ -124,8 +124,8 @@ lines_good (b.Statement x ∷ xs) h lines g =
     ((here.0, subst (λ z. AtParts IsPut Begins z (bzl_lines next xs)) (sym (line_begins x h.0 Begins 0 lines)) more.0), here.1 (flat_map leaves_part (bzl_lines next xs)) more.1)
 
 -- The tokens of the tree of the layout of a proper value are where they may be,
-pub bzl_gaps : (items : List BzlItem) → IsProperBzl items → AtParts BzlStands Begins Begins (bzl_laid_out items).parts
-bzl_gaps items h = at_parts IsPut BzlStands (λ here l q. q.stands) Begins Begins (bzl_laid_out items).parts (lines_good items (recursion_from_All IsProperBzlItem items h) [] inner_nothing).0
+pub bzl_gaps : (items : List BzlItem) → IsProperBzl items → AtParts Stands Begins Begins (bzl_laid_out items).parts
+bzl_gaps items h = at_parts IsPut Stands (λ here l q. q.stands) Begins Begins (bzl_laid_out items).parts (lines_good items (recursion_from_All IsProperBzlItem items h) [] inner_nothing).0
 
 -- are texts of characters,
 pub bzl_coded : (items : List BzlItem) → IsProperBzl items → AreCoded (flat_map leaves_part (bzl_laid_out items).parts)

@@ -1,7 +1,7 @@
 -- Laws of the layout of a .bzl file, and of the pass over it.
 use Rattle.std.specs.Prelude.{◌≡◌, ◌≤◌, ◌<◌, List, length, map}
 use Rattle.bz_grammar.specs.declared.tree.Node.{Node}
-use Rattle.bz_grammar.specs.Legal.{Legal, ReadsBzl, NoBzlTree}
+use Rattle.bz_grammar.specs.Legal.{LegalBuild, ReadsBzl, NoBzlTree}
 use Rattle.bz_grammar.specs.Spell.{depth_of, limit, depth_limit}
 use Rattle.bz_items.specs.Characters.{Bytes}
 use Rattle.bz_value.specs.declared.value.Item.{Item}
@@ -55,4 +55,4 @@ BuildItemsAreLevelledTheSame = (items : List Item) → level (map bzl_item items
 
 -- So what the tree of a BUILD file says is laid out the same as a .bzl file and as a BUILD file.
 abbrev pub BuildFilesAreLaidOutTheSame : Type 0
-BuildFilesAreLaidOutTheSame = (tree : Node) → Legal tree → bzl_layout (bzl_view_of tree) ≡ layout (view_of tree)
+BuildFilesAreLaidOutTheSame = (tree : Node) → LegalBuild tree → bzl_layout (bzl_view_of tree) ≡ layout (view_of tree)

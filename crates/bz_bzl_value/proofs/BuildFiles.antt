@@ -1,13 +1,14 @@
 -- What the tree of a BUILD file says as a .bzl file is what it says as a BUILD file.
-use Rattle.std.proofs.Common.{◌≡◌, List, [], ◌∷◌, ◌++◌, inl, inr, refl, sym, ap, ◌∙◌, subst, map, append_assoc}
+use Rattle.std.proofs.Common.{◌≡◌, List, [], ◌∷◌, ◌++◌, inl, inr, refl, sym, ap, ◌∙◌, map, append_assoc}
 use Rattle.std.proofs.lemmas.List.{map-append}
 use Rattle.bz_grammar.specs.declared.kind.Kind.TheVariants as k
 use Rattle.bz_grammar.specs.declared.tree.Part.{Part, Node', items-the_row-Part}
 use Rattle.bz_grammar.specs.declared.tree.Part.TheVariants as p
 use Rattle.bz_grammar.specs.Shapes as s
-use Rattle.bz_grammar.specs.Shapes.{Fits, Several, shape, tok, done}
+use Rattle.bz_grammar.specs.Shapes.{Fits, Several, tok, done}
 use Rattle.bz_grammar.specs.Legal.{IsNonterminal}
 use Rattle.bz_grammar.proofs.Balance.{no_such}
+use Rattle.bz_grammar.proofs.Build.{file_lines}
 use Rattle.bz_value.specs.declared.value.Item.{Item}
 use Rattle.bz_value.specs.Gaps.{GapLine, lines_of, after_first_line, groups_of, all_but_last, last_group}
 use Rattle.bz_hosts.specs.View.{Seen, seen, seen_row, first_seen_gap, last_gap, blocks, statements_in, line_items, file_items}
@@ -58,4 +59,4 @@ items_same left lines (Node' k.Line n r ∷ xs) e (inr h) =
 items_same left lines (Node' _ n r ∷ xs) e (inr h) = no_such h.0
 
 pub build_files_say_the_same : BuildFilesSayTheSame
-build_files_say_the_same n h = items_same [] (indented_lines_before (map stated n.parts) []) n.parts (sym (lines_first n.parts)) (subst (λ kd. Fits IsNonterminal (shape kd) n.parts) h.file.root h.file.shapes.0)
+build_files_say_the_same n h = items_same [] (indented_lines_before (map stated n.parts) []) n.parts (sym (lines_first n.parts)) (file_lines n h)

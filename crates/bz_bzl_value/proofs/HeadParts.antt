@@ -8,7 +8,7 @@ use Rattle.bz_grammar.specs.declared.tree.Part.TheVariants as p
 use Rattle.bz_grammar.specs.Shapes as s
 use Rattle.bz_grammar.specs.Shapes.{Nonterminal, Terminal, Shape, Fits, Listed, After, tok, sub, owned, enclosed, done, nonterminal_has_kind, has_token}
 use Rattle.bz_grammar.specs.Legal.{IsNonterminal}
-use Rattle.bz_grammar.specs.Spots.{Spot, Begins, Within, Along, onward, after_node, after_part, BzlStands, AtLeaves, AtParts}
+use Rattle.bz_grammar.specs.Spots.{Spot, Begins, Within, Along, onward, after_node, after_part, Stands, AtLeaves, AtParts}
 use Rattle.bz_grammar.proofs.Balance.{no_such, inner_nonterminal}
 use Rattle.bz_value.specs.Roots.{each_with_comma}
 use Rattle.bz_value.specs.Roots as r
@@ -63,13 +63,13 @@ pub record Headed (P : List Part → Type 0) (back xs : List Part) : Type 0 wher
   pub such : P front
   pub plain : AllByRecursion InHeader front
   pub colon : has_token s.colon_mark mark ≡ true
-  pub gap : AtLeaves BzlStands Along mark
+  pub gap : AtLeaves Stands Along mark
   pub suite : IsNonterminal s.suite own
-  pub there : AtLeaves BzlStands Along own
-  pub following : AtParts BzlStands Begins Begins back
+  pub there : AtLeaves Stands Along own
+  pub following : AtParts Stands Begins Begins back
 
-moved : {here there : Spot} (xs : List Part) → here ≡ there → AtParts BzlStands Begins here xs → AtParts BzlStands Begins there xs
-moved xs e h = subst (λ z. AtParts BzlStands Begins z xs) e h
+moved : {here there : Spot} (xs : List Part) → here ≡ there → AtParts Stands Begins here xs → AtParts Stands Begins there xs
+moved xs e h = subst (λ z. AtParts Stands Begins z xs) e h
 
 -- one part more
 cons : (P Q : List Part → Type 0) (back : List Part) (y : Part) (xs : List Part) → InHeader y → ((front : List Part) → P front → Q (y ∷ front)) → Headed P back xs → Headed Q back (y ∷ xs)
@@ -106,7 +106,7 @@ abbrev pub None_before : List Part → Type 0
 None_before front = front ≡ []
 
 -- a colon and a suite
-pub colon_headed : (mark own : Part) (back : List Part) → has_token s.colon_mark mark ≡ true → IsNonterminal s.suite own → AtParts BzlStands Begins Along (mark ∷ own ∷ back) → Headed None_before back (mark ∷ own ∷ back)
+pub colon_headed : (mark own : Part) (back : List Part) → has_token s.colon_mark mark ≡ true → IsNonterminal s.suite own → AtParts Stands Begins Along (mark ∷ own ∷ back) → Headed None_before back (mark ∷ own ∷ back)
 colon_headed mark own back h i at_ =
     let first : after_part Begins Along mark ≡ Along = token_goes s.colon_mark mark refl h Begins Along in
     let second : after_part Begins (after_part Begins Along mark) own ≡ Begins = after_suite own Begins (after_part Begins Along mark) i in
@@ -120,11 +120,11 @@ colon_headed mark own back h i at_ =
       colon = h;
       gap = at_.0;
       suite = i;
-      there = subst (λ z. AtLeaves BzlStands z own) first at_.1.0;
+      there = subst (λ z. AtLeaves Stands z own) first at_.1.0;
       following = moved back second at_.1.1;
     }
 
-pub owned_headed : (xs : List Part) → Fits IsNonterminal owned xs → AtParts BzlStands Begins Along xs → Headed None_before [] xs
+pub owned_headed : (xs : List Part) → Fits IsNonterminal owned xs → AtParts Stands Begins Along xs → Headed None_before [] xs
 owned_headed [] h at_ = absurd h
 owned_headed (mark ∷ []) h at_ = absurd h.1
 owned_headed (mark ∷ own ∷ []) h at_ = colon_headed mark own [] h.0 h.1.0 at_
@@ -143,7 +143,7 @@ pub colon_alone : (front : List Part) → None_before front → FitsHeader (tok 
 colon_alone front e = subst (λ zs. FitsHeader (tok s.colon_mark done) zs) (sym e) (refl, tt)
 
 -- after if or elif
-pub test_headed : (x mark own : Part) (back : List Part) → IsNonterminal s.test x → has_token s.colon_mark mark ≡ true → IsNonterminal s.suite own → AtParts BzlStands Begins Along (x ∷ mark ∷ own ∷ back) → Headed (FitsHeader (sub s.test (tok s.colon_mark done))) back (x ∷ mark ∷ own ∷ back)
+pub test_headed : (x mark own : Part) (back : List Part) → IsNonterminal s.test x → has_token s.colon_mark mark ≡ true → IsNonterminal s.suite own → AtParts Stands Begins Along (x ∷ mark ∷ own ∷ back) → Headed (FitsHeader (sub s.test (tok s.colon_mark done))) back (x ∷ mark ∷ own ∷ back)
 test_headed x mark own back h i j at_ =
     cons None_before (FitsHeader (sub s.test (tok s.colon_mark done))) back x (mark ∷ own ∷ back) (nonterminal_in s.test x refl h) (λ front e. (h, colon_alone front e))
     (colon_headed mark own back i j (moved (mark ∷ own ∷ back) (nonterminal_goes s.test x refl h Begins Along) at_.1))
@@ -156,13 +156,13 @@ module _ (q : Nonterminal) (inner : inner_nonterminal q ≡ true) (here : Spot) 
     (comma : (x : Part) (front : List Part) → has_token s.comma_mark x ≡ true → P front → Q (x ∷ front))
     (trailing : (x : Part) (front : List Part) → last ≡ true → has_token s.comma_mark x ≡ true → R front → Q (x ∷ front))
     (over : (front : List Part) → R front → Q front)
-    (rest : (xs : List Part) → K xs → AtParts BzlStands Begins here xs → Headed R [] xs) where
+    (rest : (xs : List Part) → K xs → AtParts Stands Begins here xs → Headed R [] xs) where
   mutual
-    listed_headed : (xs : List Part) → Listed (IsNonterminal q) s.comma_mark last K xs → AtParts BzlStands Begins here xs → Headed P [] xs
+    listed_headed : (xs : List Part) → Listed (IsNonterminal q) s.comma_mark last K xs → AtParts Stands Begins here xs → Headed P [] xs
     listed_headed [] h at_ = absurd h
     listed_headed (x ∷ xs) h at_ = cons Q P [] x xs (nonterminal_in q x inner h.0) (λ front w. item x front h.0 w) (after_headed xs h.1 (moved xs (nonterminal_goes q x inner h.0 Begins here ∙ stays) at_.1))
 
-    after_headed : (xs : List Part) → After (IsNonterminal q) s.comma_mark last K xs → AtParts BzlStands Begins here xs → Headed Q [] xs
+    after_headed : (xs : List Part) → After (IsNonterminal q) s.comma_mark last K xs → AtParts Stands Begins here xs → Headed Q [] xs
     after_headed [] h at_ = weaker R Q [] [] over (rest [] h at_)
     after_headed (x ∷ xs) (inl h) at_ = weaker R Q [] (x ∷ xs) over (rest (x ∷ xs) h at_)
     after_headed (x ∷ xs) (inr (m, inl h)) at_ =
@@ -175,12 +175,12 @@ module _ (q : Nonterminal) (inner : inner_nonterminal q ≡ true) (here : Spot) 
 abbrev pub in_shape : Shape
 in_shape = tok (s.one_keyword (codes "in")) (sub s.expr (tok s.colon_mark done))
 
-in_headed : (xs : List Part) → Fits IsNonterminal (tok (s.one_keyword (codes "in")) (sub s.expr owned)) xs → AtParts BzlStands Begins Along xs → Headed (FitsHeader in_shape) [] xs
+in_headed : (xs : List Part) → Fits IsNonterminal (tok (s.one_keyword (codes "in")) (sub s.expr owned)) xs → AtParts Stands Begins Along xs → Headed (FitsHeader in_shape) [] xs
 in_headed [] h at_ = absurd h
 in_headed (x ∷ []) h at_ = absurd h.1
 in_headed (x ∷ y ∷ xs) h at_ =
     let first : after_part Begins Along x ≡ Along = token_goes (s.one_keyword (codes "in")) x refl h.0 Begins Along in
-    let there : AtParts BzlStands Begins Along (y ∷ xs) = moved (y ∷ xs) first at_.1 in
+    let there : AtParts Stands Begins Along (y ∷ xs) = moved (y ∷ xs) first at_.1 in
     let following : Headed None_before [] xs = owned_headed xs h.1.1 (moved xs (nonterminal_goes s.expr y refl h.1.0 Begins Along) there.1) in
     cons (FitsHeader (sub s.expr (tok s.colon_mark done))) (FitsHeader in_shape) [] x (y ∷ xs) (token_in (s.one_keyword (codes "in")) x refl refl h.0) (λ front w. (h.0, w))
     (cons None_before (FitsHeader (sub s.expr (tok s.colon_mark done))) [] y xs (nonterminal_in s.expr y refl h.1.0) (λ front e. (h.1.0, colon_alone front e)) following)
@@ -193,7 +193,7 @@ no_names [] h = inl h
 no_names (x ∷ front) h = inl h
 
 -- after for
-pub for_headed : (xs : List Part) → Fits IsNonterminal (s.list s.primary s.comma_mark false (tok (s.one_keyword (codes "in")) (sub s.expr owned))) xs → AtParts BzlStands Begins Along xs → Headed (FitsHeader (s.list s.primary s.comma_mark false in_shape)) [] xs
+pub for_headed : (xs : List Part) → Fits IsNonterminal (s.list s.primary s.comma_mark false (tok (s.one_keyword (codes "in")) (sub s.expr owned))) xs → AtParts Stands Begins Along xs → Headed (FitsHeader (s.list s.primary s.comma_mark false in_shape)) [] xs
 for_headed xs h at_ =
     listed_headed s.primary refl Along refl false (Fits IsNonterminal (tok (s.one_keyword (codes "in")) (sub s.expr owned))) (FitsHeader (s.list s.primary s.comma_mark false in_shape)) AfterName (FitsHeader in_shape)
     (λ x front q w. (q, w)) (λ x front m w. inr (m, inl w)) (λ x front e m w. no_such e) no_names in_headed xs h at_
@@ -250,7 +250,7 @@ close_after front w x h = subst (λ zs. Parameters (x ∷ zs)) (sym w.1) (record
   fits = (h, inr (refl, inr (refl, (refl, (refl, tt)))));
 })
 
-close_headed : (xs : List Part) → Fits IsNonterminal (tok s.close_round owned) xs → AtParts BzlStands Begins Within xs → Headed Close [] xs
+close_headed : (xs : List Part) → Fits IsNonterminal (tok s.close_round owned) xs → AtParts Stands Begins Within xs → Headed Close [] xs
 close_headed [] h at_ = absurd h
 close_headed (y ∷ xs) h at_ =
     let following : Headed None_before [] xs = owned_headed xs h.1 (moved xs (token_closes s.close_round y Begins Within refl h.0) at_.1) in
@@ -262,7 +262,7 @@ Enclosed front = AreParameterParts (enclosed s.param s.close_round (tok s.colon_
 no_parameters : (front : List Part) → Close front → Enclosed front
 no_parameters front w = subst Enclosed (sym w.1) (record { alternating = close_at w.0 w.2; fits = inl (refl, (refl, tt)) })
 
-params_headed : (xs : List Part) → Fits IsNonterminal (enclosed s.param s.close_round owned) xs → AtParts BzlStands Begins Within xs → Headed Enclosed [] xs
+params_headed : (xs : List Part) → Fits IsNonterminal (enclosed s.param s.close_round owned) xs → AtParts Stands Begins Within xs → Headed Enclosed [] xs
 params_headed xs (inl h) at_ = weaker Close Enclosed [] xs no_parameters (close_headed xs h at_)
 params_headed xs (inr h) at_ =
     weaker Parameters Enclosed [] xs (λ front w. record { alternating = w.alternating; fits = inr w.fits })
@@ -287,12 +287,12 @@ pub record Named (front : List Part) : Type 0 where
   pub parameters : AreParameterParts (enclosed s.param s.close_round (tok s.colon_mark done)) following
 
 -- after def
-pub def_headed : (xs : List Part) → Fits IsNonterminal (tok s.name (tok s.open_round (enclosed s.param s.close_round owned))) xs → AtParts BzlStands Begins Along xs → Headed Named [] xs
+pub def_headed : (xs : List Part) → Fits IsNonterminal (tok s.name (tok s.open_round (enclosed s.param s.close_round owned))) xs → AtParts Stands Begins Along xs → Headed Named [] xs
 def_headed [] h at_ = absurd h
 def_headed (x ∷ []) h at_ = absurd h.1
 def_headed (x ∷ y ∷ xs) h at_ =
     let first : after_part Begins Along x ≡ Along = token_goes s.name x refl h.0 Begins Along in
-    let there : AtParts BzlStands Begins Along (y ∷ xs) = moved (y ∷ xs) first at_.1 in
+    let there : AtParts Stands Begins Along (y ∷ xs) = moved (y ∷ xs) first at_.1 in
     let following : Headed Enclosed [] xs = params_headed xs h.1.1 (moved xs (token_opens s.open_round y Begins Along refl h.1.0) there.1) in
     cons AreInBrackets Named [] x (y ∷ xs) (token_in s.name x refl refl h.0)
     (λ front w. record { name = x; opener = w.opener; following = w.following; cut = ap (λ (zs : List Part). x ∷ zs) w.cut; named = h.0; opens = w.opens; parameters = w.parameters })

@@ -12,7 +12,7 @@ use Rattle.bz_grammar.specs.Shapes as s
 use Rattle.bz_grammar.specs.Shapes.{has_token, is_kind}
 use Rattle.bz_grammar.specs.Spell.{leaves_part}
 use Rattle.bz_grammar.specs.Legal.{IsNonterminal}
-use Rattle.bz_grammar.specs.Spots.{Along, BzlStands, AtLeaves}
+use Rattle.bz_grammar.specs.Spots.{Along, Stands, AtLeaves}
 use Rattle.bz_grammar.proofs.Balance.{no_such}
 use Rattle.bz_items.specs.Characters.{Bytes}
 use Rattle.bz_value.specs.Gaps.{as_list, comments_in, lines_of}
@@ -86,7 +86,7 @@ module _ (page : SuitesAndLeaves) where
     pub form_inside : inside_head (head kind (map seen hs) group suffix) ≡ there
 
   one_header : (kind : Kind) (x : Part) (xs : List Part) (c : Leaf) (own : Part) (back : List Part) → ((n : ℕ) (group : List Bytes) (suffix : Option Bytes) → HeaderFacts kind (x ∷ xs) n group suffix) → 0 < size x → AllByRecursion Solid (x ∷ xs) → AllByRecursion InHeader (x ∷ xs) → has_token s.colon_mark (p.Leaf c) ≡ true
-      → AllByRecursion (Silent) (p.Leaf c ∷ []) → AtLeaves BzlStands Along (p.Leaf c)
+      → AllByRecursion (Silent) (p.Leaf c ∷ []) → AtLeaves Stands Along (p.Leaf c)
       → ((n : ℕ) → OwnPiece page n (n + size own) (leaves_part own) (suite_there n (measured own) own) ((placed own).stretches n) (stated own).suffix (stated own).suite) → Further PieceFrom kind back → BranchesPiece kind (x ∷ xs ++ p.Leaf c ∷ own ∷ back)
   one_header kind x xs c own back facts some solids inner i silent at_ q b n above left =
       let hs : List Part = x ∷ xs in
@@ -113,7 +113,7 @@ module _ (page : SuitesAndLeaves) where
 
   -- what is known of each part of a statement
   pub record Parted (x : Part) : Type 0 where
-    pub suite : IsNonterminal s.suite x → AtLeaves BzlStands Along x → (n : ℕ) → OwnPiece page n (n + size x) (leaves_part x) (suite_there n (measured x) x) ((placed x).stretches n) (stated x).suffix (stated x).suite
+    pub suite : IsNonterminal s.suite x → AtLeaves Stands Along x → (n : ℕ) → OwnPiece page n (n + size x) (leaves_part x) (suite_there n (measured x) x) ((placed x).stretches n) (stated x).suffix (stated x).suite
     pub solid : Solid x
     pub regions : Regions x
     pub texts : InHost page.regions x
@@ -134,7 +134,7 @@ module _ (page : SuitesAndLeaves) where
       let all = all_parted Parted h.front (h.mark ∷ h.own ∷ back) (subst (AllByRecursion Parted) h.cut g.1) in
       subst (λ zs. BranchesPiece kind (x ∷ zs)) (sym h.cut) (at_mark h.mark h.colon h.gap all.1.0.silent (facts h.front h.such (g.0, all.0)) (g.0.solid, all_solid h.front all.0) (all.1.1.0.suite h.suite h.there) b)
     where
-      at_mark : (mark : Part) → has_token s.colon_mark mark ≡ true → AtLeaves BzlStands Along mark → Silent mark → ((n : ℕ) (group : List Bytes) (suffix : Option Bytes) → HeaderFacts kind (x ∷ h.front) n group suffix) → AllByRecursion Solid (x ∷ h.front)
+      at_mark : (mark : Part) → has_token s.colon_mark mark ≡ true → AtLeaves Stands Along mark → Silent mark → ((n : ℕ) (group : List Bytes) (suffix : Option Bytes) → HeaderFacts kind (x ∷ h.front) n group suffix) → AllByRecursion Solid (x ∷ h.front)
           → ((n : ℕ) → OwnPiece page n (n + size h.own) (leaves_part h.own) (suite_there n (measured h.own) h.own) ((placed h.own).stretches n) (stated h.own).suffix (stated h.own).suite) → Further PieceFrom kind back → BranchesPiece kind (x ∷ h.front ++ mark ∷ h.own ∷ back)
       at_mark (p.Leaf c) i at_ silent w solids q b' = one_header kind x h.front c h.own back w g.0.regions.some solids (n, h.plain) i (silent, tt) at_ q b'
       at_mark (Node' kind' z r') i at_ silent w solids q b' = no_such i

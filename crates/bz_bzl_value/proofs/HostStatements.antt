@@ -13,8 +13,8 @@ use Rattle.bz_grammar.specs.Indents.{first_indent}
 use Rattle.bz_grammar.specs.Shapes as s
 use Rattle.bz_grammar.specs.Shapes.{Fits, Several, bzl_shape, tok, done, nonterminal_has_kind, has_token}
 use Rattle.bz_grammar.specs.Spell.{leaves_part, leaves_row, leaves_of}
-use Rattle.bz_grammar.specs.Legal.{IsNonterminal, LegalBzlPart, LegalBzlRow}
-use Rattle.bz_grammar.specs.Spots.{Begins, Along, BzlStands, AtLeaves, AtParts}
+use Rattle.bz_grammar.specs.Legal.{IsNonterminal, LegalPart, LegalRow}
+use Rattle.bz_grammar.specs.Spots.{Begins, Along, Stands, AtLeaves, AtParts}
 use Rattle.bz_grammar.proofs.Balance.{no_such, parts_of_row}
 use Rattle.bz_items.specs.Characters.{Bytes}
 use Rattle.bz_value.specs.Gaps.{GapLine, all_but_last, comments_in, groups_of, last_group, lines_of}
@@ -129,7 +129,7 @@ module _ (page : SuitesAndLeaves) where
   abbrev HeadersFrom : Turn → Kind → Part → List Part → Type 0
   HeadersFrom turn = PieceFrom page
 
-  header_from : (h : Header) (word : Part) (back xs : List Part) → Headed (λ front. IsHead h (word ∷ front)) back xs → InHeader word → AllByRecursion (Parted page) (word ∷ xs) → AtParts BzlStands Begins Begins (word ∷ xs) → Further (PieceFrom page) (kind_of h) back → PieceFrom page (kind_of h) word xs
+  header_from : (h : Header) (word : Part) (back xs : List Part) → Headed (λ front. IsHead h (word ∷ front)) back xs → InHeader word → AllByRecursion (Parted page) (word ∷ xs) → AtParts Stands Begins Begins (word ∷ xs) → Further (PieceFrom page) (kind_of h) back → PieceFrom page (kind_of h) word xs
   header_from h word back xs there n g at_ b = (headed page (kind_of h) (λ front. IsHead h (word ∷ front)) word back xs there n g (facts h word) b, g.0.solid)
 
   -- ---- nodes, by the lists of their parts
@@ -141,7 +141,7 @@ module _ (page : SuitesAndLeaves) where
   StatementPiece x = (n : ℕ) (group : List Bytes) → Piece page n (n + size x) (leaves_part x) ((placed x).stretches n) group (as_statement x group)
 
   abbrev AsStatement : Part → Type 0
-  AsStatement x = IsNonterminal s.stmt x → AtLeaves BzlStands Begins x → StatementPiece x
+  AsStatement x = IsNonterminal s.stmt x → AtLeaves Stands Begins x → StatementPiece x
 
   abbrev NodePiece : Kind → List Part → Type 0
   NodePiece kind xs = (n : ℕ) (group : List Bytes) → Piece page n (n + sizes (map measured xs)) (flat_map leaves_part xs) (in_statement kind n (map placed xs)) group (λ after. as_read (statement_read kind (map stated xs) group after))
@@ -179,7 +179,7 @@ module _ (page : SuitesAndLeaves) where
   all_silent : (xs : List Part) → AllByRecursion (Parted page) xs → AllByRecursion Silent xs
   all_silent xs g = all_mapped (Parted page) Silent (λ x h. h.silent) xs g
 
-  node_piece : (kind : Kind) (xs : List Part) → nonterminal_has_kind s.stmt kind ≡ true → Fits IsNonterminal (bzl_shape kind) xs → AtParts BzlStands Begins Begins xs → AllByRecursion (Parted page) xs → NodePiece kind xs
+  node_piece : (kind : Kind) (xs : List Part) → nonterminal_has_kind s.stmt kind ≡ true → Fits IsNonterminal (bzl_shape kind) xs → AtParts Stands Begins Begins xs → AllByRecursion (Parted page) xs → NodePiece kind xs
   node_piece k.Line xs h f at_ g n group = line_node xs f (statements_quiet Begins Begins xs refl f (all_silent xs g) at_) g n group
   node_piece k.Def xs h f at_ g n group = compound_read_piece k.Def xs (def_statement (Parted page) HeadersFrom header_from xs f g at_) n group
   node_piece k.IfStmt xs h f at_ g n group = compound_read_piece k.IfStmt xs (if_statement (Parted page) HeadersFrom header_from xs f g at_) n group
@@ -212,10 +212,10 @@ module _ (page : SuitesAndLeaves) where
       ∙ ap (λ (z : List Hosted). with_left z (rest one after).1) (flat_map-append inside_statement one.0 (rest one after).0))
       (both_pieces page n m e (leaves_part x) more sts (one_by_one m (map placed (y ∷ ys))) group (as_statement x group) (as_walked page (y ∷ ys) one.1) (h.0 n group) (walked_piece m one.1 y ys h.1 g.1))
 
-  statements_at : (xs : List Part) → Several (IsNonterminal s.stmt) (Fits IsNonterminal done) xs → AtParts BzlStands Along Begins xs → AllByRecursion AsStatement xs → AllByRecursion StatementPiece xs
+  statements_at : (xs : List Part) → Several (IsNonterminal s.stmt) (Fits IsNonterminal done) xs → AtParts Stands Along Begins xs → AllByRecursion AsStatement xs → AllByRecursion StatementPiece xs
   statements_at [] h at_ g = tt
   statements_at (x ∷ xs) (inl h) at_ g = absurd h
-  statements_at (x ∷ xs) (inr h) at_ g = (g.0 h.0 at_.0, statements_at xs h.1 (subst (λ z. AtParts BzlStands Along z xs) (after_stmt x Along Begins h.0) at_.1) g.1)
+  statements_at (x ∷ xs) (inr h) at_ g = (g.0 h.0 at_.0, statements_at xs h.1 (subst (λ z. AtParts Stands Along z xs) (after_stmt x Along Begins h.0) at_.1) g.1)
 
   -- ---- suites
 
@@ -227,7 +227,7 @@ module _ (page : SuitesAndLeaves) where
       (subst (λ ps. OwnPiece page n e (flat_map leaves_part xs) own (in_statement kind n ps) (suffix_before kind (stated_row r')) (suite_in kind (stated_row r'))) (sym (placed_rows m r' ∙ ap (map placed) i))
       (subst (λ ss. OwnPiece page n e (flat_map leaves_part xs) own (in_statement kind n (map placed xs)) (suffix_before kind ss) (suite_in kind ss)) (sym (stated_rows m r' ∙ ap (map stated) i)) h))
 
-  line_rows : (m : _) (r' : Row_of-Part m) (xs : List Part) → items-the_row-Part m r' ≡ xs → Statements xs → AtParts BzlStands Along Along xs → AllByRecursion (Parted page) xs → (n : ℕ)
+  line_rows : (m : _) (r' : Row_of-Part m) (xs : List Part) → items-the_row-Part m r' ≡ xs → Statements xs → AtParts Stands Along Along xs → AllByRecursion (Parted page) xs → (n : ℕ)
       → OwnPiece page n (n + sizes (measured_row r')) (leaves_row r') None (in_statement k.Line n (placed_row r')) (suffix_before k.Line (stated_row r')) (suite_in k.Line (stated_row r'))
   line_rows m r' [] i fits at_ g n = absurd fits
   line_rows m r' (x ∷ xs) i fits at_ g n =
@@ -240,7 +240,7 @@ module _ (page : SuitesAndLeaves) where
       (subst (λ (ms : List Measured). OwnPiece page n e (flat_map leaves_part ys) None (simple_line n (hosts_from s.semicolon n ms) ∷ []) None (suite_in k.Line (map stated ys))) (sym (measured_list ys))
       (subst (λ z. OwnPiece page n (n + z) (flat_map leaves_part ys) None (simple_line n (hosts_from s.semicolon n (map measured ys)) ∷ []) None (suite_in k.Line (map stated ys))) same line))
 
-  suite_rows : (m : _) (r' : Row_of-Part m) (xs : List Part) → items-the_row-Part m r' ≡ xs → Fits IsNonterminal (bzl_shape k.Suite) xs → AtParts BzlStands Along Along xs → AllByRecursion AsStatement xs → AllByRecursion (Parted page) xs → (n : ℕ)
+  suite_rows : (m : _) (r' : Row_of-Part m) (xs : List Part) → items-the_row-Part m r' ≡ xs → Fits IsNonterminal (bzl_shape k.Suite) xs → AtParts Stands Along Along xs → AllByRecursion AsStatement xs → AllByRecursion (Parted page) xs → (n : ℕ)
       → OwnPiece page n (n + sizes (measured_row r')) (leaves_row r') (Some (record { first = suc n; following = n + sizes (measured_row r'); margin = length (first_indent (drop 1 (leaves_row r'))) })) (in_statement k.Suite n (placed_row r')) (suffix_before k.Suite (stated_row r')) (suite_in k.Suite (stated_row r'))
   suite_rows m r' [] i fits at_ g w n = absurd fits
   suite_rows m r' (Node' kind z r'' ∷ xs) i fits at_ g w n = no_such fits.0
@@ -249,7 +249,7 @@ module _ (page : SuitesAndLeaves) where
       let all : List Part = p.Leaf l ∷ x ∷ xs in
       let e : ℕ = n + sizes (measured_row r') in
       let own : Option Suite = Some (record { first = suc n; following = e; margin = length (first_indent (drop 1 (leaves_row r'))) }) in
-      let there : AtParts BzlStands Along Begins (x ∷ xs) = subst (λ z. AtParts BzlStands Along z (x ∷ xs)) (newline_ends (p.Leaf l) Along Along fits.0) at_.1 in
+      let there : AtParts Stands Along Begins (x ∷ xs) = subst (λ z. AtParts Stands Along z (x ∷ xs)) (newline_ends (p.Leaf l) Along Along fits.0) at_.1 in
       let statements : AllByRecursion StatementPiece (x ∷ xs) = statements_at (x ∷ xs) (inr (fits.1.0, fits.1.1)) there g.1 in
       let leaves : leaves_row r' ≡ l ∷ flat_map leaves_part (x ∷ xs) = leaves_rows m r' ∙ ap (flat_map leaves_part) i in
       let margin : length (first_indent (drop 1 (leaves_row r'))) ≡ margin_of (map stated (x ∷ xs)) =
@@ -269,29 +269,29 @@ module _ (page : SuitesAndLeaves) where
   Inside (p.Leaf l) = Unit {0}
   Inside (Node' kind m r') = AllByRecursion AsStatement (items-the_row-Part _ r') × AllByRecursion (Parted page) (items-the_row-Part _ r')
 
-  own_piece : (x : Part) → LegalBzlPart x → Inside x → IsNonterminal s.suite x → AtLeaves BzlStands Along x → (n : ℕ) → OwnPiece page n (n + size x) (leaves_part x) (suite_there n (measured x) x) ((placed x).stretches n) (stated x).suffix (stated x).suite
+  own_piece : (x : Part) → LegalPart x → Inside x → IsNonterminal s.suite x → AtLeaves Stands Along x → (n : ℕ) → OwnPiece page n (n + size x) (leaves_part x) (suite_there n (measured x) x) ((placed x).stretches n) (stated x).suffix (stated x).suite
   own_piece (p.Leaf l) h g i at_ = no_such i
-  own_piece (Node' k.Line m r') h g i at_ = line_rows _ r' (items-the_row-Part _ r') refl h.0 (parts_of_row BzlStands Along Along _ r' at_) g.1
-  own_piece (Node' k.Suite m r') h g i at_ = suite_rows _ r' (items-the_row-Part _ r') refl h.0 (parts_of_row BzlStands Along Along _ r' at_) g.0 g.1
+  own_piece (Node' k.Line m r') h g i at_ = line_rows _ r' (items-the_row-Part _ r') refl h.0 (parts_of_row Stands Along Along _ r' at_) g.1
+  own_piece (Node' k.Suite m r') h g i at_ = suite_rows _ r' (items-the_row-Part _ r') refl h.0 (parts_of_row Stands Along Along _ r' at_) g.0 g.1
   own_piece (Node' _ m r') h g i at_ = no_such i
 
   -- ---- parts of a legal tree
 
   mutual
-    part_piece : (x : Part) → LegalBzlPart x → AsStatement x × Parted page x
+    part_piece : (x : Part) → LegalPart x → AsStatement x × Parted page x
     part_piece (p.Leaf l) h = (λ i at_. no_such i, record { suite = λ i at_. no_such i; solid = part_solid (p.Leaf l) h; regions = part_regions (p.Leaf l) h; texts = part_texts page.regions (p.Leaf l) h; silent = part_silent (p.Leaf l) h })
     part_piece (Node' kind m r') h =
         let x : Part = Node' kind m r' in
         let xs : List Part = items-the_row-Part _ r' in
         let inside : AllByRecursion AsStatement xs × AllByRecursion (Parted page) xs = row_piece _ r' h.1 in
-        let node : IsNonterminal s.stmt x → AtLeaves BzlStands Begins x → StatementPiece x = λ i at_ n group.
+        let node : IsNonterminal s.stmt x → AtLeaves Stands Begins x → StatementPiece x = λ i at_ n group.
         same_piece page n (n + sizes (map measured xs)) (n + sizes (measured_row r')) (flat_map leaves_part xs) (leaves_row r') (in_statement kind n (map placed xs)) (in_statement kind n (placed_row r')) group _ _
         (ap (λ ms. n + sizes ms) (sym (measured_rows _ r'))) (sym (leaves_rows _ r')) (ap (in_statement kind n) (sym (placed_rows _ r')))
         (λ after. ap (λ ss. as_read (statement_read kind ss group after)) (stated_rows _ r'))
-        (node_piece kind xs i h.0 (parts_of_row BzlStands Begins Begins _ r' at_) inside.1 n group) in
+        (node_piece kind xs i h.0 (parts_of_row Stands Begins Begins _ r' at_) inside.1 n group) in
         (node, record { suite = own_piece x h inside; solid = part_solid x h; regions = part_regions x h; texts = part_texts page.regions x h; silent = part_silent x h })
 
-    row_piece : (m : _) (r' : Row_of-Part m) → LegalBzlRow r' → AllByRecursion AsStatement (items-the_row-Part m r') × AllByRecursion (Parted page) (items-the_row-Part m r')
+    row_piece : (m : _) (r' : Row_of-Part m) → LegalRow r' → AllByRecursion AsStatement (items-the_row-Part m r') × AllByRecursion (Parted page) (items-the_row-Part m r')
     row_piece m end_of-Part h = (tt, tt)
     row_piece m (more_of-Part x rest) h =
         let one : AsStatement x × Parted page x = part_piece x h.0 in
@@ -303,8 +303,8 @@ module _ (page : SuitesAndLeaves) where
   abbrev FileParts : List Part → Type 0
   FileParts xs = Several (IsNonterminal s.stmt) (Fits IsNonterminal (tok s.end done)) xs
 
-  later_at : (x : Part) (xs : List Part) → IsNonterminal s.stmt x → AtParts BzlStands Begins Begins (x ∷ xs) → AtParts BzlStands Begins Begins xs
-  later_at x xs h at_ = subst (λ z. AtParts BzlStands Begins z xs) (after_stmt x Begins Begins h) at_.1
+  later_at : (x : Part) (xs : List Part) → IsNonterminal s.stmt x → AtParts Stands Begins Begins (x ∷ xs) → AtParts Stands Begins Begins xs
+  later_at x xs h at_ = subst (λ z. AtParts Stands Begins z xs) (after_stmt x Begins Begins h) at_.1
 
   abbrev FileExtent : ℕ → List Part → Type 0
   FileExtent n xs = Extent page n (n + sizes (map measured xs)) (flat_map leaves_part xs) (one_by_one n (map placed xs))
@@ -319,7 +319,7 @@ module _ (page : SuitesAndLeaves) where
         ap (texts_at page.regions q) (append-nil (comments_at n l.gap)) ∙ outside_none page.regions n l.gap (gap_outside page.regions n (n + 1) (sees n (omega arith) (omega arith))) q d;
   }
 
-  file_extent : (n : ℕ) (xs : List Part) → FileParts xs → AllByRecursion AsStatement xs → AtParts BzlStands Begins Begins xs → FileExtent n xs
+  file_extent : (n : ℕ) (xs : List Part) → FileParts xs → AllByRecursion AsStatement xs → AtParts Stands Begins Begins xs → FileExtent n xs
   file_extent n [] h g at_ = absurd h
   file_extent n (p.Leaf l ∷ []) (inl h) g at_ = let e : n + 1 ≡ n + sizes (map measured (p.Leaf l ∷ [])) = omega arith in subst (λ z. Extent page n z (l ∷ []) []) e (end_extent n l)
   file_extent n (p.Leaf l ∷ y ∷ xs) (inl h) g at_ = absurd h.1
@@ -332,7 +332,7 @@ module _ (page : SuitesAndLeaves) where
       subst (λ t. Extent page n t (flat_map leaves_part (x ∷ xs)) (one_by_one n (map placed (x ∷ xs)))) e
       (both_extents page n m (m + sizes (map measured xs)) (leaves_part x) (flat_map leaves_part xs) ((placed x).stretches n) (one_by_one m (map placed xs)) (g.0 h.0 at_.0 n []).extent (file_extent m xs h.1 g.1 (later_at x xs h.0 at_)))
 
-  file_hosts : (n e : ℕ) (lines : Lines) (xs : List Part) → e ≡ n + sizes (map measured xs) → FileParts xs → AllByRecursion AsStatement xs → AllByRecursion Solid xs → AtParts BzlStands Begins Begins xs → At page n e (flat_map leaves_part xs) (one_by_one n (map placed xs))
+  file_hosts : (n e : ℕ) (lines : Lines) (xs : List Part) → e ≡ n + sizes (map measured xs) → FileParts xs → AllByRecursion AsStatement xs → AllByRecursion Solid xs → AtParts Stands Begins Begins xs → At page n e (flat_map leaves_part xs) (one_by_one n (map placed xs))
       → lines ≡ left_by 0 n page.suites (lines_before page.leaves n) → flat_map inside_bzl_item (bzl_items lines xs) ≡ bzl_hosted_from page n xs
   file_hosts n e lines [] u h g w at_ z i = absurd h
   file_hosts n e lines (p.Leaf l ∷ []) u (inl h) g w at_ z i =
@@ -351,7 +351,7 @@ module _ (page : SuitesAndLeaves) where
       let sts : List Stretch = (placed x).stretches n in
       let later : List Stretch = one_by_one m (map placed xs) in
       let more : List Leaf = flat_map leaves_part xs in
-      let rest_at : AtParts BzlStands Begins Begins xs = later_at x xs h.0 at_ in
+      let rest_at : AtParts Stands Begins Begins xs = later_at x xs h.0 at_ in
       let up : m + sizes (map measured xs) ≡ e = omega arith in
       let piece : Piece page n m (leaves_part x) sts group (as_statement x group) = g.0 h.0 at_.0 n group in
       let after_it : Extent page m e more later = subst (λ t. Extent page m t more later) up (file_extent m xs h.1 g.1 rest_at) in
@@ -378,7 +378,7 @@ bzl_hosts_by_place n h =
     let fits : Fits IsNonterminal (bzl_shape k.File) n.parts = subst (λ kd. Fits IsNonterminal (bzl_shape kd) n.parts) h.file.root h.file.shapes.0 in
     let sts : List Stretch = one_by_one 0 (map placed n.parts) in
     let page : SuitesAndLeaves = record { leaves = leaves_of n; regions = flat_map regions_in sts; suites = suites_in sts } in
-    let pieces = all_mapped LegalBzlPart (AsStatement page) (λ x g. (part_piece page x g).0) n.parts h.file.shapes.1 in
+    let pieces = all_mapped LegalPart (AsStatement page) (λ x g. (part_piece page x g).0) n.parts h.file.shapes.1 in
     let solids : AllByRecursion Solid n.parts = all_solid n.parts h.file.shapes.1 in
     let e : ℕ = 0 + sizes (map measured n.parts) in
     let bounds : AllBetween 0 e (suites_in sts) = (file_extent page 0 n.parts fits pieces h.gaps).bounds in

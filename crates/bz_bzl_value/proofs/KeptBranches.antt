@@ -9,7 +9,7 @@ use Rattle.bz_grammar.specs.declared.tree.Part.{Part}
 use Rattle.bz_grammar.specs.Shapes as s
 use Rattle.bz_grammar.specs.Shapes.{Fits, has_token, bzl_shape}
 use Rattle.bz_grammar.specs.Legal.{IsNonterminal}
-use Rattle.bz_grammar.specs.Spots.{Begins, Along, BzlStands, AtLeaves, AtParts}
+use Rattle.bz_grammar.specs.Spots.{Begins, Along, Stands, AtLeaves, AtParts}
 use Rattle.bz_value.specs.declared.value.Expr.TheVariants as e
 use Rattle.bz_value.specs.Counted.{total, suffix_amount, amount}
 use Rattle.bz_items.specs.Characters.{Bytes}
@@ -89,7 +89,7 @@ module _ (number : Bytes → ℕ) where
   SuiteKept x = (after : Lines) → suffix_amount number (stated x).suffix + (stated_amount number ((stated x).suite after).0.0 + (total number ((stated x).suite after).0.1 + lines_amount number ((stated x).suite after).1)) ≡ part_amount number x + lines_amount number after
 
   abbrev pub AsSuite : Part → Type 0
-  AsSuite x = IsNonterminal s.suite x → AtLeaves BzlStands Along x → SuiteKept x
+  AsSuite x = IsNonterminal s.suite x → AtLeaves Stands Along x → SuiteKept x
 
   -- of further headers of a statement, where these lines are left of what is before them
   abbrev BranchesKept : Kind → List Part → Type 0
@@ -101,7 +101,7 @@ module _ (number : Bytes → ℕ) where
   HeadersKept kind x xs = (above : List Bytes) (left after : Lines) → gap_amount number (seen x).gap + (total (branch_amount number) (branches kind [] above left (map stated (x ∷ xs)) after).0 + lines_amount number (branches kind [] above left (map stated (x ∷ xs)) after).1)
       ≡ total number above + (total (part_amount number) (x ∷ xs) + lines_amount number after)
 
-  silent_mark : (mark : Part) → has_token s.colon_mark mark ≡ true → Silent mark → AtLeaves BzlStands Along mark → part_amount number mark ≡ 0
+  silent_mark : (mark : Part) → has_token s.colon_mark mark ≡ true → Silent mark → AtLeaves Stands Along mark → part_amount number mark ≡ 0
   silent_mark mark h i at_ = token_part number mark (token s.colon_mark mark h) ∙ ap (total number) (i (token_inner s.colon_mark mark refl h) at_)
 
   one_header : (kind : Kind) (x : Part) (hs : List Part) (mark own : Part) (back : List Part) → HeadKept kind (x ∷ hs) → AllByRecursion InHeader (x ∷ hs) → (stated mark).is_colon ≡ true → part_amount number mark ≡ 0
@@ -149,16 +149,16 @@ module _ (number : Bytes → ℕ) where
   abbrev Kept : Turn → Kind → Part → List Part → Type 0
   Kept turn = HeadersKept
 
-  header_kept : (h : Header) (word : Part) (back xs : List Part) → Headed (λ front. IsHead h (word ∷ front)) back xs → InHeader word → AllByRecursion Known (word ∷ xs) → AtParts BzlStands Begins Begins (word ∷ xs) → Further HeadersKept (kind_of h) back → HeadersKept (kind_of h) word xs
+  header_kept : (h : Header) (word : Part) (back xs : List Part) → Headed (λ front. IsHead h (word ∷ front)) back xs → InHeader word → AllByRecursion Known (word ∷ xs) → AtParts Stands Begins Begins (word ∷ xs) → Further HeadersKept (kind_of h) back → HeadersKept (kind_of h) word xs
   header_kept h word back xs headed n g at_ b = headed_kept (kind_of h) (λ front. IsHead h (word ∷ front)) word back xs headed n g (λ w. head_kept_of h word headed.front headed.such w) (further_kept (kind_of h) back b)
 
   -- ---- statements with suites
 
-  pub if_kept : (xs : List Part) → Fits IsNonterminal (bzl_shape k.IfStmt) xs → AllByRecursion Known xs → AtParts BzlStands Begins Begins xs → Headers HeadersKept k.IfStmt xs
+  pub if_kept : (xs : List Part) → Fits IsNonterminal (bzl_shape k.IfStmt) xs → AllByRecursion Known xs → AtParts Stands Begins Begins xs → Headers HeadersKept k.IfStmt xs
   if_kept xs f g at_ = if_statement Known Kept header_kept xs f g at_
 
-  pub for_kept : (xs : List Part) → Fits IsNonterminal (bzl_shape k.ForStmt) xs → AllByRecursion Known xs → AtParts BzlStands Begins Begins xs → Headers HeadersKept k.ForStmt xs
+  pub for_kept : (xs : List Part) → Fits IsNonterminal (bzl_shape k.ForStmt) xs → AllByRecursion Known xs → AtParts Stands Begins Begins xs → Headers HeadersKept k.ForStmt xs
   for_kept xs f g at_ = for_statement Known Kept header_kept xs f g at_
 
-  pub def_kept : (xs : List Part) → Fits IsNonterminal (bzl_shape k.Def) xs → AllByRecursion Known xs → AtParts BzlStands Begins Begins xs → Headers HeadersKept k.Def xs
+  pub def_kept : (xs : List Part) → Fits IsNonterminal (bzl_shape k.Def) xs → AllByRecursion Known xs → AtParts Stands Begins Begins xs → Headers HeadersKept k.Def xs
   def_kept xs f g at_ = def_statement Known Kept header_kept xs f g at_

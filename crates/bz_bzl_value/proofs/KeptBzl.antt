@@ -6,8 +6,8 @@ use Rattle.bz_grammar.specs.declared.tree.Part.{Part, Node'}
 use Rattle.bz_grammar.specs.declared.tree.Part.TheVariants as p
 use Rattle.bz_grammar.specs.Shapes as s
 use Rattle.bz_grammar.specs.Shapes.{Fits, Several, bzl_shape, tok, done}
-use Rattle.bz_grammar.specs.Legal.{IsNonterminal, LegalBzlPart}
-use Rattle.bz_grammar.specs.Spots.{Begins, BzlStands, AtParts}
+use Rattle.bz_grammar.specs.Legal.{IsNonterminal, LegalPart}
+use Rattle.bz_grammar.specs.Spots.{Begins, Stands, AtParts}
 use Rattle.bz_grammar.proofs.Balance.{no_such}
 use Rattle.bz_value.specs.Counted.{total, one_if}
 use Rattle.bz_items.specs.Characters.{Bytes}
@@ -26,7 +26,7 @@ use Rattle.bz_bzl_value.proofs.KeptValues.{lines_amount, block_amount, statement
 
 module _ (number : Bytes → ℕ) where
   -- statements and the end, where these lines are before the first of them
-  file_kept : (lines : List GapLine) (xs : List Part) → Several (IsNonterminal s.stmt) (Fits IsNonterminal (tok s.end done)) xs → AllByRecursion (AsStatement number) xs → AtParts BzlStands Begins Begins xs →
+  file_kept : (lines : List GapLine) (xs : List Part) → Several (IsNonterminal s.stmt) (Fits IsNonterminal (tok s.end done)) xs → AllByRecursion (AsStatement number) xs → AtParts Stands Begins Begins xs →
       before_amount number xs [] + total (bzl_item_amount number) (bzl_items lines xs) ≡ lines_amount number lines + total (part_amount number) xs
   file_kept lines [] h w at_ = absurd h
   file_kept lines (p.Leaf l ∷ []) (inl h) w at_ =
@@ -43,7 +43,7 @@ module _ (number : Bytes → ℕ) where
       let groups : List (List Bytes) = groups_of lines in
       let after : List GapLine = indented_lines_before (map stated xs) [] in
       let own : ReadStatements (List Statement) = (stated (Node' kind n r)).statement (last_group groups) after in
-      let there : AtParts BzlStands Begins Begins xs = subst (λ z. AtParts BzlStands Begins z xs) (after_stmt (Node' kind n r) Begins Begins h.0) at_.1 in
+      let there : AtParts Stands Begins Begins xs = subst (λ z. AtParts Stands Begins z xs) (after_stmt (Node' kind n r) Begins Begins h.0) at_.1 in
       let one = w.0 h.0 at_.0 (last_group groups) after in
       let more = file_kept own.1 xs h.1 w.1 there in
       let blocks = block_amount number (all_but_last groups) in
@@ -56,6 +56,6 @@ module _ (number : Bytes → ℕ) where
 pub bzl_comments_kept : BzlCommentsKept
 bzl_comments_kept n h text =
     let fits : Fits IsNonterminal (bzl_shape k.File) n.parts = subst (λ kd. Fits IsNonterminal (bzl_shape kd) n.parts) h.file.root h.file.shapes.0 in
-    let all = file_kept (one_if text) (indented_lines_before (map stated n.parts) []) n.parts fits (all_mapped LegalBzlPart (AsStatement (one_if text)) (λ x g. (part_read (one_if text) x g).0) n.parts h.file.shapes.1) h.gaps in
+    let all = file_kept (one_if text) (indented_lines_before (map stated n.parts) []) n.parts fits (all_mapped LegalPart (AsStatement (one_if text)) (λ x g. (part_read (one_if text) x g).0) n.parts h.file.shapes.1) h.gaps in
     let leaves = parts_leaves (one_if text) n.parts in
     omega arith

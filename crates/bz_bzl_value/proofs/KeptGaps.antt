@@ -11,7 +11,7 @@ use Rattle.bz_grammar.specs.declared.tree.Part.TheVariants as p
 use Rattle.bz_grammar.specs.Shapes as s
 use Rattle.bz_grammar.specs.Shapes.{Nonterminal, Terminal, has_token, is_one_of, is_terminal, leaves_at, colon_mark}
 use Rattle.bz_grammar.specs.Legal.{IsNonterminal}
-use Rattle.bz_grammar.specs.Spots.{Spot, Begins, Along, role, following_token, after_part, BzlGapStands, BzlStands, AtLeaves}
+use Rattle.bz_grammar.specs.Spots.{Spot, Begins, Along, role, following_token, after_part, GapStands, Stands, AtLeaves}
 use Rattle.bz_grammar.proofs.Balance.{no_such, same_class}
 use Rattle.bz_items.specs.Characters.{Bytes}
 use Rattle.bz_value.specs.Gaps.{as_list, all_in}
@@ -29,14 +29,14 @@ listed (Some text) = refl
 only_one : (unclosed : Bool) (gap : Bytes) → IsGap false unclosed gap → all_in gap ≡ as_list (only_comment (all_in gap))
 only_one unclosed gap h = let w = along unclosed gap h in w.2 ∙ (listed w.1 ∙ ap (λ texts. as_list (only_comment texts)) (sym w.2))
 
-newline_gap : (class : Class) (gap : Bytes) → class ≡ c.Newline → BzlGapStands class Along gap → all_in gap ≡ as_list (only_comment (all_in gap))
-newline_gap class gap e h = let w = subst (λ z. BzlGapStands z Along gap) e h in only_one w.0 gap w.1
+newline_gap : (class : Class) (gap : Bytes) → class ≡ c.Newline → GapStands class Along gap → all_in gap ≡ as_list (only_comment (all_in gap))
+newline_gap class gap e h = let w = subst (λ z. GapStands z Along gap) e h in only_one w.0 gap w.1
 
 newline_class : (l : Leaf) → is_one_of s.newline l ≡ true → l.class ≡ c.Newline
 newline_class l i = elim (or_cases (is_terminal (s.any c.Newline) l) (is_one_of [] l) i) [ inl e ↦ same_class l.class c.Newline e | inr e ↦ no_such e ]
 
 -- the comment in the gap of a suite's newline is its only one
-pub newline_comment : (x : Part) → has_token s.newline x ≡ true → AtLeaves BzlStands Along x → all_in (seen x).gap ≡ as_list (only_comment (all_in (seen x).gap))
+pub newline_comment : (x : Part) → has_token s.newline x ≡ true → AtLeaves Stands Along x → all_in (seen x).gap ≡ as_list (only_comment (all_in (seen x).gap))
 newline_comment (p.Leaf l) i h = newline_gap l.class l.gap (newline_class l i) h
 newline_comment (Node' kind n r) i h = no_such i
 

@@ -8,9 +8,9 @@ use Rattle.bz_grammar.specs.declared.tree.Part.{Part, Row_of-Part, end_of-Part, 
 use Rattle.bz_grammar.specs.declared.tree.Part.TheVariants as p
 use Rattle.bz_grammar.specs.Shapes as s
 use Rattle.bz_grammar.specs.Shapes.{Fits, Several, done, bzl_shape, nonterminal_has_kind}
-use Rattle.bz_grammar.specs.Legal.{IsNonterminal, LegalBzlPart, LegalBzlRow}
+use Rattle.bz_grammar.specs.Legal.{IsNonterminal, LegalPart, LegalRow}
 use Rattle.bz_grammar.specs.Spell.{leaves_row}
-use Rattle.bz_grammar.specs.Spots.{Spot, Begins, Along, BzlStands, AtLeaves, AtParts}
+use Rattle.bz_grammar.specs.Spots.{Spot, Begins, Along, Stands, AtLeaves, AtParts}
 use Rattle.bz_grammar.proofs.Balance.{no_such, parts_of_row}
 use Rattle.bz_value.specs.Counted.{total, suffix_amount}
 use Rattle.bz_value.specs.Frames.{frame}
@@ -52,7 +52,7 @@ module _ (number : Bytes → ℕ) where
   Reads gap read own = (above : List Bytes) (after : Lines) → gap_amount number gap + (stated_amount number (read above after).0 + lines_amount number (read above after).1) ≡ total number above + (own + lines_amount number after)
 
   abbrev pub AsStatement : Part → Type 0
-  AsStatement x = IsNonterminal s.stmt x → AtLeaves BzlStands Begins x → Reads (seen x).gap (stated x).statement (part_amount number x)
+  AsStatement x = IsNonterminal s.stmt x → AtLeaves Stands Begins x → Reads (seen x).gap (stated x).statement (part_amount number x)
 
   -- The same as a suite, with the suffix of its header.
   abbrev Ends : Option Bytes → (Lines → SuiteRead) → ℕ → Type 0
@@ -70,17 +70,17 @@ module _ (number : Bytes → ℕ) where
       omega arith
 
   -- in the place of a suite nothing is before it
-  first_silent : (xs : List Part) → Statements xs → AllByRecursion Silent xs → AtParts BzlStands Along Along xs → gap_amount number (first_seen_gap (map seen xs)) ≡ 0
+  first_silent : (xs : List Part) → Statements xs → AllByRecursion Silent xs → AtParts Stands Along Along xs → gap_amount number (first_seen_gap (map seen xs)) ≡ 0
   first_silent [] h g at_ = absurd h
   first_silent (x ∷ xs) h g at_ = ap (total number) (g.0 (nonterminal_inner s.small x refl h.0) at_.0)
 
   -- ---- statements one after the other
 
-  walked_kept : (outer : Spot) (lines : Lines) (xs : List Part) (after : Lines) → StatementParts xs → AllByRecursion AsStatement xs → AtParts BzlStands outer Begins xs →
+  walked_kept : (outer : Spot) (lines : Lines) (xs : List Part) (after : Lines) → StatementParts xs → AllByRecursion AsStatement xs → AtParts Stands outer Begins xs →
       before_amount number xs after + (stated_amount number (walked lines (map stated xs) after).0 + lines_amount number (walked lines (map stated xs) after).1) ≡ lines_amount number lines + (total (part_amount number) xs + lines_amount number after)
   walked_kept outer lines [] after h w at_ = omega arith
   walked_kept outer lines (x ∷ xs) after h w at_ =
-      let there : AtParts BzlStands outer Begins xs = subst (λ z. AtParts BzlStands outer z xs) (after_stmt x outer Begins h.0) at_.1 in
+      let there : AtParts Stands outer Begins xs = subst (λ z. AtParts Stands outer z xs) (after_stmt x outer Begins h.0) at_.1 in
       let gap = ap (λ s. gap_amount number s.gap) (part_of x) in
       let one = w.0 h.0 at_.0 (comments_in lines) (indented_lines_before (map stated xs) after) in
       let left : Lines = ((stated x).statement (comments_in lines) (indented_lines_before (map stated xs) after)).1 in
@@ -99,7 +99,7 @@ module _ (number : Bytes → ℕ) where
       let both = lines_joined number (take (reach m xs) xs) (drop (reach m xs) xs) in
       omega arith
 
-  suite_kept : (outer : Spot) (x : Part) (xs : List Part) (after : Lines) → StatementParts (x ∷ xs) → AllByRecursion AsStatement (x ∷ xs) → AtParts BzlStands outer Begins (x ∷ xs) →
+  suite_kept : (outer : Spot) (x : Part) (xs : List Part) (after : Lines) → StatementParts (x ∷ xs) → AllByRecursion AsStatement (x ∷ xs) → AtParts Stands outer Begins (x ∷ xs) →
       stated_amount number (suite_read (map stated (x ∷ xs)) after).0.0 + (total number (suite_read (map stated (x ∷ xs)) after).0.1 + lines_amount number (suite_read (map stated (x ∷ xs)) after).1) ≡ total (part_amount number) (x ∷ xs) + lines_amount number after
   suite_kept outer x xs after h w at_ =
       let lines : Lines = indented_lines_before (map stated (x ∷ xs)) [] in
@@ -122,7 +122,7 @@ module _ (number : Bytes → ℕ) where
       let compound = compound_amount number (branches kind [] above after (map stated (x ∷ xs)) after).0 in
       omega arith
 
-  node_reads : (kind : Kind) (xs : List Part) → nonterminal_has_kind s.stmt kind ≡ true → Fits IsNonterminal (bzl_shape kind) xs → AllByRecursion (Known number) xs → AtParts BzlStands Begins Begins xs → Reads (first_seen_gap (map seen xs)) (statement_read kind (map stated xs)) (total (part_amount number) xs)
+  node_reads : (kind : Kind) (xs : List Part) → nonterminal_has_kind s.stmt kind ≡ true → Fits IsNonterminal (bzl_shape kind) xs → AllByRecursion (Known number) xs → AtParts Stands Begins Begins xs → Reads (first_seen_gap (map seen xs)) (statement_read kind (map stated xs)) (total (part_amount number) xs)
   node_reads k.Line xs h f g at_ = λ above after.
       ap (λ ss. gap_amount number (first_seen_gap (map seen xs)) + (stated_amount number (line_read ss above after).0 + lines_amount number (line_read ss above after).1)) (parts_seen xs)
       ∙ line_kept xs f (all_kept xs g) (statements_quiet Begins Begins xs refl f (all_silent xs g) at_) above after
@@ -131,24 +131,24 @@ module _ (number : Bytes → ℕ) where
   node_reads k.ForStmt xs h f g at_ = compound_reads k.ForStmt xs (for_kept number xs f g at_)
   node_reads _ xs h f g at_ = no_such h
 
-  line_ends : (xs : List Part) → Statements xs → AllByRecursion (Known number) xs → AtParts BzlStands Along Along xs → Ends None (suite_in k.Line (map stated xs)) (total (part_amount number) xs)
+  line_ends : (xs : List Part) → Statements xs → AllByRecursion (Known number) xs → AtParts Stands Along Along xs → Ends None (suite_in k.Line (map stated xs)) (total (part_amount number) xs)
   line_ends xs f g at_ after =
       let same = ap (λ ss. stated_amount number (line_read ss [] after).0 + lines_amount number (line_read ss [] after).1) (parts_seen xs) in
       let line = line_kept xs f (all_kept xs g) (statements_quiet Along Along xs refl f (all_silent xs g) at_) [] after in
       let first = first_silent xs f (all_silent xs g) at_ in
       omega arith
 
-  suite_ends : (xs : List Part) → Fits IsNonterminal (bzl_shape k.Suite) xs → AllByRecursion AsStatement xs → AtParts BzlStands Along Along xs → Ends (suffix_before k.Suite (map stated xs)) (suite_in k.Suite (map stated xs)) (total (part_amount number) xs)
+  suite_ends : (xs : List Part) → Fits IsNonterminal (bzl_shape k.Suite) xs → AllByRecursion AsStatement xs → AtParts Stands Along Along xs → Ends (suffix_before k.Suite (map stated xs)) (suite_in k.Suite (map stated xs)) (total (part_amount number) xs)
   suite_ends [] f w at_ after = absurd f
   suite_ends (mark ∷ []) f w at_ after = absurd f.1
   suite_ends (mark ∷ x ∷ xs) f w at_ after =
-      let there : AtParts BzlStands Along Begins (x ∷ xs) = subst (λ z. AtParts BzlStands Along z (x ∷ xs)) (newline_ends mark Along Along f.0) at_.1 in
+      let there : AtParts Stands Along Begins (x ∷ xs) = subst (λ z. AtParts Stands Along z (x ∷ xs)) (newline_ends mark Along Along f.0) at_.1 in
       let all = suite_kept Along x xs after (f.1.0, several_statements xs f.1.1) w.1 there in
       let suffix = ap (λ s. suffix_amount number (only_comment (all_in s.gap))) (part_of mark) ∙ (sym (suffix_total number (only_comment (all_in (seen mark).gap))) ∙ ap (total number) (sym (newline_comment mark f.0 at_.0))) in
       let newline = token_part number mark (token s.newline mark f.0) in
       omega arith
 
-  node_ends : (kind : Kind) (xs : List Part) → nonterminal_has_kind s.suite kind ≡ true → Fits IsNonterminal (bzl_shape kind) xs → AllByRecursion (Known number) xs → AllByRecursion AsStatement xs → AtParts BzlStands Along Along xs
+  node_ends : (kind : Kind) (xs : List Part) → nonterminal_has_kind s.suite kind ≡ true → Fits IsNonterminal (bzl_shape kind) xs → AllByRecursion (Known number) xs → AllByRecursion AsStatement xs → AtParts Stands Along Along xs
       → Ends (suffix_before kind (map stated xs)) (suite_in kind (map stated xs)) (total (part_amount number) xs)
   node_ends k.Line xs h f g w at_ = line_ends xs f g at_
   node_ends k.Suite xs h f g w at_ = suite_ends xs f w at_
@@ -172,17 +172,17 @@ module _ (number : Bytes → ℕ) where
       (subst (λ a. Ends (suffix_before kind (map stated (items-the_row-Part m r))) (suite_in kind (map stated (items-the_row-Part m r))) a) (sym (row_leaves number m r)) h)
 
   mutual
-    pub part_read : (x : Part) → LegalBzlPart x → AsStatement x × Known number x
+    pub part_read : (x : Part) → LegalPart x → AsStatement x × Known number x
     part_read (p.Leaf l) h = (λ i at_. no_such i, record { kept = part_kept number (p.Leaf l) h; silent = part_silent (p.Leaf l) h; suite = λ i at_. no_such i })
     part_read (Node' kind n r) h =
         let x : Part = Node' kind n r in
         let xs : List Part = items-the_row-Part _ r in
         let inside : AllByRecursion AsStatement xs × AllByRecursion (Known number) xs = parts_read _ r h.1 in (
-          λ i at_. row_reads kind _ r (node_reads kind xs i h.0 inside.1 (parts_of_row BzlStands Begins Begins _ r at_)),
-          record { kept = part_kept number x h; silent = part_silent x h; suite = λ i at_. row_ends kind _ r (node_ends kind xs i h.0 inside.1 inside.0 (parts_of_row BzlStands Along Along _ r at_)) },
+          λ i at_. row_reads kind _ r (node_reads kind xs i h.0 inside.1 (parts_of_row Stands Begins Begins _ r at_)),
+          record { kept = part_kept number x h; silent = part_silent x h; suite = λ i at_. row_ends kind _ r (node_ends kind xs i h.0 inside.1 inside.0 (parts_of_row Stands Along Along _ r at_)) },
         )
 
-    pub parts_read : (m : _) (r : Row_of-Part m) → LegalBzlRow r → AllByRecursion AsStatement (items-the_row-Part m r) × AllByRecursion (Known number) (items-the_row-Part m r)
+    pub parts_read : (m : _) (r : Row_of-Part m) → LegalRow r → AllByRecursion AsStatement (items-the_row-Part m r) × AllByRecursion (Known number) (items-the_row-Part m r)
     parts_read m end_of-Part h = (tt, tt)
     parts_read m (more_of-Part x rest) h =
         let one : AsStatement x × Known number x = part_read x h.0 in

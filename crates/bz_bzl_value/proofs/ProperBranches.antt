@@ -9,7 +9,7 @@ use Rattle.bz_grammar.specs.declared.tree.Part.{Part}
 use Rattle.bz_grammar.specs.Shapes as s
 use Rattle.bz_grammar.specs.Shapes.{Shape, Fits, bzl_shape}
 use Rattle.bz_grammar.specs.Legal.{IsNonterminal}
-use Rattle.bz_grammar.specs.Spots.{Begins, Along, BzlStands, AtLeaves, AtParts}
+use Rattle.bz_grammar.specs.Spots.{Begins, Along, Stands, AtLeaves, AtParts}
 use Rattle.bz_grammar.proofs.Balance.{parts_split}
 use Rattle.bz_value.specs.declared.value.Form.{Form}
 use Rattle.bz_value.specs.LineShapes.{line_shape}
@@ -44,10 +44,10 @@ abbrev pub Ends : (Lines → SuiteRead) → Type 0
 Ends read = (after : Lines) → AreFine after → AreSome (read after).0.0 × (Group (read after).0.1 × AreFine (read after).1)
 
 abbrev pub AsStatement : Part → Type 0
-AsStatement x = IsNonterminal s.stmt x → AtLeaves BzlStands Begins x → Reads (stated x).statement
+AsStatement x = IsNonterminal s.stmt x → AtLeaves Stands Begins x → Reads (stated x).statement
 
 abbrev pub AsSuite : Part → Type 0
-AsSuite x = IsNonterminal s.suite x → AtLeaves BzlStands Along x → MaybeComment (stated x).suffix × Ends (stated x).suite
+AsSuite x = IsNonterminal s.suite x → AtLeaves Stands Along x → MaybeComment (stated x).suffix × Ends (stated x).suite
 
 -- what is known of a part
 pub record Known (x : Part) : Type 0 where
@@ -99,14 +99,14 @@ one_branch kind shape P xs mark own back n c w o g b above left after a l f =
     subst (Branched (HeadThen kind shape P)) (sym (header_ends kind above left xs mark own back after n c)) all
 
 -- where the parts of a header are
-headed_branch : (kind : Kind) (shape : Shape) (P : List Form → Type 0) (F : List Part → Type 0) (word : Part) (back xs : List Part) (h : Headed F back xs) → InHeader word → AllKnown (word ∷ xs) → AtParts BzlStands Begins Begins (word ∷ xs)
+headed_branch : (kind : Kind) (shape : Shape) (P : List Form → Type 0) (F : List Part → Type 0) (word : Part) (back xs : List Part) (h : Headed F back xs) → InHeader word → AllKnown (word ∷ xs) → AtParts Stands Begins Begins (word ∷ xs)
     → (HeadKnown (word ∷ h.front) → HeadProper kind shape (word ∷ h.front)) → Branches P kind back → Branches (HeadThen kind shape P) kind (word ∷ xs)
 headed_branch kind shape P F word back xs h n g at_ w b =
     let front : List Part = word ∷ h.front in
     let following : List Part = h.mark ∷ h.own ∷ back in
     let same : word ∷ xs ≡ front ++ following = ap (λ (zs : List Part). word ∷ zs) h.cut in
     let known : AllKnown front × AllKnown following = all_parted Known front following (subst AllKnown same g) in
-    let there : AtParts BzlStands Begins Begins front = (parts_split BzlStands Begins Begins front following (subst (AtParts BzlStands Begins Begins) same at_)).0 in
+    let there : AtParts Stands Begins Begins front = (parts_split Stands Begins Begins front following (subst (AtParts Stands Begins Begins) same at_)).0 in
     let head : HeadProper kind shape front = w (record { decoded = all_decoded front known.0; fit = all_fit front known.0 (n, h.plain); there = there }) in
     subst (Branches (HeadThen kind shape P) kind) (sym same) (one_branch kind shape P front h.mark h.own back (n, h.plain) (colon_is h.mark h.colon) head (known.1.1.0.suite h.suite h.there) known.1.1.1 b)
 
@@ -143,7 +143,7 @@ further_branches : (h : Header) (xs : List Part) → Further (BranchesFrom (next
 further_branches h [] b = λ above left after a l f. (none_next h, (tt, l))
 further_branches h (x ∷ xs) b = b
 
-header_branch : (h : Header) (word : Part) (back xs : List Part) → Headed (λ front. IsHead h (word ∷ front)) back xs → InHeader word → AllKnown (word ∷ xs) → AtParts BzlStands Begins Begins (word ∷ xs) → Further (BranchesFrom (next_of h)) (kind_of h) back
+header_branch : (h : Header) (word : Part) (back xs : List Part) → Headed (λ front. IsHead h (word ∷ front)) back xs → InHeader word → AllKnown (word ∷ xs) → AtParts Stands Begins Begins (word ∷ xs) → Further (BranchesFrom (next_of h)) (kind_of h) back
     → BranchesFrom (turn_of h) (kind_of h) word xs
 header_branch h word back xs headed n g at_ b =
     branches_as (kind_of h) (HeadThen (kind_of h) (shape_of h) (HeadsAt (next_of h))) (HeadsAt (turn_of h)) (word ∷ xs) (in_order h)
@@ -154,11 +154,11 @@ header_branch h word back xs headed n g at_ b =
 abbrev pub Compound : Kind → List Part → Type 0
 Compound kind xs = Headers (BranchesFrom first) kind xs
 
-pub if_proper : (xs : List Part) → Fits IsNonterminal (bzl_shape k.IfStmt) xs → AllKnown xs → AtParts BzlStands Begins Begins xs → Compound k.IfStmt xs
+pub if_proper : (xs : List Part) → Fits IsNonterminal (bzl_shape k.IfStmt) xs → AllKnown xs → AtParts Stands Begins Begins xs → Compound k.IfStmt xs
 if_proper xs f g at_ = if_statement Known BranchesFrom header_branch xs f g at_
 
-pub for_proper : (xs : List Part) → Fits IsNonterminal (bzl_shape k.ForStmt) xs → AllKnown xs → AtParts BzlStands Begins Begins xs → Compound k.ForStmt xs
+pub for_proper : (xs : List Part) → Fits IsNonterminal (bzl_shape k.ForStmt) xs → AllKnown xs → AtParts Stands Begins Begins xs → Compound k.ForStmt xs
 for_proper xs f g at_ = for_statement Known BranchesFrom header_branch xs f g at_
 
-pub def_proper : (xs : List Part) → Fits IsNonterminal (bzl_shape k.Def) xs → AllKnown xs → AtParts BzlStands Begins Begins xs → Compound k.Def xs
+pub def_proper : (xs : List Part) → Fits IsNonterminal (bzl_shape k.Def) xs → AllKnown xs → AtParts Stands Begins Begins xs → Compound k.Def xs
 def_proper xs f g at_ = def_statement Known BranchesFrom header_branch xs f g at_

@@ -9,9 +9,9 @@ use Rattle.bz_grammar.specs.declared.tree.Part.{Part, Node'}
 use Rattle.bz_grammar.specs.declared.tree.Part.TheVariants as p
 use Rattle.bz_grammar.specs.Shapes as s
 use Rattle.bz_grammar.specs.Shapes.{Fits, Several, bzl_shape, tok, done}
-use Rattle.bz_grammar.specs.Legal.{IsNonterminal, LegalBzlPart}
+use Rattle.bz_grammar.specs.Legal.{IsNonterminal, LegalPart}
 use Rattle.bz_grammar.specs.Spell.{leaves_part, leaves_of}
-use Rattle.bz_grammar.specs.Spots.{Begins, BzlStands, AtParts}
+use Rattle.bz_grammar.specs.Spots.{Begins, Stands, AtParts}
 use Rattle.bz_grammar.proofs.Balance.{no_such}
 use Rattle.bz_value.specs.Gaps.{groups_of, all_but_last, last_group}
 use Rattle.bz_value.proofs.GapComments.{AreFine, Groups, all_joined, groups_fine, groups_front, groups_last}
@@ -42,7 +42,7 @@ alone_proper : (groups : List (List Bytes)) → Groups groups → AreProperItems
 alone_proper groups h = (all_wide (blocks groups) (blocks_proper groups h)).0
 
 -- statements and the end, where these lines are before the first of them
-items_proper : (lines : Lines) (xs : List Part) → AreFine lines → Several (IsNonterminal s.stmt) (Fits IsNonterminal (tok s.end done)) xs → AllKnown xs → AtParts BzlStands Begins Begins xs → AreProperItems (bzl_items lines xs)
+items_proper : (lines : Lines) (xs : List Part) → AreFine lines → Several (IsNonterminal s.stmt) (Fits IsNonterminal (tok s.end done)) xs → AllKnown xs → AtParts Stands Begins Begins xs → AreProperItems (bzl_items lines xs)
 items_proper lines [] f h g at_ = tt
 items_proper lines (p.Leaf l ∷ []) f (inl h) g at_ =
     let groups : List (List Bytes) = groups_of lines in
@@ -55,12 +55,12 @@ items_proper lines (Node' kind n r ∷ xs) f (inr h) g at_ =
     let fine : Groups groups = groups_fine lines f in
     let after : Lines = indented_lines_before (map stated xs) [] in
     let read : ReadStatements (List Statement) = (stated (Node' kind n r)).statement (last_group groups) after in
-    let there : AtParts BzlStands Begins Begins xs = subst (λ z. AtParts BzlStands Begins z xs) (after_stmt (Node' kind n r) Begins Begins h.0) at_.1 in
+    let there : AtParts Stands Begins Begins xs = subst (λ z. AtParts Stands Begins z xs) (after_stmt (Node' kind n r) Begins Begins h.0) at_.1 in
     let one : AreSome read.0 × AreFine read.1 = g.0.statement h.0 at_.0 (last_group groups) after (groups_last groups fine) (before_lines xs [] g.1 tt) in
     all_joined IsProperBzlItem (block_items (all_but_last groups)) (map b.Statement read.0 ++ bzl_items read.1 xs) (alone_proper (all_but_last groups) (groups_front groups fine))
     (all_joined IsProperBzlItem (map b.Statement read.0) (bzl_items read.1 xs) (statements_proper read.0 one.0.1) (items_proper read.1 xs one.1 h.1 g.1 there))
 
-all_known : (xs : List Part) → AllByRecursion LegalBzlPart xs → AllByRecursion IsLexed (flat_map leaves_part xs) → AllByRecursion IsCodedLeaf (flat_map leaves_part xs) → AllKnown xs
+all_known : (xs : List Part) → AllByRecursion LegalPart xs → AllByRecursion IsLexed (flat_map leaves_part xs) → AllByRecursion IsCodedLeaf (flat_map leaves_part xs) → AllKnown xs
 all_known [] h v u = tt
 all_known (x ∷ xs) h v u =
     let a = all_parted IsLexed (leaves_part x) (flat_map leaves_part xs) v in

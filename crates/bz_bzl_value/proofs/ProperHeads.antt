@@ -10,7 +10,7 @@ use Rattle.bz_grammar.specs.declared.tree.Part.{Part}
 use Rattle.bz_grammar.specs.Shapes as s
 use Rattle.bz_grammar.specs.Shapes.{Shape, Fits, has_token, is_kind}
 use Rattle.bz_grammar.specs.Legal.{IsNonterminal}
-use Rattle.bz_grammar.specs.Spots.{Spot, Begins, Within, after_part, BzlStands, AtParts}
+use Rattle.bz_grammar.specs.Spots.{Spot, Begins, Within, after_part, Stands, AtParts}
 use Rattle.bz_grammar.specs.Suites.{def_header, for_header}
 use Rattle.bz_grammar.proofs.Balance.{no_such}
 use Rattle.bz_value.specs.declared.value.Expr.{Expr}
@@ -43,7 +43,7 @@ before_fine above ss a t = All-from_recursion IsComment (above ++ loose_in ss) (
 
 -- ---- the parts of a header
 
-row_parts : (inside newline : Bool) (here : Spot) (xs : List Part) → AllFit line_shape xs → AtParts BzlStands Begins here xs → AreHeaderParts here (row_exprs false inside newline (map seen xs))
+row_parts : (inside newline : Bool) (here : Spot) (xs : List Part) → AllFit line_shape xs → AtParts Stands Begins here xs → AreHeaderParts here (row_exprs false inside newline (map seen xs))
 row_parts inside newline here [] h at_ = tt
 row_parts inside newline here (x ∷ xs) h at_ = (
   h.0 here at_.0 no_comments false,
@@ -64,7 +64,7 @@ HeadProper kind shape xs = (above : List Bytes) (suffix : Option Bytes) → Grou
 pub record HeadKnown (xs : List Part) : Type 0 where
   pub decoded : AllDecoded (map seen xs)
   pub fit : AllFit line_shape xs
-  pub there : AtParts BzlStands Begins Begins xs
+  pub there : AtParts Stands Begins Begins xs
 
 -- with no parameters
 row_proper : (kind : Kind) (shape : Shape) (xs : List Part) → is_kind kind k.Def ≡ false → FitsHeader shape xs → HeadKnown xs → (above : List Bytes) (suffix : Option Bytes) → Group above → MaybeComment suffix
@@ -95,7 +95,7 @@ named_proper : (word name opener : Part) (ps : List Part) → has_token (s.one_k
 named_proper word name opener ps h i j alternating fits g above suffix a m =
     let ss : List Seen = map seen (word ∷ name ∷ opener ∷ ps) in
     let f : Form = def_head ss above suffix in
-    let there : AtParts BzlStands Begins Within ps = subst (λ z. AtParts BzlStands Begins z ps) (token_opens s.open_round opener Begins _ refl j) g.there.1.1.1 in
+    let there : AtParts Stands Begins Within ps = subst (λ z. AtParts Stands Begins z ps) (token_opens s.open_round opener Begins _ refl j) g.there.1.1.1 in
     let inside : FoundProper line_shape ps (map seen ps) = found_proper line_shape Begins ps g.decoded.1.1.1 g.fit.1.1.1 there alternating in
     let same : Same (word ∷ name ∷ r.mark_leaf 40 ∷ closed_row ps) (map root f.parts ++ header_end f) =
     more word _ _ _ (root_made word no_comments false) (

@@ -10,9 +10,9 @@ use Rattle.bz_grammar.specs.declared.tree.Part.{Part, Row_of-Part, end_of-Part, 
 use Rattle.bz_grammar.specs.declared.tree.Part.TheVariants as p
 use Rattle.bz_grammar.specs.Shapes as s
 use Rattle.bz_grammar.specs.Shapes.{Fits, bzl_shape, nonterminal_has_kind}
-use Rattle.bz_grammar.specs.Legal.{IsNonterminal, LegalBzlPart, LegalBzlRow}
+use Rattle.bz_grammar.specs.Legal.{IsNonterminal, LegalPart, LegalRow}
 use Rattle.bz_grammar.specs.Spell.{leaves_part, leaves_row}
-use Rattle.bz_grammar.specs.Spots.{Spot, Begins, Along, onward, after_part, BzlStands, AtLeaves, AtParts}
+use Rattle.bz_grammar.specs.Spots.{Spot, Begins, Along, onward, after_part, Stands, AtLeaves, AtParts}
 use Rattle.bz_grammar.proofs.Balance.{no_such, parts_of_row}
 use Rattle.bz_value.specs.Comments.{HostComments}
 use Rattle.bz_value.specs.Frames.{Frame, row, sequence, frame}
@@ -62,7 +62,7 @@ simple_made (Node' kind n r) cs h = node_simple kind (seen_row r) cs (frame kind
 abbrev with_host : List Bytes → Option Bytes → Part → HostComments
 with_host above suffix x = record { before = above ++ (seen x).loose; suffix = suffix }
 
-simple_proper : (here : Spot) (x : Part) (above : List Bytes) (suffix : Option Bytes) → onward here ≡ onward Begins → IsNonterminal s.small x → Known x → AtLeaves BzlStands here x → Group above → MaybeComment suffix
+simple_proper : (here : Spot) (x : Part) (above : List Bytes) (suffix : Option Bytes) → onward here ≡ onward Begins → IsNonterminal s.small x → Known x → AtLeaves Stands here x → Group above → MaybeComment suffix
     → IsProperStatement (st.Simple ((seen x).make (with_host above suffix x) false))
 simple_proper here x above suffix e h g at_ a m =
     let cs : HostComments = with_host above suffix x in (
@@ -72,7 +72,7 @@ simple_proper here x above suffix e h g at_ a m =
     )
 
 -- the statements of a line, from one on that is here
-simple_some : (outer here : Spot) (above : List Bytes) (xs : List Part) → onward here ≡ onward Begins → Statements xs → AllKnown xs → AtParts BzlStands outer here xs → Group above → AreSome (simple_statements (statements_in above (map seen xs)))
+simple_some : (outer here : Spot) (above : List Bytes) (xs : List Part) → onward here ≡ onward Begins → Statements xs → AllKnown xs → AtParts Stands outer here xs → Group above → AreSome (simple_statements (statements_in above (map seen xs)))
 simple_some outer here above [] e h g at_ a = absurd h
 simple_some outer here above (x ∷ []) e h g at_ a = absurd h.1
 simple_some outer here above (x ∷ y ∷ []) e h g at_ a = (tt, (simple_proper here x above (suffix_in (seen y).gap) e h.0 g.0 at_.0 a (suffix_fine (seen y).gap g.1.0.decoded.coded), tt))
@@ -81,11 +81,11 @@ simple_some outer here above (x ∷ y ∷ z ∷ u ∷ xs) e (h, inl j) g at_ a =
 simple_some outer here above (x ∷ y ∷ z ∷ u ∷ xs) e (h, inr (m, inr j)) g at_ a = absurd j.1.1
 simple_some outer here above (x ∷ y ∷ z ∷ u ∷ xs) e (h, inr (m, inl j)) g at_ a =
     let there : after_part outer (after_part outer here x) y ≡ onward here = token_goes s.semicolon y refl m outer (after_part outer here x) ∙ (ap onward (nonterminal_goes s.small x refl h outer here) ∙ on_twice here) in
-    let rest : AreSome (simple_statements (statements_in [] (map seen (z ∷ u ∷ xs)))) = simple_some outer (onward here) [] (z ∷ u ∷ xs) (on_twice here ∙ e) j g.1.1 (subst (λ q. AtParts BzlStands outer q (z ∷ u ∷ xs)) there at_.1.1) tt in
+    let rest : AreSome (simple_statements (statements_in [] (map seen (z ∷ u ∷ xs)))) = simple_some outer (onward here) [] (z ∷ u ∷ xs) (on_twice here ∙ e) j g.1.1 (subst (λ q. AtParts Stands outer q (z ∷ u ∷ xs)) there at_.1.1) tt in
     (tt, (simple_proper here x above None e h g.0 at_.0 a tt, rest.1))
 
 -- the gap of a line's newline
-line_reads : (outer here : Spot) (xs : List Part) → onward here ≡ onward Begins → Statements xs → AllKnown xs → AtParts BzlStands outer here xs → Reads (line_read (map seen xs))
+line_reads : (outer here : Spot) (xs : List Part) → onward here ≡ onward Begins → Statements xs → AllKnown xs → AtParts Stands outer here xs → Reads (line_read (map seen xs))
 line_reads outer here xs e h g at_ above after a f =
     let gap : Bytes = last_gap (map seen xs) in
     let following : AreFine (after_first_line (lines_of gap)) = fine_after (lines_of gap) (fine_lines gap (last_decoded (map seen xs) (all_decoded xs g))) in
@@ -97,17 +97,17 @@ line_reads outer here xs e h g at_ above after a f =
 abbrev Walks : ReadStatements (List Statement) → Type 0
 Walks read = AllByRecursion IsProperStatement read.0 × AreFine read.1
 
-walked_proper : (outer : Spot) (lines : Lines) (xs : List Part) (after : Lines) → AreFine lines → StatementParts xs → AllKnown xs → AtParts BzlStands outer Begins xs → AreFine after → Walks (walked lines (map stated xs) after)
+walked_proper : (outer : Spot) (lines : Lines) (xs : List Part) (after : Lines) → AreFine lines → StatementParts xs → AllKnown xs → AtParts Stands outer Begins xs → AreFine after → Walks (walked lines (map stated xs) after)
 walked_proper outer lines [] after l h g at_ f = (tt, l)
 walked_proper outer lines (x ∷ xs) after l h g at_ f =
-    let there : AtParts BzlStands outer Begins xs = subst (λ z. AtParts BzlStands outer z xs) (after_stmt x outer Begins h.0) at_.1 in
+    let there : AtParts Stands outer Begins xs = subst (λ z. AtParts Stands outer z xs) (after_stmt x outer Begins h.0) at_.1 in
     let read : ReadStatements (List Statement) = (stated x).statement (comments_in lines) (indented_lines_before (map stated xs) after) in
     let one : AreSome read.0 × AreFine read.1 = g.0.statement h.0 at_.0 (comments_in lines) (indented_lines_before (map stated xs) after) (fine_comments lines l) (before_lines xs after g.1 f) in
     let more : Walks (walked read.1 (map stated xs) after) = walked_proper outer read.1 xs after one.1 h.1 g.1 there f in
     (all_joined IsProperStatement read.0 (walked read.1 (map stated xs) after).0 one.0.1 more.0, more.1)
 
 -- and there is at least one
-walked_some : (lines : Lines) (x : Part) (xs : List Part) (after : Lines) → AreFine lines → IsNonterminal s.stmt x → Known x → AllKnown xs → AtLeaves BzlStands Begins x → AreFine after → HasSome (walked lines (map stated (x ∷ xs)) after).0
+walked_some : (lines : Lines) (x : Part) (xs : List Part) (after : Lines) → AreFine lines → IsNonterminal s.stmt x → Known x → AllKnown xs → AtLeaves Stands Begins x → AreFine after → HasSome (walked lines (map stated (x ∷ xs)) after).0
 walked_some lines x xs after l h g i at_ f =
     let read : ReadStatements (List Statement) = (stated x).statement (comments_in lines) (indented_lines_before (map stated xs) after) in
     let one : AreSome read.0 × AreFine read.1 = g.statement h at_ (comments_in lines) (indented_lines_before (map stated xs) after) (fine_comments lines l) (before_lines xs after i f) in
@@ -115,7 +115,7 @@ walked_some lines x xs after l h g i at_ f =
 
 -- ---- suites
 
-suite_reads : (outer : Spot) (x : Part) (xs : List Part) → StatementParts (x ∷ xs) → AllKnown (x ∷ xs) → AtParts BzlStands outer Begins (x ∷ xs) → Ends (suite_read (map stated (x ∷ xs)))
+suite_reads : (outer : Spot) (x : Part) (xs : List Part) → StatementParts (x ∷ xs) → AllKnown (x ∷ xs) → AtParts Stands outer Begins (x ∷ xs) → Ends (suite_read (map stated (x ∷ xs)))
 suite_reads outer x xs h g at_ after f =
     let lines : Lines = indented_lines_before (map stated (x ∷ xs)) [] in
     let fine : AreFine lines = before_lines (x ∷ xs) [] g tt in
@@ -128,16 +128,16 @@ suite_reads outer x xs h g at_ after f =
 abbrev SuiteOf : Kind → List Part → Type 0
 SuiteOf kind xs = MaybeComment (suffix_before kind (map stated xs)) × Ends (suite_in kind (map stated xs))
 
-suite_node : (xs : List Part) → Fits IsNonterminal (bzl_shape k.Suite) xs → AllKnown xs → AtParts BzlStands Along Along xs → SuiteOf k.Suite xs
+suite_node : (xs : List Part) → Fits IsNonterminal (bzl_shape k.Suite) xs → AllKnown xs → AtParts Stands Along Along xs → SuiteOf k.Suite xs
 suite_node [] f g at_ = absurd f
 suite_node (mark ∷ []) f g at_ = absurd f.1
 suite_node (mark ∷ x ∷ xs) f g at_ =
-    let there : AtParts BzlStands Along Begins (x ∷ xs) = subst (λ z. AtParts BzlStands Along z (x ∷ xs)) (newline_ends mark Along Along f.0) at_.1 in (
+    let there : AtParts Stands Along Begins (x ∷ xs) = subst (λ z. AtParts Stands Along z (x ∷ xs)) (newline_ends mark Along Along f.0) at_.1 in (
       subst (λ y. MaybeComment (only_comment (all_in y.gap))) (sym (part_of mark)) (only_fine (all_in (seen mark).gap) (all_fine (seen mark).gap g.0.decoded.coded)),
       suite_reads Along x xs (f.1.0, several_statements xs f.1.1) g.1 there,
     )
 
-line_node : (xs : List Part) → Statements xs → AllKnown xs → AtParts BzlStands Along Along xs → SuiteOf k.Line xs
+line_node : (xs : List Part) → Statements xs → AllKnown xs → AtParts Stands Along Along xs → SuiteOf k.Line xs
 line_node xs f g at_ = (
   tt,
   λ after b.
@@ -146,7 +146,7 @@ line_node xs f g at_ = (
       (one.0, (tt, one.1)),
 )
 
-node_suite : (kind : Kind) (xs : List Part) → nonterminal_has_kind s.suite kind ≡ true → Fits IsNonterminal (bzl_shape kind) xs → AllKnown xs → AtParts BzlStands Along Along xs → SuiteOf kind xs
+node_suite : (kind : Kind) (xs : List Part) → nonterminal_has_kind s.suite kind ≡ true → Fits IsNonterminal (bzl_shape kind) xs → AllKnown xs → AtParts Stands Along Along xs → SuiteOf kind xs
 node_suite k.Line xs h f g at_ = line_node xs f g at_
 node_suite k.Suite xs h f g at_ = suite_node xs f g at_
 node_suite _ xs h f g at_ = no_such h
@@ -157,7 +157,7 @@ compound_reads kind (x ∷ xs) h above after a f =
     let all = h above after after a f f in
     ((tt, (compound_proper (branches kind [] above after (map stated (x ∷ xs)) after).0 all.0 all.1.0, tt)), all.1.1)
 
-node_statement : (kind : Kind) (xs : List Part) → nonterminal_has_kind s.stmt kind ≡ true → Fits IsNonterminal (bzl_shape kind) xs → AllKnown xs → AtParts BzlStands Begins Begins xs → Reads (statement_read kind (map stated xs))
+node_statement : (kind : Kind) (xs : List Part) → nonterminal_has_kind s.stmt kind ≡ true → Fits IsNonterminal (bzl_shape kind) xs → AllKnown xs → AtParts Stands Begins Begins xs → Reads (statement_read kind (map stated xs))
 node_statement k.Line xs h f g at_ = subst (λ ss. Reads (line_read ss)) (sym (parts_seen xs)) (line_reads Begins Begins xs refl f g at_)
 node_statement k.Def xs h f g at_ = compound_reads k.Def xs (def_proper xs f g at_)
 node_statement k.IfStmt xs h f g at_ = compound_reads k.IfStmt xs (if_proper xs f g at_)
@@ -167,7 +167,7 @@ node_statement _ xs h f g at_ = no_such h
 -- ---- parts
 
 mutual
-  pub part_known : (x : Part) → LegalBzlPart x → AllByRecursion IsLexed (leaves_part x) → AllByRecursion IsCodedLeaf (leaves_part x) → Known x
+  pub part_known : (x : Part) → LegalPart x → AllByRecursion IsLexed (leaves_part x) → AllByRecursion IsCodedLeaf (leaves_part x) → Known x
   part_known (p.Leaf l) h v u = record { decoded = part_decoded (p.Leaf l) u; fit = line_proper (p.Leaf l) h v u; statement = λ i at_. no_such i; suite = λ i at_. no_such i }
   part_known (Node' kind n r) h v u =
       let xs : List Part = items-the_row-Part _ r in
@@ -175,11 +175,11 @@ mutual
       record {
         decoded = part_decoded (Node' kind n r) u;
         fit = line_proper (Node' kind n r) h v u;
-        statement = λ i at_. subst (λ ss. Reads (statement_read kind ss)) (sym (stated_rows _ r)) (node_statement kind xs i h.0 known (parts_of_row BzlStands Begins Begins _ r at_));
-        suite = λ i at_. subst (λ ss. MaybeComment (suffix_before kind ss) × Ends (suite_in kind ss)) (sym (stated_rows _ r)) (node_suite kind xs i h.0 known (parts_of_row BzlStands Along Along _ r at_));
+        statement = λ i at_. subst (λ ss. Reads (statement_read kind ss)) (sym (stated_rows _ r)) (node_statement kind xs i h.0 known (parts_of_row Stands Begins Begins _ r at_));
+        suite = λ i at_. subst (λ ss. MaybeComment (suffix_before kind ss) × Ends (suite_in kind ss)) (sym (stated_rows _ r)) (node_suite kind xs i h.0 known (parts_of_row Stands Along Along _ r at_));
       }
 
-  pub parts_known : (m : _) (r : Row_of-Part m) → LegalBzlRow r → AllByRecursion IsLexed (leaves_row r) → AllByRecursion IsCodedLeaf (leaves_row r) → AllKnown (items-the_row-Part m r)
+  pub parts_known : (m : _) (r : Row_of-Part m) → LegalRow r → AllByRecursion IsLexed (leaves_row r) → AllByRecursion IsCodedLeaf (leaves_row r) → AllKnown (items-the_row-Part m r)
   parts_known m end_of-Part h v u = tt
   parts_known m (more_of-Part x rest) h v u =
       let a = all_parted IsLexed (leaves_part x) (leaves_row rest) v in

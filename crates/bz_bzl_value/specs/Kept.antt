@@ -1,7 +1,7 @@
 -- The law that what a .bzl file says loses no comment and doubles none.
 use Rattle.std.specs.Prelude.{◌≡◌, ℕ, ◌+◌, List}
 use Rattle.bz_grammar.specs.declared.tree.Node.{Node}
-use Rattle.bz_grammar.specs.Legal.{LegalBzl}
+use Rattle.bz_grammar.specs.Legal.{Legal}
 use Rattle.bz_value.specs.declared.value.Expr.TheVariants as e
 use Rattle.bz_value.specs.Counted.{total, amount, one_if}
 use Rattle.bz_items.specs.Characters.{Bytes}
@@ -39,4 +39,4 @@ bzl_times text items = total (bzl_item_amount (one_if text)) items
 
 -- Each comment of a legal tree is in what the file says as often as in the tree's gaps.
 abbrev pub BzlCommentsKept : Type 0
-BzlCommentsKept = (tree : Node) → LegalBzl tree → (text : Bytes) → bzl_times text (bzl_view_of tree) ≡ occurrences text tree
+BzlCommentsKept = (tree : Node) → Legal tree → (text : Bytes) → bzl_times text (bzl_view_of tree) ≡ occurrences text tree

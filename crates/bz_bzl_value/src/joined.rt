@@ -8,7 +8,7 @@ ghost use Rattle.bz_bzl_value.specs.View.{bzl_view_of};
 
 use crate::value::BzlFile;
 use crate::viewing::items_of;
-use bz_grammar::{BzlTree, Leaf, Part};
+use bz_grammar::{Leaf, Part, Tree};
 use bz_hosts::gap_at;
 use bz_items::Memory;
 use bz_value::first_line;
@@ -64,7 +64,7 @@ fn ends_with_statement(is_spent: bool, parts: &[Part]) -> bool
 
 /// What the tree of a .bzl file says, and whether its text ends with the newline of a statement that leaves no line to what
 /// follows: a text that `begins_bare` may follow it. The error: memory was refused.
-pub fn view_bzl_front(alloc: Global, tree: &BzlTree) -> Result<(BzlFile, bool), Memory>
+pub fn view_bzl_front(alloc: Global, tree: &Tree) -> Result<(BzlFile, bool), Memory>
     ensures file { IfOk result (λ seen. seen.0.items ≡ bzl_view_of tree.now) }
     ensures ends { IfOk result (λ seen. IsTrue seen.1 → EndsWithStatement tree.now) }
 {
@@ -89,7 +89,7 @@ fn is_bare(gap: &[u8]) -> bool
 }
 
 /// Whether no comment is before the first token of a file.
-pub fn begins_bare(tree: &BzlTree) -> bool
+pub fn begins_bare(tree: &Tree) -> bool
     ensures { IsTrue result → BeginsBare tree.now }
 {
     is_bare(gap_at(tree.root.parts.as_slice(), 0))

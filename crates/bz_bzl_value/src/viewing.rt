@@ -10,7 +10,7 @@ ghost use Rattle.bz_value.specs.Gaps.{groups_of, all_but_last, last_group, lines
 use crate::headers::{after_first_part, colon_from, head, is_compound, is_kind, suffix_before};
 use crate::rest::{Rest, comments, is_spent, rest_of_gap, take_end};
 use crate::value::{Branch, BzlFile, BzlItem, Statement};
-use bz_grammar::{BzlTree, Kind, Node, Part};
+use bz_grammar::{Kind, Node, Part, Tree};
 use bz_hosts::{gap_at, gap_before, gap_of_last, push_groups, push_statements};
 use bz_items::{Items, Memory, Text};
 use bz_value::{Item, past_first_line};
@@ -317,7 +317,7 @@ fn push_items(statements: Items<Statement>, items: &mut Items<BzlItem>) -> Resul
 
 /// What the tree of a .bzl file says: its statements with their suites, each comment at its host. The error: memory was
 /// refused.
-pub fn view_bzl(alloc: Global, tree: &BzlTree) -> Result<BzlFile, Memory>
+pub fn view_bzl(alloc: Global, tree: &Tree) -> Result<BzlFile, Memory>
     ensures { IfOk result (λ file. file.items ≡ bzl_view_of tree.now) }
 {
     let (items, _) = items_of(alloc, tree.root.parts.as_slice())?;

@@ -13,7 +13,7 @@ use Rattle.bz_edit.proofs.Keeps.{trees_length}
 use Rattle.bz_edit.specs.Shown.{TakesUp, texts_of, trees_around}
 
 kinds : (x y : Node) → IsTree x → IsTree y → x.kind ≡ y.kind
-kinds x y h k = h.0.file.root ∙ sym k.0.file.root
+kinds x y h k = h.0.legal.file.root ∙ sym k.0.legal.file.root
 
 least_of : (x y : Node) → IsTree x → IsTree y → Least (step x y) x y
 least_of x y h k = step_is_least x y (kinds x y h k)

@@ -2,7 +2,7 @@
 use Rattle.std.specs.Prelude.{ℕ, ◌≡◌, ◌≤◌, Bool, true, List, [], ◌∷◌, length, reverse, take, drop}
 use Rattle.std.specs.List.{list_all}
 use Rattle.bz_grammar.specs.declared.tree.Node.{Node}
-use Rattle.bz_grammar.specs.Legal.{Legal}
+use Rattle.bz_grammar.specs.Legal.{LegalBuild}
 use Rattle.bz_grammar.specs.Spell.{spell_node, limit}
 use Rattle.bz_edit.specs.declared.edit.Edit.{Edit}
 use Rattle.bz_edit.specs.Steps.{IsStep, all_even, all_there, swap_node, turned_all}
@@ -48,9 +48,9 @@ are_even = list_all all_even
 
 -- ---- which trails there are
 
--- a legal tree whose spelling is within the limit
+-- the legal tree of a BUILD file, whose spelling is within the limit
 abbrev pub IsTree : Node → Type 0
-IsTree n = Legal n × (length (spell_node n) ≤ limit)
+IsTree n = LegalBuild n × (length (spell_node n) ≤ limit)
 
 -- the step is well formed and small enough, its places are there, and it leads to a tree that spells another text
 pub record StepLeads (e : List Edit) (n : Node) : Type 0 where

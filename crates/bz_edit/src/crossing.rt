@@ -63,8 +63,10 @@ fn cross_each(root: &mut Node, steps: &mut [Step]) -> Result<(), Memory>
 
 /// Over steps, the first one first. Even ones take no memory; if some are uneven, tree and steps are copied once, and the copies are
 /// then put in place. The error: a growth was refused; tree and steps are then as before.
+#[tactic(auto, using(crate::proofs::Turn::as_tree))]
 pub(crate) fn cross_all(tree: &mut Tree, steps: &mut [Step]) -> Result<(), Memory>
-    requires { LeadOn tree.old steps.old }
+    requires tree { IsTree tree.old }
+    requires lead { LeadOn tree.old steps.old }
     ensures tree { OnOk result (tree.new ≡ reached tree.old steps.old) }
     ensures steps { OnOk result (steps.new ≡ crossed tree.old steps.old) }
     ensures err { OnErr result ((tree.new ≡ tree.old) × (steps.new ≡ steps.old)) }

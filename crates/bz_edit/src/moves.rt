@@ -24,6 +24,7 @@ pub fn put_after<T: Drop>(items: &mut Vec<T>, n: usize, item: T)
 /// Takes up the tree with the parts of the windows in the place of those that they say, which spells another text: the texts after
 /// the present one are cut, and its text is appended and is the present one. The error: a growth was refused; tree and steps are
 /// then as before.
+#[tactic(auto, using(crate::proofs::Turn::as_tree))]
 pub fn take_up(
     tree: &mut Tree,
     steps: &mut Vec<Step>,

@@ -18,7 +18,7 @@ use Rattle.bz_grammar.specs.declared.tree.Part.TheVariants as part
 use Rattle.bz_grammar.specs.Spell.{leaves_part, leaves_row, leaves_of}
 use Rattle.bz_grammar.specs.Shapes as s
 use Rattle.bz_grammar.specs.Shapes.{Nonterminal, Terminal, Shape, Fits, Listed, Several, bzl_shape, has_token, is_one_of, is_terminal, nonterminal_has_kind, leaves_at}
-use Rattle.bz_grammar.specs.Legal.{IsNonterminal, LegalBzlPart, LegalBzlRow, IsBzlFile}
+use Rattle.bz_grammar.specs.Legal.{IsNonterminal, LegalPart, LegalRow, IsFile}
 use Rattle.bz_grammar.specs.Shapes.{Times}
 use Rattle.bz_grammar.specs.Suites.{def_header, for_header, test_header, else_header}
 use Rattle.bz_grammar.proofs.Exact.{leaves_join}
@@ -194,9 +194,9 @@ leaves_rows m end_of-Part = refl
 leaves_rows m (more_of-Part x rest) = ap (λ t. leaves_part x ++ t) (leaves_rows _ rest)
 
 abbrev pub Legals : List Part → Type 0
-Legals xs = AllByRecursion LegalBzlPart xs
+Legals xs = AllByRecursion LegalPart xs
 
-pub legal_row : (m : _) (r : Row_of-Part m) → LegalBzlRow r → Legals (items-the_row-Part m r)
+pub legal_row : (m : _) (r : Row_of-Part m) → LegalRow r → Legals (items-the_row-Part m r)
 legal_row m end_of-Part h = tt
 legal_row m (more_of-Part x rest) h = (h.0, legal_row _ rest h.1)
 
@@ -284,7 +284,7 @@ module _ (P : Spot → Leaf → Type 0) where
   closing_cons E p ts (Node' kind z r) xs h i k = no_such i
 
   abbrev Will : Part → Type 0
-  Will x = (a : Nonterminal) → inner_nonterminal a ≡ true → IsNonterminal a x → LegalBzlPart x → Kept x
+  Will x = (a : Nonterminal) → inner_nonterminal a ≡ true → IsNonterminal a x → LegalPart x → Kept x
 
   abbrev Wills : List Part → Type 0
   Wills xs = AllByRecursion Will xs
@@ -402,7 +402,7 @@ module _ (P : Spot → Leaf → Type 0) where
   Ends_line q is_nonterminal = (is_nonterminal s.stmt × Begun q) ⊎ is_nonterminal s.suite
 
   abbrev LineWill : Part → Type 0
-  LineWill x = (q : Place) → Ends_line q (λ a. IsNonterminal a x) → LegalBzlPart x → LineKept q x
+  LineWill x = (q : Place) → Ends_line q (λ a. IsNonterminal a x) → LegalPart x → LineKept q x
 
   abbrev LineWills : List Part → Type 0
   LineWills xs = AllByRecursion LineWill xs
@@ -476,7 +476,7 @@ module _ (P : Spot → Leaf → Type 0) where
   header_row r q b ps w l g (hs, x, is, f, i) =
       let w' = both_parts Will hs (x ∷ []) (subst Wills is w) in
       let l' = both_parts LineWill hs (x ∷ []) (subst LineWills is l) in
-      let g' = both_parts LegalBzlPart hs (x ∷ []) (subst Legals is g) in
+      let g' = both_parts LegalPart hs (x ∷ []) (subst Legals is g) in
       let kept = l'.1.0 (same_depth q) (inr i) g'.1.0 in
       let front = row_at (λ e. e ≡ same_depth q) q refl r start b hs w'.0 g'.0 f in
       let last = line_cons Begun q (same_depth q) x [] (after_suite (spot_of q) (spot_of (same_depth q)) x i) kept (none_at Begun q (after (same_depth q) (leaves_part x)) kept.begins_at) in
@@ -490,7 +490,7 @@ module _ (P : Spot → Leaf → Type 0) where
   branches_row p q b c ps w l g (s.once_more front back is h t) =
       let w' = both_parts Will front back (subst Wills is w) in
       let l' = both_parts LineWill front back (subst LineWills is l) in
-      let g' = both_parts LegalBzlPart front back (subst Legals is g) in
+      let g' = both_parts LegalPart front back (subst Legals is g) in
       let one = outer_same Begun q p q front (c ∙ sym b) (header_row (test_header (s.one_keyword (codes "elif"))) q refl front w'.0 l'.0 g'.0 (split_sub IsNonterminal s.suite (test_header (s.one_keyword (codes "elif"))) front h)) in
       let z : Place = after q (flat_map leaves_part front) in
       subst (RowAt Begun p q) (sym is) (row_append Begun p q z front back (exactly Begun p q front one) (branches_row p z b one.ends_at back w'.1 l'.1 g'.1 t))
@@ -500,7 +500,7 @@ module _ (P : Spot → Leaf → Type 0) where
       let x = test_split IsNonterminal (s.one_keyword (codes "if")) s.branches ps f in
       let w' = both_parts Will x.0 x.1 (subst Wills x.2 w) in
       let l' = both_parts LineWill x.0 x.1 (subst LineWills x.2 l) in
-      let g' = both_parts LegalBzlPart x.0 x.1 (subst Legals x.2 g) in
+      let g' = both_parts LegalPart x.0 x.1 (subst Legals x.2 g) in
       let one = header_row (test_header (s.one_keyword (codes "if"))) q refl x.0 w'.0 l'.0 g'.0 x.3 in
       let z : Place = after q (flat_map leaves_part x.0) in
       subst (RowAt Begun q q) (sym x.2) (row_append Begun q q z x.0 x.1 (exactly Begun q q x.0 one) (branches_row q z b one.ends_at x.1 w'.1 l'.1 g'.1 x.4))
@@ -566,7 +566,7 @@ module _ (P : Spot → Leaf → Type 0) where
       let kept = know_line x q (inl (h.0, b)) g.0 in
       line_cons IsOver Fresh q x xs (after_stmt Begins (spot_of q) x h.0) kept (lines_at (after q (leaves_part x)) kept.begins_at xs g.1 h.1)
 
-  pub file_at : (n : Node) → IsBzlFile n → (after Fresh (leaves_of n) ≡ Over) × (AtParts P Begins Begins n.parts ↔ Flat P Fresh (leaves_of n))
+  pub file_at : (n : Node) → IsFile n → (after Fresh (leaves_of n) ≡ Over) × (AtParts P Begins Begins n.parts ↔ Flat P Fresh (leaves_of n))
   file_at n h =
       let fits : Fits IsNonterminal (bzl_shape k.File) n.parts = subst (λ kd. Fits IsNonterminal (bzl_shape kd) n.parts) h.root h.shapes.0 in
       let w = lines_at Fresh refl n.parts h.shapes.1 fits in

@@ -1,4 +1,4 @@
--- Legal by nodes and legal by the list of leaves are the same.
+-- LegalBuild by nodes and legal by the list of leaves are the same.
 use Rattle.std.proofs.Common.{◌≡◌, ℕ, zero, suc, Bool, true, false, List, [], ◌∷◌, ◌++◌, ◌⊎◌, inl, inr, if◌then◌else◌, refl, sym, subst, ◌↔◌}
 use Rattle.bz_token.specs.declared.class.Class.{Class}
 use Rattle.bz_token.specs.declared.class.Class.TheVariants as c
@@ -12,27 +12,26 @@ use Rattle.bz_lex.specs.Leaves.{Stand, spell_leaves, AreLeaves}
 use Rattle.bz_lex.proofs.Tokens.{token_holds}
 use Rattle.bz_lex.proofs.Unique.{not_over}
 use Rattle.bz_grammar.specs.declared.tree.Node.{Node}
-use Rattle.bz_grammar.specs.Legal.{IsBzlFile, Legal, LegalBzl}
+use Rattle.bz_grammar.specs.Legal.{IsFile, Legal}
 use Rattle.bz_grammar.specs.Laws.{IsLegalByLeaves}
 use Rattle.bz_grammar.specs.Spell.{leaves_of}
-use Rattle.bz_grammar.specs.Spots.{Begins, Within, Along, BzlGapStands, BzlStands, TokenStands, AreTokens, AtParts}
+use Rattle.bz_grammar.specs.Spots.{Begins, Within, Along, GapStands, Stands, TokenStands, AreTokens, AtParts}
 use Rattle.bz_grammar.proofs.Flat.{spot_of, after, Flat}
-use Rattle.bz_grammar.proofs.Build.{legal_by_lines}
 use Rattle.bz_grammar.proofs.Balance.{file_at}
 
 -- ---- from the list
 
-first_gap : (class : Class) (gap token rest : List ℕ) → IsToken class token rest → IsGap true false gap → BzlGapStands class Begins gap
+first_gap : (class : Class) (gap token rest : List ℕ) → IsToken class token rest → IsGap true false gap → GapStands class Begins gap
 first_gap c.Newline gap token rest t g = absurd t.lexeme
 first_gap c.End gap token rest t g = absurd t.lexeme
 first_gap _ gap token rest t g = g
 
-later_gap : (class : Class) (gap token rest : List ℕ) → IsToken class token rest → IsGap false false gap → BzlGapStands class Along gap
+later_gap : (class : Class) (gap token rest : List ℕ) → IsToken class token rest → IsGap false false gap → GapStands class Along gap
 later_gap c.Newline gap token rest t g = absurd t.lexeme
 later_gap c.End gap token rest t g = absurd t.lexeme
 later_gap _ gap token rest t g = g
 
-inner_gap : (class : Class) (gap token rest : List ℕ) → IsToken class token rest → IsGap true false gap → BzlGapStands class Within gap
+inner_gap : (class : Class) (gap token rest : List ℕ) → IsToken class token rest → IsGap true false gap → GapStands class Within gap
 inner_gap c.Newline gap token rest t g = absurd t.lexeme
 inner_gap c.End gap token rest t g = absurd t.lexeme
 inner_gap _ gap token rest t g = g
@@ -48,7 +47,7 @@ some_token c.Newline token rest t = absurd t.lexeme
 some_token c.End token rest t = absurd t.lexeme
 some_token _ token rest t = t
 
-from_may : (p : Place) (l : Leaf) (rest : List ℕ) → May IsToken p l rest → BzlStands (spot_of p) l × TokenText l.class l.token rest
+from_may : (p : Place) (l : Leaf) (rest : List ℕ) → May IsToken p l rest → Stands (spot_of p) l × TokenText l.class l.token rest
 from_may p l rest (first g t) = (first_gap l.class l.gap l.token rest t g, some_token l.class l.token rest t)
 from_may p l rest (later g t) = (later_gap l.class l.gap l.token rest t g, some_token l.class l.token rest t)
 from_may p l rest (inner g t) = (inner_gap l.class l.gap l.token rest t g, some_token l.class l.token rest t)
@@ -66,7 +65,7 @@ token_stands c.Newline token ls p t h = t
 token_stands c.End token ls p t h = (t, nothing_over ls h)
 token_stands _ token ls p t h = t
 
-gaps_of : (p : Place) (ls : List Leaf) → Stand (May IsToken) p ls → Flat BzlStands p ls
+gaps_of : (p : Place) (ls : List Leaf) → Stand (May IsToken) p ls → Flat Stands p ls
 gaps_of p [] h = tt
 gaps_of p (l ∷ ls) h = ((from_may p l (spell_leaves ls) h.0).0, gaps_of (next p l) ls h.1)
 
@@ -110,18 +109,18 @@ left_following _ token p ls t = left_same p ls
 abbrev Made : Place → Class → List ℕ → List ℕ → List ℕ → Type 0
 Made p class gap token rest = May IsToken p (record { class = class; gap = gap; token = token }) rest
 
-made_first : (class : Class) (gap token : List ℕ) (ls : List Leaf) → BzlGapStands class Begins gap → TokenStands class token ls → Made Fresh class gap token (spell_leaves ls)
+made_first : (class : Class) (gap token : List ℕ) (ls : List Leaf) → GapStands class Begins gap → TokenStands class token ls → Made Fresh class gap token (spell_leaves ls)
 made_first c.Newline gap token ls g t = absurd g
 made_first c.End gap token ls g t = subst (λ z. Made Fresh c.End gap z (spell_leaves ls)) (sym t.0) (subst (λ z. Made Fresh c.End gap [] (spell_leaves z)) (sym t.1) (end g.0 g.1))
 made_first _ gap token ls g t = first g t
 
-made_later : (class : Class) (gap token : List ℕ) (ls : List Leaf) → BzlGapStands class Along gap → TokenStands class token ls → Made After class gap token (spell_leaves ls)
+made_later : (class : Class) (gap token : List ℕ) (ls : List Leaf) → GapStands class Along gap → TokenStands class token ls → Made After class gap token (spell_leaves ls)
 made_later c.Newline gap token ls g (inl e) = subst (λ z. Made After c.Newline gap z (spell_leaves ls)) (sym e) (newline g.0 g.1)
 made_later c.Newline gap token ls g (inr e) = subst (λ z. Made After c.Newline gap z (spell_leaves ls)) (sym e.0) (subst (λ z. Made After c.Newline gap [] z) (sym e.1) (no_newline g.0 g.1))
 made_later c.End gap token ls g t = absurd g
 made_later _ gap token ls g t = later g t
 
-made_inner : (n : ℕ) (class : Class) (gap token : List ℕ) (ls : List Leaf) → BzlGapStands class Within gap → TokenStands class token ls → Made (Inside n) class gap token (spell_leaves ls)
+made_inner : (n : ℕ) (class : Class) (gap token : List ℕ) (ls : List Leaf) → GapStands class Within gap → TokenStands class token ls → Made (Inside n) class gap token (spell_leaves ls)
 made_inner n c.Newline gap token ls g t = absurd g
 made_inner n c.End gap token ls g t = absurd g
 made_inner n _ gap token ls g t = inner g t
@@ -133,7 +132,7 @@ front_nothing : (a b : List ℕ) → a ++ b ≡ [] → (a ≡ []) × (b ≡ [])
 front_nothing [] b e = (refl, e)
 front_nothing (x ∷ a) b e = absurd cc
 
-made_last : (class : Class) (gap token : List ℕ) (ls : List Leaf) → BzlGapStands class Begins gap → TokenStands class token ls → gap ++ (token ++ spell_leaves ls) ≡ [] → Made Last class gap token (spell_leaves ls)
+made_last : (class : Class) (gap token : List ℕ) (ls : List Leaf) → GapStands class Begins gap → TokenStands class token ls → gap ++ (token ++ spell_leaves ls) ≡ [] → Made Last class gap token (spell_leaves ls)
 made_last c.Newline gap token ls g t e = absurd g
 made_last c.End gap token ls g t e =
     subst (λ z. Made Last c.End z token (spell_leaves ls)) (sym (front_nothing gap _ e).0)
@@ -144,39 +143,36 @@ made_last c.Number gap token ls g t e = absurd (after_nothing c.Number token ls 
 made_last c.String gap token ls g t e = absurd (after_nothing c.String token ls t (front_nothing gap _ e).1)
 made_last c.Mark gap token ls g t e = absurd (after_nothing c.Mark token ls t (front_nothing gap _ e).1)
 
-to_may : (p : Place) (l : Leaf) (ls : List Leaf) → Left p (l ∷ ls) → BzlStands (spot_of p) l → TokenStands l.class l.token ls → May IsToken p l (spell_leaves ls)
+to_may : (p : Place) (l : Leaf) (ls : List Leaf) → Left p (l ∷ ls) → Stands (spot_of p) l → TokenStands l.class l.token ls → May IsToken p l (spell_leaves ls)
 to_may Fresh l ls e g t = made_first l.class l.gap l.token ls g t
 to_may After l ls e g t = made_later l.class l.gap l.token ls g t
 to_may (Inside n) l ls e g t = made_inner n l.class l.gap l.token ls g t
 to_may Last l ls e g t = made_last l.class l.gap l.token ls g t e
 to_may Over l ls e g t = absurd cc
 
-stand_of : (p : Place) (ls : List Leaf) → Left p ls → after p ls ≡ Over → Flat BzlStands p ls → AreTokens ls → Stand (May IsToken) p ls
+stand_of : (p : Place) (ls : List Leaf) → Left p ls → after p ls ≡ Over → Flat Stands p ls → AreTokens ls → Stand (May IsToken) p ls
 stand_of p [] e i g t = i
 stand_of p (l ∷ ls) e i g t = (to_may p l ls e g.0 t.0, stand_of (next p l) ls (left_following l.class l.token p ls t.0) i g.1 t.1)
 
 -- ---- both ways
 
-pub gaps_by_nodes : (n : Node) → IsBzlFile n → (AtParts BzlStands Begins Begins n.parts × AreTokens (leaves_of n)) ↔ AreLeaves (leaves_of n)
+pub gaps_by_nodes : (n : Node) → IsFile n → (AtParts Stands Begins Begins n.parts × AreTokens (leaves_of n)) ↔ AreLeaves (leaves_of n)
 gaps_by_nodes n h =
-    let w = file_at BzlStands n h in (
+    let w = file_at Stands n h in (
       (λ g. stand_of Fresh (leaves_of n) tt w.0 (w.1.0 g.0) g.1),
       (λ k. (w.1.1 (gaps_of Fresh (leaves_of n) k), tokens_of Fresh (leaves_of n) k)),
     )
 
 -- the leaves of a legal tree are those of its spelling
-pub leaves_bzl_legal : (n : Node) → LegalBzl n → AreLeaves (leaves_of n)
+pub leaves_bzl_legal : (n : Node) → Legal n → AreLeaves (leaves_of n)
 leaves_bzl_legal n h = (gaps_by_nodes n h.file).0 (h.gaps, h.tokens)
 
 -- a file of the leaves of a text has legal gaps and tokens
-pub legal_leaves : (n : Node) → IsBzlFile n → AreLeaves (leaves_of n) → AtParts BzlStands Begins Begins n.parts × AreTokens (leaves_of n)
+pub legal_leaves : (n : Node) → IsFile n → AreLeaves (leaves_of n) → AtParts Stands Begins Begins n.parts × AreTokens (leaves_of n)
 legal_leaves n h = (gaps_by_nodes n h).1
 
-pub legal_by_nodes : (n : Node) → LegalBzl n ↔ IsLegalByLeaves n
+pub legal_by_nodes : (n : Node) → Legal n ↔ IsLegalByLeaves n
 legal_by_nodes n = (
   (λ h. record { file = h.file; indents = h.indents; leaves = leaves_bzl_legal n h; coded = h.coded; depth = h.depth }),
   (λ h. let w = legal_leaves n h.file h.leaves in record { file = h.file; gaps = w.0; indents = h.indents; tokens = w.1; coded = h.coded; depth = h.depth }),
 )
-
-pub leaves_legal : (n : Node) → Legal n → AreLeaves (leaves_of n)
-leaves_legal n h = leaves_bzl_legal n ((legal_by_lines n).0 h).0

@@ -19,13 +19,12 @@ use Rattle.bz_grammar.specs.declared.tree.Part as p
 use Rattle.bz_grammar.specs.Spell.{spell_part, spell_node, leaves_part, leaves_of, deepest, depth_limit}
 use Rattle.bz_grammar.specs.Shapes as s
 use Rattle.bz_grammar.specs.Shapes.{Fits, Several, bzl_shape}
-use Rattle.bz_grammar.specs.Indents.{AreIndented}
-use Rattle.bz_grammar.specs.Legal.{IsNonterminal, LegalBzlPart, IsBzlFile, LegalBzl, IsBuild, IsBuildPart}
+use Rattle.bz_grammar.specs.Indents.{Indented, AreIndented}
+use Rattle.bz_grammar.specs.Legal.{IsNonterminal, LegalPart, IsFile, Legal, IsBuild, IsBuildPart}
 use Rattle.bz_grammar.specs.Laws.{IsLegalByLeaves}
 use Rattle.bz_grammar.specs.Joined.{last_token, AreWholeLines, file_with, LinesJoin, BzlLinesJoin}
 use Rattle.bz_grammar.proofs.Balance.{no_such, same_class}
 use Rattle.bz_grammar.proofs.Both.{legal_by_nodes}
-use Rattle.bz_grammar.proofs.Build.{legal_by_lines}
 use Rattle.bz_grammar.proofs.Spells.{spell_leaves-append}
 use Rattle.bz_grammar.proofs.Extended.{not_open, may_extend}
 
@@ -102,17 +101,13 @@ all_joined : {X : Type 0} (P : X → Type 0) (xs : List X) (e : X) (ys : List X)
 all_joined P [] e ys h k = k
 all_joined P (x ∷ xs) e ys h k = (h.0, all_joined P xs e ys h.1 k)
 
-indents_joined : (xs : List Part) (e : Part) (ys : List Part) → AreIndented [] (xs ++ e ∷ []) → AreIndented [] ys → AreIndented [] (xs ++ ys)
-indents_joined [] e ys h k = k
-indents_joined (x ∷ xs) e ys h k = (h.0, indents_joined xs e ys h.1 k)
-
 depth_joined : (d : ℕ) (xs : List Part) (e : Part) (ys : List Part) → suc (deepest (xs ++ e ∷ [])) ≤ d → suc (deepest ys) ≤ d → suc (deepest (xs ++ ys)) ≤ d
 depth_joined d [] e ys h k = k
 depth_joined d (x ∷ xs) e ys h k = let w = depth_joined d xs e ys (omega arith) k in omega (arith, h, w)
 
 -- ---- trees
 
-file_fits : (n : Node) → IsBzlFile n → Ending n.parts
+file_fits : (n : Node) → IsFile n → Ending n.parts
 file_fits n h = subst (λ kd. Fits IsNonterminal (bzl_shape kd) n.parts) h.root h.shapes.0
 
 module _ (n m : Node) (xs : List Part) (e : Leaf) (is : n.parts ≡ xs ++ p.Leaf e ∷ []) (whole : AreWholeLines xs) (none : e.gap ≡ []) where
@@ -158,17 +153,17 @@ module _ (n m : Node) (xs : List Part) (e : Leaf) (is : n.parts ≡ xs ++ p.Leaf
     -- by leaves
     legal_both : IsLegalByLeaves m → IsLegalByLeaves both
     legal_both k = record {
-      file = record { root = refl; shapes = (fits_joined xs (p.Leaf e) m.parts fits (file_fits m k.file), all_joined LegalBzlPart xs (p.Leaf e) m.parts (subst (AllByRecursion LegalBzlPart) is h.file.shapes.1) k.file.shapes.1) };
-      indents = indents_joined xs (p.Leaf e) m.parts (subst (AreIndented []) is h.indents) k.indents;
+      file = record { root = refl; shapes = (fits_joined xs (p.Leaf e) m.parts fits (file_fits m k.file), all_joined LegalPart xs (p.Leaf e) m.parts (subst (AllByRecursion LegalPart) is h.file.shapes.1) k.file.shapes.1) };
+      indents = all_joined (Indented []) xs (p.Leaf e) m.parts (subst (AreIndented []) is h.indents) k.indents;
       leaves = subst AreLeaves (sym two) (leaves_joined ls e (leaves_of m) there nothing_there whole k.leaves);
       coded = subst AreCoded (sym two) (all_joined IsCodedLeaf ls e (leaves_of m) (subst AreCoded one h.coded) k.coded);
       depth = depth_joined depth_limit xs (p.Leaf e) m.parts (subst (λ ps. suc (deepest ps) ≤ depth_limit) is h.depth) k.depth;
     }
 
-  legal_bzl_both : LegalBzl n → LegalBzl m → LegalBzl both
+  legal_bzl_both : Legal n → Legal m → Legal both
   legal_bzl_both h k = (legal_by_nodes both).1 (legal_both ((legal_by_nodes n).0 h) ((legal_by_nodes m).0 k))
 
-  spell_both : LegalBzl n → spell_node both ≡ spell_node n ++ spell_node m
+  spell_both : Legal n → spell_node both ≡ spell_node n ++ spell_node m
   spell_both h = spelled_both ((legal_by_nodes n).0 h)
 
   build_both : IsBuild n → IsBuild m → IsBuild both
@@ -182,10 +177,8 @@ bzl_lines_join s t n m xs e is whole none h k le =
     (legal_bzl_both n m xs e is whole none h.0 k.0, spell_both n m xs e is whole none h.0 ∙ texts_both _ _ s t h.1 k.1, le)
 
 pub lines_join : LinesJoin
-lines_join s t n m xs e is whole none h k le =
-    let v = (legal_by_lines n).0 h.0 in
-    let w = (legal_by_lines m).0 k.0 in (
-      (legal_by_lines (file_with (xs ++ m.parts))).1 (legal_bzl_both n m xs e is whole none v.0 w.0, build_both n m xs e is whole none v.1 w.1),
-      spell_both n m xs e is whole none v.0 ∙ texts_both _ _ s t h.1 k.1,
-      le,
-    )
+lines_join s t n m xs e is whole none h k le = (
+  record { legal = legal_bzl_both n m xs e is whole none h.0.legal k.0.legal; build = build_both n m xs e is whole none h.0.build k.0.build },
+  spell_both n m xs e is whole none h.0.legal ∙ texts_both _ _ s t h.1 k.1,
+  le,
+)

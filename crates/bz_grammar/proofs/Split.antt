@@ -9,21 +9,21 @@ use Rattle.bz_token.specs.Tokens.{IsToken}
 use Rattle.bz_lex.specs.declared.leaf.Leaf.{Leaf}
 use Rattle.bz_lex.specs.Gaps.{nothing}
 use Rattle.bz_lex.specs.Leaves.{spell_leaves, IsCodedLeaf}
+use Rattle.bz_grammar.specs.declared.kind.Kind.{Kind}
 use Rattle.bz_grammar.specs.declared.kind.Kind.TheVariants as k
 use Rattle.bz_grammar.specs.declared.tree.Part.{Part, Node'}
 use Rattle.bz_grammar.specs.declared.tree.Part.TheVariants as p
 use Rattle.bz_grammar.specs.Spell.{leaves_part}
-use Rattle.bz_grammar.specs.Shapes.{Several, Fits, line, end, tok, done}
-use Rattle.bz_grammar.specs.Spots.{Begins, AtParts, Stands, TokenStands, AreTokens, after_part}
-use Rattle.bz_grammar.specs.Legal.{IsNonterminal, Legal, LegalPart}
+use Rattle.bz_grammar.specs.Shapes.{Several, Fits, stmt, end, tok, done, nonterminal_has_kind}
+use Rattle.bz_grammar.specs.Spots.{Spot, Begins, AtParts, Stands, TokenStands, AreTokens, after_node, after_part}
+use Rattle.bz_grammar.specs.Indents.{Indented}
+use Rattle.bz_grammar.specs.Legal.{IsNonterminal, Legal, LegalPart, IsBuildPart}
 use Rattle.bz_grammar.specs.Joined.{file_with}
 use Rattle.bz_grammar.specs.Split.{bare_end, LinesSplit}
 use Rattle.bz_grammar.proofs.Spells.{spell_leaves-append}
 use Rattle.bz_grammar.proofs.Exact.{token_leaf}
-use Rattle.bz_grammar.proofs.Numbers.{same_kind}
 use Rattle.bz_grammar.proofs.Balance.{no_such}
 use Rattle.bz_grammar.proofs.Trees.{deepest_both}
-use Rattle.std.proofs.lemmas.Bool.{eqb-true}
 
 -- ---- lists
 
@@ -57,20 +57,20 @@ leaves_both (x ∷ xs) ys = ap (λ t. leaves_part x ++ t) (leaves_both xs ys) �
 abbrev pub IsLast : List Part → Type 0
 IsLast = Fits IsNonterminal (tok end done)
 
-abbrev pub AreLines : List Part → Type 0
-AreLines = AllByRecursion (IsNonterminal line)
+abbrev pub AreStatements : List Part → Type 0
+AreStatements = AllByRecursion (IsNonterminal stmt)
 
-pub lines_front : (xs : List Part) (y : Part) (ys : List Part) → Several (IsNonterminal line) IsLast (xs ++ y ∷ ys) → AreLines xs × Several (IsNonterminal line) IsLast (y ∷ ys)
+pub lines_front : (xs : List Part) (y : Part) (ys : List Part) → Several (IsNonterminal stmt) IsLast (xs ++ y ∷ ys) → AreStatements xs × Several (IsNonterminal stmt) IsLast (y ∷ ys)
 lines_front [] y ys h = (tt, h)
 lines_front (x ∷ []) y ys (inl h) = absurd h.1
 lines_front (x ∷ z ∷ xs) y ys (inl h) = absurd h.1
 lines_front (x ∷ xs) y ys (inr h) = let w = lines_front xs y ys h.1 in ((h.0, w.0), w.1)
 
-pub lines_whole : (xs ys : List Part) → AreLines xs → Several (IsNonterminal line) IsLast ys → Several (IsNonterminal line) IsLast (xs ++ ys)
+pub lines_whole : (xs ys : List Part) → AreStatements xs → Several (IsNonterminal stmt) IsLast ys → Several (IsNonterminal stmt) IsLast (xs ++ ys)
 lines_whole [] ys h g = g
 lines_whole (x ∷ xs) ys h g = inr (h.0, lines_whole xs ys h.1 g)
 
-some_leaf : (xs : List Part) → Several (IsNonterminal line) IsLast xs → flat_map leaves_part xs ≡ [] → ⊥
+some_leaf : (xs : List Part) → Several (IsNonterminal stmt) IsLast xs → flat_map leaves_part xs ≡ [] → ⊥
 some_leaf [] h e = absurd h
 some_leaf (x ∷ xs) (inl h) e =
     let t = token_leaf end x h.0 in
@@ -80,18 +80,25 @@ some_leaf (x ∷ xs) (inr h) e = some_leaf xs h.1 (none_in (leaves_part x) (flat
 
 -- ---- gaps
 
-pub begins_after : (x : Part) → IsNonterminal line x → after_part Begins Begins x ≡ Begins
-begins_after (p.Leaf l) h = no_such h
-begins_after (Node' kind size row) h = rw (same_kind kind k.Line (eqb-true _ _ h)) refl
+statement_ends : (kind : Kind) (here : Spot) → nonterminal_has_kind stmt kind ≡ true → after_node kind here ≡ Begins
+statement_ends k.Line here h = refl
+statement_ends k.Def here h = refl
+statement_ends k.IfStmt here h = refl
+statement_ends k.ForStmt here h = refl
+statement_ends _ here h = no_such h
 
-pub gaps_front : (xs ys zs : List Part) → AreLines xs → AtParts Stands Begins Begins (xs ++ ys) → AtParts Stands Begins Begins zs → AtParts Stands Begins Begins (xs ++ zs)
+pub after_statement : (x : Part) (outer here : Spot) → IsNonterminal stmt x → after_part outer here x ≡ Begins
+after_statement (p.Leaf l) outer here h = no_such h
+after_statement (Node' kind size row) outer here h = statement_ends kind here h
+
+pub gaps_front : (xs ys zs : List Part) → AreStatements xs → AtParts Stands Begins Begins (xs ++ ys) → AtParts Stands Begins Begins zs → AtParts Stands Begins Begins (xs ++ zs)
 gaps_front [] ys zs h g f = f
 gaps_front (x ∷ xs) ys zs h g f =
-    (g.0, subst (λ here. AtParts Stands Begins here (xs ++ zs)) (sym (begins_after x h.0)) (gaps_front xs ys zs h.1 (subst (λ here. AtParts Stands Begins here (xs ++ ys)) (begins_after x h.0) g.1) f))
+    (g.0, subst (λ here. AtParts Stands Begins here (xs ++ zs)) (sym (after_statement x Begins Begins h.0)) (gaps_front xs ys zs h.1 (subst (λ here. AtParts Stands Begins here (xs ++ ys)) (after_statement x Begins Begins h.0) g.1) f))
 
-pub gaps_back : (xs ys : List Part) → AreLines xs → AtParts Stands Begins Begins (xs ++ ys) → AtParts Stands Begins Begins ys
+pub gaps_back : (xs ys : List Part) → AreStatements xs → AtParts Stands Begins Begins (xs ++ ys) → AtParts Stands Begins Begins ys
 gaps_back [] ys h g = g
-gaps_back (x ∷ xs) ys h g = gaps_back xs ys h.1 (subst (λ here. AtParts Stands Begins here (xs ++ ys)) (begins_after x h.0) g.1)
+gaps_back (x ∷ xs) ys h g = gaps_back xs ys h.1 (subst (λ here. AtParts Stands Begins here (xs ++ ys)) (after_statement x Begins Begins h.0) g.1)
 
 -- ---- tokens: what was the longest lexeme before a text is so before its front
 
@@ -139,7 +146,7 @@ module _ (xs : List Part) (y : Part) (ys : List Part) (h : Legal (file_with (xs 
   abbrev after_leaves : List Leaf
   after_leaves = flat_map leaves_part (y ∷ ys)
 
-  rows : AreLines xs × Several (IsNonterminal line) IsLast (y ∷ ys)
+  rows : AreStatements xs × Several (IsNonterminal stmt) IsLast (y ∷ ys)
   rows = lines_front xs y ys h.file.shapes.0
 
   parts_front : AllByRecursion LegalPart (xs ++ bare_end ∷ [])
@@ -158,6 +165,7 @@ module _ (xs : List Part) (y : Part) (ys : List Part) (h : Legal (file_with (xs 
   in_front = record {
     file = record { root = refl; shapes = (lines_whole xs (bare_end ∷ []) rows.0 (inl (refl, tt)), parts_front) };
     gaps = gaps_front xs (y ∷ ys) (bare_end ∷ []) rows.0 h.gaps gap_end;
+    indents = all_both (Indented []) xs (bare_end ∷ []) (all_front (Indented []) xs (y ∷ ys) h.indents) (tt, tt);
     tokens = subst AreTokens (sym (leaves_both xs (bare_end ∷ []))) (tokens_front (flat_map leaves_part xs) after_leaves (some_leaf (y ∷ ys) rows.1) tokens);
     coded = subst (AllByRecursion IsCodedLeaf) (sym (leaves_both xs (bare_end ∷ []))) (all_both IsCodedLeaf (flat_map leaves_part xs) (last_leaf ∷ []) (all_front IsCodedLeaf (flat_map leaves_part xs) after_leaves coded) ((IsUtf8-nil, IsUtf8-nil), tt));
     depth = omega (arith, h.depth, deepest_both xs (y ∷ ys), deepest_both xs (bare_end ∷ []));
@@ -167,10 +175,14 @@ module _ (xs : List Part) (y : Part) (ys : List Part) (h : Legal (file_with (xs 
   following = record {
     file = record { root = refl; shapes = (rows.1, all_back LegalPart xs (y ∷ ys) h.file.shapes.1) };
     gaps = gaps_back xs (y ∷ ys) rows.0 h.gaps;
+    indents = all_back (Indented []) xs (y ∷ ys) h.indents;
     tokens = tokens_back (flat_map leaves_part xs) after_leaves tokens;
     coded = all_back IsCodedLeaf (flat_map leaves_part xs) after_leaves coded;
     depth = omega (arith, h.depth, deepest_both xs (y ∷ ys));
   }
 
 pub lines_split : LinesSplit
-lines_split xs y ys h = (in_front xs y ys h, following xs y ys h)
+lines_split xs y ys h = (
+  record { legal = in_front xs y ys h.legal; build = all_both IsBuildPart xs (bare_end ∷ []) (all_front IsBuildPart xs (y ∷ ys) h.build) (tt, tt) },
+  record { legal = following xs y ys h.legal; build = all_back IsBuildPart xs (y ∷ ys) h.build },
+)

@@ -14,7 +14,7 @@ use Rattle.bz_grammar.specs.declared.tree.Part.{Part, Row_of-Part, end_of-Part, 
 use Rattle.bz_grammar.specs.declared.tree.Part.TheVariants as v
 use Rattle.bz_grammar.specs.Spell.{leaves_part, leaves_of, depth_of}
 use Rattle.bz_grammar.specs.Shapes.{Terminal, is_one_of, has_token, Nonterminal, level, stmt, suite, line, test, newline, end, colon_mark, one_keyword, leaves_at, nonterminal_has_kind, Shape, none, done, tok, sub, alt, list, each, times, Listed, After, Several, Times, no_more, once_more, Fits, bzl_shape, owned, branches}
-use Rattle.bz_grammar.specs.Legal.{IsBzlFile}
+use Rattle.bz_grammar.specs.Legal.{IsFile}
 use Rattle.bz_grammar.specs.Indents.{alternatives, first_indent, Indented, Owner, Owned, AllIndented, AreIndented}
 use Rattle.bz_grammar.specs.Reading.{◌>>=◌, Read, starts_with, starts, first, with_part_first, run, wrap, node_part, reading}
 use Rattle.bz_grammar.specs.Suites.{def_header, for_header, test_header, else_header, stands_at, begins_at, is_deeper, put_all, alone, while_next, with_suite, branches_of, statement, suite_of, if_all, statements_of, read_file}
@@ -724,7 +724,7 @@ file_indented : (d : ℕ) (xs ps : List Part) → AllByRecursion (GoodStatement 
 file_indented d [] ps h g = g
 file_indented d (x ∷ xs) ps h g = (h.0.1, file_indented d xs ps h.1 g)
 
-pub read_complete : (d : ℕ) (n : Node) → IsBzlFile n → AreIndented [] n.parts → depth_of n ≤ suc d → read_file d (leaves_of n) ≡ Some n
+pub read_complete : (d : ℕ) (n : Node) → IsFile n → AreIndented [] n.parts → depth_of n ≤ suc d → read_file d (leaves_of n) ≡ Some n
 read_complete d n h g deep =
     let s : Fits (At d) (bzl_shape k.File) n.parts = join d (bzl_shape k.File) n.parts (rw h.root at h.shapes.0) h.shapes.1 (omega arith) in
     let w = file_split d n.parts s g in
@@ -740,10 +740,10 @@ if_all_some : (x : List Part × List Leaf) (n : Node) → if_all x ≡ Some n �
 if_all_some (ps, []) n e = (refl, same_Some _ n e)
 if_all_some (ps, t ∷ ts) n e = absurd (none-some n e)
 
-sound_file : (d : ℕ) (ts : List Leaf) (ps : List Part) → Fits (At d) (bzl_shape k.File) ps → AreIndented [] ps → ts ≡ all_leaves ps ++ [] → let n : Node = record { kind = k.File; parts = ps } in IsBzlFile n × AreIndented [] n.parts × (leaves_of n ≡ ts) × (depth_of n ≤ suc d)
+sound_file : (d : ℕ) (ts : List Leaf) (ps : List Part) → Fits (At d) (bzl_shape k.File) ps → AreIndented [] ps → ts ≡ all_leaves ps ++ [] → let n : Node = record { kind = k.File; parts = ps } in IsFile n × AreIndented [] n.parts × (leaves_of n ≡ ts) × (depth_of n ≤ suc d)
 sound_file d ts ps f g e = let w = split d (bzl_shape k.File) ps f in (record { root = refl; shapes = (w.0, w.1) }, g, sym (e ∙ append-nil (all_leaves ps)), omega (arith, w.2))
 
-pub read_sound : (d : ℕ) (ts : List Leaf) (n : Node) → read_file d ts ≡ Some n → IsBzlFile n × AreIndented [] n.parts × (leaves_of n ≡ ts) × (depth_of n ≤ suc d)
+pub read_sound : (d : ℕ) (ts : List Leaf) (n : Node) → read_file d ts ≡ Some n → IsFile n × AreIndented [] n.parts × (leaves_of n ≡ ts) × (depth_of n ≤ suc d)
 read_sound d ts n e =
     let x = bind_some (statements_of d ts) if_all n e in
     let w = if_all_some x.0 n x.2 in
@@ -754,4 +754,4 @@ read_sound d ts n e =
     let text : ts ≡ all_leaves (a.0.0 ++ b.0.0) ++ [] =
     s.1 ∙ (ap (λ (u : List Leaf). all_leaves a.0.0 ++ u) z.1 ∙ (sym (append_assoc (all_leaves a.0.0) (all_leaves b.0.0) b.0.1) ∙ (ap (λ (u : List Leaf). u ++ b.0.1) (sym (leaves_join a.0.0 b.0.0)) ∙ ap (λ (u : List Leaf). all_leaves (a.0.0 ++ b.0.0) ++ u) (ap (λ (y : List Part × List Leaf). y.1) (sym b.2) ∙ w.0)))) in
     let f = sound_file d ts (a.0.0 ++ b.0.0) (file_join d a.0.0 b.0.0 s.0 z.0) (file_indented d a.0.0 b.0.0 s.0 (end_indented b.0.0 d z.0)) text in
-    subst (λ (m : Node). IsBzlFile m × AreIndented [] m.parts × (leaves_of m ≡ ts) × (depth_of m ≤ suc d)) (ap (λ (y : List Part × List Leaf). let m : Node = record { kind = k.File; parts = y.0 } in m) (sym b.2) ∙ w.1) f
+    subst (λ (m : Node). IsFile m × AreIndented [] m.parts × (leaves_of m ≡ ts) × (depth_of m ≤ suc d)) (ap (λ (y : List Part × List Leaf). let m : Node = record { kind = k.File; parts = y.0 } in m) (sym b.2) ∙ w.1) f

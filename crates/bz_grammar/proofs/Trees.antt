@@ -1,57 +1,40 @@
--- Legal trees by their parts.
+-- LegalBuild trees by their parts.
 use Rattle.std.proofs.Common.{◌≡◌, ℕ, suc, ◌≤◌, max, Bool, true, List, [], ◌∷◌, ◌++◌, inl, inr, sym, ap, subst, ◌∙◌, arith}
 use Rattle.std.specs.List.{AllByRecursion}
 use Rattle.bz_grammar.specs.declared.tree.Node.{Node}
 use Rattle.bz_grammar.specs.declared.tree.Part.{Part, Row_of-Part, end_of-Part, more_of-Part, items-the_row-Part}
 use Rattle.bz_grammar.specs.declared.tree.Part.TheVariants as v
 use Rattle.bz_grammar.specs.Spell.{depth_part, deepest}
-use Rattle.bz_grammar.specs.Shapes.{Terminal, has_token, Nonterminal, Shape, none, done, tok, sub, alt, list, each, times, Listed, After, Several, Times, no_more, once_more, Fits, shape, bzl_shape}
-use Rattle.bz_grammar.specs.Legal.{IsNonterminal, LegalPart, LegalRow, LegalShapes, LegalBzlPart, LegalBzlRow, LegalBzlShapes}
+use Rattle.bz_grammar.specs.Shapes.{Terminal, has_token, Nonterminal, Shape, none, done, tok, sub, alt, list, each, times, Listed, After, Several, Times, no_more, once_more, Fits, bzl_shape}
+use Rattle.bz_grammar.specs.Legal.{IsNonterminal, LegalPart, LegalRow, LegalShapes}
 use Rattle.bz_grammar.proofs.Nested.{row_of, items_of_row}
 use Rattle.bz_grammar.proofs.Spells.{depth_Node}
 use Rattle.bz_grammar.proofs.Exact.{token_leaf}
 
 abbrev pub AllLegal : List Part → Type 0
-AllLegal ps = AllByRecursion LegalBzlPart ps
+AllLegal ps = AllByRecursion LegalPart ps
 
 -- ---- a node by its row and by its list
 
-row_legal : (m : _) (r : Row_of-Part m) → LegalBzlRow r → AllLegal (items-the_row-Part m r)
+row_legal : (m : _) (r : Row_of-Part m) → LegalRow r → AllLegal (items-the_row-Part m r)
 row_legal m end_of-Part h = tt
 row_legal m (more_of-Part x rest) h = (h.0, row_legal _ rest h.1)
 
-legal_row : (m : _) (r : Row_of-Part m) → AllLegal (items-the_row-Part m r) → LegalBzlRow r
+legal_row : (m : _) (r : Row_of-Part m) → AllLegal (items-the_row-Part m r) → LegalRow r
 legal_row m end_of-Part h = tt
 legal_row m (more_of-Part x rest) h = (h.0, legal_row _ rest h.1)
 
-pub bzl_shapes_of : (n : Node) → LegalBzlPart (v.Node n) → LegalBzlShapes n
+pub bzl_shapes_of : (n : Node) → LegalPart (v.Node n) → LegalShapes n
 bzl_shapes_of n h = subst (λ (ps : List Part). Fits IsNonterminal (bzl_shape n.kind) ps × AllLegal ps) (items_of_row n) (h.0, row_legal _ (row_of n).1 h.1)
 
-pub of_bzl_shapes : (n : Node) → LegalBzlShapes n → LegalBzlPart (v.Node n)
+pub of_bzl_shapes : (n : Node) → LegalShapes n → LegalPart (v.Node n)
 of_bzl_shapes n h =
     let w = subst (λ (ps : List Part). Fits IsNonterminal (bzl_shape n.kind) ps × AllLegal ps) (sym (items_of_row n)) h in
     (w.0, legal_row _ (row_of n).1 w.1)
 
--- the same in a BUILD file
-pub parts_legal : (m : _) (r : Row_of-Part m) → LegalRow r → AllByRecursion LegalPart (items-the_row-Part m r)
-parts_legal m end_of-Part h = tt
-parts_legal m (more_of-Part x rest) h = (h.0, parts_legal _ rest h.1)
-
-legal_build_row : (m : _) (r : Row_of-Part m) → AllByRecursion LegalPart (items-the_row-Part m r) → LegalRow r
-legal_build_row m end_of-Part h = tt
-legal_build_row m (more_of-Part x rest) h = (h.0, legal_build_row _ rest h.1)
-
-pub shapes_of : (n : Node) → LegalPart (v.Node n) → LegalShapes n
-shapes_of n h = subst (λ (ps : List Part). Fits IsNonterminal (shape n.kind) ps × AllByRecursion LegalPart ps) (items_of_row n) (h.0, parts_legal _ (row_of n).1 h.1)
-
-pub of_shapes : (n : Node) → LegalShapes n → LegalPart (v.Node n)
-of_shapes n h =
-    let w = subst (λ (ps : List Part). Fits IsNonterminal (shape n.kind) ps × AllByRecursion LegalPart ps) (sym (items_of_row n)) h in
-    (w.0, legal_build_row _ (row_of n).1 w.1)
-
 -- a legal part of a sort and of at most that depth
 abbrev pub At : ℕ → Nonterminal → Part → Type 0
-At d q x = IsNonterminal q x × LegalBzlPart x × (depth_part x ≤ d)
+At d q x = IsNonterminal q x × LegalPart x × (depth_part x ≤ d)
 
 -- ---- a node is legal where its parts are
 
@@ -111,7 +94,7 @@ abbrev pub Sound : ℕ → (List Part → Type 0) → List Part → Type 0
 Sound d K ps = K ps × AllLegal ps × (deepest ps ≤ d)
 
 -- a token is a leaf, which is legal and adds no depth
-token_sound : (d : ℕ) (s : List Terminal) (x : Part) → has_token s x ≡ true → LegalBzlPart x × (depth_part x ≤ d)
+token_sound : (d : ℕ) (s : List Terminal) (x : Part) → has_token s x ≡ true → LegalPart x × (depth_part x ≤ d)
 token_sound d s x m = let t = token_leaf s x m in rw t.1 (tt, omega arith)
 
 mutual

@@ -4,13 +4,12 @@ use Rattle.std.proofs.lemmas.Option.{same_Some}
 use Rattle.bz_lex.proofs.Unique.{one_lexing}
 use Rattle.bz_grammar.specs.declared.tree.Node.{Node}
 use Rattle.bz_grammar.specs.Spell.{spell_node, leaves_of, depth_of}
-use Rattle.bz_grammar.specs.Legal.{Legal, LegalBzl}
+use Rattle.bz_grammar.specs.Legal.{LegalBuild, Legal}
 use Rattle.bz_grammar.specs.Laws.{OneFile}
 use Rattle.bz_grammar.specs.Suites.{read_file}
 use Rattle.bz_grammar.proofs.Spells.{node_spelled}
 use Rattle.bz_grammar.proofs.Suites.{read_complete}
 use Rattle.bz_grammar.proofs.Both.{leaves_bzl_legal}
-use Rattle.bz_grammar.proofs.Build.{legal_by_lines}
 
 pub one_file : OneFile
 one_file m n f g a b e =
@@ -18,12 +17,8 @@ one_file m n f g a b e =
     same_Some m n (sym (read_complete d m f a (omega arith)) ∙ ap (read_file d) e ∙ read_complete d n g b (omega arith))
 
 -- no text has two legal trees
-pub one_bzl_tree : (n m : Node) → LegalBzl n → LegalBzl m → spell_node n ≡ spell_node m → n ≡ m
+pub one_bzl_tree : (n m : Node) → Legal n → Legal m → spell_node n ≡ spell_node m → n ≡ m
 one_bzl_tree n m h k e = one_file n m h.file k.file h.indents k.indents (one_lexing (leaves_of n) (leaves_of m) (leaves_bzl_legal n h) (leaves_bzl_legal m k) (sym (node_spelled n) ∙ e ∙ node_spelled m))
 
--- a legal tree is legal as that of a .bzl file
-pub bzl_of : (n : Node) → Legal n → LegalBzl n
-bzl_of n h = ((legal_by_lines n).0 h).0
-
-pub one_tree : (n m : Node) → Legal n → Legal m → spell_node n ≡ spell_node m → n ≡ m
-one_tree n m h k e = one_bzl_tree n m (bzl_of n h) (bzl_of m k) e
+pub one_tree : (n m : Node) → LegalBuild n → LegalBuild m → spell_node n ≡ spell_node m → n ≡ m
+one_tree n m h k e = one_bzl_tree n m h.legal k.legal e

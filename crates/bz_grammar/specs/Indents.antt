@@ -1,5 +1,6 @@
 -- Indents: which spaces and tabs are right before the first token of a statement, and before elif and else.
-use Rattle.std.specs.Prelude.{◌≡◌, ℕ, true, List, [], ◌∷◌, ◌++◌, codes}
+use Rattle.std.specs.Prelude.{◌≡◌, ℕ, true, List, ◌∷◌, ◌++◌, [], codes}
+use Rattle.std.specs.List.{AllByRecursion}
 use Rattle.bz_lex.specs.declared.leaf.Leaf.{Leaf}
 use Rattle.bz_lex.specs.Gaps.{indent}
 use Rattle.bz_grammar.specs.declared.kind.Kind.TheVariants as k
@@ -41,5 +42,4 @@ abbrev mutual
 
 -- the same of the statements of a list
 abbrev pub AreIndented : List ℕ → List Part → Type 0
-AreIndented i [] = Unit {0}
-AreIndented i (x ∷ xs) = Indented i x × AreIndented i xs
+AreIndented i = AllByRecursion (Indented i)

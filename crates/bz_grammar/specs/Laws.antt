@@ -5,9 +5,9 @@ use Rattle.bz_grammar.specs.declared.kind.Kind.{Kind}
 use Rattle.bz_grammar.specs.declared.tree.Node.{Node}
 use Rattle.bz_grammar.specs.Kinds.{kind_number, kind_of}
 use Rattle.bz_grammar.specs.Spell.{spell_node, leaves_of, depth_of, depth_limit}
-use Rattle.bz_grammar.specs.Spots.{Begins, AtParts, BzlStands, AreTokens}
+use Rattle.bz_grammar.specs.Spots.{Begins, AtParts, Stands, AreTokens}
 use Rattle.bz_grammar.specs.Indents.{AreIndented}
-use Rattle.bz_grammar.specs.Legal.{IsBzlFile, IsBuild, Legal, LegalBzl, Reads, ReadsBzl}
+use Rattle.bz_grammar.specs.Legal.{IsFile, Legal, Reads, ReadsBzl}
 
 -- trees that spell the same are the same
 abbrev pub OneTree : Node → Node → Type 0
@@ -22,17 +22,17 @@ OneBzlReading = (text : List ℕ) (tree other : Node) → ReadsBzl text tree →
 
 -- equal leaves have one shape: no leaves are those of two files whose statements have their indents
 abbrev pub OneFile : Type 0
-OneFile = (m n : Node) → IsBzlFile m → IsBzlFile n → AreIndented [] m.parts → AreIndented [] n.parts → leaves_of m ≡ leaves_of n → m ≡ n
+OneFile = (m n : Node) → IsFile m → IsFile n → AreIndented [] m.parts → AreIndented [] n.parts → leaves_of m ≡ leaves_of n → m ≡ n
 
 -- The gaps of a file by its shapes are where the nodes let them be, and its tokens are those of its spelling, exactly where
 -- its leaves, in a row, are placed as the leaves of a text are.
 abbrev pub GapsByNodes : Type 0
-GapsByNodes = (n : Node) → IsBzlFile n → (AtParts BzlStands Begins Begins n.parts × AreTokens (leaves_of n)) ↔ AreLeaves (leaves_of n)
+GapsByNodes = (n : Node) → IsFile n → (AtParts Stands Begins Begins n.parts × AreTokens (leaves_of n)) ↔ AreLeaves (leaves_of n)
 
--- A legal tree of a .bzl file by its leaves: a file by its shapes, within the limit of depth, with its indents, whose
+-- A legal tree by its leaves: a file by its shapes, within the limit of depth, with its indents, whose
 -- leaves, in a row, are placed as the leaves of a text are, and are texts of characters.
 pub record IsLegalByLeaves (n : Node) : Type 0 where
-  pub file : IsBzlFile n
+  pub file : IsFile n
   pub indents : AreIndented [] n.parts
   pub leaves : AreLeaves (leaves_of n)
   pub coded : AreCoded (leaves_of n)
@@ -40,12 +40,7 @@ pub record IsLegalByLeaves (n : Node) : Type 0 where
 
 -- legal by nodes is legal by leaves
 abbrev pub LegalByNodes : Type 0
-LegalByNodes = (n : Node) → LegalBzl n ↔ IsLegalByLeaves n
-
--- The legal trees are those of .bzl files that have none of the kinds from Def on: of such a tree the indents say that no
--- line begins after a space or a tab.
-abbrev pub LegalByLines : Type 0
-LegalByLines = (n : Node) → Legal n ↔ (LegalBzl n × IsBuild n)
+LegalByNodes = (n : Node) → Legal n ↔ IsLegalByLeaves n
 
 -- the kind of the number of a kind is that kind
 abbrev pub KindOfNumber : Type 0

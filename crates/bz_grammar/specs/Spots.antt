@@ -6,7 +6,7 @@ use Rattle.bz_token.specs.declared.class.Class.{Class}
 use Rattle.bz_token.specs.declared.class.Class.TheVariants as c
 use Rattle.bz_token.specs.Tokens.{IsToken}
 use Rattle.bz_lex.specs.declared.leaf.Leaf.{Leaf}
-use Rattle.bz_lex.specs.Gaps.{IsGap, is_flush}
+use Rattle.bz_lex.specs.Gaps.{IsGap}
 use Rattle.bz_lex.specs.Places.{is_opening, is_closing}
 use Rattle.bz_lex.specs.Leaves.{spell_leaves}
 use Rattle.bz_grammar.specs.declared.kind.Kind.{Kind}
@@ -76,38 +76,24 @@ module _ (P : Spot → Leaf → Type 0) where
   AtParts outer here [] = Unit {0}
   AtParts outer here (x ∷ xs) = AtLeaves here x × AtParts outer (after_part outer here x) xs
 
--- Which gap may be before a token of a class at a spot, in the tree of a BUILD file. (IsGap newlines unclosed: whether
--- unescaped newlines may be in the gap, and whether it may end in a comment whose newline is after it.)
--- An unescaped newline is in a gap only within brackets, before the first token of a line, or before the end; a
--- comment is there too and in the gap of a newline, and its newline is in the same gap, but for the last
--- comment in the gap of a newline or of the end. The byte right before the first token of a line is no space and no tab.
--- A newline is only along a line, and the end only where a line may begin.
+-- Which gap may be before a token of a class at a spot. (IsGap newlines unclosed: whether unescaped newlines may be in the gap, and
+-- whether it may end in a comment whose newline is after it.)
+-- An unescaped newline is in a gap only within brackets, before the first token of a line, or before the end; a comment is there too and
+-- in the gap of a newline, and its newline is in the same gap, but for the last comment in the gap of a newline or of the end. A newline is
+-- only along a line, and the end only where a line may begin. Of the byte before the first token of a line nothing is said here: Indents
+-- says how far statements are indented. (A line that is a suite is along the line of its owner.)
 abbrev pub GapStands : Class → Spot → List ℕ → Type 0
 GapStands c.Newline Along gap = (unclosed : Bool) × IsGap false unclosed gap
 GapStands c.Newline _ gap = ⊥
 GapStands c.End Begins gap = (unclosed : Bool) × IsGap true unclosed gap
 GapStands c.End _ gap = ⊥
-GapStands _ Begins gap = IsGap true false gap × (is_flush gap ≡ true)
+GapStands _ Begins gap = IsGap true false gap
 GapStands _ Within gap = IsGap true false gap
 GapStands _ Along gap = IsGap false false gap
 
 -- the gap of a leaf at a spot may be there
 abbrev pub Stands : Spot → Leaf → Type 0
 Stands here leaf = GapStands leaf.class here leaf.gap
-
--- The same in the tree of a .bzl file, without a word of the byte before the first token of a line: Indents says how far
--- statements are indented. (A line that is a suite is along the line of its owner.)
-abbrev pub BzlGapStands : Class → Spot → List ℕ → Type 0
-BzlGapStands c.Newline Along gap = (unclosed : Bool) × IsGap false unclosed gap
-BzlGapStands c.Newline _ gap = ⊥
-BzlGapStands c.End Begins gap = (unclosed : Bool) × IsGap true unclosed gap
-BzlGapStands c.End _ gap = ⊥
-BzlGapStands _ Begins gap = IsGap true false gap
-BzlGapStands _ Within gap = IsGap true false gap
-BzlGapStands _ Along gap = IsGap false false gap
-
-abbrev pub BzlStands : Spot → Leaf → Type 0
-BzlStands here leaf = BzlGapStands leaf.class here leaf.gap
 
 -- A token of a class before these leaves is the longest lexeme at the front of what it and they spell; a newline is a
 -- line feed, or nothing at the end of the text; the end is nothing, and no leaf is after it.

@@ -1,6 +1,6 @@
 //! Laws of legal trees: the contract of each function is a law, and there is nothing to run.
 ghost use Rattle.bz_grammar.specs.Joined.{BzlLinesJoin, LinesJoin};
-ghost use Rattle.bz_grammar.specs.Laws.{GapsByNodes, KindOfNumber, LegalByLines, LegalByNodes, OneFile, OneReading, OneBzlReading, OneTree};
+ghost use Rattle.bz_grammar.specs.Laws.{GapsByNodes, KindOfNumber, LegalByNodes, OneFile, OneReading, OneBzlReading, OneTree};
 ghost use Rattle.bz_grammar.specs.Split.{LinesSplit};
 ghost use Rattle.bz_grammar.specs.Worked.{WorkedLines};
 
@@ -33,12 +33,6 @@ pub fn one_file()
 pub fn legal_by_nodes()
     ensures gaps { GapsByNodes }
     ensures legal { LegalByNodes }
-{}
-
-/// The legal trees of BUILD files are those of `.bzl` files that have none of the newer kinds: of them the indents say that no
-/// line begins after a space or a tab.
-pub fn legal_by_lines()
-    ensures { LegalByLines }
 {}
 
 /// A text of whole lines and a text after it read as the lines of both, in the grammar of BUILD files and in that of `.bzl` files.

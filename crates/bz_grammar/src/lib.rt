@@ -12,4 +12,4 @@ pub use bz_lex::{Class, DEPTH_LIMIT, LENGTH_LIMIT, Leaf, ReadFault};
 pub use kind::Kind;
 pub use older::have_newer;
 pub use statement::first_of;
-pub use tree::{BzlTree, Node, Part, Tree, copy_all, length_with};
+pub use tree::{Node, Part, Tree, copy_all, length_with};

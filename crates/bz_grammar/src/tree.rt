@@ -163,7 +163,7 @@ pub fn copy_all(alloc: Global, parts: &[Part]) -> Result<Items<Part>, Memory>
     Ok(Items::from_vec(copied))
 }
 
-/// A legal tree whose spelling is within the limit. Contracts see it as its root.
+/// A legal tree of a BUILD file or a `.bzl` file, whose spelling is within the limit. Contracts see it as its root.
 #[derive(Drop)]
 pub struct Tree {
     pub root: Node,
@@ -210,56 +210,5 @@ impl Tree {
         ensures err { OnErr result (out.new.items ≡ out.old.items) }
     {
         self.root.spell_into(out)
-    }
-}
-
-/// A legal tree of a `.bzl` file whose spelling is within the limit. Contracts see it as its root.
-#[derive(Drop)]
-pub struct BzlTree {
-    pub root: Node,
-}
-
-impl Model for BzlTree {
-    ghost use Rattle.bz_grammar.specs.contracts.tree.Part as e;
-    ghost use Rattle.bz_grammar.specs.contracts.tree.Node as n;
-    ghost use Rattle.std.specs.Coded.{codes};
-    ghost use Rattle.bz_grammar.specs.declared.tree.Node.{Node};
-    ghost use Rattle.std.specs.Prelude.{◌≤◌, length};
-    ghost use Rattle.bz_grammar.specs.Spell.{spell_node, limit};
-    ghost use Rattle.bz_grammar.specs.Legal.{LegalBzl};
-
-    ghost Value = { Node };
-
-    ghost coded = { Prim.hlevel (codes, e.the_row.coded, n.the_row.coded) };
-
-    ghost view = { λ tree. tree.root };
-
-    ghost invariant = { λ tree. LegalBzl tree.root × (length (spell_node tree.root) ≤ limit) };
-}
-
-impl BzlTree {
-    /// How many bytes the tree spells.
-    pub fn len(&self) -> usize
-        ensures { result ≡ length (spell_node self.now) }
-    {
-        let parts = self.root.parts.as_slice();
-        length_with(parts, 0).unwrap()
-    }
-
-    /// An equal tree. The error: a growth was refused.
-    pub fn copy(&self) -> Result<BzlTree, Memory>
-        ensures { IfOk result (λ tree. tree ≡ self.now) }
-    {
-        let root = self.root.copy()?;
-        Ok(BzlTree { root })
-    }
-
-    /// Appends the spelling of the tree to `out`. The error: a growth was refused; `out` is then as before.
-    pub fn spell_into(&self, out: &mut Vec<u8>) -> Result<(), Memory>
-        ensures ok { OnOk result (out.new.items ≡ out.old.items ++ spell_node self.now) }
-        ensures err { OnErr result (out.new.items ≡ out.old.items) }
-    {
-        let root = &self.root;
-        root.spell_into(out)
     }
 }

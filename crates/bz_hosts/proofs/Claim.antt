@@ -9,7 +9,7 @@ use Rattle.bz_grammar.specs.declared.tree.Part.TheVariants as p
 use Rattle.bz_grammar.specs.Shapes as s
 use Rattle.bz_grammar.specs.Shapes.{Fits, bzl_shape}
 use Rattle.bz_grammar.specs.Spell.{leaves_row}
-use Rattle.bz_grammar.specs.Legal.{IsNonterminal, LegalBzlPart, LegalBzlRow}
+use Rattle.bz_grammar.specs.Legal.{IsNonterminal, LegalPart, LegalRow}
 use Rattle.bz_value.specs.declared.value.Expr.{Expr}
 use Rattle.bz_value.specs.declared.value.Form.{Form}
 use Rattle.bz_value.specs.Comments.{no_comments}
@@ -86,7 +86,7 @@ module _ (all : List Region) (h b e n : ℕ) (under : h ≤ n) where
 -- ---- parts of a legal tree
 
 mutual
-  pub part_texts : (all : List Region) (x : Part) → LegalBzlPart x → InHost all x
+  pub part_texts : (all : List Region) (x : Part) → LegalPart x → InHost all x
   part_texts all (p.Leaf l) g h b e n under v = leaf_texts all l h b e n under v
   part_texts all (Node' kind z r) g h b e n under v =
       let xs : List Part = items-the_row-Part _ r in
@@ -100,6 +100,6 @@ mutual
       (node_texts all h b e n under kind f refl xs g.0 (row_regions _ r g.1) (row_in_host all _ r g.1) v')))
       v
 
-  pub row_in_host : (all : List Region) (m : _) (r : Row_of-Part m) → LegalBzlRow r → AllByRecursion (InHost all) (items-the_row-Part m r)
+  pub row_in_host : (all : List Region) (m : _) (r : Row_of-Part m) → LegalRow r → AllByRecursion (InHost all) (items-the_row-Part m r)
   row_in_host all m end_of-Part g = tt
   row_in_host all m (more_of-Part x rest) g = (part_texts all x g.0, row_in_host all _ rest g.1)

@@ -11,10 +11,10 @@ use Rattle.bz_grammar.specs.declared.tree.Part.TheVariants as p
 use Rattle.bz_grammar.specs.Shapes as s
 use Rattle.bz_grammar.specs.Shapes.{Fits, Several, shape, bzl_shape, tok, done, nonterminal_has_kind}
 use Rattle.bz_grammar.specs.Spell.{leaves_part, leaves_row, leaves_of}
-use Rattle.bz_grammar.specs.Legal.{IsNonterminal, LegalBzlPart, LegalBzlRow}
-use Rattle.bz_grammar.specs.Spots.{Begins, after_node, BzlStands, AtRow, AtParts}
+use Rattle.bz_grammar.specs.Legal.{IsNonterminal, LegalPart, LegalRow}
+use Rattle.bz_grammar.specs.Spots.{Begins, after_node, Stands, AtRow, AtParts}
 use Rattle.bz_grammar.proofs.Balance.{no_such, parts_of_row}
-use Rattle.bz_grammar.proofs.Build.{legal_by_lines}
+use Rattle.bz_grammar.proofs.Build.{file_lines}
 use Rattle.bz_grammar.proofs.Numbers.{same_kind}
 use Rattle.bz_value.specs.Comments.{HostComments}
 use Rattle.bz_items.specs.Characters.{Bytes}
@@ -106,7 +106,7 @@ statements_of kind ys h g =
     let e : kind ≡ k.Line = same_kind kind k.Line (eqb-true _ _ h) in
     subst (λ kd. Fits IsNonterminal (bzl_shape kd) ys) e g
 
-line_in : (x : Part) → IsNonterminal s.line x → LegalBzlPart x → LineIn x
+line_in : (x : Part) → IsNonterminal s.line x → LegalPart x → LineIn x
 line_in (p.Leaf l) h g = no_such h
 line_in (Node' kind z r) h g = record {
   some = some_leaf (Node' kind z r) (part_solid (Node' kind z r) g);
@@ -117,7 +117,7 @@ line_in (Node' kind z r) h g = record {
 leaf_in : (l : Leaf) → LineIn (p.Leaf l)
 leaf_in l = record { some = omega arith; within = λ n. tt }
 
-lines_in : (xs : List Part) → LinesOf xs → AllByRecursion LegalBzlPart xs → AllByRecursion LineIn xs
+lines_in : (xs : List Part) → LinesOf xs → AllByRecursion LegalPart xs → AllByRecursion LineIn xs
 lines_in [] h g = tt
 lines_in (p.Leaf l ∷ []) (inl h) g = (leaf_in l, tt)
 lines_in (p.Leaf l ∷ y ∷ xs) (inl h) g = absurd h.1
@@ -134,13 +134,13 @@ regions_inside n (x ∷ xs) h =
     (all_wider m (m + sizes (map measured xs)) n up (omega arith) (omega arith) (regions_from m xs) (regions_inside m xs h.1))
 
 -- the texts of a line
-line_found : (all : List Region) (n : ℕ) (kind : Kind) (m : _) (r : Row_of-Part m) → Statements (items-the_row-Part m r) → LegalBzlRow r → AtRow BzlStands Begins Begins r →
+line_found : (all : List Region) (n : ℕ) (kind : Kind) (m : _) (r : Row_of-Part m) → Statements (items-the_row-Part m r) → LegalRow r → AtRow Stands Begins Begins r →
     SeesAt all None (suc n) (n + sizes (measured_row r)) (hosts_from s.semicolon n (measured_row r)) →
     LineTexts all n (n + sizes (measured_row r)) (comments_after n (leaves_row r)) (hosts_from s.semicolon n (measured_row r)) (statements_in [] (seen_row r))
 line_found all n kind m r h g at_ sees =
     let ys : List Part = items-the_row-Part m r in
     let comments : comments_after n (leaves_row r) ≡ after_parts n ys = ap (comments_after n) (leaves_rows m r) ∙ parts_after n ys (row_solid m r g) in
-    let quiet : Quiet ys = statements_quiet Begins Begins ys refl h (parts_silent m r g) (parts_of_row BzlStands Begins Begins m r at_) in
+    let quiet : Quiet ys = statements_quiet Begins Begins ys refl h (parts_silent m r g) (parts_of_row Stands Begins Begins m r at_) in
     subst (λ (ms : List Measured). SeesAt all None (suc n) (n + sizes ms) (hosts_from s.semicolon n ms) → LineTexts all n (n + sizes ms) (comments_after n (leaves_row r)) (hosts_from s.semicolon n ms) (statements_in [] (seen_row r)))
     (sym (measured_rows m r))
     (λ sees'. subst (λ (cs : List Comment). LineTexts all n (n + sizes (map measured ys)) cs (hosts_from s.semicolon n (map measured ys)) (statements_in [] (seen_row r))) (sym comments)
@@ -198,7 +198,7 @@ line_step all n up (Node' kind size_ r) xs is some u gap there rest e e' above_i
           ∙ sym (flat_map-append inside_item (v.line_items lines seen_there) (file_items next xs)))))))));
     }
 
-lines_texts : (all : List Region) (n up : ℕ) (xs : List Part) → up ≡ n + sizes (map measured xs) → LinesOf xs → AllByRecursion LegalBzlPart xs → AtParts BzlStands Begins Begins xs → SeesAt all None n up (regions_from n xs) → FileTexts all n up xs
+lines_texts : (all : List Region) (n up : ℕ) (xs : List Part) → up ≡ n + sizes (map measured xs) → LinesOf xs → AllByRecursion LegalPart xs → AtParts Stands Begins Begins xs → SeesAt all None n up (regions_from n xs) → FileTexts all n up xs
 lines_texts all n up [] u h g at_ sees = record { outer = λ q d o. refl; found = λ cs left f. refl }
 lines_texts all n up (p.Leaf l ∷ []) u (inl h) g at_ sees =
     let gap : GapPlaces all n outside outside = gap_outside all n up (sees n (omega arith) (omega arith)) in
@@ -226,7 +226,7 @@ lines_texts all n up (Node' kind z r ∷ xs) u (inr h) g at_ sees =
     let texts : LineTexts all n m (inner n x) (in_line n x) (statements_in [] (seen_row r)) = line_found all n kind _ r statements g.0.1 at_.0
     (λ q a b. sees_before all q None up m (m + sizes (map measured xs)) m (in_line n x) (regions_from m xs) (regions_inside m xs rest_in) (omega arith) (omega arith) (omega arith)
     (sees q (omega arith) (omega arith))) in
-    let at_rest : AtParts BzlStands Begins Begins xs = subst (λ kd. AtParts BzlStands Begins (after_node kd Begins) xs) e at_.1 in
+    let at_rest : AtParts Stands Begins Begins xs = subst (λ kd. AtParts Stands Begins (after_node kd Begins) xs) e at_.1 in
     let rest : FileTexts all m up xs = lines_texts all m up xs (omega arith) h.1 g.1 at_rest (λ q a b. sees_after all q None up n m (in_line n x) (regions_from m xs) (there.within n) a (sees q (omega arith) b)) in
     let solid : Solid x = part_solid x g.0 in
     let first : gap_of (leaves_row r) ≡ first_seen_gap (seen_row r) = first_gap_of (leaves_row r) solid.first solid.rest (first_seen_gap (seen_row r)) solid.leaves solid.gap in
@@ -234,8 +234,8 @@ lines_texts all n up (Node' kind z r ∷ xs) u (inr h) g at_ sees =
     line_step all n up x xs h.0 some (omega arith) gap texts rest first last
     (λ group. subst (λ (ss : List Seen). with_group group (flat_map inside_item (statements_in [] ss)) ≡ flat_map inside_item (statements_in group ss)) (sym (seen_rows _ r)) (group_above group ys))
 
-pub all_solid : (xs : List Part) → AllByRecursion LegalBzlPart xs → AllByRecursion Solid xs
-all_solid xs g = all_mapped LegalBzlPart Solid part_solid xs g
+pub all_solid : (xs : List Part) → AllByRecursion LegalPart xs → AllByRecursion Solid xs
+all_solid xs g = all_mapped LegalPart Solid part_solid xs g
 
 leaf_last : (xs : List Part) → LinesOf xs → LeafLast xs
 leaf_last [] h = tt
@@ -247,10 +247,10 @@ leaf_last (Node' kind z r ∷ xs) (inr h) = leaf_last xs h.1
 
 pub hosts_by_place : HostsByPlace
 hosts_by_place n h =
-    let fits : Fits IsNonterminal (shape k.File) n.parts = subst (λ kd. Fits IsNonterminal (shape kd) n.parts) h.file.root h.file.shapes.0 in
+    let fits : Fits IsNonterminal (shape k.File) n.parts = file_lines n h in
     let all : List Region = regions_from 0 n.parts in
     let cs : List Comment = comments_from 0 (leaves_of n) in
-    let wide = ((legal_by_lines n).0 h).0 in
+    let wide = h.legal in
     let solid : AllByRecursion Solid n.parts = all_solid n.parts wide.file.shapes.1 in
     let texts : FileTexts all 0 (0 + sizes (map measured n.parts)) n.parts = lines_texts all 0 (0 + sizes (map measured n.parts)) n.parts refl fits wide.file.shapes.1 wide.gaps (λ q a b. record { inner = refl; ends = refl; begins = λ z d. refl }) in
     let there : walked all cs [] 0 n.parts ≡ flat_map inside_item (view_of n) = texts.found cs [] (λ q j. ap (texts_at all q) (parts_from 0 n.parts solid)) in

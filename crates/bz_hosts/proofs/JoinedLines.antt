@@ -10,7 +10,7 @@ use Rattle.bz_grammar.specs.declared.tree.Node.{Node}
 use Rattle.bz_grammar.specs.declared.tree.Part.{Part, Node'}
 use Rattle.bz_grammar.specs.declared.tree.Part.TheVariants as p
 use Rattle.bz_grammar.specs.Spell.{leaves_part}
-use Rattle.bz_grammar.specs.Legal.{Legal}
+use Rattle.bz_grammar.specs.Legal.{LegalBuild}
 use Rattle.bz_grammar.specs.Joined.{last_token, AreWholeLines, file_with, LinesJoin}
 use Rattle.bz_grammar.proofs.Spells.{leaves_Node}
 use Rattle.bz_value.specs.declared.value.Item.{Item}
@@ -81,13 +81,17 @@ nothing_at_all = record { class = c.End; gap = []; token = [] }
 abbrev empty_file : Node
 empty_file = file_with (p.Leaf nothing_at_all ∷ [])
 
-empty_legal : Legal empty_file
+empty_legal : LegalBuild empty_file
 empty_legal = record {
-  file = record { root = refl; shapes = ((inl (refl, tt)), (tt, tt)) };
-  gaps = ((false, nothing refl), tt);
-  tokens = ((refl, refl), tt);
-  coded = ((IsUtf8-nil, IsUtf8-nil), tt);
-  depth = omega arith;
+  legal = record {
+    file = record { root = refl; shapes = ((inl (refl, tt)), (tt, tt)) };
+    gaps = ((false, nothing refl), tt);
+    indents = (tt, tt);
+    tokens = ((refl, refl), tt);
+    coded = ((IsUtf8-nil, IsUtf8-nil), tt);
+    depth = omega arith;
+  };
+  build = (tt, tt);
 }
 
 pub empty_reads : EmptyReads

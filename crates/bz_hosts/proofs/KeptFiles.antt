@@ -7,10 +7,10 @@ use Rattle.bz_grammar.specs.declared.tree.Part.{Part, Row_of-Part, Node', items-
 use Rattle.bz_grammar.specs.declared.tree.Part.TheVariants as p
 use Rattle.bz_grammar.specs.Shapes as s
 use Rattle.bz_grammar.specs.Shapes.{Fits, Several, shape, bzl_shape, tok, done}
-use Rattle.bz_grammar.specs.Legal.{IsNonterminal, LegalBzlPart, LegalBzlRow}
-use Rattle.bz_grammar.specs.Spots.{Begins, after_node, BzlStands, AtRow, AtParts}
+use Rattle.bz_grammar.specs.Legal.{IsNonterminal, LegalPart, LegalRow}
+use Rattle.bz_grammar.specs.Spots.{Begins, after_node, Stands, AtRow, AtParts}
 use Rattle.bz_grammar.proofs.Balance.{no_such, parts_of_row}
-use Rattle.bz_grammar.proofs.Build.{legal_by_lines}
+use Rattle.bz_grammar.proofs.Build.{file_lines}
 use Rattle.bz_grammar.proofs.Numbers.{same_kind}
 use Rattle.bz_value.specs.Counted.{total, item_amount, one_if}
 use Rattle.bz_items.specs.Characters.{Bytes}
@@ -71,12 +71,12 @@ module _ (number : Bytes → ℕ) where
       omega arith
 
   -- a line of a file, where these lines are left of the gap before
-  row_kept : (left : List GapLine) (m : _) (r : Row_of-Part m) → Statements (items-the_row-Part m r) → LegalBzlRow r → AtRow BzlStands Begins Begins r →
+  row_kept : (left : List GapLine) (m : _) (r : Row_of-Part m) → Statements (items-the_row-Part m r) → LegalRow r → AtRow Stands Begins Begins r →
       total (item_amount number) (line_items (left ++ lines_of (first_seen_gap (seen_row r))) (seen_row r)) + left_amount (last_gap (seen_row r)) ≡ total number (comments_in left) + total (part_amount number) (items-the_row-Part m r)
   row_kept left m r h g at_ =
       let ys : List Part = items-the_row-Part m r in
       let lines : List GapLine = left ++ lines_of (first_seen_gap (map seen ys)) in
-      let quiet : Quiet ys = statements_quiet Begins Begins ys refl h (parts_silent m r g) (parts_of_row BzlStands Begins Begins m r at_) in
+      let quiet : Quiet ys = statements_quiet Begins Begins ys refl h (parts_silent m r g) (parts_of_row Stands Begins Begins m r at_) in
       let made = line_kept lines ys h (parts_kept number m r g) quiet in
       let both = lines_joined number left (lines_of (first_seen_gap (map seen ys))) in
       let found : total (item_amount number) (line_items lines (map seen ys)) + left_amount (last_gap (map seen ys)) ≡ total number (comments_in left) + total (part_amount number) ys = omega arith in
@@ -87,7 +87,7 @@ module _ (number : Bytes → ℕ) where
   abbrev Lines : List Part → Type 0
   Lines xs = Several (IsNonterminal s.line) (Fits IsNonterminal (tok s.end done)) xs
 
-  file_kept : (left : List GapLine) (xs : List Part) → Lines xs → AllByRecursion LegalBzlPart xs → AtParts BzlStands Begins Begins xs →
+  file_kept : (left : List GapLine) (xs : List Part) → Lines xs → AllByRecursion LegalPart xs → AtParts Stands Begins Begins xs →
       total (item_amount number) (file_items left xs) ≡ total number (comments_in left) + total (part_amount number) xs
   file_kept left [] h g at_ = absurd h
   file_kept left (p.Leaf l ∷ []) (inl h) g at_ =
@@ -104,7 +104,7 @@ module _ (number : Bytes → ℕ) where
       let ys : List Part = items-the_row-Part _ r in
       let e : kind ≡ k.Line = same_kind kind k.Line (eqb-true _ _ h.0) in
       let statements : Statements ys = subst (λ kd. Fits IsNonterminal (bzl_shape kd) ys) e g.0.0 in
-      let there : AtParts BzlStands Begins Begins xs = subst (λ kd. AtParts BzlStands Begins (after_node kd Begins) xs) e at_.1 in
+      let there : AtParts Stands Begins Begins xs = subst (λ kd. AtParts Stands Begins (after_node kd Begins) xs) e at_.1 in
       let here = row_kept left _ r statements g.0.1 at_.0 in
       let rest = file_kept (after_first_line (lines_of (last_gap (seen_row r)))) xs h.1 g.1 there in
       let leaves = row_leaves number _ r in
@@ -113,8 +113,8 @@ module _ (number : Bytes → ℕ) where
 
 pub comments_kept : CommentsKept
 comments_kept n h text =
-    let fits : Fits IsNonterminal (shape k.File) n.parts = subst (λ kd. Fits IsNonterminal (shape kd) n.parts) h.file.root h.file.shapes.0 in
-    let wide = ((legal_by_lines n).0 h).0 in
+    let fits : Fits IsNonterminal (shape k.File) n.parts = file_lines n h in
+    let wide = h.legal in
     let all = file_kept (one_if text) [] n.parts fits wide.file.shapes.1 wide.gaps in
     let leaves = parts_leaves (one_if text) n.parts in
     omega arith

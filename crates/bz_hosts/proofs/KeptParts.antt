@@ -7,7 +7,7 @@ use Rattle.bz_grammar.specs.declared.kind.Kind.{Kind}
 use Rattle.bz_grammar.specs.declared.tree.Part.{Part, Row_of-Part, end_of-Part, more_of-Part, Node', items-the_row-Part}
 use Rattle.bz_grammar.specs.declared.tree.Part.TheVariants as p
 use Rattle.bz_grammar.specs.Shapes as s
-use Rattle.bz_grammar.specs.Legal.{LegalBzlPart, LegalBzlRow}
+use Rattle.bz_grammar.specs.Legal.{LegalPart, LegalRow}
 use Rattle.bz_value.specs.Comments.{no_comments}
 use Rattle.bz_value.specs.Counted.{total, suffix_amount, amount}
 use Rattle.bz_value.specs.Frames.{Frame, row, sequence, frame, lead, is_binary}
@@ -171,13 +171,13 @@ module _ (number : Bytes → ℕ) where
       omega arith
 
   mutual
-    pub part_kept : (x : Part) → LegalBzlPart x → KeptPart x
+    pub part_kept : (x : Part) → LegalPart x → KeptPart x
     part_kept (p.Leaf l) h = let all = leaf_amount number l in omega arith
     part_kept (Node' kind n r) h =
         let xs : List Part = items-the_row-Part _ r in
         ap (λ ss. gap_amount number (seen_node (frame kind) kind ss).gap + held (seen_node (frame kind) kind ss)) (seen_rows _ r)
         ∙ (node_kept (frame kind) kind xs (parts_kept _ r h.1) (kind_cut kind xs h.0) ∙ sym (row_leaves number _ r))
 
-    pub parts_kept : (m : _) (r : Row_of-Part m) → LegalBzlRow r → AllKept (items-the_row-Part m r)
+    pub parts_kept : (m : _) (r : Row_of-Part m) → LegalRow r → AllKept (items-the_row-Part m r)
     parts_kept m end_of-Part h = tt
     parts_kept m (more_of-Part x rest) h = (part_kept x h.0, parts_kept _ rest h.1)

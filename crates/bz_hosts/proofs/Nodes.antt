@@ -8,7 +8,7 @@ use Rattle.bz_grammar.specs.declared.tree.Part.{Part, Row_of-Part, end_of-Part, 
 use Rattle.bz_grammar.specs.declared.tree.Part.TheVariants as p
 use Rattle.bz_grammar.specs.Shapes as s
 use Rattle.bz_grammar.specs.Shapes.{Fits, bzl_shape}
-use Rattle.bz_grammar.specs.Legal.{IsNonterminal, LegalBzlPart, LegalBzlRow}
+use Rattle.bz_grammar.specs.Legal.{IsNonterminal, LegalPart, LegalRow}
 use Rattle.bz_grammar.proofs.Balance.{legal_row}
 use Rattle.bz_value.specs.Frames.{Frame, row, sequence, frame, lead}
 use Rattle.bz_items.specs.Characters.{Bytes}
@@ -113,19 +113,19 @@ node_inside kind (sequence opener closer) e xs h r n =
     (subst (λ (z : ℕ). AllInside n z (cut_regions n (head_of kind xs c) (body_of kind xs c))) (sym (cut_size kind xs c n)) (cut_inside n (head_of kind xs c) (body_of kind xs c) c.alternating w.0 w.1))
 
 mutual
-  pub part_regions : (x : Part) → LegalBzlPart x → Regions x
+  pub part_regions : (x : Part) → LegalPart x → Regions x
   part_regions (p.Leaf l) h = leaf_regions l
   part_regions (Node' kind z r) h = record {
     some = some_leaf (Node' kind z r) (part_solid (Node' kind z r) h);
     within = λ n. subst (λ (ms : List Measured). AllInside n (n + sizes ms) (in_node (frame kind) kind n ms)) (sym (measured_rows _ r)) (node_inside kind (frame kind) refl (items-the_row-Part _ r) h.0 (row_regions _ r h.1) n);
   }
 
-  pub row_regions : (m : _) (r : Row_of-Part m) → LegalBzlRow r → AllByRecursion Regions (items-the_row-Part m r)
+  pub row_regions : (m : _) (r : Row_of-Part m) → LegalRow r → AllByRecursion Regions (items-the_row-Part m r)
   row_regions m end_of-Part h = tt
   row_regions m (more_of-Part x rest) h = (part_regions x h.0, row_regions _ rest h.1)
 
-pub row_solid : (m : _) (r : Row_of-Part m) → LegalBzlRow r → AllByRecursion Solid (items-the_row-Part m r)
-row_solid m r h = all_mapped LegalBzlPart Solid part_solid (items-the_row-Part m r) (legal_row m r h)
+pub row_solid : (m : _) (r : Row_of-Part m) → LegalRow r → AllByRecursion Solid (items-the_row-Part m r)
+row_solid m r h = all_mapped LegalPart Solid part_solid (items-the_row-Part m r) (legal_row m r h)
 
 -- ---- texts
 

@@ -8,7 +8,7 @@ use Rattle.bz_grammar.specs.declared.tree.Part.{Part, Row_of-Part, end_of-Part, 
 use Rattle.bz_grammar.specs.declared.tree.Part.TheVariants as p
 use Rattle.bz_grammar.specs.Shapes.{Fits, bzl_shape}
 use Rattle.bz_grammar.specs.Spell.{leaves_part, leaves_row}
-use Rattle.bz_grammar.specs.Legal.{IsNonterminal, LegalBzlPart, LegalBzlRow}
+use Rattle.bz_grammar.specs.Legal.{IsNonterminal, LegalPart, LegalRow}
 use Rattle.bz_items.specs.Characters.{Bytes}
 use Rattle.bz_hosts.specs.View.{seen, seen_row, first_seen_gap}
 use Rattle.bz_hosts.specs.Hosts.{Comment, comments_at, comments_from, Measured, sizes, measured, measured_row}
@@ -65,13 +65,13 @@ node_solid kind m end_of-Part h s = absurd (kind_some kind h)
 node_solid kind m (more_of-Part x rest) h s = (s.first, s.rest ++ leaves_row rest, ap (λ (ls : List Leaf). ls ++ leaves_row rest) s.leaves, s.gap)
 
 mutual
-  pub part_solid : (x : Part) → LegalBzlPart x → Solid x
+  pub part_solid : (x : Part) → LegalPart x → Solid x
   part_solid (p.Leaf l) h = record { first = l; rest = []; leaves = refl; gap = refl }
   part_solid (Node' kind n r) h =
       let w = node_solid kind _ r h.0 (first_solid _ r h.1) in
       record { first = w.0; rest = w.1; leaves = w.2; gap = w.3 }
 
-  first_solid : (m : _) (r : Row_of-Part m) → LegalBzlRow r → SolidFirst (items-the_row-Part m r)
+  first_solid : (m : _) (r : Row_of-Part m) → LegalRow r → SolidFirst (items-the_row-Part m r)
   first_solid m end_of-Part h = tt
   first_solid m (more_of-Part x rest) h = part_solid x h.0
 

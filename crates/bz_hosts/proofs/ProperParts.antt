@@ -14,8 +14,8 @@ use Rattle.bz_grammar.specs.Spell.{leaves_part, leaves_row}
 use Rattle.bz_grammar.specs.declared.kind.Kind.TheVariants as k
 use Rattle.bz_grammar.specs.Shapes as s
 use Rattle.bz_grammar.specs.Shapes.{Shape, Fits, bzl_shape}
-use Rattle.bz_grammar.specs.Legal.{IsNonterminal, LegalBzlPart, LegalBzlRow}
-use Rattle.bz_grammar.specs.Spots.{Spot, Within, BzlStands, AtParts}
+use Rattle.bz_grammar.specs.Legal.{IsNonterminal, LegalPart, LegalRow}
+use Rattle.bz_grammar.specs.Spots.{Spot, Within, Stands, AtParts}
 use Rattle.bz_grammar.proofs.Balance.{no_such, parts_of_row}
 use Rattle.bz_value.specs.declared.value.Expr.{Expr}
 use Rattle.bz_value.specs.declared.value.Form.{Form}
@@ -65,7 +65,7 @@ module _ (grammar : Kind → Shape) where
     pub roots : Same (places xs) (map root (items_in (all_in (first_seen_gap body)) body).0)
     pub items : ItemsProper grammar (items_in (all_in (first_seen_gap body)) body)
 
-  pub found_proper : (outer : Spot) (xs : List Part) → AllDecoded (map seen xs) → AllFit grammar xs → AtParts BzlStands outer Within xs → Alternating s.comma_mark xs → FoundProper xs (map seen xs)
+  pub found_proper : (outer : Spot) (xs : List Part) → AllDecoded (map seen xs) → AllFit grammar xs → AtParts Stands outer Within xs → Alternating s.comma_mark xs → FoundProper xs (map seen xs)
   found_proper outer xs t h at_ g = record {
     roots = items_roots (all_in (first_seen_gap (map seen xs))) xs;
     items = items_proper grammar (all_in (first_seen_gap (map seen xs))) outer xs (all_fine (first_seen_gap (map seen xs)) (gap_decoded (map seen xs) t)) t h at_ g;
@@ -86,7 +86,7 @@ module _ (grammar : Kind → Shape) where
         fits_same (grammar kind) (row_in f (kept_parts f kind xs) (kept_items f kind xs)) (row_in f ys us) (row_same f (kept_parts f kind xs) ys (kept_items f kind xs) us v w)
         (subst (λ z. Fits IsNonterminal (grammar kind) (row_in z (kept_parts z kind xs) (kept_items z kind xs))) e (fits kind xs h)))
 
-    node_proper : (kind : Kind) (f : Frame) → frame kind ≡ f → (here : Spot) (xs : List Part) → Fits IsNonterminal (grammar kind) xs → AllDecoded (map seen xs) → AllFit grammar xs → AtParts BzlStands here here xs →
+    node_proper : (kind : Kind) (f : Frame) → frame kind ≡ f → (here : Spot) (xs : List Part) → Fits IsNonterminal (grammar kind) xs → AllDecoded (map seen xs) → AllFit grammar xs → AtParts Stands here here xs →
         (cs : HostComments) (b : Bool) → ProperBy grammar here ((seen_node f kind (map seen xs)).make cs b)
     node_proper kind row e here xs h t g at_ cs b =
         let es : List Expr = row_exprs (is_binary kind) false false (map seen xs) in
@@ -120,7 +120,7 @@ module _ (grammar : Kind → Shape) where
           let xs : List Part = items-the_row-Part _ r in
           let decoded : AllDecoded (map seen xs) = subst AllDecoded (seen_rows _ r) (row_decoded _ r g.2) in
           let fit : AllFit grammar xs = ready_fit xs (inner_parts kind i xs (lines_bzl kind xs (wider kind xs g.0.0))) (row_ready _ r g.0.1 g.1 g.2) in
-          subst (λ ss. ProperBy grammar here ((seen_node (frame kind) kind ss).make cs b)) (sym (seen_rows _ r)) (node_proper kind (frame kind) refl here xs g.0.0 decoded fit (parts_of_row BzlStands here here _ r at_) cs b)
+          subst (λ ss. ProperBy grammar here ((seen_node (frame kind) kind ss).make cs b)) (sym (seen_rows _ r)) (node_proper kind (frame kind) refl here xs g.0.0 decoded fit (parts_of_row Stands here here _ r at_) cs b)
 
       pub row_ready : (m : _) (r : Row_of-Part m) → LegalRowBy grammar r → AllByRecursion IsLexed (leaves_row r) → AllByRecursion IsCodedLeaf (leaves_row r) → AllByRecursion Ready (items-the_row-Part m r)
       row_ready m end_of-Part h l c = tt
@@ -140,16 +140,16 @@ inner_shape _ xs i h = h
 
 mutual
   -- an inner part of a .bzl file holds none of what is in no line
-  pub inner_legal : (x : Part) → is_inner x ≡ true → LegalBzlPart x → LegalBy line_shape x
+  pub inner_legal : (x : Part) → is_inner x ≡ true → LegalPart x → LegalBy line_shape x
   inner_legal (p.Leaf l) i h = tt
   inner_legal (Node' kind n r) i h =
       let fits : Fits IsNonterminal (line_shape kind) (items-the_row-Part _ r) = inner_shape kind (items-the_row-Part _ r) i h.0 in
       (fits, inner_row _ r (inner_parts kind i (items-the_row-Part _ r) h.0) h.1)
 
-  inner_row : (m : _) (r : Row_of-Part m) → AllByRecursion (λ x. is_inner x ≡ true) (items-the_row-Part m r) → LegalBzlRow r → LegalRowBy line_shape r
+  inner_row : (m : _) (r : Row_of-Part m) → AllByRecursion (λ x. is_inner x ≡ true) (items-the_row-Part m r) → LegalRow r → LegalRowBy line_shape r
   inner_row m end_of-Part i h = tt
   inner_row m (more_of-Part x rest) i h = (inner_legal x i.0 h.0, inner_row _ rest i.1 h.1)
 
 -- what is seen of an inner part of a .bzl file is proper by the grammar of lines
-pub line_proper : (x : Part) → LegalBzlPart x → AllByRecursion IsLexed (leaves_part x) → AllByRecursion IsCodedLeaf (leaves_part x) → is_inner x ≡ true → Fit line_shape x
+pub line_proper : (x : Part) → LegalPart x → AllByRecursion IsLexed (leaves_part x) → AllByRecursion IsCodedLeaf (leaves_part x) → is_inner x ≡ true → Fit line_shape x
 line_proper x h l u i = part_proper line_shape (λ kind xs g. g) line_fits x (inner_legal x i h, l, u) i

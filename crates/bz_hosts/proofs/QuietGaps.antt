@@ -8,8 +8,8 @@ use Rattle.bz_grammar.specs.declared.tree.Part.{Part, Row_of-Part, end_of-Part, 
 use Rattle.bz_grammar.specs.declared.tree.Part.TheVariants as p
 use Rattle.bz_grammar.specs.Shapes as s
 use Rattle.bz_grammar.specs.Shapes.{Fits, Listed, tok, done}
-use Rattle.bz_grammar.specs.Legal.{IsNonterminal, LegalBzlPart, LegalBzlRow}
-use Rattle.bz_grammar.specs.Spots.{Spot, Begins, Along, onward, after_part, BzlGapStands, BzlStands, AtLeaves, AtRow, AtParts}
+use Rattle.bz_grammar.specs.Legal.{IsNonterminal, LegalPart, LegalRow}
+use Rattle.bz_grammar.specs.Spots.{Spot, Begins, Along, onward, after_part, GapStands, Stands, AtLeaves, AtRow, AtParts}
 use Rattle.bz_items.specs.Characters.{Bytes}
 use Rattle.bz_grammar.proofs.Balance.{legal_row, no_such}
 use Rattle.bz_value.specs.Gaps.{as_list, all_in}
@@ -24,26 +24,26 @@ use Rattle.bz_hosts.proofs.SeenParts.{all_mapped}
 pub along_silent : (gap : Bytes) → IsGap false false gap → all_in gap ≡ []
 along_silent gap h = let w = along false gap h in w.2 ∙ ap as_list (w.3 refl)
 
-gap_silent : (class : Class) (gap : Bytes) → not (ends_line class) ≡ true → BzlGapStands class Along gap → all_in gap ≡ []
+gap_silent : (class : Class) (gap : Bytes) → not (ends_line class) ≡ true → GapStands class Along gap → all_in gap ≡ []
 gap_silent c.Newline gap e h = no_such e
 gap_silent c.End gap e h = no_such e
 gap_silent _ gap e h = along_silent gap h
 
 -- no comment is before the part if it is along a line
 abbrev pub Silent : Part → Type 0
-Silent x = is_inner x ≡ true → AtLeaves BzlStands Along x → all_in (seen x).gap ≡ []
+Silent x = is_inner x ≡ true → AtLeaves Stands Along x → all_in (seen x).gap ≡ []
 
 mutual
-  pub part_silent : (x : Part) → LegalBzlPart x → Silent x
+  pub part_silent : (x : Part) → LegalPart x → Silent x
   part_silent (p.Leaf l) g i h = gap_silent l.class l.gap i h
   part_silent (Node' kind n r) g i h = row_silent _ r (inner_parts kind i (items-the_row-Part _ r) g.0) g.1 h
 
-  row_silent : (m : _) (r : Row_of-Part m) → AllByRecursion (λ x. is_inner x ≡ true) (items-the_row-Part m r) → LegalBzlRow r → AtRow BzlStands Along Along r → all_in (first_seen_gap (seen_row r)) ≡ []
+  row_silent : (m : _) (r : Row_of-Part m) → AllByRecursion (λ x. is_inner x ≡ true) (items-the_row-Part m r) → LegalRow r → AtRow Stands Along Along r → all_in (first_seen_gap (seen_row r)) ≡ []
   row_silent m end_of-Part i g h = refl
   row_silent m (more_of-Part x rest) i g h = part_silent x g.0 i.0 h.0
 
-pub parts_silent : (m : _) (r : Row_of-Part m) → LegalBzlRow r → AllByRecursion Silent (items-the_row-Part m r)
-parts_silent m r g = all_mapped LegalBzlPart Silent part_silent (items-the_row-Part m r) (legal_row m r g)
+pub parts_silent : (m : _) (r : Row_of-Part m) → LegalRow r → AllByRecursion Silent (items-the_row-Part m r)
+parts_silent m r g = all_mapped LegalPart Silent part_silent (items-the_row-Part m r) (legal_row m r g)
 
 -- statement, semicolon, statement, .. Newline: before semicolons and before each statement but the first
 abbrev pub Quiet : List Part → Type 0
@@ -59,20 +59,20 @@ Statements xs = Listed (IsNonterminal s.small) s.semicolon true (Fits IsNontermi
 pub line_alternating : (xs : List Part) → Statements xs → Alternating s.semicolon xs
 line_alternating xs h = listed_alternating s.semicolon s.newline refl refl refl s.small refl xs h
 
-pub statements_quiet : (outer here : Spot) (xs : List Part) → onward here ≡ onward Begins → Statements xs → AllByRecursion Silent xs → AtParts BzlStands outer here xs → Quiet xs
+pub statements_quiet : (outer here : Spot) (xs : List Part) → onward here ≡ onward Begins → Statements xs → AllByRecursion Silent xs → AtParts Stands outer here xs → Quiet xs
 statements_quiet outer here [] e h g at_ = tt
 statements_quiet outer here (x ∷ []) e h g at_ = tt
 statements_quiet outer here (x ∷ y ∷ []) e h g at_ = tt
 statements_quiet outer here (x ∷ y ∷ z ∷ []) e (h, inl j) g at_ = absurd j.1
 statements_quiet outer here (x ∷ y ∷ z ∷ []) e (h, inr w) g at_ =
     let there : after_part outer here x ≡ Along = nonterminal_goes s.small x refl h outer here ∙ e in
-    g.1.0 (token_inner s.semicolon y refl w.0) (subst (λ q. AtLeaves BzlStands q y) there at_.1.0)
+    g.1.0 (token_inner s.semicolon y refl w.0) (subst (λ q. AtLeaves Stands q y) there at_.1.0)
 statements_quiet outer here (x ∷ y ∷ z ∷ u ∷ xs) e (h, inl j) g at_ = absurd j.1
 statements_quiet outer here (x ∷ y ∷ z ∷ u ∷ xs) e (h, inr (m, inr j)) g at_ = absurd j.1.1
 statements_quiet outer here (x ∷ y ∷ z ∷ u ∷ xs) e (h, inr (m, inl j)) g at_ =
     let first : after_part outer here x ≡ onward here = nonterminal_goes s.small x refl h outer here in
     let there : after_part outer (after_part outer here x) y ≡ onward here = token_goes s.semicolon y refl m outer (after_part outer here x) ∙ (ap onward first ∙ on_twice here) in (
-      g.1.0 (token_inner s.semicolon y refl m) (subst (λ q. AtLeaves BzlStands q y) (first ∙ e) at_.1.0),
-      g.1.1.0 (nonterminal_inner s.small z refl j.0) (subst (λ q. AtLeaves BzlStands q z) (there ∙ e) at_.1.1.0),
-      statements_quiet outer (onward here) (z ∷ u ∷ xs) (on_twice here ∙ e) j g.1.1 (subst (λ q. AtParts BzlStands outer q (z ∷ u ∷ xs)) there at_.1.1),
+      g.1.0 (token_inner s.semicolon y refl m) (subst (λ q. AtLeaves Stands q y) (first ∙ e) at_.1.0),
+      g.1.1.0 (nonterminal_inner s.small z refl j.0) (subst (λ q. AtLeaves Stands q z) (there ∙ e) at_.1.1.0),
+      statements_quiet outer (onward here) (z ∷ u ∷ xs) (on_twice here ∙ e) j g.1.1 (subst (λ q. AtParts Stands outer q (z ∷ u ∷ xs)) there at_.1.1),
     )

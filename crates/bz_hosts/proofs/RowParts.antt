@@ -7,7 +7,7 @@ use Rattle.bz_grammar.specs.declared.tree.Part.{Part, Node'}
 use Rattle.bz_grammar.specs.declared.tree.Part.TheVariants as p
 use Rattle.bz_grammar.specs.Shapes.{Shape, Nonterminal, Fits}
 use Rattle.bz_grammar.specs.Legal.{IsNonterminal}
-use Rattle.bz_grammar.specs.Spots.{Spot, Begins, Within, Along, onward, after_part, BzlStands, AtLeaves, AtParts}
+use Rattle.bz_grammar.specs.Spots.{Spot, Begins, Within, Along, onward, after_part, Stands, AtLeaves, AtParts}
 use Rattle.bz_grammar.proofs.Balance.{no_such}
 use Rattle.bz_value.specs.Comments.{HostComments, no_comments}
 use Rattle.bz_value.specs.Frames.{is_binary}
@@ -32,15 +32,15 @@ within_by Begins b e f h = cc
 within_by Within b e f h = refl
 within_by Along b e f h = no_such (sym (f refl) ∙ h)
 
-part_within : (here : Spot) (x : Part) → onward here ≡ here → AtLeaves BzlStands here x → has_newline (seen x).gap ≡ true → here ≡ Within
-part_within here x e h n = within_by here (has_newline (seen x).gap) e (λ a. part_along x (subst (λ z. AtLeaves BzlStands z x) a h)) n
+part_within : (here : Spot) (x : Part) → onward here ≡ here → AtLeaves Stands here x → has_newline (seen x).gap ≡ true → here ≡ Within
+part_within here x e h n = within_by here (has_newline (seen x).gap) e (λ a. part_along x (subst (λ z. AtLeaves Stands z x) a h)) n
 
-before_within : (inside newline : Bool) (here : Spot) (x : Part) → onward here ≡ here → (inside ≡ true → newline ≡ true → here ≡ Within) → AtLeaves BzlStands here x →
+before_within : (inside newline : Bool) (here : Spot) (x : Part) → onward here ≡ here → (inside ≡ true → newline ≡ true → here ≡ Within) → AtLeaves Stands here x →
     (if inside then newline else has_newline (seen x).gap) ≡ true → here ≡ Within
 before_within true newline here x e w h n = w refl n
 before_within false newline here x e w h n = part_within here x e h n
 
-first_within : (outer here : Spot) (xs : List Part) → onward here ≡ here → AtParts BzlStands outer here xs → has_newline (first_seen_gap (map seen xs)) ≡ true → here ≡ Within
+first_within : (outer here : Spot) (xs : List Part) → onward here ≡ here → AtParts Stands outer here xs → has_newline (first_seen_gap (map seen xs)) ≡ true → here ≡ Within
 first_within outer here [] e h n = no_such n
 first_within outer here (x ∷ xs) e h n = part_within here x e h.0 n
 
@@ -57,14 +57,14 @@ part_unsigned a (Node' kind n r) h = refl
 module _ (grammar : Kind → Shape) where
   -- the part is proper where it is, for any comments and break
   abbrev pub Fit : Part → Type 0
-  Fit x = (here : Spot) → AtLeaves BzlStands here x → (cs : HostComments) (b : Bool) → ProperBy grammar here ((seen x).make cs b)
+  Fit x = (here : Spot) → AtLeaves Stands here x → (cs : HostComments) (b : Bool) → ProperBy grammar here ((seen x).make cs b)
 
   abbrev pub AllFit : List Part → Type 0
   AllFit xs = AllByRecursion Fit xs
 
   -- ---- rows that aren't binary operations
 
-  plain_row : (inside newline : Bool) (outer here : Spot) (xs : List Part) → AllFit xs → AtParts BzlStands outer here xs → ArePartsBy grammar false outer here (row_exprs false inside newline (map seen xs))
+  plain_row : (inside newline : Bool) (outer here : Spot) (xs : List Part) → AllFit xs → AtParts Stands outer here xs → ArePartsBy grammar false outer here (row_exprs false inside newline (map seen xs))
   plain_row inside newline outer here [] h at_ = tt
   plain_row inside newline outer here (x ∷ xs) h at_ = (
     h.0 here at_.0 no_comments false,
@@ -79,7 +79,7 @@ module _ (grammar : Kind → Shape) where
   -- ---- binary operations
 
   after_first : (inside newline : Bool) (outer here : Spot) → onward here ≡ here → (inside ≡ true → newline ≡ true → here ≡ Within) →
-      (xs : List Part) → AllFit xs → AllByRecursion GoesOn xs → AtParts BzlStands outer here xs → ArePartsBy grammar true outer here (row_exprs true inside newline (map seen xs))
+      (xs : List Part) → AllFit xs → AllByRecursion GoesOn xs → AtParts Stands outer here xs → ArePartsBy grammar true outer here (row_exprs true inside newline (map seen xs))
   after_first inside newline outer here e w [] h g at_ = tt
   after_first inside newline outer here e w (x ∷ xs) h g at_ =
       let sign : Bool = is_operator (plain (seen x)) in
@@ -88,7 +88,7 @@ module _ (grammar : Kind → Shape) where
       let ended : Bool = sign && not (begins_seen_operator (map seen xs)) in
       let broken : Bool = ended && (before || after) in
       let there : after_part outer here x ≡ here = g.0 outer here ∙ e in
-      let rest_at : AtParts BzlStands outer here xs = subst (λ z. AtParts BzlStands outer z xs) there at_.1 in
+      let rest_at : AtParts Stands outer here xs = subst (λ z. AtParts Stands outer z xs) there at_.1 in
       let made : after_expr outer here ((seen x).make no_comments broken) ≡ here = after_made outer here x no_comments broken ∙ there in
       let by_before : before ≡ true → here ≡ Within = before_within inside newline here x e w at_.0 in
       let by_both : (before || after) ≡ true → here ≡ Within = λ n. elim (or_cases before after n) [ inl i ↦ by_before i | inr i ↦ first_within outer here xs e rest_at i ] in
@@ -101,7 +101,7 @@ module _ (grammar : Kind → Shape) where
       )
 
   module _ (wider : IsWider grammar line_shape) where
-    binary_row : (kind : Kind) → is_binary kind ≡ true → (outer here : Spot) (xs : List Part) → Fits IsNonterminal (grammar kind) xs → AllFit xs → AtParts BzlStands outer here xs → ArePartsBy grammar true outer here (row_exprs true false false (map seen xs))
+    binary_row : (kind : Kind) → is_binary kind ≡ true → (outer here : Spot) (xs : List Part) → Fits IsNonterminal (grammar kind) xs → AllFit xs → AtParts Stands outer here xs → ArePartsBy grammar true outer here (row_exprs true false false (map seen xs))
     binary_row kind k outer here [] f h at_ = tt
     binary_row kind k outer here (x ∷ xs) f h at_ =
         let w = binary_begins kind k x xs (wider kind (x ∷ xs) f) in
@@ -109,7 +109,7 @@ module _ (grammar : Kind → Shape) where
         let there : after_part outer here x ≡ onward here = g.0 outer here in
         begun (is_operator (plain (seen x))) (part_unsigned w.0 x w.1) (not (begins_seen_operator (map seen xs))) (has_newline (seen x).gap || has_newline (first_seen_gap (map seen xs))) (has_newline (seen x).gap)
         (after_made outer here x no_comments false ∙ there)
-        (after_first false (has_newline (seen x).gap) outer (onward here) (on_twice here) (λ i n. no_such i) xs h.1 g.1 (subst (λ z. AtParts BzlStands outer z xs) there at_.1))
+        (after_first false (has_newline (seen x).gap) outer (onward here) (on_twice here) (λ i n. no_such i) xs h.1 g.1 (subst (λ z. AtParts Stands outer z xs) there at_.1))
       where
         begun : (sign : Bool) → sign ≡ false → (last newline before : Bool) → after_expr outer here ((seen x).make no_comments false) ≡ onward here →
             ArePartsBy grammar true outer (onward here) (row_exprs true false before (map seen xs)) → ArePartsBy grammar true outer here ((seen x).make no_comments ((sign && last) && newline) ∷ row_exprs true sign before (map seen xs))
@@ -122,7 +122,7 @@ module _ (grammar : Kind → Shape) where
         )
 
     -- the row of a node of any kind
-    pub row_proper : (kind : Kind) (outer here : Spot) (xs : List Part) → Fits IsNonterminal (grammar kind) xs → AllFit xs → AtParts BzlStands outer here xs →
+    pub row_proper : (kind : Kind) (outer here : Spot) (xs : List Part) → Fits IsNonterminal (grammar kind) xs → AllFit xs → AtParts Stands outer here xs →
         ArePartsBy grammar (is_binary kind) outer here (row_exprs (is_binary kind) false false (map seen xs))
     row_proper kind outer here xs f h at_ = either (is_binary kind) refl
       where

@@ -11,7 +11,7 @@ use Rattle.bz_grammar.specs.declared.tree.Part.{Part, Row_of-Part, end_of-Part, 
 use Rattle.bz_grammar.specs.declared.tree.Part.TheVariants as p
 use Rattle.bz_grammar.specs.Shapes.{leaves_at}
 use Rattle.bz_grammar.specs.Spell.{leaves_part, leaves_row}
-use Rattle.bz_grammar.specs.Spots.{Spot, Along, after_part, BzlGapStands, BzlStands, AtLeaves, AtRow}
+use Rattle.bz_grammar.specs.Spots.{Spot, Along, after_part, GapStands, Stands, AtLeaves, AtRow}
 use Rattle.bz_grammar.proofs.Balance.{no_such}
 use Rattle.bz_value.specs.Comments.{HostComments}
 use Rattle.bz_value.specs.Frames.{Frame, row, sequence, frame, lead}
@@ -60,17 +60,17 @@ after_made outer here (Node' kind n r) cs b = refl
 
 -- ---- no unescaped newline is before a part along a line
 
-gap_along : (class : Class) (gap : Bytes) → BzlGapStands class Along gap → has_newline gap ≡ false
+gap_along : (class : Class) (gap : Bytes) → GapStands class Along gap → has_newline gap ≡ false
 gap_along c.Newline gap h = (along h.0 gap h.1).0
 gap_along c.End gap h = absurd h
 gap_along _ gap h = (along false gap h).0
 
 mutual
-  pub part_along : (x : Part) → AtLeaves BzlStands Along x → has_newline (seen x).gap ≡ false
+  pub part_along : (x : Part) → AtLeaves Stands Along x → has_newline (seen x).gap ≡ false
   part_along (p.Leaf l) h = gap_along l.class l.gap h
   part_along (Node' kind n r) h = row_along _ r h
 
-  row_along : (m : _) (r : Row_of-Part m) → AtRow BzlStands Along Along r → has_newline (first_seen_gap (seen_row r)) ≡ false
+  row_along : (m : _) (r : Row_of-Part m) → AtRow Stands Along Along r → has_newline (first_seen_gap (seen_row r)) ≡ false
   row_along m end_of-Part h = refl
   row_along m (more_of-Part x rest) h = part_along x h.0
 

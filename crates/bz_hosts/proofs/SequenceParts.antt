@@ -7,7 +7,7 @@ use Rattle.bz_grammar.specs.declared.kind.Kind.TheVariants as k
 use Rattle.bz_grammar.specs.declared.tree.Part.{Part}
 use Rattle.bz_grammar.specs.Shapes as s
 use Rattle.bz_grammar.specs.Shapes.{Shape}
-use Rattle.bz_grammar.specs.Spots.{Spot, Within, after_part, BzlStands, AtLeaves, AtParts}
+use Rattle.bz_grammar.specs.Spots.{Spot, Within, after_part, Stands, AtLeaves, AtParts}
 use Rattle.bz_value.specs.declared.value.Expr.{Expr}
 use Rattle.bz_value.specs.Comments.{HostComments, no_comments}
 use Rattle.bz_value.specs.Frames.{lead}
@@ -28,13 +28,13 @@ use Rattle.bz_hosts.proofs.RowParts.{AllFit}
 
 -- of the parts of a node that is here: what is before the bracket, and what is after it
 abbrev Stand : Spot → ℕ → List Part → Type 0
-Stand here n xs = AllByRecursion (AtLeaves BzlStands here) (take n xs) × AtParts BzlStands here Within (drop (suc n) xs)
+Stand here n xs = AllByRecursion (AtLeaves Stands here) (take n xs) × AtParts Stands here Within (drop (suc n) xs)
 
-stand : (here : Spot) (n : ℕ) (xs : List Part) → n ≤ 1 → BracketAt n xs → AtParts BzlStands here here xs → Stand here n xs
+stand : (here : Spot) (n : ℕ) (xs : List Part) → n ≤ 1 → BracketAt n xs → AtParts Stands here here xs → Stand here n xs
 stand here n [] l b at_ = absurd b
-stand here zero (y ∷ xs) l b at_ = (tt, subst (λ z. AtParts BzlStands here z xs) (b.1 here here) at_.1)
+stand here zero (y ∷ xs) l b at_ = (tt, subst (λ z. AtParts Stands here z xs) (b.1 here here) at_.1)
 stand here (suc zero) (x ∷ []) l b at_ = absurd b
-stand here (suc zero) (x ∷ y ∷ xs) l b at_ = ((at_.0, tt), subst (λ z. AtParts BzlStands here z xs) (b.1 here (after_part here here x)) at_.1.1)
+stand here (suc zero) (x ∷ y ∷ xs) l b at_ = ((at_.0, tt), subst (λ z. AtParts Stands here z xs) (b.1 here (after_part here here x)) at_.1.1)
 stand here (suc (suc n)) (x ∷ xs) l b at_ = absurd (omega arith)
 
 lead_one : (kind : Kind) → lead kind ≤ 1
@@ -42,7 +42,7 @@ lead_one k.Call = omega arith
 lead_one k.Load = omega arith
 lead_one _ = omega arith
 
-pub sequence_stands : (kind : Kind) (here : Spot) (xs : List Part) → Cut (lead kind) xs → AtParts BzlStands here here xs → Stand here (lead kind) xs
+pub sequence_stands : (kind : Kind) (here : Spot) (xs : List Part) → Cut (lead kind) xs → AtParts Stands here here xs → Stand here (lead kind) xs
 sequence_stands kind here xs c at_ = stand here (lead kind) xs (lead_one kind) c.bracket_at at_
 
 -- ---- what is before the bracket
@@ -71,7 +71,7 @@ items_roots above (x ∷ y ∷ z ∷ xs) = more x _ _ _ (root_made x (host above
 -- ---- by a grammar
 
 module _ (grammar : Kind → Shape) where
-  pub head_proper : (here : Spot) (n : ℕ) (xs : List Part) → AllFit grammar xs → AllByRecursion (AtLeaves BzlStands here) (take n xs) → AreHeadBy grammar here (map plain (take n (map seen xs)))
+  pub head_proper : (here : Spot) (n : ℕ) (xs : List Part) → AllFit grammar xs → AllByRecursion (AtLeaves Stands here) (take n xs) → AreHeadBy grammar here (map plain (take n (map seen xs)))
   head_proper here zero [] h at_ = tt
   head_proper here (suc n) [] h at_ = tt
   head_proper here zero (x ∷ xs) h at_ = tt
@@ -81,7 +81,7 @@ module _ (grammar : Kind → Shape) where
   abbrev pub ItemsProper : List Expr × List Bytes → Type 0
   ItemsProper found = AreItemsBy grammar found.0 × Group found.1
 
-  pub items_proper : (above : List Bytes) (outer : Spot) (xs : List Part) → Group above → AllDecoded (map seen xs) → AllFit grammar xs → AtParts BzlStands outer Within xs → Alternating s.comma_mark xs → ItemsProper (items_in above (map seen xs))
+  pub items_proper : (above : List Bytes) (outer : Spot) (xs : List Part) → Group above → AllDecoded (map seen xs) → AllFit grammar xs → AtParts Stands outer Within xs → Alternating s.comma_mark xs → ItemsProper (items_in above (map seen xs))
   items_proper above outer [] a t h at_ g = (tt, a)
   items_proper above outer (x ∷ []) a t h at_ g = (tt, a)
   items_proper above outer (x ∷ y ∷ []) a t h at_ g =
@@ -94,7 +94,7 @@ module _ (grammar : Kind → Shape) where
       let next : List Bytes = all_in (seen y).gap ++ others_in gap in
       let next_fine : Group next = all_joined IsComment (all_in (seen y).gap) (others_in gap) (all_fine (seen y).gap t.1.0.coded) (others_fine gap t.1.1.0.coded) in
       let there : after_part outer (after_part outer Within x) y ≡ Within = ap (λ q. after_part outer q y) (item_goes x g.0 outer Within) ∙ comma_goes y g.1 outer Within in
-      let rest : ItemsProper (items_in next (map seen (z ∷ xs))) = items_proper next outer (z ∷ xs) next_fine t.1.1 h.1.1 (subst (λ q. AtParts BzlStands outer q (z ∷ xs)) there at_.1.1) g.2 in (
+      let rest : ItemsProper (items_in next (map seen (z ∷ xs))) = items_proper next outer (z ∷ xs) next_fine t.1.1 h.1.1 (subst (λ q. AtParts Stands outer q (z ∷ xs)) there at_.1.1) g.2 in (
         (h.0 Within at_.0 (host above (seen x) gap) false, host_fine above x gap a t.0 (suffix_fine gap t.1.1.0.coded), no_break_made x (host above (seen x) gap), rest.0),
         rest.1,
       )

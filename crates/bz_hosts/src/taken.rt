@@ -1,6 +1,7 @@
 //! The view of a tree that is given up.
 ghost use Rattle.std.specs.Prelude.{◌≡◌, ◌++◌, ◌∷◌, [], ◌+◌, List, map, IfOk, OnOk};
 ghost use Rattle.bz_grammar.specs.declared.tree.Part.{Part};
+ghost use Rattle.bz_grammar.specs.Legal.{IsBuild};
 ghost use Rattle.bz_value.specs.Gaps.{lines_of};
 ghost use Rattle.bz_value.specs.Counted.{times};
 ghost use Rattle.bz_items.specs.Characters.{Bytes};
@@ -21,6 +22,7 @@ use std::mem;
 /// The file value that `view` makes, of a tree that is given up: its tokens are moved, and each line of it is dropped as soon as its
 /// items are made, a long one piece by piece, so that the whole tree is not held beside the whole value. The error: memory was refused.
 pub fn into_view(alloc: Global, tree: Tree) -> Result<File, Memory>
+    requires { IsBuild tree }
     ensures value { IfOk result (λ file. file ≡ view_of tree) }
     ensures comments { IfOk result (λ file. (text : Bytes) → times text file ≡ occurrences text tree) }
 {

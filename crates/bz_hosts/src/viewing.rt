@@ -1,6 +1,7 @@
 //! The view of a tree as a file value.
 ghost use Rattle.std.specs.Prelude.{◌≡◌, [], ◌∷◌, ◌++◌, List, map, IfOk, OnOk};
 ghost use Rattle.bz_grammar.specs.declared.tree.Part.{Part};
+ghost use Rattle.bz_grammar.specs.Legal.{IsBuild};
 ghost use Rattle.bz_value.specs.Counted.{times};
 ghost use Rattle.bz_items.specs.Characters.{Bytes};
 ghost use Rattle.bz_value.specs.Gaps.{lines_of};
@@ -16,9 +17,10 @@ use bz_items::{Items, Memory, Text};
 use bz_value::{File, Item, past_first_line};
 use std::alloc::Global;
 
-/// The file value of a tree: its statements without gaps, each comment at its host, and as often in the value as in the tree's
+/// The file value of the tree of a BUILD file: its statements without gaps, each comment at its host, and as often in the value as in the tree's
 /// gaps. The error: memory was refused.
 pub fn view(alloc: Global, tree: &Tree) -> Result<File, Memory>
+    requires { IsBuild tree.now }
     ensures value { IfOk result (λ file. file ≡ view_of tree.now) }
     ensures comments { IfOk result (λ file. (text : Bytes) → times text file ≡ occurrences text tree.now) }
 {

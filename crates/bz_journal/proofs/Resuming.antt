@@ -49,6 +49,7 @@ state_holds one keep lead between least s h =
     let kept : IsKept (session_history s) = session_kept keep s h in
     record {
       own = h;
+      build = h.trail.tree.0.build;
       kept = kept;
       text = sym k.present;
       steps = sym k.counted;

@@ -14,7 +14,7 @@ pub use Rattle.bz_edit.specs.declared.part_windows.PartWindow.{PartWindow}
 pub use Rattle.bz_files.specs.Faults.{Rises}
 pub use Rattle.bz_files.specs.Folder.{Elapses, Folder}
 pub use Rattle.bz_grammar.specs.Faults.{IsOfText}
-pub use Rattle.bz_grammar.specs.Legal.{Accepted, Reads}
+pub use Rattle.bz_grammar.specs.Legal.{Accepted, IsBuild, Reads}
 pub use Rattle.bz_grammar.specs.Spell.{depth_limit, depth_of, leaves_part, limit, spell_node, spell_part}
 pub use Rattle.bz_grammar.specs.Statements.{first_gap, fronts, fronts_in, is_node, lines_of, newlines, node_parts}
 pub use Rattle.bz_grammar.specs.declared.tree.Node.{Node}

@@ -1,6 +1,6 @@
 //! The course of a file: its texts as one tree and the steps between them, and what actions make of it.
 ghost use Rattle.std.specs.Prelude.{◌≡◌, ◌≤◌, ◌<◌, ◌+◌, ◌↔◌, true, false, take, Err, None, Ok, Result, ℕ, List, IfOk, OnOk, OnErr, IsOk, IsTrue, length, string_bytes};
-ghost use Rattle.bz_journal.specs.Clauses.{AreThere, EndsAt, HoldsState, IsAtOnce, IsSmall, IsTree, MakesOrWants, OpensText, Redo, Refusal, Undo, action_in, after_text, are_even, changed, most_steps, note_limit, opened, present, session_history, session_trail, spell_node, steps_back, steps_forward, unchanged, with_windows};
+ghost use Rattle.bz_journal.specs.Clauses.{AreThere, EndsAt, HoldsState, IsAtOnce, IsBuild, IsSmall, IsTree, MakesOrWants, OpensText, Redo, Refusal, Undo, action_in, after_text, are_even, changed, most_steps, note_limit, opened, present, session_history, session_trail, spell_node, steps_back, steps_forward, unchanged, with_windows};
 
 use crate::action::{Action, Reply};
 use crate::staying::stay;
@@ -138,6 +138,7 @@ impl Course {
     /// The tree of the present text.
     pub(crate) fn present(&self) -> &Tree
         ensures tree { result.now ≡ self.now.tree }
+        ensures build { IsBuild result.now }
         ensures text { spell_node result.now ≡ present (session_history self.now) }
         ensures within { (session_history self.now).cursor < length (session_history self.now).texts }
     {
@@ -148,6 +149,7 @@ impl Course {
     /// The tree of the one text of a course, and the path of its package.
     pub(crate) fn into_first(self) -> (Tree, String)
         requires { length (session_history self).texts ≡ 1 }
+        ensures build { IsBuild result.0 }
         ensures first { session_history self ≡ opened (string_bytes result.1) (spell_node result.0) }
         ensures path { length (string_bytes result.1) ≤ 65536 }
     {

@@ -1,7 +1,7 @@
 //! Actions in a course, and what is kept beside it from one command to the next: the value of the present text, so that a command need not
 //! make it anew. Where that text is the layout of a tidy value only what changes is tidied and laid out.
 ghost use Rattle.std.specs.Prelude.{◌≡◌, ◌≤◌, List, None, OnOk, length};
-ghost use Rattle.bz_journal.specs.Clauses.{AreOver, Do, EndsAt, Format, HasActed, HasMade, IsFormatted, IsSeenIn, Item, MakesLines, Node, action_in, after_meaning, note_limit, present, session_history, view_of, written};
+ghost use Rattle.bz_journal.specs.Clauses.{AreOver, Do, EndsAt, Format, HasActed, HasMade, IsBuild, IsFormatted, IsSeenIn, Item, MakesLines, Node, action_in, after_meaning, note_limit, present, session_history, view_of, written};
 
 use crate::action::{Action, Reply};
 use crate::answering::{Lookups, answer, is_by_name, look_up};
@@ -140,6 +140,7 @@ fn made_of(
     file: File,
     tree: &Tree,
 ) -> Result<Made, Refusal>
+    requires build { IsBuild tree.now }
     requires seen { IsSeenIn tree.now seen.old }
     requires over { AreOver windows (view_of tree.now) file }
     ensures made { MakesLines file tree.now result }

@@ -1,6 +1,6 @@
 //! The lines of a new value that are other ones than in the present tree.
 ghost use Rattle.std.specs.Prelude.{◌≡◌, ◌<◌, ◌≤◌, Err, IfOk, IfSome, length};
-ghost use Rattle.bz_journal.specs.Clauses.{AreLinesOf, AreOver, IsIndexOf, IsWritten, MakesLines, Refusal, SetFault, depth_limit, depth_of, laid_out, layout, limit, spell_node, view_of};
+ghost use Rattle.bz_journal.specs.Clauses.{AreLinesOf, AreOver, IsBuild, IsIndexOf, IsWritten, MakesLines, Refusal, SetFault, depth_limit, depth_of, laid_out, layout, limit, spell_node, view_of};
 
 use crate::naming::outlives;
 use bz_build_format::{is_mostly_other, read_text, read_windows, reads_back};
@@ -47,6 +47,7 @@ fn lines_of_windows(
     tree: &Tree,
     len: usize,
 ) -> Result<(Items<PartWindow>, usize), SetFault>
+    requires build { IsBuild tree.now }
     requires over { AreOver windows.now (view_of tree.now) file.now }
     requires written { IsWritten (view_of tree.now) tree.now }
     requires len { len ≡ length (spell_node tree.now) }
@@ -75,6 +76,7 @@ pub(crate) fn made_by_windows(
     len: usize,
     names: Option<Names>,
 ) -> Result<Made, Refusal>
+    requires build { IsBuild tree.now }
     requires names { IfSome names (λ index. IsIndexOf index (view_of tree.now)) }
     requires over { AreOver windows (view_of tree.now) file }
     requires written { IsWritten (view_of tree.now) tree.now }
@@ -120,6 +122,7 @@ pub(crate) fn made_by_text(
     tree: &Tree,
     about: usize,
 ) -> Result<Made, Refusal>
+    requires { IsBuild tree.now }
     ensures { MakesLines file tree.now result }
 {
     let _items = &file.items;

@@ -1,6 +1,6 @@
 //! What a command makes of the value of a tree.
 ghost use Rattle.std.specs.Prelude.{◌≡◌, ◌⊎◌, Ok, IfOk, IfErr, IfSome};
-ghost use Rattle.bz_journal.specs.Clauses.{IsIndexOf, Means, Refusal, RunsIn, effect, gives, lines_begun, printed, printed_answer, refuses, spell_node, text_or, view_of};
+ghost use Rattle.bz_journal.specs.Clauses.{IsBuild, IsIndexOf, Means, Refusal, RunsIn, effect, gives, lines_begun, printed, printed_answer, refuses, spell_node, text_or, view_of};
 
 use crate::answering::{Lookups, look_up_lines};
 use crate::filling::overfills;
@@ -24,7 +24,8 @@ pub(crate) fn printed_answer(command: &Command, printed: Text) -> Option<Text>
 
 /// The value of a tree: the one that is kept, or one that is made. The error: memory was refused.
 pub(crate) fn value_of(alloc: Global, kept: Option<File>, tree: &Tree) -> Result<File, Memory>
-    requires { IfSome kept (λ items. items ≡ view_of tree.now) }
+    requires build { IsBuild tree.now }
+    requires kept { IfSome kept (λ items. items ≡ view_of tree.now) }
     ensures { IfOk result (λ file. file ≡ view_of tree.now) }
 {
     match kept {
@@ -65,6 +66,7 @@ pub(crate) fn meant(
     tree: Tree,
     len: usize,
 ) -> Result<(Option<Text>, Option<Text>), Refusal>
+    requires { IsBuild tree }
     ensures ok { IfOk result (λ meant. Means command.now target.now current.now (spell_node tree) (gives (text_or (spell_node tree) meant.0) meant.1)) }
     ensures err { IfErr result (λ refusal. Means command.now target.now current.now (spell_node tree) (refuses refusal) ⊎ (refusal ≡ Refusal.Memory)) }
 {

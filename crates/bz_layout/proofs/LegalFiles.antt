@@ -1,5 +1,5 @@
 -- What the layout makes of a proper file value is legal.
-use Rattle.std.proofs.Common.{◌≡◌, ◌≤◌, Bool, true, false, List, [], ◌∷◌, ◌++◌, inl, inr, Option, Some, None, if◌then◌else◌, append_assoc, refl, sym, subst, arith, ◌∙◌}
+use Rattle.std.proofs.Common.{◌≡◌, ◌≤◌, Bool, true, ap, false, List, [], ◌∷◌, ◌++◌, inl, inr, Option, Some, None, if◌then◌else◌, append_assoc, refl, sym, subst, arith, ◌∙◌}
 use Rattle.std.specs.Prelude.{IsUtf8}
 use Rattle.std.specs.List.{AllByRecursion, flat_map}
 use Rattle.std.proofs.lemmas.List.Elements.{recursion_from_All}
@@ -9,7 +9,7 @@ use Rattle.bz_token.specs.declared.class.Class.TheVariants as c
 use Rattle.bz_token.specs.Tokens.{IsToken}
 use Rattle.bz_lex.specs.declared.leaf.Leaf.{Leaf}
 use Rattle.bz_lex.specs.Leaves.{spell_leaves, IsCodedLeaf, AreCoded}
-use Rattle.bz_lex.specs.Gaps.{is_flush}
+use Rattle.bz_lex.specs.Gaps.{indent}
 use Rattle.bz_lex.proofs.Lists.{spell_leaves-append}
 use Rattle.bz_grammar.specs.declared.kind.Kind.{Kind}
 use Rattle.bz_grammar.specs.declared.kind.Kind.TheVariants as k
@@ -18,11 +18,14 @@ use Rattle.bz_grammar.specs.declared.tree.Part.{Part, Row_of-Part, end_of-Part, 
 use Rattle.bz_grammar.specs.declared.tree.Part.TheVariants as p
 use Rattle.bz_grammar.specs.Spell.{leaves_part, leaves_row, depth_of, depth_limit}
 use Rattle.bz_grammar.specs.Shapes as s
-use Rattle.bz_grammar.specs.Shapes.{Fits, shape, has_nonterminal, nonterminal_has_kind}
-use Rattle.bz_grammar.specs.Legal.{IsNonterminal, LegalPart, Legal}
-use Rattle.bz_grammar.specs.Spots.{Spot, Begins, Along, after_node, after_part, AtLeaves, AtRow, AtParts, Stands, TokenStands, AreTokens, Within, GapStands, BzlGapStands}
+use Rattle.bz_grammar.specs.Shapes.{Fits, shape, bzl_shape, has_nonterminal, nonterminal_has_kind}
+use Rattle.bz_grammar.specs.Legal.{IsNonterminal, LegalPart, IsBuildPart, LegalBuild}
+use Rattle.bz_grammar.specs.Indents.{first_indent, Indented, AreIndented}
+use Rattle.bz_grammar.specs.Spots.{Spot, Begins, Along, after_node, after_part, AtLeaves, AtRow, AtParts, Stands, TokenStands, AreTokens}
 use Rattle.bz_grammar.proofs.Spells.{leaves_Node}
-use Rattle.bz_grammar.proofs.Trees.{of_shapes}
+use Rattle.bz_grammar.proofs.Trees.{of_bzl_shapes}
+use Rattle.bz_grammar.proofs.Newer.{build_node}
+use Rattle.bz_grammar.proofs.Build.{none_flush, line_indented}
 use Rattle.bz_grammar.proofs.Balance.{no_such}
 use Rattle.bz_items.specs.Characters.{Bytes, line_feed}
 use Rattle.bz_value.specs.declared.value.Expr.{Expr, Token, Form'}
@@ -45,44 +48,6 @@ use Rattle.bz_layout.proofs.LegalParts.{IsGood, build_good}
 use Rattle.bz_layout.proofs.Spelled.{laid_out_spelled}
 use Rattle.bz_layout.proofs.Elements.{in_line_class}
 use Rattle.bz_layout.proofs.Spots.{lexeme_in_line, token_goes_on, node_goes_on}
-
--- ---- only the first leaf of what is laid out of an expression may begin a line: where its gap is flush, all leaves are placed as in a BUILD file
-
-build_gap : (class : Class) (here : Spot) (gap : Bytes) → in_line_class class ≡ true → (is_begins here ≡ true → is_flush gap ≡ true) → BzlGapStands class here gap → GapStands class here gap
-build_gap c.Newline here gap h f g = no_such h
-build_gap c.End here gap h f g = no_such h
-build_gap _ Begins gap h f g = (g, f refl)
-build_gap _ Within gap h f g = g
-build_gap _ Along gap h f g = g
-
-placed_stands : (here : Spot) (l : Leaf) → (is_begins here ≡ true → is_flush l.gap ≡ true) → Placed here l → Stands here l
-placed_stands here l f h = build_gap l.class here l.gap (lexeme_in_line l.class l.token h.lexeme) f h.stands
-
--- no line begins after a part
-part_goes_on : (outer here : Spot) (x : Part) → Airy x → AtLeaves Placed here x → is_begins (after_part outer here x) ≡ false
-part_goes_on outer here (p.Leaf l) a h = token_goes_on l.class l.token outer here (lexeme_in_line l.class l.token h.lexeme)
-part_goes_on outer here (Node' kind z r) a h = node_goes_on kind here a.0
-
--- the first leaf's gap is flush, where there is a leaf
-abbrev pub FirstFlush : List Leaf → Type 0
-FirstFlush [] = Unit {0}
-FirstFlush (l ∷ ls) = is_flush l.gap ≡ true
-
-first_of : (a b : List Leaf) → FirstFlush (a ++ b) → FirstFlush a
-first_of [] b h = tt
-first_of (l ∷ a) b h = h
-
-mutual
-  pub flush_stands : (here : Spot) (x : Part) → (is_begins here ≡ true → FirstFlush (leaves_part x)) → Airy x → AtLeaves Placed here x → AtLeaves Stands here x
-  flush_stands here (p.Leaf l) f a h = placed_stands here l f h
-  flush_stands here (Node' kind z r) f a h = flush_row here here _ r f a.2 h
-
-  flush_row : (outer here : Spot) (m : _) (r : Row_of-Part m) → (is_begins here ≡ true → FirstFlush (leaves_row r)) → AiryRow r → AtRow Placed outer here r → AtRow Stands outer here r
-  flush_row outer here m end_of-Part f a h = tt
-  flush_row outer here m (more_of-Part x rest) f a h = (
-    flush_stands here x (λ e. first_of (leaves_part x) (leaves_row rest) (f e)) a.0 h.0,
-    flush_row outer (after_part outer here x) _ rest (λ e. no_such (sym (part_goes_on outer here x a.0 h.0) ∙ e)) a.1 h.1,
-  )
 
 -- ---- what holds of each leaf of a part
 
@@ -176,7 +141,8 @@ line_tokens x newline rest i t h r = subst AreTokens (sym (append_assoc (leaves_
 
 -- a line is where one begins, and its leaves are tokens before others that are
 record IsLine (x : Part) : Type 0 where
-  legal : LegalPart x
+  legal : LegalPart x × IsBuildPart x
+  indented : Indented [] x
   is_line : IsNonterminal s.line x
   begins : after_part Begins Begins x ≡ Begins
   gaps : AtLeaves Stands Begins x
@@ -194,15 +160,18 @@ line_stands gap x h g =
     let placed : AtLeaves Placed Begins statement = laid_out_stands Begins x (line_expr Begins x h.1) front 0 fits.0 in
     let good : IsGood shape (x, part_of x) = build_good Begins x h.1 in
     let airy : Airy statement = good.airy front 0 in
-    let flush : FirstFlush (leaves_part statement) = let w = good.stands.starts front 0 in subst FirstFlush (sym w.2) (subst (λ z. is_flush z ≡ true) (sym w.3) fits.1) in
+    let first = good.stands.starts front 0 in
     let ending : IsUtf8 (suffix_text suffix) = (newline_gap suffix h.2.1).1 in
     let leaves : leaves_part (p.Node node) ≡ leaves_part statement ++ (newline ∷ []) = leaves_Node node in
     let lexed : AllByRecursion IsLex (leaves_part statement) = leaves_hold Placed IsLex (λ here l q. q.lexeme) Begins statement placed in
+    let own = as_build statement (good.legal front 0) in
+    let legal : LegalPart (p.Node node) = of_bzl_shapes node ((is_small x h.0 front, inl (refl, tt)), (own.0, (tt, tt))) in
     record {
-      legal = of_shapes node ((is_small x h.0 front, inl (refl, tt)), (as_build statement (good.legal front 0), (tt, tt)));
+      legal = (legal, build_node (p.Node node) node refl (omega arith) (own.1, (tt, tt)));
+      indented = line_indented node refl legal (ap (λ ls. first_indent (ls ++ newline ∷ [])) first.2 ∙ (ap indent first.3 ∙ none_flush front fits.1));
       is_line = refl;
       begins = refl;
-      gaps = at_node Stands Begins node (flush_stands Begins statement (λ _. flush) airy placed, (subst (λ z. AtLeaves Stands z (p.Leaf newline)) (sym (goes_along x h.0 front)) (true, (newline_gap suffix h.2.1).0), tt));
+      gaps = at_node Stands Begins node (at_leaves Placed Stands (λ here l q. q.stands) Begins statement placed, (subst (λ z. AtLeaves Stands z (p.Leaf newline)) (sym (goes_along x h.0 front)) (true, (newline_gap suffix h.2.1).0), tt));
       tokens_then = λ rest r. subst (λ z. AreTokens (z ++ rest)) (sym leaves) (line_tokens statement newline rest refl refl
           (tokens statement (wider_part shape line_shape lines_wider statement (good.legal front 0)) lexed airy (spell_leaves (newline ∷ rest)) (newline_follows (ends_plain statement) suffix (spell_leaves rest))) r);
       coded = subst AreCoded (sym leaves) (all_joined IsCodedLeaf (leaves_part statement) (newline ∷ []) (leaves_hold Placed IsCodedLeaf (λ here l q. q.coded) Begins statement placed) ((ending, coded_byte line_feed (omega arith)), tt));
@@ -212,13 +181,15 @@ line_stands gap x h g =
 
 record AreLines (parts : List Part) : Type 0 where
   legal : AllByRecursion LegalPart parts
-  fits : Fits IsNonterminal (shape k.File) parts
+  build : AllByRecursion IsBuildPart parts
+  indents : AreIndented [] parts
+  fits : Fits IsNonterminal (bzl_shape k.File) parts
   gaps : AtParts Stands Begins Begins parts
   tokens_there : AreTokens (flat_map leaves_part parts)
   coded : AreCoded (flat_map leaves_part parts)
 
 lines_stand : (xs : List Item) → AllByRecursion IsProperItem xs → (gap : Bytes) → FitsFlush gap → AreLines (lines_from gap xs)
-lines_stand [] h gap g = record { legal = (tt, tt); fits = inl (refl, tt); gaps = ((false, g.0.0), tt); tokens_there = ((refl, refl), tt); coded = ((g.0.1, IsUtf8-nil), tt) }
+lines_stand [] h gap g = record { legal = (tt, tt); build = (tt, tt); indents = (tt, tt); fits = inl (refl, tt); gaps = ((false, g.0.0), tt); tokens_there = ((refl, refl), tt); coded = ((g.0.1, IsUtf8-nil), tt) }
 lines_stand (i.Block texts ∷ xs) h gap g =
     lines_stand xs h.1 _
     (first_append (gap ++ comment_lines texts) (before_next (i.Block texts) xs) (first_append gap (comment_lines texts) g (lines_fit texts (recursion_from_All IsComment texts h.0.1))) (before_next_fits (i.Block texts) xs))
@@ -227,7 +198,9 @@ lines_stand (i.Stmt x ∷ xs) h gap g =
     let rest : List Leaf = flat_map leaves_part (lines_from (before_next (i.Stmt x) xs) xs) in
     let here : IsLine (line_part gap x) = line_stands gap x h.0 g in
     record {
-      legal = (here.legal, more.legal);
+      legal = (here.legal.0, more.legal);
+      build = (here.legal.1, more.build);
+      indents = (here.indented, more.indents);
       fits = inr (here.is_line, more.fits);
       gaps = (here.gaps, subst (λ z. AtParts Stands Begins z (lines_from (before_next (i.Stmt x) xs) xs)) (sym here.begins) more.gaps);
       tokens_there = here.tokens_then rest more.tokens_there;
@@ -235,15 +208,12 @@ lines_stand (i.Stmt x ∷ xs) h gap g =
     }
 
 -- what is laid out of a proper file value is legal, where it is not too deep
-pub laid_out_legal : (items : List Item) → IsProper items → depth_of (laid_out items) ≤ depth_limit → Legal (laid_out items)
+pub laid_out_legal : (items : List Item) → IsProper items → depth_of (laid_out items) ≤ depth_limit → LegalBuild (laid_out items)
 laid_out_legal items h d =
     let lines : AreLines (lines_from [] items) = lines_stand items (recursion_from_All IsProperItem items h) [] first_nothing in
     record {
-      file = record { root = refl; shapes = (lines.fits, lines.legal) };
-      gaps = lines.gaps;
-      tokens = lines.tokens_there;
-      coded = lines.coded;
-      depth = d;
+      legal = record { file = record { root = refl; shapes = (lines.fits, lines.legal) }; gaps = lines.gaps; indents = lines.indents; tokens = lines.tokens_there; coded = lines.coded; depth = d };
+      build = lines.build;
     }
 
 -- so the layout is accepted

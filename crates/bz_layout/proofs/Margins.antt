@@ -8,7 +8,7 @@ use Rattle.bz_token.specs.declared.class.Class.{Class}
 use Rattle.bz_token.specs.declared.class.Class.TheVariants as c
 use Rattle.bz_lex.specs.Gaps.{IsOneLine, IsGap, nothing, blank, escaped, escaped_return, unescaped, comment, last_comment, is_flush}
 use Rattle.bz_grammar.specs.declared.kind.Kind.{Kind}
-use Rattle.bz_grammar.specs.Spots.{Spot, Begins, Within, Along, BzlGapStands}
+use Rattle.bz_grammar.specs.Spots.{Spot, Begins, Within, Along, GapStands}
 use Rattle.bz_grammar.proofs.Balance.{no_such}
 use Rattle.bz_value.specs.declared.value.Expr.{Expr}
 use Rattle.bz_items.specs.Characters.{Bytes, line_feed, space}
@@ -27,7 +27,7 @@ FitsAt Begins gap = IsGap true false gap × IsUtf8 gap
 FitsAt Within gap = IsGap true false gap × IsUtf8 gap
 FitsAt Along gap = IsGap false false gap × IsUtf8 gap
 
-pub gap_stands : (class : Class) (here : Spot) (gap : Bytes) → in_line_class class ≡ true → FitsAt here gap → BzlGapStands class here gap
+pub gap_stands : (class : Class) (here : Spot) (gap : Bytes) → in_line_class class ≡ true → FitsAt here gap → GapStands class here gap
 gap_stands c.Newline here gap h g = no_such h
 gap_stands c.End here gap h g = no_such h
 gap_stands _ Begins gap h g = g.0

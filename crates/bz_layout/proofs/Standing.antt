@@ -16,7 +16,7 @@ use Rattle.bz_grammar.specs.declared.tree.Part.{Part}
 use Rattle.bz_grammar.specs.declared.tree.Part.TheVariants as p
 use Rattle.bz_grammar.specs.Shapes.{Fits}
 use Rattle.bz_grammar.specs.Legal.{IsNonterminal}
-use Rattle.bz_grammar.specs.Spots.{Spot, Within, onward, Role, opens, closes, role, following_token, after_part, AtLeaves, AtParts, BzlStands}
+use Rattle.bz_grammar.specs.Spots.{Spot, Within, onward, Role, opens, closes, role, following_token, after_part, AtLeaves, AtParts, Stands}
 use Rattle.bz_grammar.proofs.Nested.{row_of, items_of_row}
 use Rattle.bz_grammar.proofs.Balance.{row_of_parts}
 use Rattle.bz_value.specs.declared.value.Expr.{Expr, Token, Form', Row_of-Expr, end_of-Expr, more_of-Expr}
@@ -36,7 +36,7 @@ use Rattle.bz_layout.proofs.Spots.{lexeme_in_line, AsRow, AsSequence, goes_on, v
 
 -- a leaf is where it may be, is of texts of characters, and holds a lexeme
 pub record Placed (here : Spot) (leaf : Leaf) : Type 0 where
-  pub stands : BzlStands here leaf
+  pub stands : Stands here leaf
   pub coded : IsCodedLeaf leaf
   pub lexeme : IsLexeme leaf.class leaf.token
 

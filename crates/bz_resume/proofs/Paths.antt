@@ -40,7 +40,7 @@ short_edits (e ∷ es) n h d =
     both_true a b = rw (a, b) refl
 
 pub may_lead : (n : Node) (e : List Edit) → IsTree n → StepLeads e n → MayLead e
-may_lead n e t l = let d = t.0.depth in (l.is_step, short_edits e n l.there (omega arith))
+may_lead n e t l = let d = t.0.legal.depth in (l.is_step, short_edits e n l.there (omega arith))
 
 -- what is so of each step that leads on from a tree is so of those of a trail
 module _ (P : List Edit → Type 0) (each : (n : Node) (e : List Edit) → IsTree n → StepLeads e n → P e) where

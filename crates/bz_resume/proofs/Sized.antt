@@ -152,7 +152,7 @@ edits_fit m (f ∷ fs) h low sizes =
     )
 
 pub low_tree : (n : Node) → IsTree n → IsLow n.parts
-low_tree n tree = let d = tree.0.depth in record { deep = omega arith; few = counted n tree.0 tree.1; short = tree.1 }
+low_tree n tree = let d = tree.0.legal.depth in record { deep = omega arith; few = counted n tree.0.legal tree.1; short = tree.1 }
 
 pub step_fits : (n : Node) (e : List Edit) → StepLeads e n → AllByRecursion (IsEdit depth_limit) e
 step_fits n e leads =

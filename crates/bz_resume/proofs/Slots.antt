@@ -128,4 +128,4 @@ all_zero n [] = tt
 all_zero n (e ∷ es) = (omega arith, all_zero n es)
 
 pub few_edits : (n : Node) (e : List Edit) → IsTree n → StepLeads e n → length e < 2 ^ 32
-few_edits n e tree leads = omega (arith, counted n e 0 (omega arith) leads.there leads.is_step.0 (all_zero n e), few_parts n tree.0 tree.1)
+few_edits n e tree leads = omega (arith, counted n e 0 (omega arith) leads.there leads.is_step.0 (all_zero n e), few_parts n tree.0.legal tree.1)

@@ -9,8 +9,8 @@ use Rattle.bz_grammar.specs.declared.tree.Node.{Node}
 use Rattle.bz_grammar.specs.declared.tree.Part.{Part, Node'}
 use Rattle.bz_grammar.specs.declared.tree.Part.TheVariants as p
 use Rattle.bz_grammar.specs.Spell.{leaves_part, spell_node, spell_part, limit}
-use Rattle.bz_grammar.specs.Legal.{Legal, IsNonterminal}
-use Rattle.bz_grammar.specs.Shapes.{Several, line}
+use Rattle.bz_grammar.specs.Legal.{LegalBuild, IsNonterminal}
+use Rattle.bz_grammar.specs.Shapes.{Several, stmt}
 use Rattle.bz_grammar.specs.Joined.{AreWholeLines, file_with, last_token}
 use Rattle.bz_items.specs.Characters.{line_feed}
 use Rattle.bz_grammar.specs.Split.{bare_end}
@@ -27,38 +27,38 @@ use Rattle.bz_resume.specs.private.Alone.{IsAlone, AreAlone, EndsLine, AreLined,
 
 -- ---- a legal file has parts that are legal by themselves
 
-node_last : (kind : _) (size : _) (row : _) → Several (IsNonterminal line) IsLast (Node' kind size row ∷ []) → ⊥
+node_last : (kind : _) (size : _) (row : _) → Several (IsNonterminal stmt) IsLast (Node' kind size row ∷ []) → ⊥
 node_last kind size row (inl f) = no_such f.0
 node_last kind size row (inr f) = f.1
 
-end_alone : (x : Part) → Legal (file_with (x ∷ [])) → IsAlone x
+end_alone : (x : Part) → LegalBuild (file_with (x ∷ [])) → IsAlone x
 end_alone (p.Leaf l) h = h
-end_alone (Node' kind size row) h = absurd (node_last kind size row h.file.shapes.0)
+end_alone (Node' kind size row) h = absurd (node_last kind size row h.legal.file.shapes.0)
 
-line_alone : (x y : Part) (ys : List Part) → Several (IsNonterminal line) IsLast (x ∷ y ∷ ys) → Legal (file_with (x ∷ bare_end ∷ [])) → IsAlone x
+line_alone : (x y : Part) (ys : List Part) → Several (IsNonterminal stmt) IsLast (x ∷ y ∷ ys) → LegalBuild (file_with (x ∷ bare_end ∷ [])) → IsAlone x
 line_alone x y ys (inl f) h = absurd f.1
 line_alone (p.Leaf l) y ys (inr f) h = no_such f.0
 line_alone (Node' kind size row) y ys (inr f) h = h
 
-parts_alone : (xs : List Part) → Legal (file_with xs) → AreAlone xs
+parts_alone : (xs : List Part) → LegalBuild (file_with xs) → AreAlone xs
 parts_alone [] h = tt
 parts_alone (x ∷ []) h = (end_alone x h, tt)
 parts_alone (x ∷ y ∷ ys) h =
     let w = lines_split (x ∷ []) y ys h in
-    (line_alone x y ys h.file.shapes.0 w.0, parts_alone (y ∷ ys) w.1)
+    (line_alone x y ys h.legal.file.shapes.0 w.0, parts_alone (y ∷ ys) w.1)
 
 as_file : (n : Node) → n.kind ≡ k.File → n ≡ file_with n.parts
 as_file n e = ap (λ kind. (let m : Node = record { kind = kind; parts = n.parts } in m)) e
 
-pub legal_alone : (n : Node) → Legal n → AreAlone n.parts
-legal_alone n h = parts_alone n.parts (subst Legal (as_file n h.file.root) h)
+pub legal_alone : (n : Node) → LegalBuild n → AreAlone n.parts
+legal_alone n h = parts_alone n.parts (subst LegalBuild (as_file n h.legal.file.root) h)
 
 -- ---- lines that are legal by themselves make a legal file
 
 text_alone : (x : Part) → spell_node (file_with (x ∷ bare_end ∷ [])) ≡ spell_part x
 text_alone x = append-nil (spell_part x)
 
-one_more : (x : Part) (ps : List Part) → AreWholeLines (x ∷ []) → Legal (file_with (x ∷ bare_end ∷ [])) → Legal (file_with ps) → length (spell_node (file_with (x ∷ ps))) ≤ limit → Legal (file_with (x ∷ ps))
+one_more : (x : Part) (ps : List Part) → AreWholeLines (x ∷ []) → LegalBuild (file_with (x ∷ bare_end ∷ [])) → LegalBuild (file_with ps) → length (spell_node (file_with (x ∷ ps))) ≤ limit → LegalBuild (file_with (x ∷ ps))
 one_more x ps whole g h le =
     let s = spell_node (file_with (x ∷ bare_end ∷ [])) in
     let t = spell_node (file_with ps) in
@@ -69,16 +69,16 @@ one_more x ps whole g h le =
 shorter : (x : Part) (ps : List Part) → length (spell_node (file_with (x ∷ ps))) ≤ limit → length (spell_node (file_with ps)) ≤ limit
 shorter x ps le = omega (arith, le, length-append (spell_part x) (spell_node (file_with ps)))
 
-lines_legal : (xs : List Part) (l : Leaf) → AreAlone (xs ++ p.Leaf l ∷ []) → AllByRecursion EndsLine xs → length (spell_node (file_with (xs ++ p.Leaf l ∷ []))) ≤ limit → Legal (file_with (xs ++ p.Leaf l ∷ []))
+lines_legal : (xs : List Part) (l : Leaf) → AreAlone (xs ++ p.Leaf l ∷ []) → AllByRecursion EndsLine xs → length (spell_node (file_with (xs ++ p.Leaf l ∷ []))) ≤ limit → LegalBuild (file_with (xs ++ p.Leaf l ∷ []))
 lines_legal [] l h g le = h.0
 lines_legal (p.Leaf m ∷ xs) l h g le = absurd g.0
 lines_legal (Node' kind size row ∷ xs) l h g le =
     let ps = xs ++ p.Leaf l ∷ [] in
     one_more (Node' kind size row) ps g.0 h.0 (lines_legal xs l h.1 g.1 (shorter (Node' kind size row) ps le)) le
 
-pub lined_legal : (ps : List Part) → AreAlone ps → AreLined ps → length (spell_node (file_with ps)) ≤ limit → Legal (file_with ps)
+pub lined_legal : (ps : List Part) → AreAlone ps → AreLined ps → length (spell_node (file_with ps)) ≤ limit → LegalBuild (file_with ps)
 lined_legal ps h w le =
-    subst (λ qs. Legal (file_with qs)) (sym w.2) (lines_legal w.0 w.1 (subst AreAlone w.2 h) w.3 (subst (λ qs. length (spell_node (file_with qs)) ≤ limit) w.2 le))
+    subst (λ qs. LegalBuild (file_with qs)) (sym w.2) (lines_legal w.0 w.1 (subst AreAlone w.2 h) w.3 (subst (λ qs. length (spell_node (file_with qs)) ≤ limit) w.2 le))
 
 -- ---- how the code tests it
 
@@ -169,5 +169,5 @@ step_keeps n es (inr h) g = held_keeps n es h g
 pub led_to : (from n : Node) (es : List Edit) → IsTree from → n ≡ swap_node es from → AreLined n.parts → AreTouchedAlone n.parts es → length (spell_node n) ≤ limit → IsTree n
 led_to from n es tree is lined touched le =
     let alone : AreAlone n.parts = subst (λ (m : Node). AreAlone m.parts) (sym is) (step_keeps from es (subst (λ (m : Node). AreTouchedAlone m.parts es) is touched) (legal_alone from tree.0)) in
-    let kind : n.kind ≡ k.File = ap (λ (m : Node). m.kind) is ∙ tree.0.file.root in
-    (subst Legal (sym (as_file n kind)) (lined_legal n.parts alone lined le), le)
+    let kind : n.kind ≡ k.File = ap (λ (m : Node). m.kind) is ∙ tree.0.legal.file.root in
+    (subst LegalBuild (sym (as_file n kind)) (lined_legal n.parts alone lined le), le)

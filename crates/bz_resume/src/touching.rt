@@ -3,7 +3,7 @@
 ghost use Rattle.std.specs.Prelude.{◌≡◌, ◌≤◌, [], ◌∷◌, IsTrue, length};
 ghost use Rattle.std.specs.List.{AllByRecursion};
 ghost use Rattle.bz_grammar.specs.declared.tree.Node.{Node};
-ghost use Rattle.bz_grammar.specs.Legal.{Legal};
+ghost use Rattle.bz_grammar.specs.Legal.{LegalBuild};
 ghost use Rattle.bz_grammar.specs.Spell.{spell_node, limit};
 ghost use Rattle.bz_grammar.specs.Joined.{file_with};
 ghost use Rattle.bz_grammar.specs.Split.{bare_end};
@@ -43,7 +43,7 @@ const STATEMENT_LIMIT: usize = 1 << 20;
 
 /// Whether a text reads as a file that has this part alone.
 fn reads_alone(alloc: Global, text: &[u8], part: &Part) -> bool
-    ensures { IsTrue result → Legal (file_with (part.now ∷ bare_end ∷ [])) }
+    ensures { IsTrue result → LegalBuild (file_with (part.now ∷ bare_end ∷ [])) }
 {
     match parse(alloc, text) {
         Ok(tree) => has_alone(&tree, part),

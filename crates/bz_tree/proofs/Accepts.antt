@@ -20,13 +20,12 @@ use Rattle.bz_grammar.specs.declared.tree.Node.{Node}
 use Rattle.bz_grammar.specs.declared.tree.Part.{Part}
 use Rattle.bz_grammar.specs.Spell.{spell_node, leaves_part, leaves_of, limit}
 use Rattle.bz_grammar.specs.Shapes.{is_one_of, has_token, end, stmt, Several, Fits, done, tok, bzl_shape}
-use Rattle.bz_grammar.specs.Legal.{IsNonterminal, IsBzlFile, IsFileOf, Legal, LegalBzl, IsBuild, Reads, ReadsBzl, NoTree, NoBzlTree}
+use Rattle.bz_grammar.specs.Legal.{IsNonterminal, IsFile, IsFileOf, Legal, IsBuild, Reads, ReadsBzl, NoTree, NoBzlTree}
 use Rattle.bz_grammar.specs.Faults.{NoFile, IsOther}
 use Rattle.bz_grammar.proofs.Exact.{token_leaf}
 use Rattle.bz_grammar.proofs.Spells.{node_spelled}
-use Rattle.bz_grammar.proofs.Unique.{bzl_of, one_bzl_tree}
+use Rattle.bz_grammar.proofs.Unique.{one_bzl_tree}
 use Rattle.bz_grammar.proofs.Both.{leaves_bzl_legal, legal_leaves}
-use Rattle.bz_grammar.proofs.Build.{legal_by_lines}
 
 -- ---- the end of a file
 
@@ -51,23 +50,23 @@ end_in [] h = absurd h
 end_in (x ∷ xs) (inl h) = end_among x (flat_map leaves_part xs) h.0
 end_in (x ∷ xs) (inr h) = end_after (leaves_part x) (flat_map leaves_part xs) (end_in xs h.1)
 
-file_end : (n : Node) → IsBzlFile n → has_end (leaves_of n) ≡ true
+file_end : (n : Node) → IsFile n → has_end (leaves_of n) ≡ true
 file_end n h = end_in n.parts (subst (λ (kind : Kind). Fits IsNonterminal (bzl_shape kind) n.parts) h.root h.shapes.0)
 
 -- ---- legal trees and their leaves
 
 -- a file of the leaves of a text of characters is a legal tree
-pub legal_of : (ls : List Leaf) (n : Node) → IsFileOf ls n → AreLeaves ls → IsUtf8 (spell_leaves ls) → LegalBzl n
+pub legal_of : (ls : List Leaf) (n : Node) → IsFileOf ls n → AreLeaves ls → IsUtf8 (spell_leaves ls) → Legal n
 legal_of ls n e h u =
     let w = legal_leaves n e.file (subst AreLeaves (sym e.leaves) h) in
     record { file = e.file; gaps = w.0; indents = e.indents; tokens = w.1; coded = subst AreCoded (sym e.leaves) (leaves_coded ls h u); depth = e.depth }
 
 -- a legal tree is a file of its leaves
-pub file_of_legal : (n : Node) (ls : List Leaf) → LegalBzl n → leaves_of n ≡ ls → IsFileOf ls n
+pub file_of_legal : (n : Node) (ls : List Leaf) → Legal n → leaves_of n ≡ ls → IsFileOf ls n
 file_of_legal n ls h e = record { file = h.file; indents = h.indents; leaves = e; depth = h.depth }
 
 -- a legal tree spells a text of characters
-pub legal_coded : (n : Node) → LegalBzl n → IsUtf8 (spell_node n)
+pub legal_coded : (n : Node) → Legal n → IsUtf8 (spell_node n)
 legal_coded n h = subst IsUtf8 (sym (node_spelled n)) (coded_spelled (leaves_of n) h.coded)
 
 -- ---- texts
@@ -83,7 +82,7 @@ tree_of_leaves text ls n e le u w = elim (all_come text) [
 ]
 
 -- the spelling of a tree that a text reads as is within the limit
-pub reads_within : (text : List ℕ) (n : Node) → ReadsBzl text n → LegalBzl n × (length (spell_node n) ≤ limit)
+pub reads_within : (text : List ℕ) (n : Node) → ReadsBzl text n → Legal n × (length (spell_node n) ≤ limit)
 reads_within text n r = (r.0, rw r.1 r.2)
 
 pub no_leaves : (text : List ℕ) → NoLeaves text → NoBzlTree text
@@ -143,14 +142,11 @@ not_answered result text at u h = (λ e. absurd (of_result result at h e), λ w.
 -- ---- BUILD files
 
 pub no_tree_bzl : (text : List ℕ) → NoBzlTree text → NoTree text
-no_tree_bzl text h n r = h n (bzl_of n r.0, r.1, r.2)
+no_tree_bzl text h n r = h n (r.0.legal, r.1, r.2)
 
 -- the one tree of the text is none of a BUILD file
 pub no_build_tree : (text : List ℕ) (tree : Node) → ReadsBzl text tree → (IsBuild tree → ⊥) → NoTree text
-no_build_tree text tree r bad n h = bad (subst IsBuild (one_bzl_tree n tree (bzl_of n h.0) r.0 (h.1 ∙ sym r.1)) ((legal_by_lines n).0 h.0).1)
+no_build_tree text tree r bad n h = bad (subst IsBuild (one_bzl_tree n tree h.0.legal r.0 (h.1 ∙ sym r.1)) h.0.build)
 
 pub build_reads : (text : List ℕ) (tree : Node) → ReadsBzl text tree → IsBuild tree → Reads text tree
-build_reads text tree r b = ((legal_by_lines tree).1 (r.0, b), r.1, r.2)
-
-pub build_within : (text : List ℕ) (n : Node) → Reads text n → Legal n × (length (spell_node n) ≤ limit)
-build_within text n r = (r.0, rw r.1 r.2)
+build_reads text tree r b = (record { legal = r.0; build = b }, r.1, r.2)

@@ -7,7 +7,7 @@ mod parsing;
 mod stack;
 
 pub use bz_grammar::{
-    BzlTree, Class, DEPTH_LIMIT, Kind, LENGTH_LIMIT, Leaf, Node, Part, ReadFault, Tree, laws,
+    Class, DEPTH_LIMIT, Kind, LENGTH_LIMIT, Leaf, Node, Part, ReadFault, Tree, laws,
 };
 pub use bz_lex::lex;
 pub use parsing::{parse, parse_bzl, unexpected_at};

@@ -12,7 +12,7 @@ ghost use Rattle.bz_tree.specs.private.Indents.{is_wrong, IsIndentedAt};
 
 use crate::indented::{file, read_so_far};
 use crate::stack::Stack;
-use bz_grammar::{BzlTree, Kind, Tree};
+use bz_grammar::{Kind, Tree};
 use bz_lex::{
     DEPTH_LIMIT, LENGTH_LIMIT, ReadFault, Reason, fault_at, lexical_fault, line_and_column,
 };
@@ -52,7 +52,7 @@ pub fn parse(alloc: Global, text: &[u8]) -> Result<Tree, ReadFault>
 
 /// Reads the text of a `.bzl` file as the legal tree that spells it. The errors are those of `parse`; `Indented` reports the first
 /// token of a line at an indent where no statement may begin: no deeper than the header right before it, or that of no open suite.
-pub fn parse_bzl(alloc: Global, text: &[u8]) -> Result<BzlTree, ReadFault>
+pub fn parse_bzl(alloc: Global, text: &[u8]) -> Result<Tree, ReadFault>
     ensures ok { IfOk result (λ tree. ReadsBzl text.now tree) }
     ensures too_large { (result ≡ Err ReadFault.TooLarge) ↔ (limit < length text.now) }
     ensures not_utf8 { (at : ℕ) → ((result ≡ Err (ReadFault.NotUtf8 at)) ↔ ((length text.now ≤ limit) × IsValidUpTo text.now at)) }
@@ -91,7 +91,7 @@ fn build_tree_of(alloc: Global, text: &[u8]) -> Result<Tree, ReadFault>
 }
 
 /// The tree of the text of a `.bzl` file, of characters and within the limit, or a fault.
-fn bzl_tree_of(alloc: Global, text: &[u8]) -> Result<BzlTree, ReadFault>
+fn bzl_tree_of(alloc: Global, text: &[u8]) -> Result<Tree, ReadFault>
     requires within { length text.now ≤ limit }
     requires coded { IsUtf8 text.now }
     ensures ok { IfOk result (λ tree. ReadsBzl text.now tree) }
@@ -100,7 +100,7 @@ fn bzl_tree_of(alloc: Global, text: &[u8]) -> Result<BzlTree, ReadFault>
     ensures placed { IfErr result (λ fault. is_of_leaves fault ≡ true → IsFaultAt (is_wrong Dialect.Bzl) text.now fault) }
 {
     match parts_of(alloc, Dialect::Bzl, text) {
-        Ok(parts) => Ok(BzlTree {
+        Ok(parts) => Ok(Tree {
             root: parts.into_node(Kind::File),
         }),
         Err(fault) => Err(fault),

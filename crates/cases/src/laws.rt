@@ -42,7 +42,6 @@ fn call_tokens_and_trees() {
     bz_grammar::laws::one_file();
     bz_grammar::laws::legal_by_nodes();
     bz_grammar::laws::one_bzl_reading();
-    bz_grammar::laws::legal_by_lines();
     bz_grammar::laws::worked_lines();
     bz_grammar::laws::kind_of_number();
 }

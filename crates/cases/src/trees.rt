@@ -1,5 +1,8 @@
 //! Trees: what a text is read as, and where it is refused.
-use bz_grammar::{BzlTree, Class, Kind, Leaf, Node, Part, ReadFault, Tree};
+ghost use Rattle.std.specs.Prelude.{◌≡◌, IfOk};
+ghost use Rattle.bz_grammar.specs.Legal.{IsBuild};
+
+use bz_grammar::{Class, Kind, Leaf, Node, Part, ReadFault, Tree};
 use bz_items::Memory;
 use bz_tree::{parse, parse_bzl};
 use sheets::{Case, CaseFault, Page};
@@ -39,7 +42,7 @@ impl TreeQuery {
         let text = case.given_text(0)?;
         let answer = match self {
             TreeQuery::Tree => tree_of(case.alloc, text)?,
-            TreeQuery::Bzl => bzl_tree_of(case.alloc, text)?,
+            TreeQuery::Bzl => read_as(case.alloc, parse_bzl(case.alloc, text), text)?,
             TreeQuery::Expression => {
                 let tree = tree_of(case.alloc, text)?;
                 let inner = within(tree.as_str(), "File(Line(Bare(", ") no_nl) end)");
@@ -65,7 +68,9 @@ impl TreeQuery {
 }
 
 /// An answer about a text; that memory was refused is none.
-pub(crate) fn apart<T>(answer: Result<T, ReadFault>) -> Result<Result<T, ReadFault>, Memory> {
+pub(crate) fn apart<T>(answer: Result<T, ReadFault>) -> Result<Result<T, ReadFault>, Memory>
+    ensures { IfOk result (λ apart. apart ≡ answer) }
+{
     match answer {
         Ok(answer) => Ok(Ok(answer)),
         Err(ReadFault::Memory) => Err(AllocError),
@@ -73,8 +78,10 @@ pub(crate) fn apart<T>(answer: Result<T, ReadFault>) -> Result<Result<T, ReadFau
     }
 }
 
-/// `parse`, of which nothing has to be known here.
-pub(crate) fn read(alloc: Global, text: &[u8]) -> Result<Result<Tree, ReadFault>, Memory> {
+/// `parse`: the tree is that of a BUILD file.
+pub(crate) fn read(alloc: Global, text: &[u8]) -> Result<Result<Tree, ReadFault>, Memory>
+    ensures { IfOk result (λ answer. IfOk answer (λ tree. IsBuild tree)) }
+{
     apart(parse(alloc, text))
 }
 
@@ -95,9 +102,9 @@ fn spells(alloc: Global, tree: &Tree, text: &[u8]) -> Result<bool, Memory> {
 
 const OTHERWISE: &str = "a tree that is spelled otherwise";
 
-/// The tree of the text, or its fault.
-fn tree_of(alloc: Global, text: &[u8]) -> Result<String, Memory> {
-    match read(alloc, text)? {
+/// The tree that a text was read as, or its fault.
+fn read_as(alloc: Global, answer: Result<Tree, ReadFault>, text: &[u8]) -> Result<String, Memory> {
+    match apart(answer)? {
         Ok(tree) => {
             if !spells(alloc, &tree, text)? {
                 return String::from_str(alloc, OTHERWISE);
@@ -108,26 +115,9 @@ fn tree_of(alloc: Global, text: &[u8]) -> Result<String, Memory> {
     }
 }
 
-/// The same of the tree of a .bzl file.
-fn bzl_spells(alloc: Global, tree: &BzlTree, text: &[u8]) -> Result<bool, Memory> {
-    let mut spelled = Vec::new(alloc);
-    tree.spell_into(&mut spelled)?;
-    tree.copy()?.spell_into(&mut spelled)?;
-    let (first, second) = spelled.as_slice().split_at(tree.len().min(spelled.len()));
-    Ok(first == text && second == text)
-}
-
-/// The tree of the text of a .bzl file, or its fault.
-fn bzl_tree_of(alloc: Global, text: &[u8]) -> Result<String, Memory> {
-    match apart(parse_bzl(alloc, text))? {
-        Ok(tree) => {
-            if !bzl_spells(alloc, &tree, text)? {
-                return String::from_str(alloc, OTHERWISE);
-            }
-            shown(alloc, &tree.root)
-        }
-        Err(fault) => read_fault_text(alloc, &fault),
-    }
+/// The same of the text of a BUILD file.
+fn tree_of(alloc: Global, text: &[u8]) -> Result<String, Memory> {
+    read_as(alloc, parse(alloc, text), text)
 }
 
 /// How many bytes the tree of the text spells, or the fault of the text.

@@ -1,4 +1,6 @@
 //! File values: what a text says, its layout, and the layout of it tidied.
+ghost use Rattle.bz_grammar.specs.Legal.{IsBuild};
+
 use crate::trees::{read, read_fault_text};
 use bz_build_format::set;
 use bz_grammar::Tree;
@@ -38,7 +40,9 @@ impl ValueQuery {
 }
 
 /// `view`, and a copy of what it gives, of which nothing has to be known here. None: the copy is not equal.
-fn value_of(alloc: Global, tree: &Tree) -> Result<Option<File>, Memory> {
+fn value_of(alloc: Global, tree: &Tree) -> Result<Option<File>, Memory>
+    requires { IsBuild tree.now }
+{
     let file = view(alloc, tree)?;
     let copy = file.copy()?;
     Ok(if copy.equals(&file) { Some(copy) } else { None })

@@ -1,7 +1,7 @@
 //! Trees and edits by the names of bz_tree and bz_edit.
 use bz_edit::{Edit, EditFault, Step, advance, exchange_node, weight};
 use bz_tree::laws::one_tree;
-use bz_tree::{BzlTree, Class, Kind, Leaf, Node, Part, ReadFault, Tree, lex, parse, parse_bzl};
+use bz_tree::{Class, Kind, Leaf, Node, Part, ReadFault, Tree, lex, parse, parse_bzl};
 use std::alloc::Global;
 
 /// The text that the trees are read from.
@@ -20,7 +20,7 @@ fn last_class(node: &Node) -> Option<Class> {
 }
 
 /// The length of what a text of a .bzl file is read as.
-fn bzl_length(read: Result<BzlTree, ReadFault>) -> Option<usize> {
+fn bzl_length(read: Result<Tree, ReadFault>) -> Option<usize> {
     Some(read.ok()?.len())
 }
 

@@ -4,15 +4,15 @@ use Rattle.std.specs.List.{AllByRecursion}
 use Rattle.bz_lex.specs.declared.leaf.Leaf.{Leaf}
 use Rattle.bz_grammar.specs.declared.tree.Part.{Part, Node'}
 use Rattle.bz_grammar.specs.declared.tree.Part.TheVariants as p
-use Rattle.bz_grammar.specs.Legal.{Legal}
+use Rattle.bz_grammar.specs.Legal.{LegalBuild}
 use Rattle.bz_grammar.specs.Joined.{AreWholeLines, file_with}
 use Rattle.bz_grammar.specs.Split.{bare_end}
 use Rattle.bz_edit.specs.declared.edit.Edit.{Edit}
 
 -- the part makes a legal file by itself
 abbrev pub IsAlone : Part → Type 0
-IsAlone (p.Leaf l) = Legal (file_with (p.Leaf l ∷ []))
-IsAlone (Node' k s r) = Legal (file_with (Node' k s r ∷ bare_end ∷ []))
+IsAlone (p.Leaf l) = LegalBuild (file_with (p.Leaf l ∷ []))
+IsAlone (Node' k s r) = LegalBuild (file_with (Node' k s r ∷ bare_end ∷ []))
 
 abbrev pub AreAlone : List Part → Type 0
 AreAlone xs = AllByRecursion IsAlone xs

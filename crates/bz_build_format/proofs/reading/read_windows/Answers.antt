@@ -2,16 +2,16 @@ use Rattle.std.proofs.Common.{◌∙◌, ap, rules, sym, subst}
 use Rattle.bz_grammar.specs.declared.tree.Node.{Node}
 use Rattle.bz_grammar.specs.Legal.{Accepted, Legal, Reads}
 use Rattle.bz_edit.specs.Windows.{with_windows}
-use Rattle.bz_build_format.proofs.Windowed.{one_tree, required, tree_read}
+use Rattle.bz_build_format.proofs.Windowed.{file_legal, one_tree, required, tree_read}
 use Rattle.bz_build_format.proofs.reading.read_windows.Goals as goal
 
 pub each_read-requires-clause-among : goal.each_read-requires-clause-among
 each_read-requires-clause-among c =
-    (required c.args.windows c.as_slice-texts.result.now c.args.tree.now c.as_slice-parts.result.now c.as_slice-texts.ensures (c.as_slice-parts.ensures ∙ ap (λ (n : Node). n.parts) c.tree.view_is) c.requires).0
+    (required c.args.windows c.as_slice-texts.result.now c.args.tree.now c.as_slice-parts.result.now c.as_slice-texts.ensures (c.as_slice-parts.ensures ∙ ap (λ (n : Node). n.parts) c.tree.view_is) c.requires.texts).0
 
 pub each_read-requires-clause-short : goal.each_read-requires-clause-short
 each_read-requires-clause-short c =
-    (required c.args.windows c.as_slice-texts.result.now c.args.tree.now c.as_slice-parts.result.now c.as_slice-texts.ensures (c.as_slice-parts.ensures ∙ ap (λ (n : Node). n.parts) c.tree.view_is) c.requires).1.1.2
+    (required c.args.windows c.as_slice-texts.result.now c.args.tree.now c.as_slice-parts.result.now c.as_slice-texts.ensures (c.as_slice-parts.ensures ∙ ap (λ (n : Node). n.parts) c.tree.view_is) c.requires.texts).1.1.2
 
 pub returns-in-Some : goal.returns-in-Some
 returns-in-Some c = λ new.
@@ -21,7 +21,7 @@ returns-in-Some c = λ new.
 
 pub whole_text-requires : goal.whole_text-requires
 whole_text-requires c =
-    (required c.args.windows c.as_slice-texts.result.now c.args.tree.now c.as_slice-parts.result.now c.as_slice-texts.ensures (c.as_slice-parts.ensures ∙ ap (λ (n : Node). n.parts) c.tree.view_is) c.requires).0
+    (required c.args.windows c.as_slice-texts.result.now c.args.tree.now c.as_slice-parts.result.now c.as_slice-texts.ensures (c.as_slice-parts.ensures ∙ ap (λ (n : Node). n.parts) c.tree.view_is) c.requires.texts).0
 
 pub returns-in-Ok : goal.returns-in-Ok
 returns-in-Ok c = λ new.
@@ -33,5 +33,8 @@ pub unreachable-requires : goal.unreachable-requires
 unreachable-requires c =
     let is = c.as_slice-parts.ensures ∙ ap (λ (n : Node). n.parts) c.tree.view_is in
     let accepted : Accepted c.as_slice.result.now = subst Accepted (sym (c.as_slice.ensures ∙ c.in_ok-text.ensures))
-    (required c.args.windows c.as_slice-texts.result.now c.args.tree.now c.as_slice-parts.result.now c.as_slice-texts.ensures is c.requires).1 in
+    (required c.args.windows c.as_slice-texts.result.now c.args.tree.now c.as_slice-parts.result.now c.as_slice-texts.ensures is c.requires.texts).1 in
     search (rules, accepted, c.in-Err.ensures.err)
+
+pub each_read-requires-clause-legal : goal.each_read-requires-clause-legal
+each_read-requires-clause-legal c = file_legal c.tree.inside.root c.args.tree.now c.as_slice-parts.result.now c.tree.view_is c.tree.invariant.0 c.requires.build c.as_slice-parts.ensures

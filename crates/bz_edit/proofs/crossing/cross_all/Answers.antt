@@ -1,17 +1,15 @@
-use Rattle.std.proofs.Common.{◌∙◌, subst, sym, refl}
-use Rattle.bz_grammar.specs.declared.tree.Node.{Node}
-use Rattle.bz_edit.specs.Trails.{IsTree}
+use Rattle.std.proofs.Common.{◌∙◌, sym, refl}
 use Rattle.bz_edit.proofs.Going.{ok_gives}
-use Rattle.bz_edit.proofs.Turn.{tree_there}
+use Rattle.bz_edit.proofs.Turn.{as_tree, tree_there}
 use Rattle.bz_edit.proofs.crossing.cross_all.Goals as goal
 
 pub invariant_of-tree : goal.invariant_of-tree
 invariant_of-tree c =
     let ok = c.cross_each.ensures.even (sym c.are_even.ensures ∙ c.if-are_even.true) in
-    tree_there c.args.tree.now c.tree.inside.root c.cross_each.new.root c.args.steps.now c.args.steps.now (subst (λ (n : Node). IsTree n) c.tree.view_is c.tree.invariant) c.requires c.tree.view_is refl
-    (ok_gives c.cross_each.result ok c.cross_each.ensures.root)
+    as_tree _ (tree_there c.args.tree.now c.tree.inside.root c.cross_each.new.root c.args.steps.now c.args.steps.now c.requires.tree c.requires.lead c.tree.view_is refl
+    (ok_gives c.cross_each.result ok c.cross_each.ensures.root))
 
 pub invariant_of-tree-2 : goal.invariant_of-tree-2
 invariant_of-tree-2 c =
-    tree_there c.args.tree.now c.in_ok-root.root c.cross_each-2.new.root c.args.steps.now c.as_mut_slice.result.now (subst (λ (n : Node). IsTree n) c.tree.view_is c.tree.invariant) c.requires
-    (c.in_ok-root.ensures ∙ c.tree.view_is) (c.as_mut_slice.ensures.value ∙ c.in_ok-turned.ensures) c.in_ok-cross_each.ensures.root
+    as_tree _ (tree_there c.args.tree.now c.in_ok-root.root c.cross_each-2.new.root c.args.steps.now c.as_mut_slice.result.now c.requires.tree c.requires.lead
+    (c.in_ok-root.ensures ∙ c.tree.view_is) (c.as_mut_slice.ensures.value ∙ c.in_ok-turned.ensures) c.in_ok-cross_each.ensures.root)

@@ -3,8 +3,8 @@ use Rattle.bz_edit.specs.Trails.{trail_at}
 use Rattle.bz_edit.proofs.Passing.{went_back, lead_back, even_back}
 use Rattle.bz_edit.proofs.moves.go_back.Goals as goal
 
-pub cross_all-answer-requires : goal.cross_all-answer-requires
-cross_all-answer-requires c = lead_back (trail_at c.args.tree.now c.args.steps.now c.args.cursor) (c.args.cursor - c.args.n) c.reverse.new.self c.requires.trail (omega arith) c.reverse.ensures.after
+pub cross_all-answer-requires-clause-lead : goal.cross_all-answer-requires-clause-lead
+cross_all-answer-requires-clause-lead c = lead_back (trail_at c.args.tree.now c.args.steps.now c.args.cursor) (c.args.cursor - c.args.n) c.reverse.new.self c.requires.trail (omega arith) c.reverse.ensures.after
 
 pub returns-clause-ok : goal.returns-clause-ok
 returns-clause-ok c =
