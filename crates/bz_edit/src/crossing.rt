@@ -1,5 +1,5 @@
 //! Over steps, from tree to tree.
-ghost use Rattle.std.specs.Prelude.{◌≡◌, ◌≤◌, true, drop, take, slice_range, reverse, length, ◌++◌, IfOk, OnOk, OnErr, IsOk};
+ghost use Rattle.std.specs.Prelude.{◌≡◌, true, IfOk, OnOk, OnErr, IsOk};
 ghost use Rattle.bz_edit.specs.Steps.{all_even as even_edits, swap_node, turned_all};
 ghost use Rattle.bz_edit.specs.Trails.{IsTree, StepLeads, LeadOn, reached, crossed, are_even as even_steps};
 

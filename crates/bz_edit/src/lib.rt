@@ -2,7 +2,6 @@
 //! of other texts, as a list of whole texts.
 #![tactic(auto)]
 
-mod advancing;
 mod crossing;
 mod edit;
 mod exchanging;
@@ -17,7 +16,6 @@ mod step;
 mod uneven;
 mod windows;
 
-pub use advancing::advance;
 pub use crossing::copy_steps;
 pub use edit::{Edit, EditFault};
 pub use exchanging::{all_even, exchange, exchange_node};
@@ -25,4 +23,4 @@ pub use moves::{go_back, go_forward, put_after, take_up};
 pub use part_windows::PartWindow;
 pub use place::{all_places, swap_each};
 pub use step::{Step, weight};
-pub use windows::advance_windows;
+pub use windows::{advance, advance_windows};

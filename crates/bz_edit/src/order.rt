@@ -33,12 +33,7 @@ fn may_follow(edit: &Edit, next: &Edit) -> bool
 pub fn all_follow(edits: &[Edit]) -> bool
     ensures { result ≡ follow_all edits.now }
 {
-    for i in 1..edits.len() {
-        if !may_follow(&edits[i - 1], &edits[i]) {
-            return false;
-        }
-    }
-    true
+    edits.is_sorted_by(|edit, next| may_follow(edit, next))
 }
 
 /// Whether each number of parts fits the type that it is kept in.

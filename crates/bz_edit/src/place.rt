@@ -1,5 +1,5 @@
 //! Places in a tree, and what is there exchanged.
-ghost use Rattle.std.specs.Prelude.{◌≡◌, ◌++◌, ◌∷◌, [], ◌+◌, ◌<◌, ◌≤◌, ◌^◌, true, length, OnOk, OnErr, IsOk, IsTrue, ◌↔◌};
+ghost use Rattle.std.specs.Prelude.{◌≡◌, [], ◌+◌, ◌<◌, ◌^◌, true, length, OnOk, OnErr, IsOk};
 ghost use Rattle.bz_edit.specs.Places.{has_place as place_there, covered, parts_put};
 ghost use Rattle.bz_edit.specs.Steps.{swap_node, all_there, AllApart, all_even, CountsFit, turned, turned_all};
 
@@ -8,14 +8,11 @@ use bz_grammar::{Node, Part};
 use bz_items::{Items, Memory};
 
 /// Whether a place is in the tree.
-pub fn has_place(node: &Node, path: &[u32], at: usize, count: usize) -> bool
+fn has_place(node: &Node, path: &[u32], at: u32, count: u32) -> bool
     ensures { result ≡ place_there path.now at count node.now }
 {
     match path {
-        [] => {
-            let len = node.parts.len();
-            at <= len && count <= len - at
-        }
+        [] => at as usize + count as usize <= node.parts.len(),
         [first, rest @ ..] => match bz_items::at(node.parts.as_slice(), *first as usize) {
             Some(Part::Node(child)) => has_place(child, rest, at, count),
             _ => false,
@@ -51,14 +48,7 @@ pub fn swap_at(
 pub fn all_places(node: &Node, edits: &[Edit]) -> bool
     ensures { result ≡ all_there edits.now node.now }
 {
-    edits.iter().all(|edit| {
-        has_place(
-            node,
-            edit.path.as_slice(),
-            edit.at as usize,
-            edit.count as usize,
-        )
-    })
+    edits.iter().all(|edit| has_place(node, edit.path.as_slice(), edit.at, edit.count))
 }
 
 /// Makes one edit; one that holds as many parts as it covers takes no memory. The error: a growth was refused; node and edit
