@@ -5,7 +5,7 @@ ghost use Rattle.bz_grammar.specs.Spell.{spell_node, limit};
 ghost use Rattle.bz_edit.specs.Steps.{swap_node, all_there, turned_all, AllApart, CountsFit, all_even as even_all};
 
 use crate::edit::{Edit, EditFault, copy_edits};
-use crate::place::{all_places, swap_each, swap_one};
+use crate::place::{all_places, swap_each};
 use crate::step::Step;
 use bz_grammar::{Node, Tree};
 use bz_items::Items;
@@ -32,12 +32,8 @@ fn exchange_edits(node: &mut Node, edits: &mut Items<Edit>) -> Result<(), EditFa
     if !all_places(node, edits.as_slice()) {
         return Err(EditFault::BadPlace);
     }
-    if all_even(edits.as_slice()) {
-        let _ = swap_each(node, edits.as_mut_slice());
-        return Ok(());
-    }
-    if let [edit] = edits.as_mut_slice() {
-        swap_one(node, edit)?;
+    if all_even(edits.as_slice()) || edits.len() == 1 {
+        swap_each(node, edits.as_mut_slice())?;
         return Ok(());
     }
     let mut trial = node.copy()?;

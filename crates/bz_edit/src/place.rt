@@ -1,5 +1,5 @@
 //! Places in a tree, and what is there exchanged.
-ghost use Rattle.std.specs.Prelude.{◌≡◌, [], ◌+◌, ◌<◌, ◌^◌, true, length, OnOk, OnErr, IsOk};
+ghost use Rattle.std.specs.Prelude.{◌≡◌, [], ◌+◌, ◌<◌, ◌≤◌, ◌^◌, true, length, OnOk, OnErr, IsOk};
 ghost use Rattle.bz_edit.specs.Places.{has_place as place_there, covered, parts_put};
 ghost use Rattle.bz_edit.specs.Steps.{swap_node, all_there, AllApart, all_even, CountsFit, turned, turned_all};
 
@@ -51,31 +51,8 @@ pub fn all_places(node: &Node, edits: &[Edit]) -> bool
     edits.iter().all(|edit| has_place(node, edit.path.as_slice(), edit.at, edit.count))
 }
 
-/// Makes one edit; one that holds as many parts as it covers takes no memory. The error: a growth was refused; node and edit
-/// are then as before.
-pub fn swap_one(node: &mut Node, edit: &mut Edit) -> Result<(), Memory>
-    requires counts { length edit.old.held < 2 ^ 32 }
-    requires there { place_there edit.old.path edit.old.at edit.old.count node.old ≡ true }
-    ensures node { OnOk result (node.new ≡ parts_put edit.old.path edit.old.at edit.old.count edit.old.held node.old) }
-    ensures edit { OnOk result (edit.new ≡ turned node.old edit.old) }
-    ensures err { OnErr result ((node.new ≡ node.old) × (edit.new ≡ edit.old)) }
-    ensures even { edit.old.count ≡ length edit.old.held → IsOk result }
-{
-    let stands = edit.held.len();
-    let path = edit.path.as_slice();
-    swap_at(
-        node,
-        path,
-        edit.at as usize,
-        edit.count as usize,
-        &mut edit.held,
-    )?;
-    edit.count = stands as u32;
-    Ok(())
-}
-
 /// Makes all edits; where each holds as many parts as it covers, it takes no memory. The error: a growth was refused; node and
-/// edits are then somewhere between.
+/// edits are then somewhere between, and one edit alone and its node as before.
 pub fn swap_each(node: &mut Node, edits: &mut [Edit]) -> Result<(), Memory>
     requires apart { AllApart edits.old }
     requires counts { CountsFit edits.old }
@@ -83,10 +60,15 @@ pub fn swap_each(node: &mut Node, edits: &mut [Edit]) -> Result<(), Memory>
     ensures node { OnOk result (node.new ≡ swap_node edits.old node.old) }
     ensures edits { OnOk result (edits.new ≡ turned_all node.old edits.old) }
     ensures even { all_even edits.old ≡ true → IsOk result }
+    ensures alone { length edits.old ≤ 1 → OnErr result ((node.new ≡ node.old) × (edits.new ≡ edits.old)) }
 {
     for i in 0..edits.len() {
         let edit = &mut edits[i];
-        swap_one(node, edit)?;
+        let held = edit.held.len();
+        let path = edit.path.as_slice();
+        let (at, count) = (edit.at as usize, edit.count as usize);
+        swap_at(node, path, at, count, &mut edit.held)?;
+        edit.count = held as u32;
     }
     Ok(())
 }
