@@ -1,11 +1,9 @@
 //! Over steps, from tree to tree.
 ghost use Rattle.std.specs.Prelude.{◌≡◌, true, IfOk, OnOk, OnErr, IsOk};
-ghost use Rattle.bz_edit.specs.Steps.{all_even as even_edits, swap_node, turned_all};
-ghost use Rattle.bz_edit.specs.Trails.{IsTree, StepLeads, LeadOn, reached, crossed, are_even as even_steps};
+ghost use Rattle.bz_edit.specs.Trails.{IsTree, LeadOn, reached, crossed, are_even as even_steps};
 
 use crate::edit::EditFault;
-use crate::exchanging::{all_even, exchange};
-use crate::place::swap_each;
+use crate::exchanging::{all_even, cross_one, exchange};
 use crate::step::Step;
 use bz_grammar::{Node, Tree};
 use bz_items::{Items, Memory};
@@ -27,22 +25,6 @@ pub fn copy_steps(alloc: Global, steps: &[Step]) -> Result<Items<Step>, Memory>
         copied.push(step.copy()?)?;
     }
     Ok(copied)
-}
-
-/// Over one step, whose edits may be uneven. Even ones take no memory. The error: a growth was refused; root and step are then
-/// somewhere between.
-fn cross_one(root: &mut Node, step: &mut Step) -> Result<(), Memory>
-    requires tree { IsTree root.old }
-    requires lead { StepLeads step.old root.old }
-    ensures root { OnOk result (root.new ≡ swap_node step.old root.old) }
-    ensures step { OnOk result (step.new ≡ turned_all root.old step.old) }
-    ensures even { even_edits step.old ≡ true → IsOk result }
-{
-    let none = Items::new(step.edits.alloc());
-    let mut edits = std::mem::replace(&mut step.edits, none);
-    swap_each(root, edits.as_mut_slice())?;
-    step.edits = edits;
-    Ok(())
 }
 
 /// Over steps, the first one first. Even ones take no memory. The error: a growth was refused; root and steps are then somewhere

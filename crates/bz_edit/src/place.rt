@@ -1,7 +1,7 @@
 //! Places in a tree, and what is there exchanged.
-ghost use Rattle.std.specs.Prelude.{◌≡◌, [], ◌+◌, ◌<◌, ◌≤◌, ◌^◌, true, length, OnOk, OnErr, IsOk};
+ghost use Rattle.std.specs.Prelude.{◌≡◌, [], ◌+◌, ◌<◌, ◌≤◌, true, length, OnOk, OnErr, IsOk};
 ghost use Rattle.bz_edit.specs.Places.{has_place as place_there, covered, parts_put};
-ghost use Rattle.bz_edit.specs.Steps.{swap_node, all_there, AllApart, all_even, CountsFit, turned, turned_all};
+ghost use Rattle.bz_edit.specs.Steps.{swap_node, all_there, AllApart, all_even, CountsFit, turned_all};
 
 use crate::edit::Edit;
 use bz_grammar::{Node, Part};

@@ -1,13 +1,14 @@
-use Rattle.bz_edit.proofs.Turns.{apart_of, still_step}
+use Rattle.std.proofs.Common.{◌∙◌, ap, length, refl, sym}
+use Rattle.bz_edit.specs.Steps.{all_there, turned_all}
+use Rattle.bz_edit.proofs.Turn.{apart_there, step_there}
 use Rattle.bz_edit.proofs.exchanging.exchange_node.Goals as goal
 
-pub exchange_edits-requires-clause-apart : goal.exchange_edits-requires-clause-apart
-exchange_edits-requires-clause-apart c = apart_of c.step.inside.edits c.step.invariant.0
+pub swap_each-requires-clause-apart : goal.swap_each-requires-clause-apart
+swap_each-requires-clause-apart c = apart_there c.step.inside.edits c.as_mut_slice.result.now c.step.invariant c.as_mut_slice.ensures.value
 
-pub exchange_edits-requires-clause-counts : goal.exchange_edits-requires-clause-counts
-exchange_edits-requires-clause-counts c = c.step.invariant.1
-
-pub invariant_of-step : goal.invariant_of-step
-invariant_of-step c =
-    let e = c.exchange_edits.ensures in
-    still_step c.exchange_edits.result c.args.node.now c.exchange_edits.new.node c.step.inside.edits c.exchange_edits.new.edits c.step.invariant c.requires e.edits e.err e.bad_place
+pub invariant_of-step-then-all_even : goal.invariant_of-step-then-all_even
+invariant_of-step-then-all_even c =
+    let es = c.step.inside.edits in
+    let value = c.as_mut_slice.ensures.value in
+    let there = ap (λ l. all_there l c.args.node.now) (sym c.as_slice.ensures) ∙ sym c.all_places.ensures ∙ c.if-not-all_places.false in
+    step_there c.args.node.now es es c.swap_each.new.edits (length es) c.step.invariant there c.requires refl (c.in_ok-swap_each.ensures.edits ∙ ap (turned_all c.args.node.now) value) refl (c.swap_each.auto.edits ∙ ap length value)
