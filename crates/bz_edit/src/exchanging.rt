@@ -36,7 +36,8 @@ pub(crate) fn cross_one(node: &mut Node, step: &mut Step) -> Result<(), Memory>
 }
 
 /// What is held and what is at the places change sides. A step whose edits all hold as many parts as they cover takes
-/// no memory; more than one edit, of which some are uneven, are made on copies, which are then put in place. The errors: a place is not in the node, or a growth was refused; node and step are then as before.
+/// no memory. It and one of one edit are made in place, others on copies, which are then put in place. The errors: a place is not in
+/// the node, or a growth was refused; node and step are then as before.
 pub fn exchange_node(node: &mut Node, step: &mut Step) -> Result<(), EditFault>
     requires { length (spell_node node.old) ≤ limit }
     ensures node { OnOk result (node.new ≡ swap_node step.old node.old) }
