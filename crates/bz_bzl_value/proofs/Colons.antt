@@ -1,14 +1,16 @@
 -- The parts of a header, up to its colon.
-use Rattle.std.proofs.Common.{ℕ, suc, Bool, false, ◌≡◌, ◌≤◌, ◌<◌, ◌+◌, ◌-◌, List, [], ◌∷◌, ◌++◌, sym, ap, ◌∙◌, subst, map, take, drop, length, get_or, length-drop, arith}
+use Rattle.std.proofs.Common.{ℕ, suc, Bool, true, false, ◌≡◌, ◌≤◌, ◌<◌, ◌+◌, ◌-◌, List, [], ◌∷◌, ◌++◌, sym, ap, ◌∙◌, subst, map, take, drop, length, get_or, length-drop, append-nil, append_assoc, arith}
 use Rattle.std.proofs.Math.Seq.{take-suc}
-use Rattle.std.proofs.lemmas.Bool.{cond-false}
+use Rattle.std.specs.List.{AllByRecursion}
+use Rattle.std.proofs.lemmas.Bool.{cond-true, cond-false}
 use Rattle.std.proofs.lemmas.List.{drop_more, get_or-drop, map-append}
 use Rattle.bz_grammar.specs.declared.kind.Kind.{Kind}
 use Rattle.bz_grammar.specs.declared.tree.Part.{Part}
 use Rattle.bz_items.specs.Characters.{Bytes}
 use Rattle.bz_value.specs.Gaps.{GapLine}
 use Rattle.bz_hosts.specs.View.{Seen, seen}
-use Rattle.bz_bzl_value.specs.View.{Stated, stated, branches}
+use Rattle.bz_bzl_value.specs.View.{Stated, stated, branches, with_suite}
+use Rattle.bz_bzl_value.proofs.HeadParts.{InHeader}
 use Rattle.bz_bzl_value.proofs.Parts.{part_of}
 
 -- the part with an index, and those after it
@@ -27,6 +29,19 @@ one_more : (kind : Kind) (parts : List Seen) (above : List Bytes) (left after : 
 one_more kind parts above left after y xs e =
     cond-false (stated y).is_colon _ _ e
     ∙ ap (λ s. branches kind (parts ++ s ∷ []) above left xs after) (part_of y)
+
+skipped : (kind : Kind) (ps : List Seen) (above : List Bytes) (left after : List GapLine) (hs : List Part) (ys : List Stated) → AllByRecursion InHeader hs → branches kind ps above left (map stated hs ++ ys) after ≡ branches kind (ps ++ map seen hs) above left ys after
+skipped kind ps above left after [] ys h = ap (λ t. branches kind t above left ys after) (sym (append-nil ps))
+skipped kind ps above left after (x ∷ hs) ys h =
+    one_more kind ps above left after x (map stated hs ++ ys) h.0.0
+    ∙ (skipped kind (ps ++ seen x ∷ []) above left after hs ys h.1 ∙ ap (λ t. branches kind t above left ys after) (append_assoc ps (seen x ∷ []) (map seen hs)))
+
+-- the parts of a header, and its colon
+pub header_ends : (kind : Kind) (above : List Bytes) (left : List GapLine) (hs : List Part) (mark own : Part) (back : List Part) (after : List GapLine) → AllByRecursion InHeader hs → (stated mark).is_colon ≡ true
+    → branches kind [] above left (map stated (hs ++ mark ∷ own ∷ back)) after ≡ with_suite kind (map seen hs) above left (stated own ∷ map stated back) after
+header_ends kind above left hs mark own back after h i =
+    ap (λ t. branches kind [] above left t after) (map-append stated hs (mark ∷ own ∷ back))
+    ∙ (skipped kind [] above left after hs (stated mark ∷ stated own ∷ map stated back) h ∙ cond-true (stated mark).is_colon _ _ i)
 
 pub no_colon_at : (ps : List Part) (from at : ℕ) (y : Part) (is : Bool) (kind : Kind) (above : List Bytes) (left after : List GapLine) → from ≤ at → at < length ps
     → y ≡ get_or ps at y → is ≡ (stated y).is_colon → is ≡ false

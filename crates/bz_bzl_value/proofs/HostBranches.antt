@@ -31,13 +31,13 @@ use Rattle.bz_hosts.proofs.Walked.{gap_of}
 use Rattle.bz_bzl_value.specs.declared.value.Branch.{Branch}
 use Rattle.bz_bzl_value.specs.BzlHosts.{Stretch, header, placed, SuitesAndLeaves, in_header, in_compound, suite_there, inside_statement, inside_head}
 use Rattle.bz_bzl_value.specs.View.{stated, branches, head, row_head, indented_lines_before}
+use Rattle.bz_bzl_value.proofs.Colons.{header_ends}
 use Rattle.bz_bzl_value.proofs.Compounds.{Further}
 use Rattle.bz_bzl_value.proofs.HeadParts.{Headed, InHeader}
 use Rattle.bz_bzl_value.proofs.HostHeaders.{header_read, header_piece}
 use Rattle.bz_bzl_value.proofs.HostPieces.{Piece, same_piece, both_pieces}
 use Rattle.bz_bzl_value.proofs.HostReads.{HeaderTexts, row_header}
 use Rattle.bz_bzl_value.proofs.HostSuites.{OwnPiece}
-use Rattle.bz_bzl_value.proofs.KeptBranches.{header_ends}
 use Rattle.bz_bzl_value.proofs.KeptGaps.{colon_is}
 use Rattle.bz_bzl_value.proofs.SuiteHeaders.{header_placed}
 use Rattle.bz_bzl_value.proofs.SuiteLines.{Lines}

@@ -14,16 +14,12 @@ pub mod HostReads
 pub mod HostStatements
 pub mod HostSuites
 pub mod JoinedFiles
-pub mod KeptBzl
-pub mod KeptBranches
 pub mod KeptGaps
-pub mod KeptSuites
 pub mod KeptValues
 pub mod Parts
 pub mod ProperBranches
 pub mod ProperBzl
 pub mod ProperHeads
-pub mod ProperLines
 pub mod ProperSuites
 pub mod ProperValues
 pub mod SuiteHeaders

@@ -1,34 +1,40 @@
--- What a legal .bzl file says is proper.
-use Rattle.std.proofs.Common.{List, [], ◌∷◌, ◌++◌, inl, inr, subst, map}
+-- What a legal .bzl file says is proper, and no comment of the file is lost or doubled by it.
+use Rattle.std.proofs.Common.{◌≡◌, ℕ, ◌+◌, List, [], ◌∷◌, ◌++◌, inl, inr, subst, map, arith}
 use Rattle.std.specs.List.{AllByRecursion, flat_map}
 use Rattle.std.proofs.lemmas.List.Elements.{All-from_recursion}
 use Rattle.bz_items.specs.Characters.{Bytes}
 use Rattle.bz_lex.specs.Leaves.{IsCodedLeaf}
 use Rattle.bz_grammar.specs.declared.kind.Kind.TheVariants as k
+use Rattle.bz_grammar.specs.declared.tree.Node.{Node}
 use Rattle.bz_grammar.specs.declared.tree.Part.{Part, Node'}
 use Rattle.bz_grammar.specs.declared.tree.Part.TheVariants as p
 use Rattle.bz_grammar.specs.Shapes as s
 use Rattle.bz_grammar.specs.Shapes.{Fits, Several, bzl_shape, tok, done}
-use Rattle.bz_grammar.specs.Legal.{IsNonterminal, LegalPart}
+use Rattle.bz_grammar.specs.Legal.{IsNonterminal, Legal, LegalPart}
 use Rattle.bz_grammar.specs.Spell.{leaves_part, leaves_of}
 use Rattle.bz_grammar.specs.Spots.{Begins, Stands, AtParts}
 use Rattle.bz_grammar.proofs.Balance.{no_such}
+use Rattle.bz_value.specs.Counted.{total, one_if}
 use Rattle.bz_value.specs.Gaps.{groups_of, all_but_last, last_group}
 use Rattle.bz_value.proofs.GapComments.{AreFine, Groups, all_joined, groups_fine, groups_front, groups_last}
+use Rattle.bz_value.proofs.Totals.{append_total}
 use Rattle.bz_hosts.specs.View.{blocks}
 use Rattle.bz_hosts.proofs.ProperFiles.{blocks_proper, lexed}
 use Rattle.bz_hosts.proofs.ProperParts.{IsLexed}
 use Rattle.bz_hosts.proofs.SeenParts.{all_parted}
+use Rattle.bz_hosts.proofs.Sums.{all_blocks, front_blocks, part_amount, leaf_amount, parts_leaves}
 use Rattle.bz_bzl_value.specs.declared.value.Statement.{Statement}
 use Rattle.bz_bzl_value.specs.declared.value.BzlItem.{BzlItem}
 use Rattle.bz_bzl_value.specs.declared.value.BzlItem.TheVariants as b
+use Rattle.bz_bzl_value.specs.Kept.{bzl_item_amount, BzlCommentsKept}
 use Rattle.bz_bzl_value.specs.Laws.{BzlViewIsProper}
 use Rattle.bz_bzl_value.specs.Proper.{IsProperBzlItem}
 use Rattle.bz_bzl_value.specs.View.{ReadStatements, stated, indented_lines_before, block_items, bzl_items, bzl_view_of}
 use Rattle.bz_bzl_value.proofs.HeadParts.{after_stmt}
-use Rattle.bz_bzl_value.proofs.ProperBranches.{AllKnown, before_lines}
+use Rattle.bz_bzl_value.proofs.KeptValues.{lines_amount, block_amount, statements_as_items}
+use Rattle.bz_bzl_value.proofs.ProperBranches.{AllKnown, before_lines, before_amount}
 use Rattle.bz_bzl_value.proofs.ProperSuites.{part_known}
-use Rattle.bz_bzl_value.proofs.ProperValues.{AreSome, statements_proper}
+use Rattle.bz_bzl_value.proofs.ProperValues.{statements_proper}
 use Rattle.bz_bzl_value.proofs.SuiteLines.{Lines}
 use Rattle.bz_bzl_value.proofs.BuildItems.{all_wide}
 
@@ -41,34 +47,65 @@ AreProperItems items = AllByRecursion IsProperBzlItem items
 alone_proper : (groups : List (List Bytes)) → Groups groups → AreProperItems (block_items groups)
 alone_proper groups h = (all_wide (blocks groups) (blocks_proper groups h)).0
 
--- statements and the end, where these lines are before the first of them
-items_proper : (lines : Lines) (xs : List Part) → AreFine lines → Several (IsNonterminal s.stmt) (Fits IsNonterminal (tok s.end done)) xs → AllKnown xs → AtParts Stands Begins Begins xs → AreProperItems (bzl_items lines xs)
-items_proper lines [] f h g at_ = tt
-items_proper lines (p.Leaf l ∷ []) f (inl h) g at_ =
-    let groups : List (List Bytes) = groups_of lines in
-    all_joined IsProperBzlItem (block_items groups) [] (alone_proper groups (groups_fine lines f)) tt
-items_proper lines (p.Leaf l ∷ y ∷ xs) f (inl h) g at_ = absurd h.1
-items_proper lines (p.Leaf l ∷ xs) f (inr h) g at_ = no_such h.0
-items_proper lines (Node' kind n r ∷ xs) f (inl h) g at_ = no_such h.0
-items_proper lines (Node' kind n r ∷ xs) f (inr h) g at_ =
-    let groups : List (List Bytes) = groups_of lines in
-    let fine : Groups groups = groups_fine lines f in
-    let after : Lines = indented_lines_before (map stated xs) [] in
-    let read : ReadStatements (List Statement) = (stated (Node' kind n r)).statement (last_group groups) after in
-    let there : AtParts Stands Begins Begins xs = subst (λ z. AtParts Stands Begins z xs) (after_stmt (Node' kind n r) Begins Begins h.0) at_.1 in
-    let one : AreSome read.0 × AreFine read.1 = g.0.statement h.0 at_.0 (last_group groups) after (groups_last groups fine) (before_lines xs [] g.1 tt) in
-    all_joined IsProperBzlItem (block_items (all_but_last groups)) (map b.Statement read.0 ++ bzl_items read.1 xs) (alone_proper (all_but_last groups) (groups_front groups fine))
-    (all_joined IsProperBzlItem (map b.Statement read.0) (bzl_items read.1 xs) (statements_proper read.0 one.0.1) (items_proper read.1 xs one.1 h.1 g.1 there))
+module _ (number : Bytes → ℕ) where
+  -- the items are proper, and keep all comments
+  abbrev Keep : ℕ → ℕ → List BzlItem → Type 0
+  Keep gap all items = AreProperItems items × (gap + total (bzl_item_amount number) items ≡ all)
 
-all_known : (xs : List Part) → AllByRecursion LegalPart xs → AllByRecursion IsLexed (flat_map leaves_part xs) → AllByRecursion IsCodedLeaf (flat_map leaves_part xs) → AllKnown xs
-all_known [] h v u = tt
-all_known (x ∷ xs) h v u =
-    let a = all_parted IsLexed (leaves_part x) (flat_map leaves_part xs) v in
-    let w = all_parted IsCodedLeaf (leaves_part x) (flat_map leaves_part xs) u in
-    (part_known x h.0 a.0 w.0, all_known xs h.1 a.1 w.1)
+  -- statements and the end, where these lines are before the first of them
+  items_proper : (lines : Lines) (xs : List Part) → AreFine lines → Several (IsNonterminal s.stmt) (Fits IsNonterminal (tok s.end done)) xs → AllKnown number xs → AtParts Stands Begins Begins xs
+      → Keep (before_amount number xs []) (lines_amount number lines + total (part_amount number) xs) (bzl_items lines xs)
+  items_proper lines [] f h g at_ = absurd h
+  items_proper lines (p.Leaf l ∷ []) f (inl h) g at_ =
+      let groups : List (List Bytes) = groups_of lines in
+      let both = append_total (bzl_item_amount number) (block_items groups) [] in
+      let kept = block_amount number groups in
+      let all = all_blocks number lines in
+      let leaf = leaf_amount number l in
+      (all_joined IsProperBzlItem (block_items groups) [] (alone_proper groups (groups_fine lines f)) tt, omega arith)
+  items_proper lines (p.Leaf l ∷ y ∷ xs) f (inl h) g at_ = absurd h.1
+  items_proper lines (p.Leaf l ∷ xs) f (inr h) g at_ = no_such h.0
+  items_proper lines (Node' kind n r ∷ xs) f (inl h) g at_ = no_such h.0
+  items_proper lines (Node' kind n r ∷ xs) f (inr h) g at_ =
+      let groups : List (List Bytes) = groups_of lines in
+      let fine : Groups groups = groups_fine lines f in
+      let after : Lines = indented_lines_before (map stated xs) [] in
+      let read : ReadStatements (List Statement) = (stated (Node' kind n r)).statement (last_group groups) after in
+      let there : AtParts Stands Begins Begins xs = subst (λ z. AtParts Stands Begins z xs) (after_stmt (Node' kind n r) Begins Begins h.0) at_.1 in
+      let one = g.0.statement h.0 at_.0 (last_group groups) after (groups_last groups fine) (before_lines number xs [] g.1 tt) in
+      let more = items_proper read.1 xs one.1 h.1 g.1 there in
+      let one_kept = one.2 in
+      let more_kept = more.1 in
+      let alone : List BzlItem = block_items (all_but_last groups) in
+      let statements : List BzlItem = map b.Statement read.0 in
+      let following : List BzlItem = bzl_items read.1 xs in
+      let kept = block_amount number (all_but_last groups) in
+      let front = front_blocks number lines in
+      let items = statements_as_items number read.0 in
+      let outer = append_total (bzl_item_amount number) alone (statements ++ following) in
+      let inner = append_total (bzl_item_amount number) statements following in (
+        all_joined IsProperBzlItem alone (statements ++ following) (alone_proper (all_but_last groups) (groups_front groups fine)) (all_joined IsProperBzlItem statements following (statements_proper read.0 one.0.1) more.0),
+        omega arith,
+      )
+
+  all_known : (xs : List Part) → AllByRecursion LegalPart xs → AllByRecursion IsLexed (flat_map leaves_part xs) → AllByRecursion IsCodedLeaf (flat_map leaves_part xs) → AllKnown number xs
+  all_known [] h v u = tt
+  all_known (x ∷ xs) h v u =
+      let a = all_parted IsLexed (leaves_part x) (flat_map leaves_part xs) v in
+      let w = all_parted IsCodedLeaf (leaves_part x) (flat_map leaves_part xs) u in
+      (part_known number x h.0 a.0 w.0, all_known xs h.1 a.1 w.1)
+
+  view_proper : (n : Node) → Legal n → Keep (before_amount number n.parts []) (before_amount number n.parts [] + total (part_amount number) n.parts) (bzl_view_of n)
+  view_proper n h =
+      let fits : Fits IsNonterminal (bzl_shape k.File) n.parts = subst (λ kd. Fits IsNonterminal (bzl_shape kd) n.parts) h.file.root h.file.shapes.0 in
+      let known : AllKnown number n.parts = all_known n.parts h.file.shapes.1 (lexed (leaves_of n) h.tokens) h.coded in
+      items_proper (indented_lines_before (map stated n.parts) []) n.parts (before_lines number n.parts [] known tt) fits known h.gaps
 
 pub bzl_view_proper : BzlViewIsProper
-bzl_view_proper n h =
-    let fits : Fits IsNonterminal (bzl_shape k.File) n.parts = subst (λ kd. Fits IsNonterminal (bzl_shape kd) n.parts) h.file.root h.file.shapes.0 in
-    let known : AllKnown n.parts = all_known n.parts h.file.shapes.1 (lexed (leaves_of n) h.tokens) h.coded in
-    All-from_recursion IsProperBzlItem (bzl_view_of n) (items_proper (indented_lines_before (map stated n.parts) []) n.parts (before_lines n.parts [] known tt) fits known h.gaps)
+bzl_view_proper n h = All-from_recursion IsProperBzlItem (bzl_view_of n) (view_proper (λ text. 0) n h).0
+
+pub bzl_comments_kept : BzlCommentsKept
+bzl_comments_kept n h text =
+    let all = (view_proper (one_if text) n h).1 in
+    let leaves = parts_leaves (one_if text) n.parts in
+    omega arith
