@@ -1,7 +1,7 @@
 -- Suites, and lines in their place: what is read of them, with the hosts by their places.
 use Rattle.std.proofs.Common.{◌≡◌, ℕ, suc, ◌+◌, ◌<◌, ◌≤◌, true, false, ◌&&◌, ◌||◌, List, [], ◌∷◌, ◌++◌, Option, Some, None, length, refl, sym, ap, ◌∙◌, subst, map, take, drop, append-nil, append_assoc, length-append, nat_eq, nat_lt, arith}
 use Rattle.std.specs.List.{AllByRecursion, flat_map}
-use Rattle.std.proofs.lemmas.Bool.{cond-true, cond-false, eq-eqb, ne_eqb, lt-ltb, le-ltb}
+use Rattle.std.proofs.lemmas.Bool.{and_right, cond-true, cond-false, eq-eqb, ne_eqb, lt-ltb, le-ltb}
 use Rattle.bz_lex.specs.declared.leaf.Leaf.{Leaf}
 use Rattle.bz_grammar.specs.declared.tree.Part.{Part}
 use Rattle.bz_grammar.specs.Spell.{leaves_part}
@@ -26,7 +26,7 @@ use Rattle.bz_bzl_value.proofs.HostPieces.{regions_of, comments, along, along_fi
 use Rattle.bz_bzl_value.proofs.HostReads.{line, within, simple_inside}
 use Rattle.bz_bzl_value.proofs.BlankLines.{comments_append}
 use Rattle.bz_bzl_value.proofs.Parts.{parts_seen, part_of}
-use Rattle.bz_bzl_value.proofs.SuiteLines.{and_false, Lines, AllBetween, all_wider, ends_are, rest_is, lines_at, gap_joined, first_at}
+use Rattle.bz_bzl_value.proofs.SuiteLines.{Lines, AllBetween, all_wider, ends_are, rest_is, lines_at, gap_joined, first_at}
 use Rattle.bz_bzl_value.proofs.SuitePieces.{last_joined, lines_there}
 use Rattle.bz_bzl_value.proofs.SuiteReads.{line_some, line_left}
 
@@ -157,7 +157,7 @@ module _ (page : SuitesAndLeaves) where
       let others : (a m' : ℕ) → suc n ≤ a → (lines' : Lines) → left_by a m' (own ∷ suites) lines' ≡ left_by a m' suites lines' =
       λ a m' j lines'. cond-false (nat_lt a (suc n) && nat_eq e m') _ _ (ap (λ t. t && nat_eq e m') (le-ltb a (suc n) j)) in
       let ahead : (a m' : ℕ) → m' < e → (lines' : Lines) → left_by a m' (own ∷ suites) lines' ≡ left_by a m' suites lines' =
-      λ a m' j lines'. cond-false (nat_lt a (suc n) && nat_eq e m') _ _ (and_false (nat_lt a (suc n)) (nat_eq e m') (ne_eqb e m' (λ d. omega arith))) in
+      λ a m' j lines'. cond-false (nat_lt a (suc n) && nat_eq e m') _ _ (and_right (nat_lt a (suc n)) (nat_eq e m') (ne_eqb e m' (λ d. omega arith))) in
       record {
         some = omega arith;
         up = omega arith;

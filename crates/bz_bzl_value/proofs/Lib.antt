@@ -5,7 +5,6 @@ pub mod BuildItems
 pub mod Colons
 pub mod Compounds
 pub mod Ends
-pub mod Groups
 pub mod HeadParts
 pub mod HostBranches
 pub mod HostHeaders

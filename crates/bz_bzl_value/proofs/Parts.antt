@@ -1,5 +1,6 @@
 -- What is read of a part that is a node, by the list of its parts; and of headers.
 use Rattle.std.proofs.Common.{ℕ, zero, suc, true, false, ◌≡◌, ◌<◌, List, [], ◌∷◌, refl, sym, ap, ◌∙◌, map, drop, length, get_or, arith}
+use Rattle.bz_lex.specs.Gaps.{indent}
 use Rattle.bz_grammar.specs.declared.tree.Node.{Node}
 use Rattle.bz_grammar.specs.declared.tree.Part.{Part, Row_of-Part, end_of-Part, more_of-Part, Node', items-the_row-Part}
 use Rattle.bz_grammar.specs.declared.tree.Part.TheVariants as p
@@ -7,10 +8,12 @@ use Rattle.bz_grammar.specs.declared.kind.Kind.TheVariants as k
 use Rattle.bz_grammar.specs.Shapes.{is_kind}
 use Rattle.bz_grammar.proofs.Nested.{row_of, items_of_row}
 use Rattle.std.proofs.lemmas.Bool.{cond-true, cond-false}
+use Rattle.std.proofs.lemmas.List.{drop-map}
 use Rattle.bz_items.specs.Characters.{Bytes}
-use Rattle.bz_value.specs.Gaps.{GapLine, lines_of}
+use Rattle.bz_value.specs.Gaps.{GapLine, all_in, lines_of}
 use Rattle.bz_hosts.specs.View.{seen, first_seen_gap}
-use Rattle.bz_bzl_value.specs.View.{stated, stated_row, statement_read, suite_in, suffix_before, indented_lines_before, line_read, compound_read, is_compound, SuiteRead}
+use Rattle.bz_hosts.proofs.NodeViews.{seen_parts}
+use Rattle.bz_bzl_value.specs.View.{stated, stated_row, statement_read, suite_in, suffix_before, only_comment, indented_lines_before, line_read, compound_read, is_compound, margin_of, suite_read, SuiteRead}
 
 pub stated_rows : (m : _) (r : Row_of-Part m) → stated_row r ≡ map stated (items-the_row-Part m r)
 stated_rows m end_of-Part = refl
@@ -48,6 +51,9 @@ pub lines_first : (ps : List Part) → lines_of (first_seen_gap (map seen ps)) �
 lines_first [] = refl
 lines_first (x ∷ ps) = sym (ap (λ s. lines_of s.gap) (part_of x))
 
+pub margin_is : (ps : List Part) (gap : Bytes) (m : ℕ) → m ≡ length (indent gap) → gap ≡ first_seen_gap (map seen ps) → m ≡ margin_of (map stated ps)
+margin_is ps gap m e i = e ∙ ap (λ g. length (indent g)) (i ∙ ap first_seen_gap (sym (parts_seen ps)))
+
 -- ---- statements and suites by their kinds
 
 module _ (n : Node) (above : List Bytes) (after : List GapLine) where
@@ -57,11 +63,34 @@ module _ (n : Node) (above : List Bytes) (after : List GapLine) where
   pub compound_is : is_kind n.kind k.Line ≡ false → is_compound n.kind ≡ true → compound_read n.kind (map stated n.parts) above after ≡ statement_read n.kind (map stated n.parts) above after
   compound_is e f = sym (cond-false (is_kind n.kind k.Line) _ _ e ∙ cond-true (is_compound n.kind) _ _ f)
 
-  pub none_is : is_kind n.kind k.Line ≡ false → is_compound n.kind ≡ false → ([], after) ≡ statement_read n.kind (map stated n.parts) above after
-  none_is e f = sym (cond-false (is_kind n.kind k.Line) _ _ e ∙ cond-false (is_compound n.kind) _ _ f)
+-- ---- a part that is this node
 
--- a line in the place of a suite
-pub suite_line_is : (n : Node) (after : List GapLine) → is_kind n.kind k.Line ≡ true
-    → ◌≡◌ {A = SuiteRead} (((line_read (map seen n.parts) [] after).0, []), (line_read (map seen n.parts) [] after).1) (suite_in n.kind (map stated n.parts) after)
-suite_line_is n after e =
-    ap (λ t. (((line_read t [] after).0, []), (line_read t [] after).1)) (sym (parts_seen n.parts)) ∙ sym (cond-true (is_kind n.kind k.Line) _ _ e)
+-- the comment on the line of a suite's header
+pub suffix_of : (x : Part) (n : Node) (gap : Bytes) → x ≡ p.Node n → gap ≡ (seen x).gap → is_kind n.kind k.Suite ≡ true → only_comment (all_in gap) ≡ (stated x).suffix
+suffix_of x n gap is i e =
+    ap (λ g. only_comment (all_in g)) (i ∙ (ap (λ y. (seen y).gap) is ∙ ap first_seen_gap (seen_parts n ∙ sym (parts_seen n.parts))))
+    ∙ sym (ap (λ y. (stated y).suffix) is ∙ (suffix_Node n ∙ cond-true (is_kind n.kind k.Suite) _ _ e))
+
+module _ (x : Part) (n : Node) (ps : List Part) (is : x ≡ p.Node n) (parts : ps ≡ n.parts) (after : List GapLine) where
+  module _ (above : List Bytes) where
+    as_statement : statement_read n.kind (map stated n.parts) above after ≡ (stated x).statement above after
+    as_statement = sym (ap (λ y. (stated y).statement above after) is ∙ ap (λ f. f above after) (statement_Node n))
+
+    pub line_of : is_kind n.kind k.Line ≡ true → line_read (map seen ps) above after ≡ (stated x).statement above after
+    line_of e = ap (λ qs. line_read (map seen qs) above after) parts ∙ (line_is n above after e ∙ as_statement)
+
+    pub compound_of : is_kind n.kind k.Line ≡ false → is_compound n.kind ≡ true → compound_read n.kind (map stated ps) above after ≡ (stated x).statement above after
+    compound_of e f = ap (λ qs. compound_read n.kind (map stated qs) above after) parts ∙ (compound_is n above after e f ∙ as_statement)
+
+  as_suite : suite_in n.kind (map stated n.parts) after ≡ (stated x).suite after
+  as_suite = sym (ap (λ y. (stated y).suite after) is ∙ ap (λ f. f after) (suite_Node n))
+
+  -- a line in the place of a suite
+  pub line_as_suite : is_kind n.kind k.Line ≡ true → ◌≡◌ {A = SuiteRead} (((line_read (map seen ps) [] after).0, []), (line_read (map seen ps) [] after).1) ((stated x).suite after)
+  line_as_suite e =
+      ap (λ t. (((line_read t [] after).0, []), (line_read t [] after).1)) (ap (map seen) parts ∙ sym (parts_seen n.parts)) ∙ (sym (cond-true (is_kind n.kind k.Line) _ _ e) ∙ as_suite)
+
+  pub suite_of : (own : List Part) → own ≡ drop 1 ps → is_kind n.kind k.Line ≡ false → is_kind n.kind k.Suite ≡ true → suite_read (map stated own) after ≡ (stated x).suite after
+  suite_of own i e f =
+      ap (λ t. suite_read t after) (ap (map stated) (i ∙ ap (drop 1) parts) ∙ sym (drop-map stated 1 n.parts))
+      ∙ (sym (cond-false (is_kind n.kind k.Line) _ _ e ∙ cond-true (is_kind n.kind k.Suite) _ _ f) ∙ as_suite)

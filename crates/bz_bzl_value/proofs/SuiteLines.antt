@@ -1,7 +1,7 @@
 -- The lines that suites leave before a leaf, by the numbers of their leaves.
 use Rattle.std.proofs.Common.{◌≡◌, ◌≢◌, ℕ, zero, suc, ◌<◌, ◌≤◌, Bool, true, false, not, ◌&&◌, List, [], ◌∷◌, ◌++◌, inl, inr, Option, Some, None, length, refl, sym, ap, ◌∙◌, take, drop, append-nil, nat_eq, nat_lt, nat_le, if◌then◌else◌, arith}
 use Rattle.std.specs.List.{AllByRecursion}
-use Rattle.std.proofs.lemmas.Bool.{cases_Bool, cond-false, ne_eqb}
+use Rattle.std.proofs.lemmas.Bool.{and_right, cases_Bool, cond-false, ne_eqb}
 use Rattle.std.proofs.lemmas.Bool.Decides.{nat_tests}
 use Rattle.bz_lex.specs.declared.leaf.Leaf.{Leaf}
 use Rattle.bz_items.specs.Characters.{Bytes}
@@ -52,10 +52,6 @@ pub left_joined : (a n : ℕ) (xs ys : List Suite) (lines : Lines) → left_by a
 left_joined a n [] ys lines = refl
 left_joined a n (x ∷ xs) ys lines = ap (λ (z : Lines). if nat_lt a x.first && nat_eq x.following n then drop (reach x.margin z) z else z) (left_joined a n xs ys lines)
 
-pub and_false : (b c : Bool) → c ≡ false → (b && c) ≡ false
-and_false true c e = e
-and_false false c e = refl
-
 -- suites that end elsewhere
 abbrev Apart : ℕ → Suite → Type 0
 Apart n x = x.following ≢ n
@@ -63,7 +59,7 @@ Apart n x = x.following ≢ n
 none_leave : (a n : ℕ) (xs : List Suite) (lines : Lines) → AllByRecursion (Apart n) xs → left_by a n xs lines ≡ lines
 none_leave a n [] lines h = refl
 none_leave a n (x ∷ xs) lines h =
-    cond-false (nat_lt a x.first && nat_eq x.following n) (drop (reach x.margin (left_by a n xs lines)) (left_by a n xs lines)) (left_by a n xs lines) (and_false (nat_lt a x.first) (nat_eq x.following n) (ne_eqb x.following n h.0))
+    cond-false (nat_lt a x.first && nat_eq x.following n) (drop (reach x.margin (left_by a n xs lines)) (left_by a n xs lines)) (left_by a n xs lines) (and_right (nat_lt a x.first) (nat_eq x.following n) (ne_eqb x.following n h.0))
     ∙ none_leave a n xs lines h.1
 
 -- suites among the leaves after lo, which end at hi or before

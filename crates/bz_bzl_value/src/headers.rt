@@ -1,16 +1,17 @@
 //! Headers: what is before a suite, up to the colon.
 ghost use Rattle.std.specs.Prelude.{◌≡◌, ◌≤◌, ◌<◌, ◌-◌, ◌+◌, [], List, map, take, drop, length, MatchOption, IfOk};
-ghost use Rattle.bz_grammar.specs.Shapes.{is_kind, is_one_of, colon_mark};
+ghost use Rattle.bz_grammar.specs.Shapes.{is_kind};
 ghost use Rattle.bz_items.specs.Characters.{Bytes};
-ghost use Rattle.bz_value.specs.Gaps.{all_in, GapLine};
+ghost use Rattle.bz_value.specs.Gaps.{GapLine};
 ghost use Rattle.bz_hosts.specs.View.{seen};
 ghost use Rattle.bz_grammar.specs.declared.kind.Kind.{Kind};
-ghost use Rattle.bz_bzl_value.specs.View.{branches, with_suite, def_head, row_head, head, is_compound, only_comment, stated, suffix_before};
+ghost use Rattle.bz_bzl_value.specs.View.{branches, with_suite, head, is_compound, stated};
 
-use bz_grammar::{Class, Kind, Node, Part};
-use bz_hosts::{gap_at, head_of, row_of, seq_of};
+use crate::rest::comment_in;
+use bz_grammar::{Class, Kind, Part};
+use bz_hosts::{gap_before, head_of, row_of, seq_of};
 use bz_items::{Items, Memory, Text};
-use bz_value::{Comments, EndComments, Form, Seq, first_line};
+use bz_value::{Comments, EndComments, Form, Seq};
 use std::alloc::Global;
 
 /// Whether a kind is another one.
@@ -54,39 +55,20 @@ pub fn colon_from(parts: &[Part], from: usize) -> Option<usize>
     None
 }
 
-/// The first comment of a gap. The error: memory was refused.
-fn only_comment(alloc: Global, gap: &[u8]) -> Result<Option<Text>, Memory>
-    ensures { IfOk result (λ comment. comment ≡ only_comment (all_in gap.now)) }
-{
-    let mut rest = gap;
-    while let Some(line) = first_line(rest) {
-        if let Some(comment) = line.comment {
-            return Ok(Some(Text::from_slice(alloc, comment)?));
-        }
-        rest = line.rest;
-    }
-    Ok(None)
-}
-
 /// The comment on the line of a header, which is in the gap of its suite's newline. The error: memory was refused.
 pub fn suffix_before(alloc: Global, suite: &Part) -> Result<Option<Text>, Memory>
     ensures { IfOk result (λ suffix. suffix ≡ (stated suite.now).suffix) }
 {
-    match suite {
-        Part::Leaf(_) => Ok(None),
-        Part::Node(node) => Ok(suffix_of(alloc, node)?),
-    }
-}
-
-/// The same of a node.
-fn suffix_of(alloc: Global, suite: &Node) -> Result<Option<Text>, Memory>
-    ensures { IfOk result (λ suffix. suffix ≡ suffix_before suite.now.kind (map stated suite.now.parts)) }
-{
-    if !is_kind(suite.kind, Kind::Suite) {
+    let Part::Node(node) = suite else {
+        return Ok(None);
+    };
+    if !is_kind(node.kind, Kind::Suite) {
         return Ok(None);
     }
-    let comment = only_comment(alloc, gap_at(suite.parts.as_slice(), 0))?;
-    Ok(comment)
+    let Some(comment) = comment_in(gap_before(suite)) else {
+        return Ok(None);
+    };
+    Ok(Some(Text::from_slice(alloc, comment)?))
 }
 
 /// The parts after the first.
@@ -99,38 +81,30 @@ pub fn after_first_part(parts: &[Part]) -> &[Part]
     }
 }
 
-/// The header of a function: the word, the name, and the parameters as a sequence.
-fn def_head(
-    alloc: Global,
-    parts: &[Part],
-    above: Items<Text>,
-    suffix: Option<Text>,
-) -> Result<Form, Memory>
-    ensures { IfOk result (λ form. form ≡ def_head (map seen parts.now) above suffix) }
-{
-    let mut before = above;
-    let words = head_of(alloc, parts, 2, &mut before)?;
-    let seq = seq_of(alloc, after_first_part(parts), 2)?;
-    Ok(Form {
-        kind: Kind::Def,
-        parts: words,
-        seq,
-        open_break: false,
-        comments: Comments::new(alloc, before, suffix)?,
-    })
-}
-
-/// Every other header: the row of its parts.
-fn row_head(
+/// The header of a statement of this kind with these parts up to the colon, the comments above it and the one on its line: of a
+/// function the word, the name, and the parameters as a sequence; of the others the row of their parts. The error: memory was
+/// refused.
+pub fn head(
     alloc: Global,
     kind: Kind,
     parts: &[Part],
     above: Items<Text>,
     suffix: Option<Text>,
 ) -> Result<Form, Memory>
-    ensures { IfOk result (λ form. form ≡ row_head kind (map seen parts.now) above suffix) }
+    ensures { IfOk result (λ form. form ≡ head kind (map seen parts.now) above suffix) }
 {
     let mut before = above;
+    if is_kind(kind, Kind::Def) {
+        let words = head_of(alloc, parts, 2, &mut before)?;
+        let seq = seq_of(alloc, after_first_part(parts), 2)?;
+        return Ok(Form {
+            kind: Kind::Def,
+            parts: words,
+            seq,
+            open_break: false,
+            comments: Comments::new(alloc, before, suffix)?,
+        });
+    }
     let row = row_of(alloc, parts, false, &mut before)?;
     Ok(Form {
         kind,
@@ -143,21 +117,4 @@ fn row_head(
         open_break: false,
         comments: Comments::new(alloc, before, suffix)?,
     })
-}
-
-/// The header of a statement of this kind with these parts up to the colon, the comments above it and the one on its line. The
-/// error: memory was refused.
-pub fn head(
-    alloc: Global,
-    kind: Kind,
-    parts: &[Part],
-    above: Items<Text>,
-    suffix: Option<Text>,
-) -> Result<Form, Memory>
-    ensures { IfOk result (λ form. form ≡ head kind (map seen parts.now) above suffix) }
-{
-    if is_kind(kind, Kind::Def) {
-        return Ok(def_head(alloc, parts, above, suffix)?);
-    }
-    Ok(row_head(alloc, kind, parts, above, suffix)?)
 }

@@ -1,7 +1,7 @@
 //! Lines of a text that are before a part of a tree: those of two gaps that follow each other.
-ghost use Rattle.std.specs.Prelude.{◌≡◌, ◌↔◌, ◌++◌, [], IfOk, OnOk, IsTrue};
-ghost use Rattle.bz_value.specs.Gaps.{lines_of, comments_in, after_first_line};
-ghost use Rattle.bz_bzl_value.specs.View.{after_end, end_comments};
+ghost use Rattle.std.specs.Prelude.{◌≡◌, ◌↔◌, ◌++◌, [], IfOk, OnOk, IsTrue, MatchOption, Some};
+ghost use Rattle.bz_value.specs.Gaps.{all_in, lines_of, comments_in};
+ghost use Rattle.bz_bzl_value.specs.View.{after_end, end_comments, only_comment};
 
 use bz_items::{Items, Memory, Text};
 use bz_value::{first_line, push_all};
@@ -12,6 +12,20 @@ use std::alloc::Global;
 pub struct Rest<'a> {
     pub left: &'a [u8],
     pub gap: &'a [u8],
+}
+
+/// The first comment of a gap.
+pub fn comment_in(gap: &[u8]) -> Option<&[u8]>
+    ensures { MatchOption result (all_in gap.now ≡ []) (λ comment. only_comment (all_in gap.now) ≡ Some comment.now) }
+{
+    let mut rest = gap;
+    while let Some(line) = first_line(rest) {
+        if line.comment.is_some() {
+            return line.comment;
+        }
+        rest = line.rest;
+    }
+    None
 }
 
 /// The lines of one gap.

@@ -4,13 +4,13 @@ ghost use Rattle.bz_lex.specs.Gaps.{indent};
 ghost use Rattle.bz_grammar.specs.declared.tree.Part.{Part};
 ghost use Rattle.bz_hosts.specs.View.{seen};
 ghost use Rattle.bz_bzl_value.specs.Joined.{lines_after, lines_at_end};
-ghost use Rattle.bz_bzl_value.specs.View.{bzl_items, bzl_view_of, block_items, branches, bzl_item, compound_read, line_read, indented_lines_before, margin_of, simple_statements, stated, statement_read, suite_in, walked};
+ghost use Rattle.bz_bzl_value.specs.View.{bzl_items, bzl_view_of, block_items, branches, bzl_item, line_read, indented_lines_before, simple_statements, stated, walked};
 ghost use Rattle.bz_value.specs.Gaps.{groups_of, all_but_last, last_group, lines_of};
 
 use crate::headers::{after_first_part, colon_from, head, is_compound, is_kind, suffix_before};
 use crate::rest::{Rest, comments, is_spent, rest_of_gap, take_end};
 use crate::value::{Branch, BzlFile, BzlItem, Statement};
-use bz_grammar::{Kind, Node, Part, Tree};
+use bz_grammar::{Kind, Part, Tree};
 use bz_hosts::{gap_at, gap_before, gap_of_last, push_groups, push_statements};
 use bz_items::{Items, Memory, Text};
 use bz_value::{Item, past_first_line};
@@ -29,13 +29,6 @@ fn indent_len(gap: &[u8]) -> usize
         at -= 1;
     }
     gap.len()
-}
-
-/// How many spaces and tabs are right before the first token of the first part.
-fn margin_of(parts: &[Part]) -> usize
-    ensures { result ≡ margin_of (map stated parts.now) }
-{
-    indent_len(gap_at(parts, 0))
 }
 
 /// The gap of the part with this index; past the last part the one after all of them.
@@ -92,54 +85,19 @@ fn push_statement<'a>(
     ensures out { OnOk result (out.new ≡ out.old ++ ((stated part.now).statement above (lines_of after.now)).0) }
     ensures rest { IfOk result (λ rest. lines_of rest.left.now ++ lines_of rest.gap.now ≡ ((stated part.now).statement above (lines_of after.now)).1) }
 {
-    match part {
-        Part::Leaf(_) => Ok(rest_of_gap(after)),
-        Part::Node(node) => {
-            let rest = push_node(alloc, node, above, after, out)?;
-            Ok(rest)
-        }
-    }
-}
-
-/// The same of a node.
-#[cycle(stated)]
-fn push_node<'a>(
-    alloc: Global,
-    node: &'a Node,
-    above: Items<Text>,
-    after: &'a [u8],
-    out: &mut Items<Statement>,
-) -> Result<Rest<'a>, Memory>
-    ensures out { OnOk result (out.new ≡ out.old ++ (statement_read node.now.kind (map stated node.now.parts) above (lines_of after.now)).0) }
-    ensures rest { IfOk result (λ rest. lines_of rest.left.now ++ lines_of rest.gap.now ≡ (statement_read node.now.kind (map stated node.now.parts) above (lines_of after.now)).1) }
-{
+    let Part::Node(node) = part else {
+        return Ok(rest_of_gap(after));
+    };
     let parts = node.parts.as_slice();
     if is_kind(node.kind, Kind::Line) {
         let rest = push_line(alloc, parts, above, after, out)?;
         return Ok(rest);
     }
-    if is_compound(node.kind) {
-        let rest = push_compound(alloc, node.kind, parts, above, after, out)?;
-        return Ok(rest);
+    if !is_compound(node.kind) {
+        return Ok(rest_of_gap(after));
     }
-    Ok(rest_of_gap(after))
-}
-
-/// Appends a statement with suites.
-#[cycle(stated)]
-fn push_compound<'a>(
-    alloc: Global,
-    kind: Kind,
-    parts: &'a [Part],
-    above: Items<Text>,
-    after: &'a [u8],
-    out: &mut Items<Statement>,
-) -> Result<Rest<'a>, Memory>
-    ensures out { OnOk result (out.new ≡ out.old ++ (compound_read kind (map stated parts.now) above (lines_of after.now)).0) }
-    ensures rest { IfOk result (λ rest. lines_of rest.left.now ++ lines_of rest.gap.now ≡ (compound_read kind (map stated parts.now) above (lines_of after.now)).1) }
-{
     let mut own = Items::new(alloc);
-    let rest = push_branches(alloc, kind, parts, above, after, &mut own)?;
+    let rest = push_branches(alloc, node.kind, parts, above, after, &mut own)?;
     out.push(Statement::Compound(own))?;
     Ok(rest)
 }
@@ -195,28 +153,9 @@ fn push_suite<'a>(
     ensures end { OnOk result (end.new ≡ end.old ++ ((stated part.now).suite (lines_of after.now)).0.1) }
     ensures rest { IfOk result (λ rest. lines_of rest.left.now ++ lines_of rest.gap.now ≡ ((stated part.now).suite (lines_of after.now)).1) }
 {
-    match part {
-        Part::Leaf(_) => Ok(rest_of_gap(after)),
-        Part::Node(node) => {
-            let rest = push_suite_of(alloc, node, after, statements, end)?;
-            Ok(rest)
-        }
-    }
-}
-
-/// The same of a node.
-#[cycle(stated)]
-fn push_suite_of<'a>(
-    alloc: Global,
-    node: &'a Node,
-    after: &'a [u8],
-    statements: &mut Items<Statement>,
-    end: &mut Items<Text>,
-) -> Result<Rest<'a>, Memory>
-    ensures statements { OnOk result (statements.new ≡ statements.old ++ (suite_in node.now.kind (map stated node.now.parts) (lines_of after.now)).0.0) }
-    ensures end { OnOk result (end.new ≡ end.old ++ (suite_in node.now.kind (map stated node.now.parts) (lines_of after.now)).0.1) }
-    ensures rest { IfOk result (λ rest. lines_of rest.left.now ++ lines_of rest.gap.now ≡ (suite_in node.now.kind (map stated node.now.parts) (lines_of after.now)).1) }
-{
+    let Part::Node(node) = part else {
+        return Ok(rest_of_gap(after));
+    };
     let parts = node.parts.as_slice();
     if is_kind(node.kind, Kind::Line) {
         let rest = push_line(alloc, parts, Items::new(alloc), after, statements)?;
@@ -227,7 +166,8 @@ fn push_suite_of<'a>(
     }
     let own = after_first_part(parts);
     let rest = push_all_statements(alloc, own, after, statements)?;
-    let rest = take_end(alloc, margin_of(own), rest, end)?;
+    let margin = indent_len(gap_at(own, 0));
+    let rest = take_end(alloc, margin, rest, end)?;
     Ok(rest)
 }
 

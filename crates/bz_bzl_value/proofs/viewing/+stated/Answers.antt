@@ -1,12 +1,12 @@
-use Rattle.std.proofs.Common.{sym, ap, ◌≡◌, ◌∙◌, ◌++◌, ◌+◌, ◌-◌, ◌∷◌, [], List, map, take, drop, arith}
+use Rattle.std.proofs.Common.{sym, ap, ap₂, ◌≡◌, ◌∙◌, ◌++◌, ◌+◌, ◌-◌, ◌∷◌, [], List, map, take, drop, arith}
 use Rattle.bz_grammar.specs.declared.tree.Part.{Part}
 use Rattle.bz_value.specs.Gaps.{GapLine, lines_of}
-use Rattle.bz_hosts.specs.View.{seen}
-use Rattle.bz_hosts.specs.View.{Seen}
-use Rattle.bz_bzl_value.specs.View.{branches, line_read, stated, Stated, walked, with_suite}
+use Rattle.bz_hosts.specs.View.{Seen, seen}
+use Rattle.bz_bzl_value.specs.declared.value.Statement.TheVariants as s
+use Rattle.bz_bzl_value.specs.View.{after_end, branches, end_comments, line_read, stated, Stated, walked, with_suite}
 use Rattle.bz_bzl_value.proofs.Branches.{branch_more}
 use Rattle.bz_bzl_value.proofs.Colons.{part_here}
-use Rattle.bz_bzl_value.proofs.Parts.{line_is, lines_first, statement_Node, suite_line_is, suite_Node}
+use Rattle.bz_bzl_value.proofs.Parts.{compound_of, line_as_suite, line_of, lines_first, margin_is, suite_of}
 use Rattle.bz_bzl_value.proofs.viewing.+stated.Goals as goal
 
 pub push_all_statements-loop-at-init : goal.push_all_statements-loop-at-init
@@ -17,58 +17,55 @@ push_all_statements-loop-at-init t c =
       rest = ap (λ ls. (walked ls (map stated c.args.parts.now) (lines_of c.args.after.now)).1) e;
     }
 
-pub push_node-returns-then-is_kind-clause-out : goal.push_node-returns-then-is_kind-clause-out
-push_node-returns-then-is_kind-clause-out t c =
+pub push_statement-returns-then-is_kind-clause-out : goal.push_statement-returns-then-is_kind-clause-out
+push_statement-returns-then-is_kind-clause-out t c =
     c.in_ok-rest.ensures.out
-    ∙ (ap (λ ps. c.args.out.now ++ (line_read (map seen ps) c.args.above (lines_of c.args.after.now)).0) c.as_slice-parts.ensures
-    ∙ ap (λ r. c.args.out.now ++ r.0) (line_is c.args.node.now c.args.above (lines_of c.args.after.now) (sym c.is_kind.ensures ∙ c.if-is_kind.true)))
+    ∙ ap (λ r. c.args.out.now ++ r.0) (line_of c.args.part.now c.in-Node.node c.as_slice-parts.result.now c.in-Node.is c.as_slice-parts.ensures (lines_of c.args.after.now) c.args.above (sym c.is_kind.ensures ∙ c.if-is_kind.true))
 
-pub push_node-returns-then-is_kind-clause-rest : goal.push_node-returns-then-is_kind-clause-rest
-push_node-returns-then-is_kind-clause-rest t c =
+pub push_statement-returns-then-is_kind-clause-rest : goal.push_statement-returns-then-is_kind-clause-rest
+push_statement-returns-then-is_kind-clause-rest t c =
     c.in_ok-rest.ensures.rest
-    ∙ (ap (λ ps. (line_read (map seen ps) c.args.above (lines_of c.args.after.now)).1) c.as_slice-parts.ensures
-    ∙ ap (λ r. r.1) (line_is c.args.node.now c.args.above (lines_of c.args.after.now) (sym c.is_kind.ensures ∙ c.if-is_kind.true)))
+    ∙ ap (λ r. r.1) (line_of c.args.part.now c.in-Node.node c.as_slice-parts.result.now c.in-Node.is c.as_slice-parts.ensures (lines_of c.args.after.now) c.args.above (sym c.is_kind.ensures ∙ c.if-is_kind.true))
 
-pub push_statement-returns-in_ok-rest-in-Node-clause-out : goal.push_statement-returns-in_ok-rest-in-Node-clause-out
-push_statement-returns-in_ok-rest-in-Node-clause-out t c =
-    c.in_ok-rest-in-Node.ensures.out
+pub push_statement-returns-clause-out : goal.push_statement-returns-clause-out
+push_statement-returns-clause-out t c =
+    c.in_ok-push.ensures.ok
+    ∙ (ap (λ own. c.args.out.now ++ s.Compound own ∷ []) (c.in_ok-rest-2.ensures.own ∙ ap (λ own. own ++ (branches c.in-Node.node.kind [] c.args.above (lines_of c.args.after.now) (map stated c.as_slice-parts.result.now) (lines_of c.args.after.now)).0) c.new-own.ensures)
     ∙ ap (λ r. c.args.out.now ++ r.0)
-    (sym (ap (λ x. (stated x).statement c.args.above (lines_of c.args.after.now)) c.in-Node.is ∙ ap (λ f. f c.args.above (lines_of c.args.after.now)) (statement_Node c.in-Node.node)))
+    (compound_of c.args.part.now c.in-Node.node c.as_slice-parts.result.now c.in-Node.is c.as_slice-parts.ensures (lines_of c.args.after.now) c.args.above (sym c.is_kind.ensures ∙ c.if-is_kind.false) (sym c.is_compound.ensures ∙ c.if-not-is_compound.false)))
 
-pub push_statement-returns-in_ok-rest-in-Node-clause-rest : goal.push_statement-returns-in_ok-rest-in-Node-clause-rest
-push_statement-returns-in_ok-rest-in-Node-clause-rest t c =
-    c.in_ok-rest-in-Node.ensures.rest
+pub push_statement-returns-clause-rest : goal.push_statement-returns-clause-rest
+push_statement-returns-clause-rest t c =
+    c.in_ok-rest-2.ensures.rest
     ∙ ap (λ r. r.1)
-    (sym (ap (λ x. (stated x).statement c.args.above (lines_of c.args.after.now)) c.in-Node.is ∙ ap (λ f. f c.args.above (lines_of c.args.after.now)) (statement_Node c.in-Node.node)))
+    (compound_of c.args.part.now c.in-Node.node c.as_slice-parts.result.now c.in-Node.is c.as_slice-parts.ensures (lines_of c.args.after.now) c.args.above (sym c.is_kind.ensures ∙ c.if-is_kind.false) (sym c.is_compound.ensures ∙ c.if-not-is_compound.false))
 
-pub push_suite-returns-in_ok-rest-in-Node-clause-statements : goal.push_suite-returns-in_ok-rest-in-Node-clause-statements
-push_suite-returns-in_ok-rest-in-Node-clause-statements t c =
-    c.in_ok-rest-in-Node.ensures.statements
-    ∙ ap (λ r. c.args.statements.now ++ r.0.0) (sym (ap (λ x. (stated x).suite (lines_of c.args.after.now)) c.in-Node.is ∙ ap (λ f. f (lines_of c.args.after.now)) (suite_Node c.in-Node.node)))
-
-pub push_suite-returns-in_ok-rest-in-Node-clause-end : goal.push_suite-returns-in_ok-rest-in-Node-clause-end
-push_suite-returns-in_ok-rest-in-Node-clause-end t c =
-    c.in_ok-rest-in-Node.ensures.end
-    ∙ ap (λ r. c.args.end.now ++ r.0.1) (sym (ap (λ x. (stated x).suite (lines_of c.args.after.now)) c.in-Node.is ∙ ap (λ f. f (lines_of c.args.after.now)) (suite_Node c.in-Node.node)))
-
-pub push_suite-returns-in_ok-rest-in-Node-clause-rest : goal.push_suite-returns-in_ok-rest-in-Node-clause-rest
-push_suite-returns-in_ok-rest-in-Node-clause-rest t c =
-    c.in_ok-rest-in-Node.ensures.rest
-    ∙ ap (λ r. r.1) (sym (ap (λ x. (stated x).suite (lines_of c.args.after.now)) c.in-Node.is ∙ ap (λ f. f (lines_of c.args.after.now)) (suite_Node c.in-Node.node)))
-
-pub push_suite_of-returns-then-is_kind-clause-statements : goal.push_suite_of-returns-then-is_kind-clause-statements
-push_suite_of-returns-then-is_kind-clause-statements t c =
+pub push_suite-returns-then-is_kind-clause-statements : goal.push_suite-returns-then-is_kind-clause-statements
+push_suite-returns-then-is_kind-clause-statements t c =
     c.in_ok-rest.ensures.out
-    ∙ (ap (λ ps. c.args.statements.now ++ (line_read (map seen ps) c.new.result (lines_of c.args.after.now)).0) c.as_slice-parts.ensures
-    ∙ (ap (λ above. c.args.statements.now ++ (line_read (map seen c.args.node.now.parts) above (lines_of c.args.after.now)).0) c.new.ensures
-    ∙ ap (λ r. c.args.statements.now ++ r.0.0) (suite_line_is c.args.node.now (lines_of c.args.after.now) (sym c.is_kind.ensures ∙ c.if-is_kind.true))))
+    ∙ (ap (λ above. c.args.statements.now ++ (line_read (map seen c.as_slice-parts.result.now) above (lines_of c.args.after.now)).0) c.new.ensures
+    ∙ ap (λ r. c.args.statements.now ++ r.0.0) (line_as_suite c.args.part.now c.in-Node.node c.as_slice-parts.result.now c.in-Node.is c.as_slice-parts.ensures (lines_of c.args.after.now) (sym c.is_kind.ensures ∙ c.if-is_kind.true)))
 
-pub push_suite_of-returns-then-is_kind-clause-rest : goal.push_suite_of-returns-then-is_kind-clause-rest
-push_suite_of-returns-then-is_kind-clause-rest t c =
+pub push_suite-returns-then-is_kind-clause-rest : goal.push_suite-returns-then-is_kind-clause-rest
+push_suite-returns-then-is_kind-clause-rest t c =
     c.in_ok-rest.ensures.rest
-    ∙ (ap (λ ps. (line_read (map seen ps) c.new.result (lines_of c.args.after.now)).1) c.as_slice-parts.ensures
-    ∙ (ap (λ above. (line_read (map seen c.args.node.now.parts) above (lines_of c.args.after.now)).1) c.new.ensures
-    ∙ ap (λ r. r.1) (suite_line_is c.args.node.now (lines_of c.args.after.now) (sym c.is_kind.ensures ∙ c.if-is_kind.true))))
+    ∙ (ap (λ above. (line_read (map seen c.as_slice-parts.result.now) above (lines_of c.args.after.now)).1) c.new.ensures
+    ∙ ap (λ r. r.1) (line_as_suite c.args.part.now c.in-Node.node c.as_slice-parts.result.now c.in-Node.is c.as_slice-parts.ensures (lines_of c.args.after.now) (sym c.is_kind.ensures ∙ c.if-is_kind.true)))
+
+pub push_suite-returns-clause-statements : goal.push_suite-returns-clause-statements
+push_suite-returns-clause-statements t c =
+    let own = suite_of c.args.part.now c.in-Node.node c.as_slice-parts.result.now c.in-Node.is c.as_slice-parts.ensures (lines_of c.args.after.now) c.after_first_part-own.result.now c.after_first_part-own.ensures (sym c.is_kind.ensures ∙ c.if-is_kind.false) (sym c.is_kind-2.ensures ∙ c.if-not-is_kind.false) in
+    c.in_ok-rest-2.ensures.out ∙ ap (λ r. c.args.statements.now ++ r.0.0) own
+
+pub push_suite-returns-clause-end : goal.push_suite-returns-clause-end
+push_suite-returns-clause-end t c =
+    let own = suite_of c.args.part.now c.in-Node.node c.as_slice-parts.result.now c.in-Node.is c.as_slice-parts.ensures (lines_of c.args.after.now) c.after_first_part-own.result.now c.after_first_part-own.ensures (sym c.is_kind.ensures ∙ c.if-is_kind.false) (sym c.is_kind-2.ensures ∙ c.if-not-is_kind.false) in
+    c.in_ok-rest-3.ensures.end ∙ (ap₂ (λ m ls. c.args.end.now ++ end_comments m ls) (margin_is c.after_first_part-own.result.now _ _ c.indent_len-margin.ensures c.gap_at.ensures) c.in_ok-rest-2.ensures.rest ∙ ap (λ r. c.args.end.now ++ r.0.1) own)
+
+pub push_suite-returns-clause-rest : goal.push_suite-returns-clause-rest
+push_suite-returns-clause-rest t c =
+    let own = suite_of c.args.part.now c.in-Node.node c.as_slice-parts.result.now c.in-Node.is c.as_slice-parts.ensures (lines_of c.args.after.now) c.after_first_part-own.result.now c.after_first_part-own.ensures (sym c.is_kind.ensures ∙ c.if-is_kind.false) (sym c.is_kind-2.ensures ∙ c.if-not-is_kind.false) in
+    c.in_ok-rest-3.ensures.rest ∙ (ap₂ after_end (margin_is c.after_first_part-own.result.now _ _ c.indent_len-margin.ensures c.gap_at.ensures) c.in_ok-rest-2.ensures.rest ∙ ap (λ r. r.1) own)
 
 pub push_branches-loop-colon-preserved : goal.push_branches-loop-colon-preserved
 push_branches-loop-colon-preserved t c =
