@@ -58,22 +58,30 @@ module _ (page : SuitesAndLeaves) where
   abbrev pub PieceFrom : Kind → Part → List Part → Type 0
   PieceFrom kind x xs = BranchesPiece kind (x ∷ xs) × Solid x
 
-  abbrev more_read : Kind → List Part → List Hosted × Lines → PieceRead
-  more_read kind back first after = with_left (first.0 ++ (as_branches kind (comments_in first.1) first.1 back after).0) (as_branches kind (comments_in first.1) first.1 back after).1
+  -- What is read of these parts where these lines are left before them. Of none nothing is read, and the lines are left.
+  abbrev pub More : List Part → ℕ → ℕ → List Stretch → (Lines → PieceRead) → Type 0
+  More [] m e sts more = (m ≡ e) × (sts ≡ []) × ((left after : Lines) → with_left [] left ≡ more left after)
+  More (x ∷ xs) m e sts more = ((left : Lines) → Piece page m e (flat_map leaves_part (x ∷ xs)) sts (comments_in left) (more left)) × Solid x
 
-  then_more : (kind : Kind) (n m : ℕ) (ls : List Leaf) (sts : List Stretch) (group : List Bytes) (read : PieceRead) (back : List Part) → Piece page n m ls sts group read → Further PieceFrom kind back
-      → Piece page n (m + sizes (map measured back)) (ls ++ flat_map leaves_part back) (sts ++ in_compound kind m [] (map placed back)) group (λ after. more_read kind back (read (indented_lines_before (map stated back) after)) after)
-  then_more kind n m ls sts group read [] h b =
-      same_piece page n m (m + 0) ls (ls ++ []) sts (sts ++ []) group read (λ after. with_left ((read after).0 ++ []) (read after).1) (omega arith) (sym (append-nil ls)) (sym (append-nil sts)) (λ after. ap (λ (z : List Hosted). with_left z (read after).1) (append-nil (read after).0)) h
-  then_more kind n m ls sts group read (x ∷ xs) h b =
-      let back : List Part = x ∷ xs in
-      let more : List Leaf = flat_map leaves_part back in
-      let first : List Hosted × Lines = read (lines_of (gap_of more)) in
-      let e = m + sizes (map measured back) in
-      same_piece page n e e (ls ++ more) (ls ++ more) (sts ++ in_compound kind m [] (map placed back)) (sts ++ in_compound kind m [] (map placed back)) group
-      (λ after. more_read kind back first after) (λ after. more_read kind back (read (lines_of (stated x).part.gap)) after) refl refl refl
-      (λ after. ap (λ (g : Bytes). more_read kind back (read (lines_of g)) after) (stated_gap x (flat_map leaves_part xs) b.1))
-      (both_pieces page n m e ls more sts (in_compound kind m [] (map placed back)) group read (as_branches kind (comments_in first.1) first.1 back) h (b.0 m (comments_in first.1) first.1))
+  abbrev both_read : List Hosted × Lines → (Lines → PieceRead) → PieceRead
+  both_read first more after = with_left (first.0 ++ (more first.1 after).0) (more first.1 after).1
+
+  -- a piece, and what is read of the parts after it
+  pub then_more : (n m e : ℕ) (ls : List Leaf) (sts : List Stretch) (group : List Bytes) (read : PieceRead) (back : List Part) (sts' : List Stretch) (more : Lines → PieceRead) → Piece page n m ls sts group read → More back m e sts' more
+      → Piece page n e (ls ++ flat_map leaves_part back) (sts ++ sts') group (λ after. both_read (read (indented_lines_before (map stated back) after)) more after)
+  then_more n m e ls sts group read [] sts' more h b =
+      same_piece page n m e ls (ls ++ []) sts (sts ++ sts') group read (λ after. both_read (read after) more after) b.0 (sym (append-nil ls)) (sym (ap (λ (z : List Stretch). sts ++ z) b.1 ∙ append-nil sts))
+      (λ after. ap (λ (z : List Hosted × Lines). with_left ((read after).0 ++ z.0) z.1) (sym (b.2 (read after).1 after)) ∙ ap (λ (z : List Hosted). with_left z (read after).1) (append-nil (read after).0)) h
+  then_more n m e ls sts group read (x ∷ xs) sts' more h b =
+      let back : List Leaf = flat_map leaves_part (x ∷ xs) in
+      let first : List Hosted × Lines = read (lines_of (gap_of back)) in
+      same_piece page n e e (ls ++ back) (ls ++ back) (sts ++ sts') (sts ++ sts') group (both_read first more) (λ after. both_read (read (lines_of (stated x).part.gap)) more after) refl refl refl
+      (λ after. ap (λ (g : Bytes). both_read (read (lines_of g)) more after) (stated_gap x (flat_map leaves_part xs) b.1))
+      (both_pieces page n m e ls back sts sts' group read (more first.1) h (b.0 first.1))
+
+  branches_more : (kind : Kind) (m : ℕ) (back : List Part) → Further PieceFrom kind back → More back m (m + sizes (map measured back)) (in_compound kind m [] (map placed back)) (λ left. as_branches kind (comments_in left) left back)
+  branches_more kind m [] b = (omega arith, refl, λ left after. refl)
+  branches_more kind m (x ∷ xs) b = (λ left. b.0 m (comments_in left) left, b.1)
 
   -- what is known of a header of these parts
   pub record HeaderFacts (kind : Kind) (hs : List Part) (n : ℕ) (group : List Bytes) (suffix : Option Bytes) : Type 0 where
@@ -97,7 +105,6 @@ module _ (page : SuitesAndLeaves) where
       let w : HeaderFacts kind hs n above (stated own).suffix = facts n above (stated own).suffix in
       let read : PieceRead = header_read (head kind (map seen hs) above (stated own).suffix) (stated own).suite in
       let sts : List Stretch = header n f rs (suite_there f (measured own) own) ∷ (placed own).stretches f in
-      let total = sizes_joined hs (p.Leaf c ∷ own ∷ back) in
       let one : Piece page n m ls sts above read =
       header_piece page n m above w.loose (stated own).suffix x xs c rs w.there (head kind (map seen hs) above (stated own).suffix) (suite_there f (measured own) own) (leaves_part own) ((placed own).stretches f) (stated own).suite
       f refl some solids (silent.0 (token_inner s.colon_mark (p.Leaf c) refl i) at_) w.inside_it w.texts w.form_is w.form_inside (q f) in
@@ -105,9 +112,9 @@ module _ (page : SuitesAndLeaves) where
       append_assoc (flat_map leaves_part hs) (c ∷ leaves_part own) (flat_map leaves_part back) ∙ sym (flat_map-append leaves_part hs (p.Leaf c ∷ own ∷ back)) in
       same_piece page n (m + sizes (map measured back)) (n + sizes (map measured (hs ++ p.Leaf c ∷ own ∷ back))) (ls ++ flat_map leaves_part back) (flat_map leaves_part (hs ++ p.Leaf c ∷ own ∷ back))
       (sts ++ in_compound kind m [] (map placed back)) (in_compound kind n [] (map placed (hs ++ p.Leaf c ∷ own ∷ back))) above _ (as_branches kind above left (hs ++ p.Leaf c ∷ own ∷ back))
-      (omega arith) cut (sym (header_placed kind n f hs (p.Leaf c) own back refl inner i))
+      (omega (arith, sizes_joined hs (p.Leaf c ∷ own ∷ back))) cut (sym (header_placed kind n f hs (p.Leaf c) own back refl inner i))
       (λ after. ap (λ t. with_left (flat_map branch_hosts t.0) t.1) (header_ends kind above left hs (p.Leaf c) own back after inner (colon_is (p.Leaf c) i)))
-      (then_more kind n m ls sts above read back one b)
+      (then_more n m (m + sizes (map measured back)) ls sts above read back (in_compound kind m [] (map placed back)) (λ left. as_branches kind (comments_in left) left back) one (branches_more kind m back b))
 
   -- ---- if, elif, else, for and def
 

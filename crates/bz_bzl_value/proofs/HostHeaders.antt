@@ -60,27 +60,22 @@ module _ (page : SuitesAndLeaves) (n e : ℕ) (group loose : List Bytes) (suffix
   wide_it : r.AllInside n f rs
   wide_it = r.all_wider n f' n f (omega arith) (omega arith) rs inside_it
 
-  far : f < e
-  far = let some = o.some in let up = o.up in omega arith
-
   whole : r.AllInside n e (host n f f ∷ (rs ++ ry))
   whole =
-      let l = far in
       ((omega arith, omega arith, omega arith, omega arith), inside_joined n e rs ry (r.all_wider n f n e (omega arith) (omega arith) rs wide_it) (r.all_wider f e n e (omega arith) (omega arith) ry o.within))
 
   module _ (s : r.SeesAt page.regions None n e (host n f f ∷ (rs ++ ry))) where
     first_gap : GapPlaces page.regions n outside outside
-    first_gap = let l = far in gap_outside page.regions n n (r.sees_before page.regions n None e n e n [] (host n f f ∷ (rs ++ ry)) whole (omega arith) (omega arith) (omega arith) (s n (omega arith) (omega arith)))
+    first_gap = gap_outside page.regions n n (r.sees_before page.regions n None e n e n [] (host n f f ∷ (rs ++ ry)) whole (omega arith) (omega arith) (omega arith) (s n (omega arith) (omega arith)))
 
     end_gap : GapPlaces page.regions f (suffix_of n) outside
-    end_gap = let l = far in gap_ended page.regions f n e ry (r.sees_ended page.regions f None e n f f e rs ry (omega arith) (omega arith) (omega arith) wide_it o.within (omega arith) (s f (omega arith) l))
+    end_gap = gap_ended page.regions f n e ry (r.sees_ended page.regions f None e n f f e rs ry (omega arith) (omega arith) (omega arith) wide_it o.within (omega arith) (s f (omega arith) (omega arith)))
 
     own_sees : r.SeesAt page.regions None (suc f) e ry
     own_sees q v w = r.sees_after page.regions q None e n f rs ry wide_it (omega arith) (r.sees_past_host page.regions q None e n f f (rs ++ ry) (omega arith) (omega arith) (λ d. omega arith) (s q (omega arith) w))
 
     header_sees : r.SeesAt page.regions (Some (host n f f)) (suc n) f' rs
     header_sees q v w =
-        let l = far in
         r.sees_before page.regions q (Some (host n f f)) e f e f' rs ry o.within (omega arith) (omega arith) (omega arith) (r.sees_in_host page.regions q None e n f f (rs ++ ry) (omega arith) (omega arith) (omega arith) (s q (omega arith) (omega arith)))
 
     header_texts : HeaderTexts page.regions n f' (after_parts n hs) loose rs hosts_there
@@ -106,9 +101,6 @@ module _ (page : SuitesAndLeaves) (n e : ℕ) (group loose : List Bytes) (suffix
 
   header_extent : Extent page n e ls sts
   header_extent =
-      let l = far in
-      let some = o.some in
-      let up = o.up in
       let len = length-append front_leaves (c ∷ ls') in
       let h = sizes_leaves hs in
       record {
@@ -117,8 +109,8 @@ module _ (page : SuitesAndLeaves) (n e : ℕ) (group loose : List Bytes) (suffix
         bounds = subst (AllBetween n e) (sym (suites_headed n f rs own sts')) (all_wider f e n e (omega arith) (omega arith) (own_list own ++ suites_in sts') o.bounds);
         within = whole;
         outer = λ s q d u.
-            collected s q d ∙ three_none _ _ _ ((header_texts s).outer q (λ j. let j0 = j.0 in let j1 = j.1 in u (omega arith, omega arith))) (pick_other (suffix_of n) q (as_list (suffix_in (gap_of ls'))) (λ t. u (omega arith, omega arith)))
-            (own_outer s q d (λ j. let j0 = j.0 in let j1 = j.1 in u (omega arith, omega arith)));
+            collected s q d ∙ three_none _ _ _ ((header_texts s).outer q (λ j. u (omega arith, omega arith))) (pick_other (suffix_of n) q (as_list (suffix_in (gap_of ls'))) (λ t. u (omega arith, omega arith)))
+            (own_outer s q d (λ j. u (omega arith, omega arith)));
       }
 
   last_there : last_gap ls ≡ last_gap ls'
@@ -126,8 +118,6 @@ module _ (page : SuitesAndLeaves) (n e : ℕ) (group loose : List Bytes) (suffix
 
   abbrev own_at : At page n e ls sts → OwnAt page n f e ls' own sts'
   own_at z =
-      let l = far in
-      let counted = z.counted in
       let h = sizes_leaves hs in
       let len = length-append z.front front_leaves in
       let len' = length-append (z.front ++ front_leaves) (c ∷ []) in
@@ -141,8 +131,6 @@ module _ (page : SuitesAndLeaves) (n e : ℕ) (group loose : List Bytes) (suffix
         sees = subst (Sees page n e) (suites_headed n f rs own sts') z.sees;
         regions = own_sees z.regions;
         texts = λ q j.
-            let j0 = j.0 in
-            let j1 = j.1 in
             z.texts q (omega arith, omega arith) ∙ (collected z.regions q (omega arith) ∙ three_third _ _ _ (texts_at page.regions q (comments_after f ls')) ((header_texts z.regions).outer q (λ t. omega (arith, t.1)))
             (pick_other (suffix_of n) q (as_list (suffix_in (gap_of ls'))) (λ t. omega arith)) refl);
       }
@@ -155,21 +143,17 @@ module _ (page : SuitesAndLeaves) (n e : ℕ) (group loose : List Bytes) (suffix
         o.left a (omega arith) after
         ∙ (ap (λ (z : Bytes). left_by a e (own_list own ++ suites_in sts') (after_first_line (lines_of z) ++ after)) (sym last_there) ∙ ap (λ z. left_by a e z (after_first_line (lines_of (last_gap ls)) ++ after)) (sym (suites_headed n f rs own sts')));
     hosts = λ z.
-        let l = far in
         let y : OwnAt page n f e ls' own sts' = own_at z in
         let after : Lines = lines_of (gap_of z.back) in
         let t : HeaderTexts page.regions n f' (after_parts n hs) loose rs hosts_there = header_texts z.regions in
-        let counted = y.counted in
         let at_above : texts_at page.regions (above n) (comments page) ≡ loose =
         z.texts (above n) (omega arith, omega arith) ∙ (collected z.regions (above n) (omega arith) ∙ three_first _ _ _ loose t.before refl (own_outer z.regions (above n) (omega arith) (λ j. omega (arith, j.0)))) in
         let inside : map (hosted_at page.regions (comments page)) rs ≡ hosts_there =
         t.inside (comments page) (λ q j.
-        let j0 = j.0 in
-        let j1 = j.1 in
         z.texts q (omega arith, omega arith) ∙ (collected z.regions q (omega arith) ∙ three_first _ _ _ (texts_at page.regions q (after_parts n hs)) refl (pick_other (suffix_of n) q (as_list (suffix_in (gap_of ls'))) (λ d. omega arith))
         (own_outer z.regions q (omega arith) (λ i. omega (arith, i.0))))) in
         let gap : leaf_gap page.leaves f ≡ gap_of ls' =
-        ap (λ (w : List Leaf). leaf_gap w f) y.leaves ∙ (ap (leaf_gap (y.front ++ (ls' ++ y.back))) (sym counted) ∙ (leaf_at y.front (ls' ++ y.back) ∙ gap_joined ls' y.back o.some)) in
+        ap (λ (w : List Leaf). leaf_gap w f) y.leaves ∙ (ap (leaf_gap (y.front ++ (ls' ++ y.back))) (sym y.counted) ∙ (leaf_at y.front (ls' ++ y.back) ∙ gap_joined ls' y.back o.some)) in
         let suffix_there : as_list suffix ≡ all_in (leaf_gap page.leaves f) = o.suffix_is ∙ ap all_in (sym gap) in
         let first : hosted_by form.comments ≡ hosted (group ++ texts_at page.regions (above n) (comments page)) (all_in (leaf_gap page.leaves f)) =
         form_is ∙ (ap (λ (w : List Bytes). hosted (group ++ w) (as_list suffix)) (sym at_above) ∙ ap (λ (w : List Bytes). hosted (group ++ texts_at page.regions (above n) (comments page)) w) suffix_there) in

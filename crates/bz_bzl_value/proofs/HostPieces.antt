@@ -109,17 +109,13 @@ module _ (page : SuitesAndLeaves) where
       apart = subst (r.SeesAt page.regions None n e) (flat_map-append regions_in sts sts') s
 
       pub regions_first : r.SeesAt page.regions None n m (regions_of sts)
-      regions_first q v w = let up = h.up in let up' = h'.up in r.sees_before page.regions q None e m e m (regions_of sts) (regions_of sts') h'.within (omega arith) (omega arith) (omega arith) (apart q v (omega arith))
+      regions_first q v w = r.sees_before page.regions q None e m e m (regions_of sts) (regions_of sts') h'.within (omega arith) (omega arith) (omega arith) (apart q v (omega arith))
 
       pub regions_second : r.SeesAt page.regions None m e (regions_of sts')
-      regions_second q v w = let up = h.up in r.sees_after page.regions q None e n m (regions_of sts) (regions_of sts') h.within v (apart q (omega arith) w)
+      regions_second q v w = r.sees_after page.regions q None e n m (regions_of sts) (regions_of sts') h.within v (apart q (omega arith) w)
 
     pub both_extents : Extent n e (ls ++ ls') (sts ++ sts')
     both_extents =
-        let some = h.some in
-        let some' = h'.some in
-        let up = h.up in
-        let up' = h'.up in
         let len = length_there in
         record {
           some = omega arith;
@@ -141,8 +137,6 @@ module _ (page : SuitesAndLeaves) where
 
       abbrev pub at_first : At n m ls sts
       at_first =
-          let up = h.up in
-          let up' = h'.up in
           record {
             front = x.front;
             back = ls' ++ x.back;
@@ -151,16 +145,11 @@ module _ (page : SuitesAndLeaves) where
             sees = sees_first n m e (suites_in sts) (suites_in sts') (omega arith) h'.bounds seen_suites;
             regions = regions_first x.regions;
             texts = λ q f.
-                let f0 = f.0 in
-                let f1 = f.1 in
                 x.texts q (omega arith, omega arith) ∙ (mine q ∙ (ap (λ (z : List Bytes). texts_at page.regions q (comments_from n ls) ++ z) (h'.outer (regions_second x.regions) q (omega arith) (λ j. omega (arith, j.0))) ∙ append-nil (texts_at page.regions q (comments_from n ls))));
           }
 
       abbrev pub at_second : At m e ls' sts'
       at_second =
-          let up = h.up in
-          let up' = h'.up in
-          let counted = x.counted in
           let len = length-append x.front ls in
           record {
             front = x.front ++ ls;
@@ -170,8 +159,6 @@ module _ (page : SuitesAndLeaves) where
             sees = sees_second n m e (suites_in sts) (suites_in sts') (omega arith) h.bounds seen_suites;
             regions = regions_second x.regions;
             texts = λ q f.
-                let f0 = f.0 in
-                let f1 = f.1 in
                 x.texts q (omega arith, omega arith) ∙ (mine q ∙ ap (λ (z : List Bytes). z ++ texts_at page.regions q (comments_from m ls')) (h.outer (regions_first x.regions) q (omega arith) (λ j. omega (arith, j.1))));
           }
 
@@ -195,14 +182,10 @@ module _ (page : SuitesAndLeaves) where
   module _ (n m e : ℕ) (ls ls' : List Leaf) (sts sts' : List Stretch) (group : List Bytes) (read : PieceRead) (h : Piece n m ls sts group read) (h' : Extent m e ls' sts') (x : At n e (ls ++ ls') (sts ++ sts')) where
     pub left_there : (read (lines_of (gap_of ls'))).1 ≡ left_by 0 m page.suites (lines_before page.leaves m)
     left_there =
-        let some = h.extent.some in
-        let some' = h'.some in
-        let up = h.extent.up in
-        let up' = h'.up in
         let y : At n m ls sts = at_first n m e ls ls' sts sts' h.extent h' x in
         let s : Sees n e (suites_in sts ++ suites_in sts') = seen_suites n m e ls ls' sts sts' h.extent h' x in
         let there : lines_before page.leaves m ≡ after_first_line (lines_of (last_gap ls)) ++ lines_of (gap_of ls') =
-        lines_there page n m y.front ls y.back some up y.leaves y.counted ∙ ap (λ (g : Bytes). after_first_line (lines_of (last_gap ls)) ++ lines_of g) (gap_joined ls' x.back some') in
+        lines_there page n m y.front ls y.back h.extent.some h.extent.up y.leaves y.counted ∙ ap (λ (g : Bytes). after_first_line (lines_of (last_gap ls)) ++ lines_of g) (gap_joined ls' x.back h'.some) in
         h.left 0 (omega arith) (lines_of (gap_of ls'))
         ∙ (ap (left_by 0 m (suites_in sts)) (sym there)
         ∙ sym (s.inner 0 m (omega arith) (omega arith) (lines_before page.leaves m) ∙ (left_joined 0 m (suites_in sts) (suites_in sts') (lines_before page.leaves m) ∙ ap (left_by 0 m (suites_in sts)) (beyond 0 m m e (suites_in sts') (lines_before page.leaves m) (omega arith) h'.bounds))))
@@ -210,10 +193,6 @@ module _ (page : SuitesAndLeaves) where
     -- and the comment lines above that
     group_there : comments_in (read (lines_of (gap_of ls'))).1 ≡ lines_of_leaf page m
     group_there =
-        let some = h.extent.some in
-        let some' = h'.some in
-        let up = h.extent.up in
-        let up' = h'.up in
         let s : Sees n e (suites_in sts ++ suites_in sts') = seen_suites n m e ls ls' sts sts' h.extent h' x in
         let begins : begins_suite m page.suites ≡ false =
         s.begins m (omega arith) (omega arith) ∙ (begins_second m (suites_in sts) (suites_in sts') (first_before n m m (suites_in sts) (omega arith) h.extent.bounds) ∙ none_begin m (suites_in sts') (first_after m e m (suites_in sts') (omega arith) h'.bounds)) in
@@ -233,10 +212,6 @@ module _ (page : SuitesAndLeaves) where
   pub both_pieces : (n m e : ℕ) (ls ls' : List Leaf) (sts sts' : List Stretch) (group : List Bytes) (read read' : PieceRead) → Piece n m ls sts group read → Piece m e ls' sts' (comments_in (read (lines_of (gap_of ls'))).1) read'
       → Piece n e (ls ++ ls') (sts ++ sts') group (λ after. with_left ((read (lines_of (gap_of ls'))).0 ++ (read' after).0) (read' after).1)
   both_pieces n m e ls ls' sts sts' group read read' h h' =
-      let some = h.extent.some in
-      let some' = h'.extent.some in
-      let up = h.extent.up in
-      let up' = h'.extent.up in
       let joined : suites_in (sts ++ sts') ≡ suites_in sts ++ suites_in sts' = suites_joined sts sts' in
       record {
         extent = both_extents n m e ls ls' sts sts' h.extent h'.extent;
@@ -244,12 +219,11 @@ module _ (page : SuitesAndLeaves) where
         left = λ a l after.
             let lines : Lines = after_first_line (lines_of (last_gap (ls ++ ls'))) ++ after in
             h'.left a (omega arith) after
-            ∙ (ap (λ (g : Bytes). left_by a e (suites_in sts') (after_first_line (lines_of g) ++ after)) (sym (last_joined ls ls' some'))
+            ∙ (ap (λ (g : Bytes). left_by a e (suites_in sts') (after_first_line (lines_of g) ++ after)) (sym (last_joined ls ls' h'.extent.some))
             ∙ (sym (past a e n m (suites_in sts) (left_by a e (suites_in sts') lines) (omega arith) h.extent.bounds)
             ∙ (sym (left_joined a e (suites_in sts) (suites_in sts') lines) ∙ ap (λ z. left_by a e z lines) (sym joined))));
         hosts = λ x.
-            let g' : List Bytes = comments_in (read (lines_of (gap_of ls'))).1 in
-            ap (λ (g : Bytes). (read (lines_of g)).0 ++ (read' (lines_of (gap_of x.back))).0) (sym (gap_joined ls' x.back some'))
+            ap (λ (g : Bytes). (read (lines_of g)).0 ++ (read' (lines_of (gap_of x.back))).0) (sym (gap_joined ls' x.back h'.extent.some))
             ∙ (ap (λ (z : List Hosted). z ++ (read' (lines_of (gap_of x.back))).0) (h.hosts (at_first n m e ls ls' sts sts' h.extent h'.extent x))
             ∙ (ap (λ (z : List Hosted). statement_hosts page group sts ++ z) (h'.hosts (at_second n m e ls ls' sts sts' h.extent h'.extent x)
             ∙ ap (λ (z : List Bytes). statement_hosts page z sts') (group_there n m e ls ls' sts sts' group read h h'.extent x))

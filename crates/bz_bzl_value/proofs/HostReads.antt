@@ -71,7 +71,6 @@ module _ (page : SuitesAndLeaves) (n : ℕ) (group : List Bytes) (x : Part) (xs 
   module _ (sees : r.SeesAt page.regions None n e there) where
     first_gap : GapPlaces page.regions n outside outside
     first_gap =
-        let some = rs.0.some in
         gap_outside page.regions n n (r.sees_before page.regions n None e n e n [] there within (omega arith) (omega arith) (omega arith) (sees n (omega arith) (omega arith)))
 
     all_mine : (q : CommentPlace) → 0 < key q → texts_at page.regions q (comments_from n (flat_map leaves_part ys)) ≡ texts_at page.regions q (after_parts n ys)
@@ -86,7 +85,7 @@ module _ (page : SuitesAndLeaves) (n : ℕ) (group : List Bytes) (x : Part) (xs 
   line_hosts z =
       let sees : r.SeesAt page.regions None n e there = subst (r.SeesAt page.regions None n e) (append-nil there) z.regions in
       let found : map (hosted_at page.regions (comments page)) there ≡ flat_map inside_item (statements_in [] (map seen ys)) =
-      (line (λ q v w. sees q (omega arith) w)).found (comments page) (λ q f. let f0 = f.0 in z.texts q f ∙ all_mine sees q (omega arith)) in
+      (line (λ q v w. sees q (omega arith) w)).found (comments page) (λ q f. z.texts q f ∙ all_mine sees q (omega arith)) in
       simple_inside group (map seen ys)
       ∙ (sym (group_above group ys) ∙ (ap (λ (t : List Hosted). with_group group t) (sym found) ∙ sym (append-nil (with_group group (map (hosted_at page.regions (comments page)) there)))))
 
@@ -117,7 +116,7 @@ pub record HeaderTexts (all : List Region) (n f : ℕ) (mine : List Comment) (lo
 as_header : (all : List Region) (n f : ℕ) (mine : List Comment) (loose : List Bytes) (rs : List Region) (hs : List Hosted) → n < f → r.AllInside n f rs → Texts all n n f mine loose rs hs → HeaderTexts all n f mine loose rs hs
 as_header all n f mine loose rs hs l w t = record {
   within = w;
-  outer = λ q o. t.outer q (λ j. let j0 = j.0 in let j1 = j.1 in o (omega arith, omega arith)) ∙ pick_other (above n) q loose (λ d. o (omega arith, omega arith));
+  outer = λ q o. t.outer q (λ j. o (omega arith, omega arith)) ∙ pick_other (above n) q loose (λ d. o (omega arith, omega arith));
   before = t.outer (above n) (λ j. omega (arith, j.0)) ∙ pick_same (above n) loose;
   inside = t.hosts;
 }

@@ -19,7 +19,7 @@ use Rattle.bz_grammar.proofs.Balance.{no_such, parts_of_row}
 use Rattle.bz_items.specs.Characters.{Bytes}
 use Rattle.bz_value.specs.Gaps.{GapLine, all_but_last, comments_in, groups_of, last_group, lines_of}
 use Rattle.bz_hosts.specs.View.{blocks, seen, loose_in}
-use Rattle.bz_hosts.specs.Hosts.{Region, comments_at, texts_at, Measured, Hosted, block, hosted_by, hosts_alone, sizes, measured, measured_row, hosts_from, right_above, bare_lines, lines_before}
+use Rattle.bz_hosts.specs.Hosts.{comments_at, texts_at, Measured, Hosted, block, hosted_by, hosts_alone, sizes, measured, measured_row, hosts_from, right_above, bare_lines, lines_before}
 use Rattle.bz_hosts.proofs.Alternating.{Alternating}
 use Rattle.bz_hosts.proofs.Claim.{part_texts}
 use Rattle.bz_hosts.proofs.Files.{blocks_alone, gap_outside, outside_none, all_solid}
@@ -37,19 +37,19 @@ use Rattle.bz_bzl_value.specs.declared.value.BzlItem.{BzlItem}
 use Rattle.bz_bzl_value.specs.declared.value.BzlItem.TheVariants as b
 use Rattle.bz_bzl_value.specs.BzlHosts.{Suite, Stretch, simple_line, Placed, placed, placed_row, in_statement, in_compound, one_by_one, regions_in, suites_in, SuitesAndLeaves, suite_there, left_by, left_above, statement_hosts, bzl_hosted_from, inside_head, inside_statement, inside_branches, inside_statements, inside_bzl_item}
 use Rattle.bz_bzl_value.specs.Laws.{BzlHostsByPlace}
-use Rattle.bz_bzl_value.specs.View.{ReadStatements, stated, stated_row, statement_read, suite_in, suffix_before, compound_read, branches, indented_lines_before, walked, margin_of, def_head, block_items, bzl_items}
+use Rattle.bz_bzl_value.specs.View.{ReadStatements, Stated, stated, stated_row, statement_read, suite_in, suffix_before, compound_read, branches, indented_lines_before, walked, margin_of, def_head, block_items, bzl_items}
 use Rattle.bz_bzl_value.proofs.Compounds.{Header, function, loop, branch, kind_of, IsHead, Turn, Further, Headers, if_statement, for_statement, def_statement}
 use Rattle.bz_bzl_value.proofs.HeadParts.{Headed, InHeader, Named, after_stmt}
 use Rattle.bz_bzl_value.proofs.HostBranches.{branch_hosts, PieceFrom, HeaderFacts, Parted, headed, row_facts, all_regions, all_texts}
 use Rattle.bz_bzl_value.proofs.HostBranches as hb
-use Rattle.bz_bzl_value.proofs.HostPieces.{At, at_first, at_second, Extent, both_extents, Piece, same_piece, both_pieces, left_there}
+use Rattle.bz_bzl_value.proofs.HostPieces.{At, at_first, at_second, Extent, both_extents, Piece, same_piece, left_there}
 use Rattle.bz_bzl_value.proofs.HostReads.{items_alone, items_inside, line_extent, line_piece_hosts, def_within, def_header}
 use Rattle.bz_bzl_value.proofs.HostSuites.{OwnPiece, line_own, suite_own, as_walked}
 use Rattle.bz_bzl_value.proofs.KeptGaps.{newline_ends, newline_comment}
 use Rattle.bz_bzl_value.proofs.KeptValues.{branches_in}
 use Rattle.bz_bzl_value.proofs.Parts.{stated_rows}
 use Rattle.bz_bzl_value.proofs.SuiteHeaders.{sizes_leaves}
-use Rattle.bz_bzl_value.proofs.SuiteLines.{Lines, AllBetween, gap_joined, first_at, beyond}
+use Rattle.bz_bzl_value.proofs.SuiteLines.{Lines, gap_joined, first_at, beyond}
 use Rattle.bz_bzl_value.proofs.SuitePieces.{PieceRead, with_left}
 use Rattle.bz_bzl_value.proofs.SuiteReads.{stated_gap, placed_measured, line_some, line_left}
 
@@ -123,8 +123,8 @@ module _ (page : SuitesAndLeaves) where
 
   facts : (h : Header) (word : Part) (front : List Part) → IsHead h (word ∷ front) → AllByRecursion (Parted page) (word ∷ front) → (n : ℕ) (group : List Bytes) (suffix : Option Bytes) → HeaderFacts page (kind_of h) (word ∷ front) n group suffix
   facts function word front w g = def_facts word w.0 front w.1 g
-  facts loop word front w g = let some = g.0.regions.some in row_facts page k.ForStmt (word ∷ front) (λ n. refl) (λ group suffix. refl) refl (omega arith) g
-  facts (branch t) word front w g = let some = g.0.regions.some in row_facts page k.IfStmt (word ∷ front) (λ n. refl) (λ group suffix. refl) refl (omega arith) g
+  facts loop word front w g = row_facts page k.ForStmt (word ∷ front) (λ n. refl) (λ group suffix. refl) refl (omega arith) g
+  facts (branch t) word front w g = row_facts page k.IfStmt (word ∷ front) (λ n. refl) (λ group suffix. refl) refl (omega arith) g
 
   abbrev HeadersFrom : Turn → Kind → Part → List Part → Type 0
   HeadersFrom turn = PieceFrom page
@@ -163,14 +163,12 @@ module _ (page : SuitesAndLeaves) where
   line_node (x ∷ xs) fits quiet g n group =
       let ys : List Part = x ∷ xs in
       let e : ℕ = n + sizes (map measured ys) in
-      let rs : List Region = hosts_from s.semicolon n (map measured ys) in
       let solids = hb.all_solid page ys g in
       let regions = all_regions page ys g in
       let texts = all_texts page ys g in
       let some = line_some x xs solids.0 in
-      let h = sizes_leaves ys in
       subst (λ (ms : List Measured). Piece page n e (flat_map leaves_part ys) (simple_line n (hosts_from s.semicolon n ms) ∷ []) group (λ after. as_read (statement_read k.Line (map stated ys) group after))) (sym (measured_list ys)) (record {
-        extent = line_extent page n group x xs fits quiet regions texts solids some (omega arith);
+        extent = line_extent page n group x xs fits quiet regions texts solids some (omega (arith, sizes_leaves ys));
         starts = refl;
         left = λ a l after. line_left group ys fits solids after;
         hosts = λ z. line_piece_hosts page n group x xs fits quiet regions texts solids z;
@@ -188,29 +186,22 @@ module _ (page : SuitesAndLeaves) where
 
   -- ---- statements one after the other
 
-  walked_piece : (n : ℕ) (above : Lines) (x : Part) (xs : List Part) → AllByRecursion StatementPiece (x ∷ xs) → AllByRecursion Solid (x ∷ xs)
-      → Piece page n (n + sizes (map measured (x ∷ xs))) (flat_map leaves_part (x ∷ xs)) (one_by_one n (map placed (x ∷ xs))) (comments_in above) (as_walked page (x ∷ xs) above)
-  walked_piece n above x [] h g =
-      let group : List Bytes = comments_in above in
-      same_piece page n (n + size x) (n + sizes (map measured (x ∷ []))) (leaves_part x) (leaves_part x ++ []) ((placed x).stretches n) ((placed x).stretches n ++ []) group (as_statement x group) (as_walked page (x ∷ []) above)
-      (omega arith) (sym (append-nil (leaves_part x))) (sym (append-nil ((placed x).stretches n)))
-      (λ after. ap (λ (z : List Statement). with_left (flat_map inside_statement z) ((stated x).statement group after).1) (append-nil ((stated x).statement group after).0))
-      (h.0 n group)
-  walked_piece n above x (y ∷ ys) h g =
-      let group : List Bytes = comments_in above in
-      let more : List Leaf = flat_map leaves_part (y ∷ ys) in
-      let one : ReadStatements (List Statement) = (stated x).statement group (lines_of (gap_of more)) in
-      let m : ℕ = n + size x in
-      let e : ℕ = m + sizes (map measured (y ∷ ys)) in
-      let sts : List Stretch = (placed x).stretches n in
-      let rest : ReadStatements (List Statement) → Lines → ReadStatements (List Statement) = λ first after. walked first.1 (map stated (y ∷ ys)) after in
-      same_piece page n e (n + sizes (map measured (x ∷ y ∷ ys))) (leaves_part x ++ more) (leaves_part x ++ more) (sts ++ one_by_one m (map placed (y ∷ ys))) (one_by_one n (map placed (x ∷ y ∷ ys))) group
-      (λ after. with_left ((as_statement x group (lines_of (gap_of more))).0 ++ (as_walked page (y ∷ ys) one.1 after).0) (as_walked page (y ∷ ys) one.1 after).1) (as_walked page (x ∷ y ∷ ys) above)
-      (omega arith) refl (ap (λ (z : Measured). sts ++ one_by_one (n + z.size) (map placed (y ∷ ys))) (sym (placed_measured x)))
-      (λ after.
-      ap (λ (z : Bytes). let first : ReadStatements (List Statement) = (stated x).statement group (lines_of z) in with_left (flat_map inside_statement (first.0 ++ (rest first after).0)) (rest first after).1) (stated_gap y (flat_map leaves_part ys) g.1.0)
-      ∙ ap (λ (z : List Hosted). with_left z (rest one after).1) (flat_map-append inside_statement one.0 (rest one after).0))
-      (both_pieces page n m e (leaves_part x) more sts (one_by_one m (map placed (y ∷ ys))) group (as_statement x group) (as_walked page (y ∷ ys) one.1) (h.0 n group) (walked_piece m one.1 y ys h.1 g.1))
+  walked_more : (n : ℕ) (xs : List Part) → AllByRecursion StatementPiece xs → AllByRecursion Solid xs → hb.More page xs n (n + sizes (map measured xs)) (one_by_one n (map placed xs)) (as_walked page xs)
+  walked_more n [] h g = (omega arith, refl, λ left after. refl)
+  walked_more n (x ∷ xs) h g = (
+    λ left.
+        let group : List Bytes = comments_in left in
+        let m : ℕ = n + size x in
+        let e : ℕ = m + sizes (map measured xs) in
+        let ls : List Leaf = leaves_part x ++ flat_map leaves_part xs in
+        let sts : List Stretch = (placed x).stretches n in
+        let one : Lines → ReadStatements (List Statement) = λ after. (stated x).statement group (indented_lines_before (map stated xs) after) in
+        same_piece page n e (n + sizes (map measured (x ∷ xs))) ls ls (sts ++ one_by_one m (map placed xs)) (one_by_one n (map placed (x ∷ xs))) group _ (as_walked page (x ∷ xs) left)
+        (omega arith) refl (ap (λ (z : Measured). sts ++ one_by_one (n + z.size) (map placed xs)) (sym (placed_measured x)))
+        (λ after. ap (λ (z : List Hosted). with_left z (walked (one after).1 (map stated xs) after).1) (flat_map-append inside_statement (one after).0 (walked (one after).1 (map stated xs) after).0))
+        (hb.then_more page n m e (leaves_part x) sts group (as_statement x group) xs (one_by_one m (map placed xs)) (as_walked page xs) (h.0 n group) (walked_more m xs h.1 g.1)),
+    g.0,
+  )
 
   statements_at : (xs : List Part) → Several (IsNonterminal s.stmt) (Fits IsNonterminal done) xs → AtParts Stands Along Begins xs → AllByRecursion AsStatement xs → AllByRecursion StatementPiece xs
   statements_at [] h at_ g = tt
@@ -219,51 +210,50 @@ module _ (page : SuitesAndLeaves) where
 
   -- ---- suites
 
-  own_rows : (kind : Kind) (m : _) (r' : Row_of-Part m) (n e : ℕ) (own : Option Suite) (xs : List Part) → items-the_row-Part m r' ≡ xs
-      → OwnPiece page n e (flat_map leaves_part xs) own (in_statement kind n (map placed xs)) (suffix_before kind (map stated xs)) (suite_in kind (map stated xs))
-      → OwnPiece page n e (leaves_row r') own (in_statement kind n (placed_row r')) (suffix_before kind (stated_row r')) (suite_in kind (stated_row r'))
-  own_rows kind m r' n e own xs i h =
-      subst (λ ls. OwnPiece page n e ls own (in_statement kind n (placed_row r')) (suffix_before kind (stated_row r')) (suite_in kind (stated_row r'))) (sym (leaves_rows m r' ∙ ap (flat_map leaves_part) i))
-      (subst (λ ps. OwnPiece page n e (flat_map leaves_part xs) own (in_statement kind n ps) (suffix_before kind (stated_row r')) (suite_in kind (stated_row r'))) (sym (placed_rows m r' ∙ ap (map placed) i))
-      (subst (λ ss. OwnPiece page n e (flat_map leaves_part xs) own (in_statement kind n (map placed xs)) (suffix_before kind ss) (suite_in kind ss)) (sym (stated_rows m r' ∙ ap (map stated) i)) h))
+  -- what is after a colon is a suite of its own, but for a line
+  abbrev own_of : Kind → ℕ → ℕ → List Leaf → Option Suite
+  own_of k.Suite n e ls = Some (record { first = suc n; following = e; margin = length (first_indent (drop 1 ls)) })
+  own_of _ n e ls = None
 
-  line_rows : (m : _) (r' : Row_of-Part m) (xs : List Part) → items-the_row-Part m r' ≡ xs → Statements xs → AtParts Stands Along Along xs → AllByRecursion (Parted page) xs → (n : ℕ)
-      → OwnPiece page n (n + sizes (measured_row r')) (leaves_row r') None (in_statement k.Line n (placed_row r')) (suffix_before k.Line (stated_row r')) (suite_in k.Line (stated_row r'))
-  line_rows m r' [] i fits at_ g n = absurd fits
-  line_rows m r' (x ∷ xs) i fits at_ g n =
+  abbrev OwnNode : Kind → ℕ → List Measured → List Leaf → List Placed → List Stated → Type 0
+  OwnNode kind n ms ls ps ss = OwnPiece page n (n + sizes ms) ls (own_of kind n (n + sizes ms) ls) (in_statement kind n ps) (suffix_before kind ss) (suite_in kind ss)
+
+  abbrev OwnList : Kind → List Part → Type 0
+  OwnList kind xs = (n : ℕ) → OwnNode kind n (map measured xs) (flat_map leaves_part xs) (map placed xs) (map stated xs)
+
+  own_rows : (kind : Kind) (m : _) (r' : Row_of-Part m) → OwnList kind (items-the_row-Part m r') → (n : ℕ) → OwnNode kind n (measured_row r') (leaves_row r') (placed_row r') (stated_row r')
+  own_rows kind m r' h n =
+      let xs : List Part = items-the_row-Part m r' in
+      subst (λ ms. OwnNode kind n ms (leaves_row r') (placed_row r') (stated_row r')) (sym (measured_rows m r'))
+      (subst (λ ls. OwnNode kind n (map measured xs) ls (placed_row r') (stated_row r')) (sym (leaves_rows m r'))
+      (subst (λ ps. OwnNode kind n (map measured xs) (flat_map leaves_part xs) ps (stated_row r')) (sym (placed_rows m r'))
+      (subst (λ ss. OwnNode kind n (map measured xs) (flat_map leaves_part xs) (map placed xs) ss) (sym (stated_rows m r')) (h n))))
+
+  line_list : (xs : List Part) → Statements xs → AtParts Stands Along Along xs → AllByRecursion (Parted page) xs → OwnList k.Line xs
+  line_list [] fits at_ g n = absurd fits
+  line_list (x ∷ xs) fits at_ g n =
       let ys : List Part = x ∷ xs in
-      let e : ℕ = n + sizes (measured_row r') in
-      let same : sizes (map measured ys) ≡ sizes (measured_row r') = sym (ap sizes (measured_rows m r') ∙ ap (λ (z : List Part). sizes (map measured z)) i) in
-      let h = sizes_leaves ys in
-      let line = line_own page n x xs fits (statements_quiet Along Along ys refl fits (all_silent ys g) at_) (all_regions page ys g) (all_texts page ys g) (hb.all_solid page ys g) (g.0.silent (nonterminal_inner s.small x refl fits.0) at_.0) (omega arith) in
-      own_rows k.Line m r' n e None ys i
-      (subst (λ (ms : List Measured). OwnPiece page n e (flat_map leaves_part ys) None (simple_line n (hosts_from s.semicolon n ms) ∷ []) None (suite_in k.Line (map stated ys))) (sym (measured_list ys))
-      (subst (λ z. OwnPiece page n (n + z) (flat_map leaves_part ys) None (simple_line n (hosts_from s.semicolon n (map measured ys)) ∷ []) None (suite_in k.Line (map stated ys))) same line))
+      subst (λ (ms : List Measured). OwnPiece page n (n + sizes (map measured ys)) (flat_map leaves_part ys) None (simple_line n (hosts_from s.semicolon n ms) ∷ []) None (suite_in k.Line (map stated ys))) (sym (measured_list ys))
+      (line_own page n x xs fits (statements_quiet Along Along ys refl fits (all_silent ys g) at_) (all_regions page ys g) (all_texts page ys g) (hb.all_solid page ys g) (g.0.silent (nonterminal_inner s.small x refl fits.0) at_.0) (omega (arith, sizes_leaves ys)))
 
-  suite_rows : (m : _) (r' : Row_of-Part m) (xs : List Part) → items-the_row-Part m r' ≡ xs → Fits IsNonterminal (bzl_shape k.Suite) xs → AtParts Stands Along Along xs → AllByRecursion AsStatement xs → AllByRecursion (Parted page) xs → (n : ℕ)
-      → OwnPiece page n (n + sizes (measured_row r')) (leaves_row r') (Some (record { first = suc n; following = n + sizes (measured_row r'); margin = length (first_indent (drop 1 (leaves_row r'))) })) (in_statement k.Suite n (placed_row r')) (suffix_before k.Suite (stated_row r')) (suite_in k.Suite (stated_row r'))
-  suite_rows m r' [] i fits at_ g w n = absurd fits
-  suite_rows m r' (Node' kind z r'' ∷ xs) i fits at_ g w n = no_such fits.0
-  suite_rows m r' (p.Leaf l ∷ []) i fits at_ g w n = absurd fits.1
-  suite_rows m r' (p.Leaf l ∷ x ∷ xs) i fits at_ g w n =
+  suite_list : (xs : List Part) → Fits IsNonterminal (bzl_shape k.Suite) xs → AtParts Stands Along Along xs → AllByRecursion AsStatement xs → AllByRecursion (Parted page) xs → OwnList k.Suite xs
+  suite_list [] fits at_ g w n = absurd fits
+  suite_list (Node' kind z r'' ∷ xs) fits at_ g w n = no_such fits.0
+  suite_list (p.Leaf l ∷ []) fits at_ g w n = absurd fits.1
+  suite_list (p.Leaf l ∷ x ∷ xs) fits at_ g w n =
       let all : List Part = p.Leaf l ∷ x ∷ xs in
-      let e : ℕ = n + sizes (measured_row r') in
-      let own : Option Suite = Some (record { first = suc n; following = e; margin = length (first_indent (drop 1 (leaves_row r'))) }) in
+      let ls : List Leaf = flat_map leaves_part (x ∷ xs) in
+      let e : ℕ = n + sizes (map measured all) in
       let there : AtParts Stands Along Begins (x ∷ xs) = subst (λ z. AtParts Stands Along z (x ∷ xs)) (newline_ends (p.Leaf l) Along Along fits.0) at_.1 in
       let statements : AllByRecursion StatementPiece (x ∷ xs) = statements_at (x ∷ xs) (inr (fits.1.0, fits.1.1)) there g.1 in
-      let leaves : leaves_row r' ≡ l ∷ flat_map leaves_part (x ∷ xs) = leaves_rows m r' ∙ ap (flat_map leaves_part) i in
-      let margin : length (first_indent (drop 1 (leaves_row r'))) ≡ margin_of (map stated (x ∷ xs)) =
-      ap (λ (z : List Leaf). length (first_indent (drop 1 z))) leaves ∙ ap length (indent_first (flat_map leaves_part (x ∷ xs)) ∙ ap indent (sym (stated_gap x (flat_map leaves_part xs) w.1.0.solid))) in
-      let size' : sizes (measured_row r') ≡ sizes (map measured all) = ap sizes (measured_rows m r') ∙ ap (λ (z : List Part). sizes (map measured z)) i in
-      let up : suc n + sizes (map measured (x ∷ xs)) ≡ e = omega (arith, size') in
+      let margin : length (first_indent ls) ≡ margin_of (map stated (x ∷ xs)) = ap length (indent_first ls ∙ ap indent (sym (stated_gap x (flat_map leaves_part xs) w.1.0.solid))) in
+      let up : suc n + sizes (map measured (x ∷ xs)) ≡ e = omega arith in
       let lines : Lines = indented_lines_before (map stated (x ∷ xs)) [] in
-      let sts : List Stretch = one_by_one (suc n) (map placed (x ∷ xs)) in
-      let inner : Piece page (suc n) e (flat_map leaves_part (x ∷ xs)) sts (comments_in lines) (as_walked page (x ∷ xs) lines) =
-      subst (λ z. Piece page (suc n) z (flat_map leaves_part (x ∷ xs)) sts (comments_in lines) (as_walked page (x ∷ xs) lines)) up (walked_piece (suc n) lines x xs statements (hb.all_solid page (x ∷ xs) w.1)) in
+      let inner : Piece page (suc n) e ls (one_by_one (suc n) (map placed (x ∷ xs))) (comments_in lines) (as_walked page (x ∷ xs) lines) =
+      subst (λ z. Piece page (suc n) z ls (one_by_one (suc n) (map placed (x ∷ xs))) (comments_in lines) (as_walked page (x ∷ xs) lines)) up ((walked_more (suc n) (x ∷ xs) statements (hb.all_solid page (x ∷ xs) w.1)).0 lines) in
       let one : suc n ≡ n + 1 = omega arith in
-      own_rows k.Suite m r' n e own all i
-      (subst (λ z. OwnPiece page n e (flat_map leaves_part all) own (one_by_one z (map placed (x ∷ xs))) (suffix_before k.Suite (map stated all)) (suite_in k.Suite (map stated all))) one
-      (suite_own page n e (length (first_indent (drop 1 (leaves_row r')))) l x xs w.1.0.solid margin (newline_comment (p.Leaf l) fits.0 at_.0) inner))
+      subst (λ z. OwnPiece page n e (flat_map leaves_part all) (own_of k.Suite n e (flat_map leaves_part all)) (one_by_one z (map placed (x ∷ xs))) (suffix_before k.Suite (map stated all)) (suite_in k.Suite (map stated all))) one
+      (suite_own page n e (length (first_indent ls)) l x xs w.1.0.solid margin (newline_comment (p.Leaf l) fits.0 at_.0) inner)
 
   abbrev Inside : Part → Type 0
   Inside (p.Leaf l) = Unit {0}
@@ -271,8 +261,8 @@ module _ (page : SuitesAndLeaves) where
 
   own_piece : (x : Part) → LegalPart x → Inside x → IsNonterminal s.suite x → AtLeaves Stands Along x → (n : ℕ) → OwnPiece page n (n + size x) (leaves_part x) (suite_there n (measured x) x) ((placed x).stretches n) (stated x).suffix (stated x).suite
   own_piece (p.Leaf l) h g i at_ = no_such i
-  own_piece (Node' k.Line m r') h g i at_ = line_rows _ r' (items-the_row-Part _ r') refl h.0 (parts_of_row Stands Along Along _ r' at_) g.1
-  own_piece (Node' k.Suite m r') h g i at_ = suite_rows _ r' (items-the_row-Part _ r') refl h.0 (parts_of_row Stands Along Along _ r' at_) g.0 g.1
+  own_piece (Node' k.Line m r') h g i at_ = own_rows k.Line _ r' (line_list (items-the_row-Part _ r') h.0 (parts_of_row Stands Along Along _ r' at_) g.1)
+  own_piece (Node' k.Suite m r') h g i at_ = own_rows k.Suite _ r' (suite_list (items-the_row-Part _ r') h.0 (parts_of_row Stands Along Along _ r' at_) g.0 g.1)
   own_piece (Node' _ m r') h g i at_ = no_such i
 
   -- ---- parts of a legal tree
@@ -303,75 +293,66 @@ module _ (page : SuitesAndLeaves) where
   abbrev FileParts : List Part → Type 0
   FileParts xs = Several (IsNonterminal s.stmt) (Fits IsNonterminal (tok s.end done)) xs
 
-  later_at : (x : Part) (xs : List Part) → IsNonterminal s.stmt x → AtParts Stands Begins Begins (x ∷ xs) → AtParts Stands Begins Begins xs
-  later_at x xs h at_ = subst (λ z. AtParts Stands Begins z xs) (after_stmt x Begins Begins h) at_.1
-
-  abbrev FileExtent : ℕ → List Part → Type 0
-  FileExtent n xs = Extent page n (n + sizes (map measured xs)) (flat_map leaves_part xs) (one_by_one n (map placed xs))
-
-  end_extent : (n : ℕ) (l : Leaf) → Extent page n (n + 1) (l ∷ []) []
-  end_extent n l = record {
+  -- the end of a file
+  end_extent : (n e : ℕ) (l : Leaf) → n + 1 ≡ e → Extent page n e (l ∷ []) []
+  end_extent n e l u = record {
     some = omega arith;
-    up = refl;
+    up = u;
     bounds = tt;
     within = tt;
     outer = λ sees q d o.
-        ap (texts_at page.regions q) (append-nil (comments_at n l.gap)) ∙ outside_none page.regions n l.gap (gap_outside page.regions n (n + 1) (sees n (omega arith) (omega arith))) q d;
+        ap (texts_at page.regions q) (append-nil (comments_at n l.gap)) ∙ outside_none page.regions n l.gap (gap_outside page.regions n e (sees n (omega arith) (omega arith))) q d;
   }
 
-  file_extent : (n : ℕ) (xs : List Part) → FileParts xs → AllByRecursion AsStatement xs → AtParts Stands Begins Begins xs → FileExtent n xs
-  file_extent n [] h g at_ = absurd h
-  file_extent n (p.Leaf l ∷ []) (inl h) g at_ = let e : n + 1 ≡ n + sizes (map measured (p.Leaf l ∷ [])) = omega arith in subst (λ z. Extent page n z (l ∷ []) []) e (end_extent n l)
-  file_extent n (p.Leaf l ∷ y ∷ xs) (inl h) g at_ = absurd h.1
-  file_extent n (p.Leaf l ∷ xs) (inr h) g at_ = no_such h.0
-  file_extent n (Node' kind z r' ∷ xs) (inl h) g at_ = no_such h.0
-  file_extent n (Node' kind z r' ∷ xs) (inr h) g at_ =
-      let x : Part = Node' kind z r' in
-      let m : ℕ = n + size x in
-      let e : m + sizes (map measured xs) ≡ n + sizes (map measured (x ∷ xs)) = omega arith in
-      subst (λ t. Extent page n t (flat_map leaves_part (x ∷ xs)) (one_by_one n (map placed (x ∷ xs)))) e
-      (both_extents page n m (m + sizes (map measured xs)) (leaves_part x) (flat_map leaves_part xs) ((placed x).stretches n) (one_by_one m (map placed xs)) (g.0 h.0 at_.0 n []).extent (file_extent m xs h.1 g.1 (later_at x xs h.0 at_)))
+  -- statements and the end, from the leaf n on
+  record FilePiece (n e : ℕ) (xs : List Part) : Type 0 where
+    extent : Extent page n e (flat_map leaves_part xs) (one_by_one n (map placed xs))
+    hosts : (lines : Lines) → At page n e (flat_map leaves_part xs) (one_by_one n (map placed xs)) → lines ≡ left_by 0 n page.suites (lines_before page.leaves n)
+        → flat_map inside_bzl_item (bzl_items lines xs) ≡ bzl_hosted_from page n xs
 
-  file_hosts : (n e : ℕ) (lines : Lines) (xs : List Part) → e ≡ n + sizes (map measured xs) → FileParts xs → AllByRecursion AsStatement xs → AllByRecursion Solid xs → AtParts Stands Begins Begins xs → At page n e (flat_map leaves_part xs) (one_by_one n (map placed xs))
-      → lines ≡ left_by 0 n page.suites (lines_before page.leaves n) → flat_map inside_bzl_item (bzl_items lines xs) ≡ bzl_hosted_from page n xs
-  file_hosts n e lines [] u h g w at_ z i = absurd h
-  file_hosts n e lines (p.Leaf l ∷ []) u (inl h) g w at_ z i =
-      let gs : List GapLine = left_above page n in
-      ap (λ (t : Lines). flat_map inside_bzl_item (block_items (groups_of t) ++ [])) i
-      ∙ (flat_map-append inside_bzl_item (block_items (groups_of gs)) [] ∙ ap (λ (t : List Hosted). t ++ []) (groups_alone (groups_of gs) ∙ ap hosts_alone (all_numbered gs)))
-  file_hosts n e lines (p.Leaf l ∷ y ∷ xs) u (inl h) g w at_ z i = absurd h.1
-  file_hosts n e lines (p.Leaf l ∷ xs) u (inr h) g w at_ z i = no_such h.0
-  file_hosts n e lines (Node' kind s' r' ∷ xs) u (inl h) g w at_ z i = no_such h.0
-  file_hosts n e lines (Node' kind s' r' ∷ xs) u (inr h) g w at_ z i =
+  file_piece : (n e : ℕ) (xs : List Part) → e ≡ n + sizes (map measured xs) → FileParts xs → AllByRecursion AsStatement xs → AllByRecursion Solid xs → AtParts Stands Begins Begins xs → FilePiece n e xs
+  file_piece n e [] u h g w at_ = absurd h
+  file_piece n e (p.Leaf l ∷ []) u (inl h) g w at_ = record {
+    extent = end_extent n e l (omega arith);
+    hosts = λ lines z i.
+        let gs : List GapLine = left_above page n in
+        ap (λ (t : Lines). flat_map inside_bzl_item (block_items (groups_of t) ++ [])) i
+        ∙ (flat_map-append inside_bzl_item (block_items (groups_of gs)) [] ∙ ap (λ (t : List Hosted). t ++ []) (groups_alone (groups_of gs) ∙ ap hosts_alone (all_numbered gs)));
+  }
+  file_piece n e (p.Leaf l ∷ y ∷ xs) u (inl h) g w at_ = absurd h.1
+  file_piece n e (p.Leaf l ∷ xs) u (inr h) g w at_ = no_such h.0
+  file_piece n e (Node' kind s' r' ∷ xs) u (inl h) g w at_ = no_such h.0
+  file_piece n e (Node' kind s' r' ∷ xs) u (inr h) g w at_ =
       let x : Part = Node' kind s' r' in
       let m : ℕ = n + size x in
-      let gs : List GapLine = left_above page n in
-      let ls : List GapLine = lines in
-      let group : List Bytes = last_group (groups_of ls) in
       let sts : List Stretch = (placed x).stretches n in
       let later : List Stretch = one_by_one m (map placed xs) in
       let more : List Leaf = flat_map leaves_part xs in
-      let rest_at : AtParts Stands Begins Begins xs = later_at x xs h.0 at_ in
-      let up : m + sizes (map measured xs) ≡ e = omega arith in
-      let piece : Piece page n m (leaves_part x) sts group (as_statement x group) = g.0 h.0 at_.0 n group in
-      let after_it : Extent page m e more later = subst (λ t. Extent page m t more later) up (file_extent m xs h.1 g.1 rest_at) in
+      let following : FilePiece m e xs = file_piece m e xs (omega arith) h.1 g.1 w.1 (subst (λ z. AtParts Stands Begins z xs) (after_stmt x Begins Begins h.0) at_.1) in
+      let after_it : Extent page m e more later = following.extent in
       let first : indented_lines_before (map stated xs) [] ≡ lines_of (gap_of more) = before_first xs w.1 in
-      let own : ReadStatements (List Statement) = (stated x).statement group (indented_lines_before (map stated xs) []) in
-      let back : gap_of more ≡ gap_of (more ++ z.back) = sym (gap_joined more z.back after_it.some) in
-      let own_hosts : flat_map inside_statement own.0 ≡ statement_hosts page group sts =
-      ap (λ (t : Lines). flat_map inside_statement ((stated x).statement group t).0) (first ∙ ap lines_of back) ∙ piece.hosts (at_first page n m e (leaves_part x) more sts later piece.extent after_it z) in
-      let own_left : own.1 ≡ left_by 0 m page.suites (lines_before page.leaves m) = ap (λ (t : Lines). ((stated x).statement group t).1) first ∙ left_there page n m e (leaves_part x) more sts later group (as_statement x group) piece after_it z in
-      let tail : List BzlItem = bzl_items own.1 xs in
-      let tail_hosts : flat_map inside_bzl_item tail ≡ bzl_hosted_from page m xs =
-      file_hosts m e own.1 xs (sym up) h.1 g.1 w.1 rest_at (at_second page n m e (leaves_part x) more sts later piece.extent after_it z) own_left in
-      let alone : hosts_alone (all_but_last (groups_of ls)) ≡ hosts_alone (map (right_above gs) (bare_lines 0 gs)) = ap (λ (t : Lines). hosts_alone (all_but_last (groups_of t))) i ∙ ap hosts_alone (alone_numbered gs) in
-      let above : group ≡ right_above gs (length gs) = ap (λ (t : Lines). last_group (groups_of t)) i ∙ last_numbered gs in
-      flat_map-append inside_bzl_item (block_items (all_but_last (groups_of ls))) (map b.Statement own.0 ++ tail)
-      ∙ (ap (λ (t : List Hosted). t ++ flat_map inside_bzl_item (map b.Statement own.0 ++ tail)) (groups_alone (all_but_last (groups_of ls)) ∙ alone)
-      ∙ (ap (λ (t : List Hosted). hosts_alone (map (right_above gs) (bare_lines 0 gs)) ++ t) (flat_map-append inside_bzl_item (map b.Statement own.0) tail
-      ∙ (ap (λ (t : List Hosted). t ++ flat_map inside_bzl_item tail) (items_alone own.0 ∙ (own_hosts ∙ ap (λ (t : List Bytes). statement_hosts page t sts) above))
-      ∙ ap (λ (t : List Hosted). statement_hosts page (right_above gs (length gs)) sts ++ t) tail_hosts))
-      ∙ sym (append_assoc (hosts_alone (map (right_above gs) (bare_lines 0 gs))) (statement_hosts page (right_above gs (length gs)) sts) (bzl_hosted_from page m xs))))
+      record {
+        extent = both_extents page n m e (leaves_part x) more sts later (g.0 h.0 at_.0 n []).extent after_it;
+        hosts = λ ls z i.
+            let gs : List GapLine = left_above page n in
+            let group : List Bytes = last_group (groups_of ls) in
+            let piece : Piece page n m (leaves_part x) sts group (as_statement x group) = g.0 h.0 at_.0 n group in
+            let own : ReadStatements (List Statement) = (stated x).statement group (indented_lines_before (map stated xs) []) in
+            let back : gap_of more ≡ gap_of (more ++ z.back) = sym (gap_joined more z.back after_it.some) in
+            let own_hosts : flat_map inside_statement own.0 ≡ statement_hosts page group sts =
+            ap (λ (t : Lines). flat_map inside_statement ((stated x).statement group t).0) (first ∙ ap lines_of back) ∙ piece.hosts (at_first page n m e (leaves_part x) more sts later piece.extent after_it z) in
+            let own_left : own.1 ≡ left_by 0 m page.suites (lines_before page.leaves m) = ap (λ (t : Lines). ((stated x).statement group t).1) first ∙ left_there page n m e (leaves_part x) more sts later group (as_statement x group) piece after_it z in
+            let tail : List BzlItem = bzl_items own.1 xs in
+            let tail_hosts : flat_map inside_bzl_item tail ≡ bzl_hosted_from page m xs = following.hosts own.1 (at_second page n m e (leaves_part x) more sts later piece.extent after_it z) own_left in
+            let alone : hosts_alone (all_but_last (groups_of ls)) ≡ hosts_alone (map (right_above gs) (bare_lines 0 gs)) = ap (λ (t : Lines). hosts_alone (all_but_last (groups_of t))) i ∙ ap hosts_alone (alone_numbered gs) in
+            let above : group ≡ right_above gs (length gs) = ap (λ (t : Lines). last_group (groups_of t)) i ∙ last_numbered gs in
+            flat_map-append inside_bzl_item (block_items (all_but_last (groups_of ls))) (map b.Statement own.0 ++ tail)
+            ∙ (ap (λ (t : List Hosted). t ++ flat_map inside_bzl_item (map b.Statement own.0 ++ tail)) (groups_alone (all_but_last (groups_of ls)) ∙ alone)
+            ∙ (ap (λ (t : List Hosted). hosts_alone (map (right_above gs) (bare_lines 0 gs)) ++ t) (flat_map-append inside_bzl_item (map b.Statement own.0) tail
+            ∙ (ap (λ (t : List Hosted). t ++ flat_map inside_bzl_item tail) (items_alone own.0 ∙ (own_hosts ∙ ap (λ (t : List Bytes). statement_hosts page t sts) above))
+            ∙ ap (λ (t : List Hosted). statement_hosts page (right_above gs (length gs)) sts ++ t) tail_hosts))
+            ∙ sym (append_assoc (hosts_alone (map (right_above gs) (bare_lines 0 gs))) (statement_hosts page (right_above gs (length gs)) sts) (bzl_hosted_from page m xs))));
+      }
 
 pub bzl_hosts_by_place : BzlHostsByPlace
 bzl_hosts_by_place n h =
@@ -381,7 +362,7 @@ bzl_hosts_by_place n h =
     let pieces = all_mapped LegalPart (AsStatement page) (λ x g. (part_piece page x g).0) n.parts h.file.shapes.1 in
     let solids : AllByRecursion Solid n.parts = all_solid n.parts h.file.shapes.1 in
     let e : ℕ = 0 + sizes (map measured n.parts) in
-    let bounds : AllBetween 0 e (suites_in sts) = (file_extent page 0 n.parts fits pieces h.gaps).bounds in
+    let file : FilePiece page 0 e n.parts = file_piece page 0 e n.parts refl fits pieces solids h.gaps in
     let all : At page 0 e (flat_map leaves_part n.parts) sts = record {
       front = [];
       back = [];
@@ -391,5 +372,5 @@ bzl_hosts_by_place n h =
       regions = λ q v w. record { inner = refl; ends = refl; begins = λ z d. refl };
       texts = λ q f. refl;
     } in
-    file_hosts page 0 e (indented_lines_before (map stated n.parts) []) n.parts refl fits pieces solids h.gaps all
-    (before_first n.parts solids ∙ (ap lines_of (sym (first_at (leaves_of n))) ∙ sym (beyond 0 0 0 e (suites_in sts) (lines_before (leaves_of n) 0) (omega arith) bounds)))
+    file.hosts (indented_lines_before (map stated n.parts) []) all
+    (before_first n.parts solids ∙ (ap lines_of (sym (first_at (leaves_of n))) ∙ sym (beyond 0 0 0 e (suites_in sts) (lines_before (leaves_of n) 0) (omega arith) file.extent.bounds)))

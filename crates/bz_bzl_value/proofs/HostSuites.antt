@@ -92,13 +92,11 @@ module _ (page : SuitesAndLeaves) where
 
   no_lines : (n0 n e : ℕ) (ls : List Leaf) (sts : List Stretch) → suites_in sts ≡ [] → 0 < length ls → n < e → all_in (gap_of ls) ≡ [] → OwnAt n0 n e ls None sts → lines_of_leaf page n ≡ []
   no_lines n0 n e ls sts none some l silent x =
-      let before = x.before in
-      let counted = x.counted in
-      let begins : begins_suite n page.suites ≡ false = x.sees.begins n before l ∙ ap (begins_suite n) none in
+      let begins : begins_suite n page.suites ≡ false = x.sees.begins n x.before l ∙ ap (begins_suite n) none in
       let lines : lines_before page.leaves n ≡ after_first_line (lines_of (last_gap x.front)) ++ lines_of (gap_of ls) =
-      ap (λ (z : List Leaf). lines_before z n) x.leaves ∙ (ap (lines_before (x.front ++ (ls ++ x.back))) (sym counted) ∙ (lines_at x.front (ls ++ x.back) (omega arith) ∙ ap (λ (g : Bytes). after_first_line (lines_of (last_gap x.front)) ++ lines_of g) (gap_joined ls x.back some))) in
+      ap (λ (z : List Leaf). lines_before z n) x.leaves ∙ (ap (lines_before (x.front ++ (ls ++ x.back))) (sym x.counted) ∙ (lines_at x.front (ls ++ x.back) (omega arith) ∙ ap (λ (g : Bytes). after_first_line (lines_of (last_gap x.front)) ++ lines_of g) (gap_joined ls x.back some))) in
       let left : left_by 0 n page.suites (lines_before page.leaves n) ≡ after_first_line (lines_of (last_gap x.front)) ++ lines_of (gap_of ls) =
-      x.sees.inner 0 n before l (lines_before page.leaves n) ∙ (ap (λ z. left_by 0 n z (lines_before page.leaves n)) none ∙ lines) in
+      x.sees.inner 0 n x.before l (lines_before page.leaves n) ∙ (ap (λ z. left_by 0 n z (lines_before page.leaves n)) none ∙ lines) in
       cond-false (begins_suite n page.suites) (all_in (leaf_gap page.leaves n)) (comments_in (left_above page n)) begins
       ∙ (ap (λ (z : Lines). comments_in z) left ∙ silent_lines (last_gap x.front) (gap_of ls) x.quiet silent)
 
@@ -147,11 +145,9 @@ module _ (page : SuitesAndLeaves) where
       let suites : List Suite = suites_in sts in
       let own : Suite = record { first = suc n; following = e; margin = m } in
       let lines : Lines = indented_lines_before (map stated (x ∷ xs)) [] in
-      let some = inner.extent.some in
-      let up = inner.extent.up in
       let all : Lines → ReadStatements (List Statement) = λ after. walked lines (map stated (x ∷ xs)) after in
       let M : ℕ = margin_of (map stated (x ∷ xs)) in
-      let last : last_gap (l ∷ ls) ≡ last_gap ls = last_joined (l ∷ []) ls some in
+      let last : last_gap (l ∷ ls) ≡ last_gap ls = last_joined (l ∷ []) ls inner.extent.some in
       let left : (a : ℕ) → a ≤ suc n → (after : Lines) → (all after).1 ≡ left_by a e suites (after_first_line (lines_of (last_gap (l ∷ ls))) ++ after) =
       λ a j after. inner.left a j after ∙ ap (λ (g' : Bytes). left_by a e suites (after_first_line (lines_of g') ++ after)) (sym last) in
       let others : (a m' : ℕ) → suc n ≤ a → (lines' : Lines) → left_by a m' (own ∷ suites) lines' ≡ left_by a m' suites lines' =
@@ -163,7 +159,7 @@ module _ (page : SuitesAndLeaves) where
         up = omega arith;
         bounds = ((omega arith, omega arith, omega arith), all_wider (suc n) e n e (omega arith) (omega arith) suites inner.extent.bounds);
         within = r.all_wider (suc n) e n e (omega arith) (omega arith) (regions_of sts) inner.extent.within;
-        outer = λ sees q d o. inner.extent.outer sees q d (λ j. let j0 = j.0 in o (omega arith, j.1));
+        outer = λ sees q d o. inner.extent.outer sees q d (λ j. o (omega arith, j.1));
         suffix_is = sym suffix;
         left = λ a j after.
             let there : Lines = left_by a e suites (after_first_line (lines_of (last_gap (l ∷ ls))) ++ after) in
@@ -171,8 +167,6 @@ module _ (page : SuitesAndLeaves) where
             rest_is M (all after).1 ∙ (ap (λ (z : Lines). drop (reach M z) z) (left a (omega arith) after)
             ∙ (ap (λ (z : ℕ). drop (reach z there) there) (sym i) ∙ sym (cond-true (nat_lt a (suc n) && nat_eq e e) (drop (reach m there) there) there test)));
         statements = λ n0 z.
-            let before = z.before in
-            let counted = z.counted in
             let len = length-append z.front (l ∷ []) in
             let leaves : page.leaves ≡ (z.front ++ l ∷ []) ++ (ls ++ z.back) = z.leaves ∙ sym (append_assoc z.front (l ∷ []) (ls ++ z.back)) in
             let at_ : At page (suc n) e ls sts = record {
@@ -186,17 +180,16 @@ module _ (page : SuitesAndLeaves) where
                 begins = λ m' b b'. z.sees.begins m' (omega arith) b' ∙ ap (λ t. t || begins_suite m' suites) (ne_eqb (suc n) m' (λ d. omega arith));
               };
               regions = z.regions;
-              texts = λ q f. let f0 = f.0 in z.texts q (omega arith, f.1);
+              texts = λ q f. z.texts q (omega arith, f.1);
             } in
             let begins : begins_suite (suc n) page.suites ≡ true = z.sees.begins (suc n) (omega arith) (omega arith) ∙ ap (λ t. t || begins_suite (suc n) suites) (eq-eqb (suc n) (suc n) refl) in
             let first : leaf_gap page.leaves (suc n) ≡ (stated x).part.gap =
             ap (λ (w : List Leaf). leaf_gap w (suc n)) leaves ∙ (ap (leaf_gap ((z.front ++ l ∷ []) ++ (ls ++ z.back))) (omega arith) ∙ (leaf_at (z.front ++ l ∷ []) (ls ++ z.back)
-            ∙ (gap_joined ls z.back some ∙ (ap (λ (w : List Leaf). gap_of (w ++ flat_map leaves_part xs)) solid.leaves ∙ (sym solid.gap ∙ sym (ap (λ t. t.gap) (part_of x))))))) in
+            ∙ (gap_joined ls z.back inner.extent.some ∙ (ap (λ (w : List Leaf). gap_of (w ++ flat_map leaves_part xs)) solid.leaves ∙ (sym solid.gap ∙ sym (ap (λ t. t.gap) (part_of x))))))) in
             let group : comments_in lines ≡ lines_of_leaf page (suc n) =
             (ap all_in (sym first) ∙ sym (cond-true (begins_suite (suc n) page.suites) (all_in (leaf_gap page.leaves (suc n))) (comments_in (left_above page (suc n))) begins)) in
             inner.hosts at_ ∙ (ap (λ (g : List Bytes). statement_hosts page g sts) group ∙ sym (along_first page (suc n) sts inner.starts));
         ends = λ n0 z.
-            let before = z.before in
             let after : Lines = lines_of (gap_of z.back) in
             let found : Lines = left_by (suc n) e page.suites (lines_before page.leaves e) in
             let same : found ≡ (all after).1 =

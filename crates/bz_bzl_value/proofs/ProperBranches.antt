@@ -127,15 +127,9 @@ module _ (number : Bytes → ℕ) where
       let suite = o.1 lines (before_lines back after g f) in
       let following = b (comments_in read.1) read.1 after (fine_comments read.1 suite.2) suite.2 f in
       let here = w above (stated own).suffix a o.0 in
-      let kept = here.1 in
-      let suite_kept = suite.3 in
-      let following_kept = following.3 in
-      let gap = ap (λ s. gap_amount number s.gap) (part_of x) in
-      let between = above_left back read.1 in
-      let parts = append_total (part_amount number) xs (mark ∷ own ∷ back) in
       subst (Branched (HeadThen kind shape P) (before_amount (x ∷ xs ++ mark ∷ own ∷ back) after) (total number above + (total (part_amount number) (x ∷ xs ++ mark ∷ own ∷ back) + lines_amount number after)))
       (sym (header_ends kind above left (x ∷ xs) mark own back after n c))
-      ((here.0, following.0), ((suite.0, All-from_recursion IsComment read.0.1 suite.1), following.1), following.2, omega arith)
+      ((here.0, following.0), ((suite.0, All-from_recursion IsComment read.0.1 suite.1), following.1), following.2, omega (arith, ap (λ s. gap_amount number s.gap) (part_of x), above_left back read.1, append_total (part_amount number) xs (mark ∷ own ∷ back)))
 
   silent_mark : (mark : Part) → has_token s.colon_mark mark ≡ true → Silent mark → AtLeaves Stands Along mark → part_amount number mark ≡ 0
   silent_mark mark h i at_ = token_part number mark (token s.colon_mark mark h) ∙ ap (total number) (i (token_inner s.colon_mark mark refl h) at_)

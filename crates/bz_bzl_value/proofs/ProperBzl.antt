@@ -57,12 +57,10 @@ module _ (number : Bytes → ℕ) where
       → Keep (before_amount number xs []) (lines_amount number lines + total (part_amount number) xs) (bzl_items lines xs)
   items_proper lines [] f h g at_ = absurd h
   items_proper lines (p.Leaf l ∷ []) f (inl h) g at_ =
-      let groups : List (List Bytes) = groups_of lines in
-      let both = append_total (bzl_item_amount number) (block_items groups) [] in
-      let kept = block_amount number groups in
-      let all = all_blocks number lines in
-      let leaf = leaf_amount number l in
-      (all_joined IsProperBzlItem (block_items groups) [] (alone_proper groups (groups_fine lines f)) tt, omega arith)
+      let groups : List (List Bytes) = groups_of lines in (
+        all_joined IsProperBzlItem (block_items groups) [] (alone_proper groups (groups_fine lines f)) tt,
+        omega (arith, append_total (bzl_item_amount number), block_amount number groups, all_blocks number lines, leaf_amount number l),
+      )
   items_proper lines (p.Leaf l ∷ y ∷ xs) f (inl h) g at_ = absurd h.1
   items_proper lines (p.Leaf l ∷ xs) f (inr h) g at_ = no_such h.0
   items_proper lines (Node' kind n r ∷ xs) f (inl h) g at_ = no_such h.0
@@ -74,18 +72,11 @@ module _ (number : Bytes → ℕ) where
       let there : AtParts Stands Begins Begins xs = subst (λ z. AtParts Stands Begins z xs) (after_stmt (Node' kind n r) Begins Begins h.0) at_.1 in
       let one = g.0.statement h.0 at_.0 (last_group groups) after (groups_last groups fine) (before_lines number xs [] g.1 tt) in
       let more = items_proper read.1 xs one.1 h.1 g.1 there in
-      let one_kept = one.2 in
-      let more_kept = more.1 in
       let alone : List BzlItem = block_items (all_but_last groups) in
       let statements : List BzlItem = map b.Statement read.0 in
-      let following : List BzlItem = bzl_items read.1 xs in
-      let kept = block_amount number (all_but_last groups) in
-      let front = front_blocks number lines in
-      let items = statements_as_items number read.0 in
-      let outer = append_total (bzl_item_amount number) alone (statements ++ following) in
-      let inner = append_total (bzl_item_amount number) statements following in (
+      let following : List BzlItem = bzl_items read.1 xs in (
         all_joined IsProperBzlItem alone (statements ++ following) (alone_proper (all_but_last groups) (groups_front groups fine)) (all_joined IsProperBzlItem statements following (statements_proper read.0 one.0.1) more.0),
-        omega arith,
+        omega (arith, append_total (bzl_item_amount number), block_amount number (all_but_last groups), front_blocks number lines, statements_as_items number read.0),
       )
 
   all_known : (xs : List Part) → AllByRecursion LegalPart xs → AllByRecursion IsLexed (flat_map leaves_part xs) → AllByRecursion IsCodedLeaf (flat_map leaves_part xs) → AllKnown number xs
@@ -105,7 +96,4 @@ pub bzl_view_proper : BzlViewIsProper
 bzl_view_proper n h = All-from_recursion IsProperBzlItem (bzl_view_of n) (view_proper (λ text. 0) n h).0
 
 pub bzl_comments_kept : BzlCommentsKept
-bzl_comments_kept n h text =
-    let all = (view_proper (one_if text) n h).1 in
-    let leaves = parts_leaves (one_if text) n.parts in
-    omega arith
+bzl_comments_kept n h text = omega (arith, (view_proper (one_if text) n h).1, parts_leaves (one_if text) n.parts)

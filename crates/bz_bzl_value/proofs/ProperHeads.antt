@@ -74,20 +74,10 @@ module _ (number : Bytes → ℕ) where
   HeadKept xs above suffix form = gap_amount number (first_seen_gap (map seen xs)) + amount number (v.Form form) ≡ total number above + (suffix_amount number suffix + total (part_amount number) xs)
 
   row_head_kept : (kind : Kind) (xs : List Part) → AllKept number xs → (above : List Bytes) (suffix : Option Bytes) → HeadKept xs above suffix (row_head kind (map seen xs) above suffix)
-  row_head_kept kind xs h above suffix =
-      let form = form_amount number (row_head kind (map seen xs) above suffix) in
-      let both = append_total number above (loose_in (map seen xs)) in
-      let row = row_kept number false false false xs h in
-      omega arith
+  row_head_kept kind xs h above suffix = omega (arith, form_amount number (row_head kind (map seen xs) above suffix), append_total number, row_kept number false false false xs h)
 
   def_head_kept : (xs : List Part) → AllKept number xs → BracketAt 2 xs → Alternating s.comma_mark (drop 3 xs) → (above : List Bytes) (suffix : Option Bytes) → HeadKept xs above suffix (def_head (map seen xs) above suffix)
-  def_head_kept xs h t q above suffix =
-      let form = form_amount number (def_head (map seen xs) above suffix) in
-      let both = append_total number above (loose_in (take 3 (map seen xs))) in
-      let front = head_kept number 2 xs h t in
-      let found = found_kept number 3 xs h q in
-      let cut = cut_total number 3 xs in
-      omega arith
+  def_head_kept xs h t q above suffix = omega (arith, form_amount number (def_head (map seen xs) above suffix), append_total number, head_kept number 2 xs h t, found_kept number 3 xs h q, cut_total number 3 xs)
 
   -- the header that is read of these parts has this shape, is proper, and keeps all comments
   abbrev pub HeadProper : Kind → Shape → List Part → Type 0

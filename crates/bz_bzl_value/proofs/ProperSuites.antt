@@ -122,10 +122,7 @@ module _ (number : Bytes → ℕ) where
   line_kept [] h g q above after = absurd h
   line_kept (x ∷ []) h g q above after = absurd h.1
   line_kept (x ∷ y ∷ xs) h g q above after =
-      let made = statements_kept number above x y xs g (line_alternating (x ∷ y ∷ xs) h) q in
-      let simple = simple_amount number above (map seen (x ∷ y ∷ xs)) in
-      let both = lines_joined number (after_first_line (lines_of (last_gap (map seen (x ∷ y ∷ xs))))) after in
-      omega arith
+      omega (arith, statements_kept number above x y xs g (line_alternating (x ∷ y ∷ xs) h) q, simple_amount number above (map seen (x ∷ y ∷ xs)), lines_joined number)
 
   -- what is read of these parts as a statement
   abbrev StatementOf : List Part → (List Bytes → Lines → ReadStatements (List Statement)) → Type 0
@@ -157,21 +154,14 @@ module _ (number : Bytes → ℕ) where
       let one = g.0.statement h.0 at_.0 (comments_in lines) (indented_lines_before (map stated xs) after) (fine_comments lines l) (before_lines number xs after g.1 f) in
       let following : ReadStatements (List Statement) = walked read.1 (map stated xs) after in
       let more = walked_proper outer read.1 xs after one.1 h.1 g.1 there f in
-      let one_kept = one.2 in
-      let more_kept = more.3 in
-      let gap = ap (λ s. gap_amount number s.gap) (part_of x) in
-      let both = append_total (statement_amount number) read.0 following.0 in
-      (λ i. some_joined read.0 following.0 one.0.0, all_joined IsProperStatement read.0 following.0 one.0.1 more.1, more.2, omega arith)
+      (λ i. some_joined read.0 following.0 one.0.0, all_joined IsProperStatement read.0 following.0 one.0.1 more.1, more.2, omega (arith, ap (λ s. gap_amount number s.gap) (part_of x), append_total (statement_amount number) read.0 following.0))
 
   -- ---- suites
 
   ends_kept : (m : ℕ) (lines : Lines) → total number (end_comments m lines) + lines_amount number (after_end m lines) ≡ lines_amount number lines
   ends_kept m lines =
-      let taken = ap (total number) (ends_are m lines) in
-      let left = ap (lines_amount number) (rest_is m lines) in
       let whole = ap (lines_amount number) (take-append-drop (reach m lines) lines) in
-      let both = lines_joined number (take (reach m lines) lines) (drop (reach m lines) lines) in
-      omega arith
+      omega (arith, ap (total number) (ends_are m lines), ap (lines_amount number) (rest_is m lines), lines_joined number (take (reach m lines) lines) (drop (reach m lines) lines))
 
   suite_reads : (outer : Spot) (x : Part) (xs : List Part) → StatementParts (x ∷ xs) → AllKnown number (x ∷ xs) → AtParts Stands outer Begins (x ∷ xs) → Ends number None (total (part_amount number) (x ∷ xs)) (suite_read (map stated (x ∷ xs)))
   suite_reads outer x xs h g at_ after f =
@@ -180,9 +170,7 @@ module _ (number : Bytes → ℕ) where
       let margin : ℕ = margin_of (map stated (x ∷ xs)) in
       let all = walked_proper outer lines (x ∷ xs) after (before_lines number (x ∷ xs) [] g tt) h g at_ f in
       let fine = ends_fine margin left all.2 in
-      let kept = all.3 in
-      let ends = ends_kept margin left in
-      ((all.0 tt, all.1), fine.0, fine.1, omega arith)
+      ((all.0 tt, all.1), fine.0, fine.1, omega (arith, ends_kept margin left))
 
   -- ---- nodes
 
@@ -198,10 +186,8 @@ module _ (number : Bytes → ℕ) where
     λ after b.
         let there : AtParts Stands Along Begins (x ∷ xs) = subst (λ z. AtParts Stands Along z (x ∷ xs)) (newline_ends mark Along Along f.0) at_.1 in
         let all = suite_reads Along x xs (f.1.0, several_statements xs f.1.1) g.1 there after b in
-        let kept = all.3 in
         let suffix = ap (λ s. suffix_amount number (only_comment (all_in s.gap))) (part_of mark) ∙ (sym (suffix_total number (only_comment (all_in (seen mark).gap))) ∙ ap (total number) (sym (newline_comment mark f.0 at_.0))) in
-        let newline = token_part number mark (token s.newline mark f.0) in
-        (all.0, all.1, all.2, omega arith),
+        (all.0, all.1, all.2, omega (arith, token_part number mark (token s.newline mark f.0))),
   )
 
   -- in the place of a suite nothing is before it
@@ -214,9 +200,7 @@ module _ (number : Bytes → ℕ) where
     tt,
     λ after b.
         let one = line_reads Along Along xs refl f g at_ [] after tt b in
-        let kept = one.2 in
-        let first = first_silent xs f (all_silent xs g) at_ in
-        (one.0, tt, one.1, omega arith),
+        (one.0, tt, one.1, omega (arith, first_silent xs f (all_silent xs g) at_)),
   )
 
   node_suite : (kind : Kind) (xs : List Part) → nonterminal_has_kind s.suite kind ≡ true → Fits IsNonterminal (bzl_shape kind) xs → AllKnown number xs → AtParts Stands Along Along xs → SuiteOf kind xs
@@ -229,10 +213,7 @@ module _ (number : Bytes → ℕ) where
   compound_reads kind (x ∷ xs) h above after a f =
       let own = (branches kind [] above after (map stated (x ∷ xs)) after).0 in
       let all = h above after after a f f in
-      let kept = all.3 in
-      let gap = ap (λ s. gap_amount number s.gap) (part_of x) in
-      let compound = compound_amount number own in
-      ((tt, (compound_proper own all.0 all.1, tt)), all.2, omega arith)
+      ((tt, (compound_proper own all.0 all.1, tt)), all.2, omega (arith, ap (λ s. gap_amount number s.gap) (part_of x), compound_amount number own))
 
   node_statement : (kind : Kind) (xs : List Part) → nonterminal_has_kind s.stmt kind ≡ true → Fits IsNonterminal (bzl_shape kind) xs → AllKnown number xs → AtParts Stands Begins Begins xs → StatementOf xs (statement_read kind (map stated xs))
   node_statement k.Line xs h f g at_ = line_reads Begins Begins xs refl f g at_
