@@ -109,7 +109,7 @@ module _ (Known : Part → Type 0) (C : Turn → Kind → Part → List Part →
       let known : AllByRecursion Known (word ∷ ys) = subst (AllByRecursion Known) e g in
       let here : AtParts Stands Begins Begins (word ∷ ys) = subst (AtParts Stands Begins Begins) e at_ in
       let headed = tested word x mark own back h.1.0 h.1.1.0 h.1.1.1.0 (word_of alternative) h.0 refl here in
-      subst (Further (C further) k.IfStmt) (sym e) (one (branch alternative) word back ys headed (token_in (word_of alternative) word refl refl h.0) known here (alternatives back t known.1.1.1.1 headed.following))
+      subst (Further (C further) k.IfStmt) (sym e) (one (branch alternative) word back ys headed (token_in (word_of alternative) word refl refl h.0) known here (alternatives back t known.1.1.1.1 headed.ending.following))
 
   pub if_statement : (xs : List Part) → Fits IsNonterminal (bzl_shape k.IfStmt) xs → AllByRecursion Known xs → AtParts Stands Begins Begins xs → Headers (C first) k.IfStmt xs
   if_statement [] h g at_ = absurd h
@@ -118,7 +118,7 @@ module _ (Known : Part → Type 0) (C : Turn → Kind → Part → List Part →
   if_statement (word ∷ x ∷ mark ∷ []) h g at_ = absurd h.1.1.1
   if_statement (word ∷ x ∷ mark ∷ own ∷ back) h g at_ =
       let headed = tested word x mark own back h.1.0 h.1.1.0 h.1.1.1.0 (word_of condition) h.0 refl at_ in
-      one (branch condition) word back (x ∷ mark ∷ own ∷ back) headed (token_in (word_of condition) word refl refl h.0) g at_ (alternatives back h.1.1.1.1 g.1.1.1.1 headed.following)
+      one (branch condition) word back (x ∷ mark ∷ own ∷ back) headed (token_in (word_of condition) word refl refl h.0) g at_ (alternatives back h.1.1.1.1 g.1.1.1.1 headed.ending.following)
 
   pub for_statement : (xs : List Part) → Fits IsNonterminal (bzl_shape k.ForStmt) xs → AllByRecursion Known xs → AtParts Stands Begins Begins xs → Headers (C first) k.ForStmt xs
   for_statement [] h g at_ = absurd h

@@ -54,53 +54,33 @@ nonterminal_in q x i h = (nonterminal_plain q x h, nonterminal_inner q x i h)
 
 -- ---- headers
 
--- parts of a header of which P holds, a colon along the line, a suite, and these parts
-pub record Headed (P : List Part → Type 0) (back xs : List Part) : Type 0 where
-  pub front : List Part
+-- a colon along the line, a suite, and these parts
+pub record Ending (back : List Part) : Type 0 where
   pub mark : Part
   pub own : Part
-  pub cut : xs ≡ front ++ mark ∷ own ∷ back
-  pub such : P front
-  pub plain : AllByRecursion InHeader front
   pub colon : has_token s.colon_mark mark ≡ true
   pub gap : AtLeaves Stands Along mark
   pub suite : IsNonterminal s.suite own
   pub there : AtLeaves Stands Along own
   pub following : AtParts Stands Begins Begins back
 
+-- parts of a header of which P holds, and such an ending
+pub record Headed (P : List Part → Type 0) (back xs : List Part) : Type 0 where
+  pub front : List Part
+  pub ending : Ending back
+  pub cut : xs ≡ front ++ ending.mark ∷ ending.own ∷ back
+  pub such : P front
+  pub plain : AllByRecursion InHeader front
+
 moved : {here there : Spot} (xs : List Part) → here ≡ there → AtParts Stands Begins here xs → AtParts Stands Begins there xs
 moved xs e h = subst (λ z. AtParts Stands Begins z xs) e h
 
 -- one part more
 cons : (P Q : List Part → Type 0) (back : List Part) (y : Part) (xs : List Part) → InHeader y → ((front : List Part) → P front → Q (y ∷ front)) → Headed P back xs → Headed Q back (y ∷ xs)
-cons P Q back y xs n f h = record {
-  front = y ∷ h.front;
-  mark = h.mark;
-  own = h.own;
-  cut = ap (λ (zs : List Part). y ∷ zs) h.cut;
-  such = f h.front h.such;
-  plain = (n, h.plain);
-  colon = h.colon;
-  gap = h.gap;
-  suite = h.suite;
-  there = h.there;
-  following = h.following;
-}
+cons P Q back y xs n f h = record { front = y ∷ h.front; ending = h.ending; cut = ap (λ (zs : List Part). y ∷ zs) h.cut; such = f h.front h.such; plain = (n, h.plain) }
 
 pub weaker : (P Q : List Part → Type 0) (back xs : List Part) → ((front : List Part) → P front → Q front) → Headed P back xs → Headed Q back xs
-weaker P Q back xs f h = record {
-  front = h.front;
-  mark = h.mark;
-  own = h.own;
-  cut = h.cut;
-  such = f h.front h.such;
-  plain = h.plain;
-  colon = h.colon;
-  gap = h.gap;
-  suite = h.suite;
-  there = h.there;
-  following = h.following;
-}
+weaker P Q back xs f h = record { front = h.front; ending = h.ending; cut = h.cut; such = f h.front h.such; plain = h.plain }
 
 abbrev pub None_before : List Part → Type 0
 None_before front = front ≡ []
@@ -112,16 +92,10 @@ colon_headed mark own back h i at_ =
     let second : after_part Begins (after_part Begins Along mark) own ≡ Begins = after_suite own Begins (after_part Begins Along mark) i in
     record {
       front = [];
-      mark = mark;
-      own = own;
+      ending = record { mark = mark; own = own; colon = h; gap = at_.0; suite = i; there = subst (λ z. AtLeaves Stands z own) first at_.1.0; following = moved back second at_.1.1 };
       cut = refl;
       such = refl;
       plain = tt;
-      colon = h;
-      gap = at_.0;
-      suite = i;
-      there = subst (λ z. AtLeaves Stands z own) first at_.1.0;
-      following = moved back second at_.1.1;
     }
 
 pub owned_headed : (xs : List Part) → Fits IsNonterminal owned xs → AtParts Stands Begins Along xs → Headed None_before [] xs
@@ -268,15 +242,7 @@ params_headed xs (inr h) at_ =
     weaker Parameters Enclosed [] xs (λ front w. record { alternating = w.alternating; fits = inr w.fits })
     (listed_headed s.param refl Within refl true (Fits IsNonterminal (tok s.close_round owned)) Parameters Closing Close (λ x front q w. w x q) comma_before (λ y front e m w. comma_last y front m w) close_after close_headed xs h at_)
 
--- an opening bracket and parameters
-record AreInBrackets (front : List Part) : Type 0 where
-  opener : Part
-  following : List Part
-  cut : front ≡ opener ∷ following
-  opens : has_token s.open_round opener ≡ true
-  parameters : AreParameterParts (enclosed s.param s.close_round (tok s.colon_mark done)) following
-
--- a name before them
+-- a name, an opening bracket and parameters
 pub record Named (front : List Part) : Type 0 where
   pub name : Part
   pub opener : Part
@@ -286,6 +252,10 @@ pub record Named (front : List Part) : Type 0 where
   pub opens : has_token s.open_round opener ≡ true
   pub parameters : AreParameterParts (enclosed s.param s.close_round (tok s.colon_mark done)) following
 
+-- after a name
+abbrev InBrackets : List Part → Type 0
+InBrackets front = (x : Part) → has_token s.name x ≡ true → Named (x ∷ front)
+
 -- after def
 pub def_headed : (xs : List Part) → Fits IsNonterminal (tok s.name (tok s.open_round (enclosed s.param s.close_round owned))) xs → AtParts Stands Begins Along xs → Headed Named [] xs
 def_headed [] h at_ = absurd h
@@ -294,6 +264,5 @@ def_headed (x ∷ y ∷ xs) h at_ =
     let first : after_part Begins Along x ≡ Along = token_goes s.name x refl h.0 Begins Along in
     let there : AtParts Stands Begins Along (y ∷ xs) = moved (y ∷ xs) first at_.1 in
     let following : Headed Enclosed [] xs = params_headed xs h.1.1 (moved xs (token_opens s.open_round y Begins Along refl h.1.0) there.1) in
-    cons AreInBrackets Named [] x (y ∷ xs) (token_in s.name x refl refl h.0)
-    (λ front w. record { name = x; opener = w.opener; following = w.following; cut = ap (λ (zs : List Part). x ∷ zs) w.cut; named = h.0; opens = w.opens; parameters = w.parameters })
-    (cons Enclosed AreInBrackets [] y xs (token_in s.open_round y refl refl h.1.0) (λ front w. record { opener = y; following = front; cut = refl; opens = h.1.0; parameters = w }) following)
+    cons InBrackets Named [] x (y ∷ xs) (token_in s.name x refl refl h.0) (λ front w. w x h.0)
+    (cons Enclosed InBrackets [] y xs (token_in s.open_round y refl refl h.1.0) (λ front w name is. record { name = name; opener = y; following = front; cut = refl; named = is; opens = h.1.0; parameters = w }) following)

@@ -138,12 +138,12 @@ module _ (page : SuitesAndLeaves) where
   pub headed : (kind : Kind) (P : List Part → Type 0) (x : Part) (back xs : List Part) → Headed P back xs → InHeader x → AllByRecursion Parted (x ∷ xs)
       → ((front : List Part) → P front → AllByRecursion Parted (x ∷ front) → (n : ℕ) (group : List Bytes) (suffix : Option Bytes) → HeaderFacts kind (x ∷ front) n group suffix) → Further PieceFrom kind back → BranchesPiece kind (x ∷ xs)
   headed kind P x back xs h n g facts b =
-      let all = all_parted Parted h.front (h.mark ∷ h.own ∷ back) (subst (AllByRecursion Parted) h.cut g.1) in
-      subst (λ zs. BranchesPiece kind (x ∷ zs)) (sym h.cut) (at_mark h.mark h.colon h.gap all.1.0.silent (facts h.front h.such (g.0, all.0)) (g.0.solid, all_solid h.front all.0) (all.1.1.0.suite h.suite h.there) b)
+      let all = all_parted Parted h.front (h.ending.mark ∷ h.ending.own ∷ back) (subst (AllByRecursion Parted) h.cut g.1) in
+      subst (λ zs. BranchesPiece kind (x ∷ zs)) (sym h.cut) (at_mark h.ending.mark h.ending.colon h.ending.gap all.1.0.silent (facts h.front h.such (g.0, all.0)) (g.0.solid, all_solid h.front all.0) (all.1.1.0.suite h.ending.suite h.ending.there) b)
     where
       at_mark : (mark : Part) → has_token s.colon_mark mark ≡ true → AtLeaves Stands Along mark → Silent mark → ((n : ℕ) (group : List Bytes) (suffix : Option Bytes) → HeaderFacts kind (x ∷ h.front) n group suffix) → AllByRecursion Solid (x ∷ h.front)
-          → ((n : ℕ) → OwnPiece page n (n + size h.own) (leaves_part h.own) (suite_there n (measured h.own) h.own) ((placed h.own).stretches n) (stated h.own).suffix (stated h.own).suite) → Further PieceFrom kind back → BranchesPiece kind (x ∷ h.front ++ mark ∷ h.own ∷ back)
-      at_mark (p.Leaf c) i at_ silent w solids q b' = one_header kind x h.front c h.own back w g.0.regions.some solids (n, h.plain) i (silent, tt) at_ q b'
+          → ((n : ℕ) → OwnPiece page n (n + size h.ending.own) (leaves_part h.ending.own) (suite_there n (measured h.ending.own) h.ending.own) ((placed h.ending.own).stretches n) (stated h.ending.own).suffix (stated h.ending.own).suite) → Further PieceFrom kind back → BranchesPiece kind (x ∷ h.front ++ mark ∷ h.ending.own ∷ back)
+      at_mark (p.Leaf c) i at_ silent w solids q b' = one_header kind x h.front c h.ending.own back w g.0.regions.some solids (n, h.plain) i (silent, tt) at_ q b'
       at_mark (Node' kind' z r') i at_ silent w solids q b' = no_such i
 
   pub row_facts : (kind : Kind) (hs : List Part) → ((n : ℕ) → in_header kind n (map measured hs) ≡ in_row n (map measured hs)) → ((group : List Bytes) (suffix : Option Bytes) → head kind (map seen hs) group suffix ≡ row_head kind (map seen hs) group suffix) → is_kind kind k.Def ≡ false

@@ -186,27 +186,24 @@ module _ (page : SuitesAndLeaves) where
 
   -- ---- statements one after the other
 
-  walked_more : (n : ℕ) (xs : List Part) → AllByRecursion StatementPiece xs → AllByRecursion Solid xs → hb.More page xs n (n + sizes (map measured xs)) (one_by_one n (map placed xs)) (as_walked page xs)
-  walked_more n [] h g = (omega arith, refl, λ left after. refl)
-  walked_more n (x ∷ xs) h g = (
+  walked_more : (n : ℕ) (xs : List Part) → Several (IsNonterminal s.stmt) (Fits IsNonterminal done) xs → AtParts Stands Along Begins xs → AllByRecursion AsStatement xs → AllByRecursion Solid xs → hb.More page xs n (n + sizes (map measured xs)) (one_by_one n (map placed xs)) (as_walked page xs)
+  walked_more n [] h at_ w g = (omega arith, refl, λ left after. refl)
+  walked_more n (x ∷ xs) (inl h) at_ w g = absurd h
+  walked_more n (x ∷ xs) (inr h) at_ w g = (
     λ left.
         let group : List Bytes = comments_in left in
         let m : ℕ = n + size x in
         let e : ℕ = m + sizes (map measured xs) in
         let ls : List Leaf = leaves_part x ++ flat_map leaves_part xs in
         let sts : List Stretch = (placed x).stretches n in
+        let there : AtParts Stands Along Begins xs = subst (λ z. AtParts Stands Along z xs) (after_stmt x Along Begins h.0) at_.1 in
         let one : Lines → ReadStatements (List Statement) = λ after. (stated x).statement group (indented_lines_before (map stated xs) after) in
         same_piece page n e (n + sizes (map measured (x ∷ xs))) ls ls (sts ++ one_by_one m (map placed xs)) (one_by_one n (map placed (x ∷ xs))) group _ (as_walked page (x ∷ xs) left)
         (omega arith) refl (ap (λ (z : Measured). sts ++ one_by_one (n + z.size) (map placed xs)) (sym (placed_measured x)))
         (λ after. ap (λ (z : List Hosted). with_left z (walked (one after).1 (map stated xs) after).1) (flat_map-append inside_statement (one after).0 (walked (one after).1 (map stated xs) after).0))
-        (hb.then_more page n m e (leaves_part x) sts group (as_statement x group) xs (one_by_one m (map placed xs)) (as_walked page xs) (h.0 n group) (walked_more m xs h.1 g.1)),
+        (hb.then_more page n m e (leaves_part x) sts group (as_statement x group) xs (one_by_one m (map placed xs)) (as_walked page xs) (w.0 h.0 at_.0 n group) (walked_more m xs h.1 there w.1 g.1)),
     g.0,
   )
-
-  statements_at : (xs : List Part) → Several (IsNonterminal s.stmt) (Fits IsNonterminal done) xs → AtParts Stands Along Begins xs → AllByRecursion AsStatement xs → AllByRecursion StatementPiece xs
-  statements_at [] h at_ g = tt
-  statements_at (x ∷ xs) (inl h) at_ g = absurd h
-  statements_at (x ∷ xs) (inr h) at_ g = (g.0 h.0 at_.0, statements_at xs h.1 (subst (λ z. AtParts Stands Along z xs) (after_stmt x Along Begins h.0) at_.1) g.1)
 
   -- ---- suites
 
@@ -245,12 +242,11 @@ module _ (page : SuitesAndLeaves) where
       let ls : List Leaf = flat_map leaves_part (x ∷ xs) in
       let e : ℕ = n + sizes (map measured all) in
       let there : AtParts Stands Along Begins (x ∷ xs) = subst (λ z. AtParts Stands Along z (x ∷ xs)) (newline_ends (p.Leaf l) Along Along fits.0) at_.1 in
-      let statements : AllByRecursion StatementPiece (x ∷ xs) = statements_at (x ∷ xs) (inr (fits.1.0, fits.1.1)) there g.1 in
       let margin : length (first_indent ls) ≡ margin_of (map stated (x ∷ xs)) = ap length (indent_first ls ∙ ap indent (sym (stated_gap x (flat_map leaves_part xs) w.1.0.solid))) in
       let up : suc n + sizes (map measured (x ∷ xs)) ≡ e = omega arith in
       let lines : Lines = indented_lines_before (map stated (x ∷ xs)) [] in
       let inner : Piece page (suc n) e ls (one_by_one (suc n) (map placed (x ∷ xs))) (comments_in lines) (as_walked page (x ∷ xs) lines) =
-      subst (λ z. Piece page (suc n) z ls (one_by_one (suc n) (map placed (x ∷ xs))) (comments_in lines) (as_walked page (x ∷ xs) lines)) up ((walked_more (suc n) (x ∷ xs) statements (hb.all_solid page (x ∷ xs) w.1)).0 lines) in
+      subst (λ z. Piece page (suc n) z ls (one_by_one (suc n) (map placed (x ∷ xs))) (comments_in lines) (as_walked page (x ∷ xs) lines)) up ((walked_more (suc n) (x ∷ xs) (inr (fits.1.0, fits.1.1)) there g.1 (hb.all_solid page (x ∷ xs) w.1)).0 lines) in
       let one : suc n ≡ n + 1 = omega arith in
       subst (λ z. OwnPiece page n e (flat_map leaves_part all) (own_of k.Suite n e (flat_map leaves_part all)) (one_by_one z (map placed (x ∷ xs))) (suffix_before k.Suite (map stated all)) (suite_in k.Suite (map stated all))) one
       (suite_own page n e (length (first_indent ls)) l x xs w.1.0.solid margin (newline_comment (p.Leaf l) fits.0 at_.0) inner)

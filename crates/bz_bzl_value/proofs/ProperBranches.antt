@@ -52,15 +52,16 @@ module _ (number : Bytes → ℕ) where
   -- as a suite, with the suffix of its header
   abbrev pub Ends : Option Bytes → ℕ → (Lines → SuiteRead) → Type 0
   Ends suffix own read =
-      (after : Lines) → AreFine after
+      MaybeComment suffix
+      × ((after : Lines) → AreFine after
       → AreSome (read after).0.0 × Group (read after).0.1 × AreFine (read after).1
-      × (suffix_amount number suffix + (stated_amount number (read after).0.0 + (total number (read after).0.1 + lines_amount number (read after).1)) ≡ own + lines_amount number after)
+      × (suffix_amount number suffix + (stated_amount number (read after).0.0 + (total number (read after).0.1 + lines_amount number (read after).1)) ≡ own + lines_amount number after))
 
   abbrev pub AsStatement : Part → Type 0
   AsStatement x = IsNonterminal s.stmt x → AtLeaves Stands Begins x → Reads (gap_amount number (seen x).gap) (part_amount number x) (stated x).statement
 
   abbrev pub AsSuite : Part → Type 0
-  AsSuite x = IsNonterminal s.suite x → AtLeaves Stands Along x → MaybeComment (stated x).suffix × Ends (stated x).suffix (part_amount number x) (stated x).suite
+  AsSuite x = IsNonterminal s.suite x → AtLeaves Stands Along x → Ends (stated x).suffix (part_amount number x) (stated x).suite
 
   -- what is known of a part
   pub record Known (x : Part) : Type 0 where
@@ -95,7 +96,7 @@ module _ (number : Bytes → ℕ) where
 
   -- ---- headers with their suites
 
-  -- these are the headers, and each suite and the lines left are proper
+  -- these are the headers, each suite and the lines left are proper, and no comment is lost or doubled
   abbrev pub Branched : (List Form → Type 0) → ℕ → ℕ → ReadStatements (List Branch) → Type 0
   Branched P gap all read = P (map (λ x. x.head) read.0) × AllByRecursion HasSuite read.0 × AreFine read.1 × (gap + (total (branch_amount number) read.0 + lines_amount number read.1) ≡ all)
 
@@ -120,7 +121,7 @@ module _ (number : Bytes → ℕ) where
   HeadThen kind shape P (f ∷ fs) = IsHeader kind shape f × P fs
 
   one_branch : (kind : Kind) (shape : Shape) (P : List Form → Type 0) (x : Part) (xs : List Part) (mark own : Part) (back : List Part) → AllByRecursion InHeader (x ∷ xs) → (stated mark).is_colon ≡ true → part_amount number mark ≡ 0
-      → HeadProper number kind shape (x ∷ xs) → MaybeComment (stated own).suffix × Ends (stated own).suffix (part_amount number own) (stated own).suite → AllKnown back → Branches P kind back → Branches (HeadThen kind shape P) kind (x ∷ xs ++ mark ∷ own ∷ back)
+      → HeadProper number kind shape (x ∷ xs) → Ends (stated own).suffix (part_amount number own) (stated own).suite → AllKnown back → Branches P kind back → Branches (HeadThen kind shape P) kind (x ∷ xs ++ mark ∷ own ∷ back)
   one_branch kind shape P x xs mark own back n c m w o g b above left after a l f =
       let lines : Lines = indented_lines_before (map stated back) after in
       let read : SuiteRead = (stated own).suite lines in
@@ -139,13 +140,13 @@ module _ (number : Bytes → ℕ) where
       → (HeadKnown number (word ∷ h.front) → HeadProper number kind shape (word ∷ h.front)) → Branches P kind back → Branches (HeadThen kind shape P) kind (word ∷ xs)
   headed_branch kind shape P F word back xs h n g at_ w b =
       let front : List Part = word ∷ h.front in
-      let following : List Part = h.mark ∷ h.own ∷ back in
+      let following : List Part = h.ending.mark ∷ h.ending.own ∷ back in
       let same : word ∷ xs ≡ front ++ following = ap (λ (zs : List Part). word ∷ zs) h.cut in
       let known : AllKnown front × AllKnown following = all_parted Known front following (subst AllKnown same g) in
       let there : AtParts Stands Begins Begins front = (parts_split Stands Begins Begins front following (subst (AtParts Stands Begins Begins) same at_)).0 in
       let head : HeadProper number kind shape front = w (record { decoded = all_decoded front known.0; fit = all_fit front known.0 (n, h.plain); kept = all_kept front known.0; there = there }) in
       subst (Branches (HeadThen kind shape P) kind) (sym same)
-      (one_branch kind shape P word h.front h.mark h.own back (n, h.plain) (colon_is h.mark h.colon) (silent_mark h.mark h.colon known.1.0.silent h.gap) head (known.1.1.0.suite h.suite h.there) known.1.1.1 b)
+      (one_branch kind shape P word h.front h.ending.mark h.ending.own back (n, h.plain) (colon_is h.ending.mark h.ending.colon) (silent_mark h.ending.mark h.ending.colon known.1.0.silent h.ending.gap) head (known.1.1.0.suite h.ending.suite h.ending.there) known.1.1.1 b)
 
   branches_as : (kind : Kind) (P Q : List Form → Type 0) (xs : List Part) → ((fs : List Form) → P fs → Q fs) → Branches P kind xs → Branches Q kind xs
   branches_as kind P Q xs f h above left after a l b = let w = h above left after a l b in (f (map (λ x. x.head) (branches kind [] above left (map stated xs) after).0) w.0, w.1, w.2, w.3)

@@ -87,12 +87,7 @@ with_host above suffix x = record { before = above ++ (seen x).loose; suffix = s
 -- ---- statements one after the other
 
 abbrev StatementParts : List Part → Type 0
-StatementParts xs = AllByRecursion (λ x. IsNonterminal s.stmt x) xs
-
-several_statements : (xs : List Part) → Several (IsNonterminal s.stmt) (Fits IsNonterminal done) xs → StatementParts xs
-several_statements [] h = tt
-several_statements (x ∷ xs) (inl h) = absurd h
-several_statements (x ∷ xs) (inr h) = (h.0, several_statements xs h.1)
+StatementParts xs = Several (IsNonterminal s.stmt) (Fits IsNonterminal done) xs
 
 module _ (number : Bytes → ℕ) where
   simple_proper : (here : Spot) (x : Part) (above : List Bytes) (suffix : Option Bytes) → onward here ≡ onward Begins → IsNonterminal s.small x → Known number x → AtLeaves Stands here x → Group above → MaybeComment suffix
@@ -141,14 +136,15 @@ module _ (number : Bytes → ℕ) where
         line_kept xs h (all_kept number xs g) (statements_quiet outer here xs e h (all_silent xs g) at_) above after,
       ))
 
-  -- the statements are proper, there is one if there is a part, and what the lines left say is comments
+  -- the statements are proper, there is one if there is a part, what the lines left say is comments, and none is lost or doubled
   abbrev Walks : List Part → ℕ → ℕ → ReadStatements (List Statement) → Type 0
   Walks xs gap all read = (HasSome xs → HasSome read.0) × AllByRecursion IsProperStatement read.0 × AreFine read.1 × (gap + (stated_amount number read.0 + lines_amount number read.1) ≡ all)
 
   walked_proper : (outer : Spot) (lines : Lines) (xs : List Part) (after : Lines) → AreFine lines → StatementParts xs → AllKnown number xs → AtParts Stands outer Begins xs → AreFine after
       → Walks xs (before_amount number xs after) (lines_amount number lines + (total (part_amount number) xs + lines_amount number after)) (walked lines (map stated xs) after)
   walked_proper outer lines [] after l h g at_ f = (λ i. absurd i, tt, l, omega arith)
-  walked_proper outer lines (x ∷ xs) after l h g at_ f =
+  walked_proper outer lines (x ∷ xs) after l (inl h) g at_ f = absurd h
+  walked_proper outer lines (x ∷ xs) after l (inr h) g at_ f =
       let there : AtParts Stands outer Begins xs = subst (λ z. AtParts Stands outer z xs) (after_stmt x outer Begins h.0) at_.1 in
       let read : ReadStatements (List Statement) = (stated x).statement (comments_in lines) (indented_lines_before (map stated xs) after) in
       let one = g.0.statement h.0 at_.0 (comments_in lines) (indented_lines_before (map stated xs) after) (fine_comments lines l) (before_lines number xs after g.1 f) in
@@ -164,19 +160,22 @@ module _ (number : Bytes → ℕ) where
       omega (arith, ap (total number) (ends_are m lines), ap (lines_amount number) (rest_is m lines), lines_joined number (take (reach m lines) lines) (drop (reach m lines) lines))
 
   suite_reads : (outer : Spot) (x : Part) (xs : List Part) → StatementParts (x ∷ xs) → AllKnown number (x ∷ xs) → AtParts Stands outer Begins (x ∷ xs) → Ends number None (total (part_amount number) (x ∷ xs)) (suite_read (map stated (x ∷ xs)))
-  suite_reads outer x xs h g at_ after f =
-      let lines : Lines = indented_lines_before (map stated (x ∷ xs)) [] in
-      let left : Lines = (walked lines (map stated (x ∷ xs)) after).1 in
-      let margin : ℕ = margin_of (map stated (x ∷ xs)) in
-      let all = walked_proper outer lines (x ∷ xs) after (before_lines number (x ∷ xs) [] g tt) h g at_ f in
-      let fine = ends_fine margin left all.2 in
-      ((all.0 tt, all.1), fine.0, fine.1, omega (arith, ends_kept margin left))
+  suite_reads outer x xs h g at_ = (
+    tt,
+    λ after f.
+        let lines : Lines = indented_lines_before (map stated (x ∷ xs)) [] in
+        let left : Lines = (walked lines (map stated (x ∷ xs)) after).1 in
+        let margin : ℕ = margin_of (map stated (x ∷ xs)) in
+        let all = walked_proper outer lines (x ∷ xs) after (before_lines number (x ∷ xs) [] g tt) h g at_ f in
+        let fine = ends_fine margin left all.2 in
+        ((all.0 tt, all.1), fine.0, fine.1, omega (arith, ends_kept margin left)),
+  )
 
   -- ---- nodes
 
   -- what is read of these parts as a suite, with its header's suffix
   abbrev SuiteOf : Kind → List Part → Type 0
-  SuiteOf kind xs = MaybeComment (suffix_before kind (map stated xs)) × Ends number (suffix_before kind (map stated xs)) (total (part_amount number) xs) (suite_in kind (map stated xs))
+  SuiteOf kind xs = Ends number (suffix_before kind (map stated xs)) (total (part_amount number) xs) (suite_in kind (map stated xs))
 
   suite_node : (xs : List Part) → Fits IsNonterminal (bzl_shape k.Suite) xs → AllKnown number xs → AtParts Stands Along Along xs → SuiteOf k.Suite xs
   suite_node [] f g at_ = absurd f
@@ -185,7 +184,7 @@ module _ (number : Bytes → ℕ) where
     subst (λ y. MaybeComment (only_comment (all_in y.gap))) (sym (part_of mark)) (only_fine (all_in (seen mark).gap) (all_fine (seen mark).gap g.0.decoded.coded)),
     λ after b.
         let there : AtParts Stands Along Begins (x ∷ xs) = subst (λ z. AtParts Stands Along z (x ∷ xs)) (newline_ends mark Along Along f.0) at_.1 in
-        let all = suite_reads Along x xs (f.1.0, several_statements xs f.1.1) g.1 there after b in
+        let all = (suite_reads Along x xs (inr (f.1.0, f.1.1)) g.1 there).1 after b in
         let suffix = ap (λ s. suffix_amount number (only_comment (all_in s.gap))) (part_of mark) ∙ (sym (suffix_total number (only_comment (all_in (seen mark).gap))) ∙ ap (total number) (sym (newline_comment mark f.0 at_.0))) in
         (all.0, all.1, all.2, omega (arith, token_part number mark (token s.newline mark f.0))),
   )
@@ -244,8 +243,8 @@ module _ (number : Bytes → ℕ) where
               (subst (λ z. Reads number (gap_amount number (first_seen_gap (map seen xs))) z (statement_read kind (map stated xs))) own
               (node_statement kind xs i h.0 known (parts_of_row Stands Begins Begins _ r at_))));
           suite = λ i at_.
-              subst (λ ss. MaybeComment (suffix_before kind ss) × Ends number (suffix_before kind ss) (part_amount number x) (suite_in kind ss)) (sym (stated_rows _ r))
-              (subst (λ z. MaybeComment (suffix_before kind (map stated xs)) × Ends number (suffix_before kind (map stated xs)) z (suite_in kind (map stated xs))) own
+              subst (λ ss. Ends number (suffix_before kind ss) (part_amount number x) (suite_in kind ss)) (sym (stated_rows _ r))
+              (subst (λ z. Ends number (suffix_before kind (map stated xs)) z (suite_in kind (map stated xs))) own
               (node_suite kind xs i h.0 known (parts_of_row Stands Along Along _ r at_)));
         }
 

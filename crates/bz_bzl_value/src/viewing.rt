@@ -236,15 +236,6 @@ fn push_last(lines: Items<Text>, items: &mut Items<BzlItem>) -> Result<(), Memor
     Ok(())
 }
 
-/// Appends all groups of comment lines of these lines.
-fn push_end(alloc: Global, rest: Rest<'_>, items: &mut Items<BzlItem>) -> Result<(), Memory>
-    ensures { OnOk result (items.new ≡ items.old ++ block_items (groups_of (lines_of rest.entry.left.now ++ lines_of rest.entry.gap.now))) }
-{
-    let last = push_blocks(alloc, rest, items)?;
-    push_last(last, items)?;
-    Ok(())
-}
-
 /// Appends statements of the file as items.
 fn push_items(statements: Items<Statement>, items: &mut Items<BzlItem>) -> Result<(), Memory>
     ensures { OnOk result (items.new ≡ items.old ++ map BzlItem.Statement statements) }
@@ -298,13 +289,13 @@ fn push_part<'a>(
     ensures items { IfOk result (λ left. (xs : List Part) → lines_of after.now ≡ indented_lines_before (map stated xs) []
         → items.new ++ bzl_items (lines_of left.left.now ++ lines_of left.gap.now) xs ≡ items.old ++ bzl_items (lines_of rest.entry.left.now ++ lines_of rest.entry.gap.now) (part.now ∷ xs)) }
 {
+    let last = push_blocks(alloc, rest, items)?;
     match part {
         Part::Leaf(_) => {
-            push_end(alloc, rest, items)?;
+            push_last(last, items)?;
             Ok(rest_of_gap(&[]))
         }
         Part::Node(_) => {
-            let last = push_blocks(alloc, rest, items)?;
             let mut statements = Items::new(alloc);
             let left = push_statement(alloc, part, last, after, &mut statements)?;
             push_items(statements, items)?;
