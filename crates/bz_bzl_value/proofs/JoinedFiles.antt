@@ -1,7 +1,6 @@
 -- What a .bzl file says after another one.
-use Rattle.std.proofs.Common.{Bor, Bool, true, false, not, ◌≡◌, ◌<◌, ◌≤◌, List, [], ◌∷◌, ◌++◌, Option, Some, None, refl, sym, ap, ap₂, ◌∙◌, subst, map, length, append_assoc, arith}
+use Rattle.std.proofs.Common.{◌≡◌, ◌<◌, ◌≤◌, List, [], ◌∷◌, ◌++◌, refl, sym, ap, ap₂, ◌∙◌, subst, map, length, append_assoc, arith}
 use Rattle.std.specs.List.{AllByRecursion, flat_map}
-use Rattle.std.specs.Option.{MatchOption, is_some}
 use Rattle.std.proofs.lemmas.Grind.{flat_map-append}
 use Rattle.std.proofs.lemmas.List.{append-nil}
 use Rattle.bz_items.specs.Characters.{Bytes}
@@ -19,7 +18,7 @@ use Rattle.bz_bzl_value.specs.declared.value.BzlItem.{BzlItem}
 use Rattle.bz_bzl_value.specs.declared.value.BzlItem.TheVariants as b
 use Rattle.bz_bzl_value.specs.declared.value.Statement.{Statement}
 use Rattle.bz_bzl_value.specs.Joined.{lines_after, lines_at_end, first_lines, EndsWithStatement, BeginsBare, EndsInNewline, EndsInLine, BzlViewsJoin}
-use Rattle.bz_bzl_value.specs.View.{ReadStatements, stated, indented_lines_before, bzl_item, block_items, bzl_items, bzl_view_of, only_comment}
+use Rattle.bz_bzl_value.specs.View.{ReadStatements, stated, indented_lines_before, bzl_item, block_items, bzl_items, bzl_view_of}
 use Rattle.bz_bzl_value.proofs.BlankLines.{Blank, Alike, before_blank, none_blank}
 use Rattle.bz_bzl_value.proofs.Parts.{lines_first}
 use Rattle.bz_bzl_value.proofs.SuiteLines.{Lines}
@@ -165,11 +164,8 @@ ends_so n ps i left (lines, end, parts, whole, nothing) = record {
   left = subst (λ qs. lines_at_end (before qs) qs ≡ []) i left;
 }
 
--- found: the first comment of the gap
-pub bare_so : (n : Node) (ps : List Part) (gap : Bytes) (found : Option (Bor Bytes)) (none : Bool) → ps ≡ n.parts → gap ≡ first_seen_gap (map seen ps) → is_some found ≡ not none → none ≡ true
-    → MatchOption found (all_in gap ≡ []) (λ comment. only_comment (all_in gap) ≡ Some comment.now) → BeginsBare n
-bare_so n ps gap (Some comment) none i j e f h = absurd (let w : true ≡ false = e ∙ ap not f in cc)
-bare_so n ps gap None none i j e f h =
+pub bare_so : (n : Node) (ps : List Part) (gap : Bytes) → ps ≡ n.parts → gap ≡ first_seen_gap (map seen ps) → all_in gap ≡ [] → BeginsBare n
+bare_so n ps gap i j h =
     ap (λ qs. comments_in (before qs)) (sym i) ∙ (ap comments_in (sym (lines_first ps)) ∙ (ap (λ g. comments_in (lines_of g)) (sym j) ∙ h))
 
 -- one statement further

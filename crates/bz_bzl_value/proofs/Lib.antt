@@ -4,7 +4,6 @@ pub mod BuildFiles
 pub mod BuildItems
 pub mod Colons
 pub mod Compounds
-pub mod Ends
 pub mod HeadParts
 pub mod HostBranches
 pub mod HostHeaders

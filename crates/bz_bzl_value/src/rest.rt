@@ -1,10 +1,11 @@
 //! Lines of a text that are before a part of a tree: those of two gaps that follow each other.
-ghost use Rattle.std.specs.Prelude.{◌≡◌, ◌↔◌, ◌++◌, [], IfOk, OnOk, IsTrue, MatchOption, Some};
+ghost use Rattle.std.specs.Prelude.{◌≡◌, ◌∷◌, ◌++◌, ◌+◌, ◌<◌, [], length, IfOk, IfSome, OnOk, IsTrue, MatchOption, Some};
+ghost use Rattle.std.specs.Option.{option_copied};
 ghost use Rattle.bz_value.specs.Gaps.{all_in, lines_of, comments_in};
 ghost use Rattle.bz_bzl_value.specs.View.{after_end, end_comments, only_comment};
 
 use bz_items::{Items, Memory, Text};
-use bz_value::{first_line, push_all};
+use bz_value::{Line, first_line, push_all};
 use std::alloc::Global;
 
 /// The lines of two gaps: what the gap of a Newline says after its first line, and the gap of the leaf after it.
@@ -45,41 +46,26 @@ pub fn comments(alloc: Global, rest: Rest<'_>) -> Result<Items<Text>, Memory>
     Ok(texts)
 }
 
-/// Whether a gap says nothing.
-fn says_nothing(gap: &[u8]) -> bool
-    ensures { IsTrue result ↔ (lines_of gap.now ≡ []) }
+/// The first of the lines, and the gap that follows what is after it in its own.
+fn first_of(rest: Rest<'_>) -> Option<(Line<'_>, &[u8])>
+    ensures line { MatchOption result (lines_of rest.entry.left.now ++ lines_of rest.entry.gap.now ≡ [])
+        (λ found. lines_of rest.entry.left.now ++ lines_of rest.entry.gap.now ≡ record { indent = found.0.indent; comment = option_copied found.0.comment; newline = found.0.newline } ∷ (lines_of found.0.rest.now ++ lines_of found.1.now)) }
+    ensures shorter { IfSome result (λ found. length found.0.rest.now + length found.1.now < length rest.entry.left.now + length rest.entry.gap.now) }
 {
-    first_line(gap).is_none()
+    if let Some(line) = first_line(rest.left) {
+        return Some((line, rest.gap));
+    }
+    let Some(line) = first_line(rest.gap) else {
+        return None;
+    };
+    Some((line, &[]))
 }
 
 /// Whether no line is left.
 pub fn is_spent(rest: Rest<'_>) -> bool
     ensures { IsTrue result → lines_of rest.entry.left.now ++ lines_of rest.entry.gap.now ≡ [] }
 {
-    says_nothing(rest.left) && says_nothing(rest.gap)
-}
-
-/// Appends the end comments of a suite with an indent of this length among the lines of a gap; gives what is after them.
-fn take_end_of<'a>(
-    alloc: Global,
-    margin: usize,
-    gap: &'a [u8],
-    end: &mut Items<Text>,
-) -> Result<&'a [u8], Memory>
-    ensures end { OnOk result (end.new ≡ end.old ++ end_comments margin (lines_of gap.now)) }
-    ensures rest { IfOk result (λ rest. lines_of rest.now ≡ after_end margin (lines_of gap.now)) }
-{
-    let mut rest = gap;
-    while let Some(line) = first_line(rest) {
-        if let Some(comment) = line.comment {
-            if line.indent < margin {
-                return Ok(rest);
-            }
-            end.push(Text::from_slice(alloc, comment)?)?;
-        }
-        rest = line.rest;
-    }
-    Ok(rest)
+    first_of(rest).is_none()
 }
 
 /// Appends the end comments of a suite with an indent of this length among the lines; gives the lines after them. The error:
@@ -93,13 +79,18 @@ pub fn take_end<'a>(
     ensures end { OnOk result (end.new ≡ end.old ++ end_comments margin (lines_of rest.entry.left.now ++ lines_of rest.entry.gap.now)) }
     ensures rest { IfOk result (λ following. lines_of following.left.now ++ lines_of following.gap.now ≡ after_end margin (lines_of rest.entry.left.now ++ lines_of rest.entry.gap.now)) }
 {
-    let left = take_end_of(alloc, margin, rest.left, end)?;
-    if !says_nothing(left) {
-        return Ok(Rest {
-            left,
-            gap: rest.gap,
-        });
+    let mut left = rest;
+    while let Some((line, gap)) = first_of(left) {
+        if let Some(comment) = line.comment {
+            if line.indent < margin {
+                return Ok(left);
+            }
+            end.push(Text::from_slice(alloc, comment)?)?;
+        }
+        left = Rest {
+            left: line.rest,
+            gap,
+        };
     }
-    let gap = take_end_of(alloc, margin, rest.gap, end)?;
-    Ok(Rest { left: &[], gap })
+    Ok(left)
 }
