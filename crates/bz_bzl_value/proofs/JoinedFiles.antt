@@ -2,7 +2,7 @@
 use Rattle.std.proofs.Common.{◌≡◌, ◌<◌, ◌≤◌, List, [], ◌∷◌, ◌++◌, refl, sym, ap, ap₂, ◌∙◌, subst, map, length, append_assoc, arith}
 use Rattle.std.specs.List.{AllByRecursion, flat_map}
 use Rattle.std.proofs.lemmas.Grind.{flat_map-append}
-use Rattle.std.proofs.lemmas.List.{append-nil}
+use Rattle.std.proofs.lemmas.List.{append-nil, map-append}
 use Rattle.bz_items.specs.Characters.{Bytes}
 use Rattle.bz_lex.specs.declared.leaf.Leaf.{Leaf}
 use Rattle.bz_grammar.specs.declared.tree.Node.{Node}
@@ -11,8 +11,10 @@ use Rattle.bz_grammar.specs.declared.tree.Part.TheVariants as p
 use Rattle.bz_grammar.specs.Spell.{leaves_part}
 use Rattle.bz_grammar.proofs.Spells.{leaves_Node}
 use Rattle.bz_grammar.specs.Joined.{last_token, AreWholeLines, file_with, BzlLinesJoin}
+use Rattle.bz_value.specs.declared.value.Item.{Item}
 use Rattle.bz_value.specs.Gaps.{before_groups, comments_in, all_in, groups_of, all_but_last, last_group, lines_of}
 use Rattle.bz_hosts.specs.View.{blocks, seen, first_seen_gap}
+use Rattle.bz_hosts.proofs.GroupSteps.{all_pushed}
 use Rattle.bz_hosts.proofs.JoinedLines.{last_after, whole_both}
 use Rattle.bz_bzl_value.specs.declared.value.BzlItem.{BzlItem}
 use Rattle.bz_bzl_value.specs.declared.value.BzlItem.TheVariants as b
@@ -167,6 +169,20 @@ ends_so n ps i left (lines, end, parts, whole, nothing) = record {
 pub bare_so : (n : Node) (ps : List Part) (gap : Bytes) → ps ≡ n.parts → gap ≡ first_seen_gap (map seen ps) → all_in gap ≡ [] → BeginsBare n
 bare_so n ps gap i j h =
     ap (λ qs. comments_in (before qs)) (sym i) ∙ (ap comments_in (sym (lines_first ps)) ∙ (ap (λ g. comments_in (lines_of g)) (sym j) ∙ h))
+
+-- groups of comment lines but for the last one, after these items
+pub blocks_pushed : (old new : List BzlItem) (own none made : List Item) → new ≡ old ++ map bzl_item made → made ≡ none ++ own → none ≡ [] → new ≡ old ++ map bzl_item own
+blocks_pushed old new own none made h i j = h ∙ ap (λ z. old ++ map bzl_item z) (i ∙ ap (λ z. z ++ own) j)
+
+-- and all of them, at the end of a file
+pub end_pushed : (lines left : Lines) (x : Part) (l : Leaf) (xs : List Part) (old front new : List BzlItem) (last : List Bytes) → x ≡ p.Leaf l → left ≡ [] → front ≡ old ++ block_items (all_but_last (groups_of lines)) → last ≡ last_group (groups_of lines)
+    → new ≡ front ++ block_items (last ∷ []) → new ++ bzl_items left xs ≡ old ++ bzl_items lines (x ∷ xs)
+end_pushed lines left x l xs old front new last is none h i j =
+    let one : List (List Bytes) = all_but_last (groups_of lines) in
+    let two : List (List Bytes) = last_group (groups_of lines) ∷ [] in
+    let all : block_items one ++ block_items two ≡ block_items (groups_of lines) = sym (map-append bzl_item (blocks one) (blocks two)) ∙ ap (map bzl_item) (all_pushed [] (blocks one) _ _ lines refl refl refl) in
+    ap₂ (λ z m. z ++ bzl_items m xs) (j ∙ (ap₂ (λ z g. z ++ block_items (g ∷ [])) h i ∙ (append_assoc old (block_items one) (block_items two) ∙ ap (λ z. old ++ z) all))) none
+    ∙ (append_assoc old (block_items (groups_of lines)) (bzl_items [] xs) ∙ ap (λ y. old ++ bzl_items lines (y ∷ xs)) (sym is))
 
 -- one statement further
 pub goes_on : (x : Part) (xs : List Part) (lines left all : Lines) → 0 < length xs → left ≡ lines_after lines x (before xs) → lines_at_end lines (x ∷ xs) ≡ all → lines_at_end left xs ≡ all

@@ -39,6 +39,7 @@ fn is_colon(part: &Part) -> bool
 }
 
 /// The place of the first colon among the parts, from one on.
+#[tactic(auto, using(crate::proofs::Colons::no_colon_at))]
 pub fn colon_from(parts: &[Part], from: usize) -> Option<usize>
     requires { from ≤ length parts.now }
     ensures { MatchOption result
@@ -56,6 +57,7 @@ pub fn colon_from(parts: &[Part], from: usize) -> Option<usize>
 }
 
 /// The comment on the line of a header, which is in the gap of its suite's newline. The error: memory was refused.
+#[tactic(auto, using(crate::proofs::Parts::suffix_of))]
 pub fn suffix_before(alloc: Global, suite: &Part) -> Result<Option<Text>, Memory>
     ensures { IfOk result (λ suffix. suffix ≡ (stated suite.now).suffix) }
 {

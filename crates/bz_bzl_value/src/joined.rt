@@ -39,6 +39,7 @@ fn ends_in_line(parts: &[Part]) -> bool
 
 /// What the tree of a .bzl file says, and whether its text ends with the newline of a statement that leaves no line to what
 /// follows: a text that `begins_bare` may follow it. The error: memory was refused.
+#[tactic(auto, using(crate::proofs::JoinedFiles::ends_so))]
 pub fn view_bzl_front(alloc: Global, tree: &Tree) -> Result<(BzlFile, bool), Memory>
     ensures file { IfOk result (λ seen. seen.0.items ≡ bzl_view_of tree.now) }
     ensures ends { IfOk result (λ seen. IsTrue seen.1 → EndsWithStatement tree.now) }
@@ -50,6 +51,7 @@ pub fn view_bzl_front(alloc: Global, tree: &Tree) -> Result<(BzlFile, bool), Mem
 }
 
 /// Whether no comment is before the first token of a file.
+#[tactic(auto, using(crate::proofs::JoinedFiles::bare_so))]
 pub fn begins_bare(tree: &Tree) -> bool
     ensures { IsTrue result → BeginsBare tree.now }
 {

@@ -37,6 +37,7 @@ pub fn rest_of_gap(gap: &[u8]) -> Rest<'_>
 }
 
 /// The comments of the lines. The error: memory was refused.
+#[tactic(auto, using(crate::proofs::BlankLines::comments_append))]
 pub fn comments(alloc: Global, rest: Rest<'_>) -> Result<Items<Text>, Memory>
     ensures { IfOk result (λ texts. texts ≡ comments_in (lines_of rest.entry.left.now ++ lines_of rest.entry.gap.now)) }
 {

@@ -32,6 +32,7 @@ fn indent_len(gap: &[u8]) -> usize
 }
 
 /// The gap of the part with this index; past the last part the one after all of them.
+#[tactic(auto, using(crate::proofs::Parts::lines_at))]
 fn gap_after<'a>(parts: &'a [Part], at: usize, after: &'a [u8]) -> &'a [u8]
     ensures { lines_of result.now ≡ indented_lines_before (map stated (drop at parts.now)) (lines_of after.now) }
 {
@@ -75,6 +76,7 @@ fn push_line<'a>(
 
 /// Appends a statement with these comments above it; gives the lines that are left of those after it.
 #[cycle(stated)]
+#[tactic(auto, using(crate::proofs::Parts::line_of, crate::proofs::Parts::compound_of))]
 fn push_statement<'a>(
     alloc: Global,
     part: &'a Part,
@@ -142,6 +144,7 @@ fn push_branches<'a>(
 /// Appends the statements of a suite, or of a line in its place, and its end comments; gives the lines that are left of those
 /// after it.
 #[cycle(stated)]
+#[tactic(auto, using(crate::proofs::Parts::line_as_suite, crate::proofs::Parts::suite_of, crate::proofs::Parts::margin_is))]
 fn push_suite<'a>(
     alloc: Global,
     part: &'a Part,
@@ -173,6 +176,7 @@ fn push_suite<'a>(
 
 /// Appends the statements of a suite; gives the lines that are left of those after it.
 #[cycle(stated)]
+#[tactic(auto, using(crate::proofs::Parts::lines_first))]
 fn push_all_statements<'a>(
     alloc: Global,
     parts: &'a [Part],
@@ -212,6 +216,7 @@ fn push_plain(items: Items<Item>, out: &mut Items<BzlItem>) -> Result<(), Memory
 }
 
 /// Appends the groups of comment lines of these lines but for the last one, which it gives.
+#[tactic(auto, using(crate::proofs::JoinedFiles::blocks_pushed))]
 fn push_blocks(
     alloc: Global,
     rest: Rest<'_>,
@@ -256,6 +261,7 @@ pub fn view_bzl(alloc: Global, tree: &Tree) -> Result<BzlFile, Memory>
 }
 
 /// The items of the statements of a file and of its end, and whether no line is left before the end. The error: memory was refused.
+#[tactic(auto, using(crate::proofs::Parts::lines_first, crate::proofs::Colons::part_here, crate::proofs::JoinedFiles::goes_on, crate::proofs::JoinedFiles::is_end, crate::proofs::JoinedFiles::none_left))]
 pub fn items_of(alloc: Global, parts: &[Part]) -> Result<(Items<BzlItem>, bool), Memory>
     ensures items { IfOk result (λ seen. seen.0 ≡ bzl_items (indented_lines_before (map stated parts.now) []) parts.now) }
     ensures left { IfOk result (λ seen. IsTrue seen.1 → lines_at_end (indented_lines_before (map stated parts.now) []) parts.now ≡ []) }
