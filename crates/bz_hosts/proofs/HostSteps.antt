@@ -11,10 +11,10 @@ use Rattle.bz_value.specs.Comments.{HostComments}
 use Rattle.bz_value.specs.Gaps.{suffix_in, all_in}
 use Rattle.bz_items.specs.Characters.{Bytes}
 use Rattle.bz_hosts.specs.View.{Seen, seen, plain, first_seen_gap, items_in, is_split, seq_in}
-use Rattle.bz_hosts.specs.private.Walks.{above_after, item_gap}
+use Rattle.bz_hosts.specs.private.Walks.{above_after, is_unsigned, item_gap}
 use Rattle.bz_hosts.proofs.NodeViews.{seen_comments}
 use Rattle.bz_hosts.proofs.RowSteps.{part_here, two_further}
-use Rattle.bz_hosts.proofs.UnsignedGaps.{quiet_after, nothing_after}
+use Rattle.bz_hosts.proofs.UnsignedGaps.{nothing_after}
 
 abbrev pub host_comments : List Bytes → Option Bytes → HostComments
 host_comments before suffix = record { before = before; suffix = suffix }
@@ -32,10 +32,11 @@ last_same (a ∷ c ∷ xs) [] x y h = cc
 last_same (a ∷ xs) (b ∷ ys) x y h = let first : a ≡ b = cc in let rest = last_same xs ys x y cc in (rw (first, rest.0) refl, rest.1)
 
 -- without comments
-pub host_quiet : (ps : List Part) (at : ℕ) (above : List Bytes) (quiet : Bool) (es : List Expr) → above ≡ [] → quiet ≡ quiet_after ps at → quiet ≡ true →
+pub host_quiet : (ps : List Part) (at : ℕ) (above : List Bytes) (here next : Bool) (es : List Expr) → above ≡ [] →
+    here ≡ is_unsigned (first_seen_gap (map seen (drop at ps))) → here ≡ true → next ≡ is_unsigned (first_seen_gap (map seen (drop (at + 1) ps))) → next ≡ true →
     (above ≡ above_after (map seen (drop at ps))) × Hosted es es (host_comments above (suffix_in (item_gap (map seen (drop at ps)))))
-host_quiet ps at above quiet es n q t =
-    let none = nothing_after ps at (sym q ∙ t) in (n ∙ sym none.0, λ xs x h. h ∙ ap (λ cs. xs ++ (seen x).make cs false ∷ []) (sym (ap (λ o. host_comments above o) none.1 ∙ ap (λ t. host_comments t None) n)))
+host_quiet ps at above here next es n h t k u =
+    let none = nothing_after ps at (sym h ∙ t) (sym k ∙ u) in (n ∙ sym none.0, λ xs x h. h ∙ ap (λ cs. xs ++ (seen x).make cs false ∷ []) (sym (ap (λ o. host_comments above o) none.1 ∙ ap (λ t. host_comments t None) n)))
 
 -- with comments
 pub host_commented : (old left new : List Expr) (last host : Expr) (comments : HostComments) (above before : List Bytes) (suffix : Option Bytes) (gap g : Bytes) → old ≡ left ++ last ∷ [] → new ≡ left ++ host ∷ [] →

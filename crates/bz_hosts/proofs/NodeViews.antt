@@ -15,7 +15,7 @@ use Rattle.bz_value.specs.Comments.{HostComments, no_comments}
 use Rattle.bz_value.specs.Frames.{Frame, row, sequence, frame, has_brackets, lead}
 use Rattle.bz_items.specs.Characters.{Bytes}
 use Rattle.bz_value.specs.Gaps.{has_newline}
-use Rattle.bz_hosts.specs.View.{Seen, seen, seen_row, seen_node, plain, first_seen_gap, is_open, is_split, form_of_frame, loose_of, seq_in}
+use Rattle.bz_hosts.specs.View.{seen, seen_row, seen_node, plain, first_seen_gap, is_open, is_split, form_of_frame, loose_of, seq_in}
 use Rattle.bz_hosts.proofs.SeenParts.{seen_rows}
 
 pub seen_parts : (n : Node) → seen_row (row_of n).1 ≡ map seen n.parts
@@ -62,13 +62,8 @@ opened [] = refl
 opened (x ∷ ps) = refl
 
 -- no newline before the part with this index
-no_split : (ss : List Seen) (at : ℕ) → has_newline (first_seen_gap (drop at ss)) ≡ false → is_split (drop (suc at) ss) ≡ is_split (drop at ss)
-no_split [] zero h = refl
-no_split [] (suc at) h = refl
-no_split (s ∷ ss) zero h = sym (rw h refl)
-no_split (s ∷ ss) (suc at) h = no_split ss at h
-
-pub no_split_at : (ps : List Part) (at : ℕ) → has_newline (first_seen_gap (map seen (drop at ps))) ≡ false → is_split (map seen (drop (at + 1) ps)) ≡ is_split (map seen (drop at ps))
-no_split_at ps at h =
-    ap (λ k. is_split (map seen (drop k ps))) (add-one at) ∙ (ap is_split (sym (drop-map seen (suc at) ps)) ∙
-    (no_split (map seen ps) at (ap (λ ss. has_newline (first_seen_gap ss)) (drop-map seen at ps) ∙ h) ∙ ap is_split (drop-map seen at ps)))
+pub no_split_at : (ps : List Part) (at : ℕ) → has_newline (first_seen_gap (map seen (drop at ps))) ≡ false → is_split (map seen (drop (suc at) ps)) ≡ is_split (map seen (drop at ps))
+no_split_at [] zero h = refl
+no_split_at [] (suc at) h = refl
+no_split_at (x ∷ ps) zero h = sym (rw h refl)
+no_split_at (x ∷ ps) (suc at) h = no_split_at ps at h

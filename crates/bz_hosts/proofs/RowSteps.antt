@@ -9,7 +9,7 @@ use Rattle.bz_items.specs.Characters.{Bytes}
 use Rattle.bz_value.specs.Gaps.{others_in, all_in, has_newline}
 use Rattle.bz_value.specs.Proper.{is_operator}
 use Rattle.bz_hosts.specs.View.{Seen, seen, plain, begins_seen_operator, row_exprs, first_seen_gap, last_gap, loose_in, loose_after}
-use Rattle.bz_hosts.specs.private.Walks.{above_after, gap_inside, item_gap}
+use Rattle.bz_hosts.specs.private.Walks.{above_after, item_gap}
 
 pub gap_of_last : (ps : List Part) (k : ℕ) (y : Part) → suc k ≡ length ps → y ≡ get_or ps k y → (seen y).gap ≡ last_gap (map seen ps)
 gap_of_last [] k y l i = absurd (omega arith)
@@ -49,43 +49,26 @@ gap_later ps at g l e = e ∙ (ap (λ k. first_seen_gap (map seen (drop k ps))) 
 pub gap_last : (ps : List Part) (at : ℕ) (g : Bytes) → length ps ≤ at + 1 → g ≡ first_seen_gap (map seen (drop at ps)) → g ≡ item_gap (map seen (drop at ps))
 gap_last ps at g l e = e ∙ sym (last ps at (omega arith)).0
 
-pub above_later : (ps : List Part) (at : ℕ) (g : Bytes) (a b : List Bytes) → at + 1 < length ps → g ≡ first_seen_gap (map seen (drop at ps)) → a ≡ [] → b ≡ a ++ all_in g → b ++ others_in (item_gap (map seen (drop at ps))) ≡ above_after (map seen (drop at ps))
-above_later ps at g a b l e i j = let more = (followed ps at (omega arith)).1 in rw (j, i, e) (sym more)
+pub above_later : (ps : List Part) (at : ℕ) (g h : Bytes) → at + 1 < length ps → g ≡ first_seen_gap (map seen (drop at ps)) → h ≡ first_seen_gap (map seen (drop (at + 1) ps)) → all_in g ++ others_in h ≡ above_after (map seen (drop at ps))
+above_later ps at g h l e k = let more = (followed ps at (omega arith)).1 in rw (e, gap_later ps at h l k) (sym more)
 
-pub above_last : (ps : List Part) (at : ℕ) (a : List Bytes) → length ps ≤ at + 1 → a ≡ [] → a ++ others_in (item_gap (map seen (drop at ps))) ≡ above_after (map seen (drop at ps))
-above_last ps at a l i = let none = (last ps at (omega arith)).1 in rw i (sym none)
+pub above_last : (ps : List Part) (at : ℕ) (g : Bytes) → length ps ≤ at + 1 → g ≡ first_seen_gap (map seen (drop at ps)) → others_in g ≡ above_after (map seen (drop at ps))
+above_last ps at g l e = ap others_in (gap_last ps at g l e) ∙ sym (last ps at (omega arith)).1
 
--- ---- what is loose before a part and in it
+-- ---- what is loose in a part and before the next one
 
-abbrev pub loose_from : ℕ → List Seen → List Bytes
-loose_from zero ss = loose_in ss
-loose_from (suc at) ss = loose_after ss
+loose_next : (ss : List Seen) → loose_after ss ≡ all_in (first_seen_gap ss) ++ loose_in ss
+loose_next [] = refl
+loose_next (s ∷ ss) = append_assoc (all_in s.gap) s.loose (loose_after ss)
 
-pub gap_outside : (at : ℕ) (g : Bytes) (old : List Bytes) → at ≡ zero → old ≡ old ++ gap_inside at g
-gap_outside zero g old n = sym (append-nil old)
-gap_outside (suc at) g old n = absurd (omega arith)
+pub loose_more : (s : Seen) (ss here : List Seen) (old mid new all : List Bytes) → here ≡ s ∷ ss → mid ≡ old ++ s.loose → new ≡ mid ++ all_in (first_seen_gap ss) → old ++ loose_in here ≡ all → new ++ loose_in ss ≡ all
+loose_more s ss here old mid new all h own gap j =
+    ap (λ t. t ++ loose_in ss) gap
+    ∙ (append_assoc mid (all_in (first_seen_gap ss)) (loose_in ss) ∙ (ap (λ t. mid ++ t) (sym (loose_next ss))
+    ∙ (ap (λ t. t ++ loose_after ss) own ∙ (append_assoc old s.loose (loose_after ss) ∙ (ap (λ t. old ++ loose_in t) (sym h) ∙ j)))))
 
-pub gap_pushed : (at : ℕ) (gap g : Bytes) (old new : List Bytes) → (at ≡ zero → ⊥) → gap ≡ g → new ≡ old ++ all_in gap → new ≡ old ++ gap_inside at g
-gap_pushed zero gap g old new n i e = absurd (n refl)
-gap_pushed (suc at) gap g old new n i e = e ∙ ap (λ t. old ++ all_in t) i
-
-loose_apart : (at : ℕ) (s : Seen) (ss : List Seen) → loose_from at (s ∷ ss) ≡ (gap_inside at s.gap ++ s.loose) ++ loose_after ss
-loose_apart zero s ss = refl
-loose_apart (suc at) s ss = refl
-
-no_loose : (at : ℕ) → loose_from at [] ≡ []
-no_loose zero = refl
-no_loose (suc at) = refl
-
-pub loose_more : (at : ℕ) (s : Seen) (ss here : List Seen) (old mid new all : List Bytes) → here ≡ s ∷ ss → mid ≡ old ++ gap_inside at (first_seen_gap here) → new ≡ mid ++ s.loose → old ++ loose_from at here ≡ all → new ++ loose_from (at + 1) ss ≡ all
-loose_more at s ss here old mid new all h gap e j =
-    let own : List Bytes = gap_inside at s.gap in
-    ap (λ k. new ++ loose_from k ss) (add-one at)
-    ∙ (ap (λ t. t ++ loose_after ss) (e ∙ (ap (λ t. t ++ s.loose) (gap ∙ ap (λ t. old ++ gap_inside at (first_seen_gap t)) h) ∙ append_assoc old own s.loose))
-    ∙ (append_assoc old (own ++ s.loose) (loose_after ss) ∙ (ap (λ t. old ++ t) (sym (ap (loose_from at) h ∙ loose_apart at s ss)) ∙ j)))
-
-pub loose_done : (ps : List Part) (at : ℕ) (old all : List Bytes) → length ps ≤ at → old ++ loose_from at (map seen (drop at ps)) ≡ all → old ≡ all
-loose_done ps at old all l j = sym (append-nil old) ∙ (ap (λ t. old ++ t) (sym (ap (λ qs. loose_from at (map seen qs)) (drop_all at ps l) ∙ no_loose at)) ∙ j)
+pub loose_done : (ps : List Part) (at : ℕ) (old all : List Bytes) → length ps ≤ at → old ++ loose_in (map seen (drop at ps)) ≡ all → old ≡ all
+loose_done ps at old all l j = sym (append-nil old) ∙ (ap (λ qs. old ++ loose_in (map seen qs)) (sym (drop_all at ps l)) ∙ j)
 
 -- ---- the parts of a row
 
@@ -104,12 +87,6 @@ quiet_before : (binary operator before : Bool) (s : Seen) (ss : List Seen) →
 quiet_before binary true before s ss = refl
 quiet_before binary false before s [] = refl
 quiet_before binary false before s (t ∷ ss) = refl
-
-pub at_operator : (operator before : Bool) → operator ≡ true → before ≡ (operator && before)
-at_operator operator before h = sym (ap (λ o. o && before) h)
-
-pub at_operand : (operator before : Bool) → operator ≡ false → operator ≡ (operator && before)
-at_operand operator before h = h ∙ sym (ap (λ o. o && before) h)
 
 -- one more part of a row
 pub row_more : (binary inside newline operator newline' break : Bool) (s : Seen) (ss here : List Seen) (x : Expr) (es new all : List Expr) → here ≡ s ∷ ss → operator ≡ (binary && is_operator (plain s)) →
@@ -141,6 +118,19 @@ row_plain inside newline (s ∷ ss) = ap (λ es. plain s ∷ es) (row_plain fals
 
 pub head_row : (ps qs : List Part) (lead : ℕ) (es : List Expr) → qs ≡ take lead ps → es ≡ row_exprs false false false (map seen qs) → es ≡ map plain (take lead (map seen ps))
 head_row ps qs lead es i e = e ∙ (row_plain false false (map seen qs) ∙ (ap (λ rs. map plain (map seen rs)) i ∙ ap (map plain) (sym (take-map seen lead ps))))
+
+-- the comments of a gap inside a row: what is before its first part is outside
+abbrev pub gap_inside : ℕ → Bytes → List Bytes
+gap_inside zero gap = []
+gap_inside (suc at) gap = all_in gap
+
+pub gap_at_first : (at : ℕ) (g : Bytes) (old : List Bytes) → at ≤ 0 → old ≡ old ++ gap_inside at g
+gap_at_first zero g old l = sym (append-nil old)
+gap_at_first (suc at) g old l = absurd (omega arith)
+
+pub gap_at_later : (at : ℕ) (g : Bytes) (old new : List Bytes) → 0 < at → new ≡ old ++ all_in g → new ≡ old ++ gap_inside at g
+gap_at_later zero g old new l e = absurd (omega arith)
+gap_at_later (suc at) g old new l e = e
 
 -- the walk over the parts before the bracket goes no deeper
 pub most_taken : {X : Type 0} (size : X → ℕ) (n : ℕ) (xs : List X) → most size (take n xs) ≤ most size xs

@@ -1,5 +1,5 @@
 -- A gap without a number sign has no comment.
-use Rattle.std.proofs.Common.{◌≡◌, ◌⊎◌, ℕ, suc, zero, Bool, true, false, not, ◌&&◌, if◌then◌else◌, nat_eq, List, [], ◌∷◌, ◌++◌, ◌+◌, inl, inr, Option, None, Some, refl, sym, ap, ◌∙◌, subst, map, drop, get_or, replicate, append-nil, add-one}
+use Rattle.std.proofs.Common.{◌≡◌, ◌⊎◌, ℕ, suc, zero, Bool, true, false, not, if◌then◌else◌, nat_eq, List, [], ◌∷◌, ◌++◌, ◌+◌, inl, inr, Option, None, Some, refl, sym, ap, ◌∙◌, subst, map, drop, get_or, replicate, append-nil, add-one}
 use Rattle.std.specs.List.{AllByRecursion}
 use Rattle.std.proofs.lemmas.Bool.{and_parts, cases_Bool, not-true}
 use Rattle.bz_grammar.specs.declared.tree.Part.{Part}
@@ -8,7 +8,7 @@ use Rattle.bz_items.specs.Characters.{Bytes, backslash, line_feed, number_sign, 
 use Rattle.bz_value.specs.Gaps.{GapLine, lines_from, rest_of_line, lines_of, as_list, comments_in, suffix_in, others_in, all_in, some_newline, has_newline}
 use Rattle.bz_hosts.specs.View.{Seen, seen, first_seen_gap}
 use Rattle.bz_hosts.proofs.Gathered.{none_in}
-use Rattle.bz_hosts.specs.private.Walks.{above_after, gap_inside, is_unsigned, item_gap}
+use Rattle.bz_hosts.specs.private.Walks.{above_after, is_unsigned, item_gap}
 
 -- ---- what is known of a gap
 
@@ -61,9 +61,9 @@ comments_bare (line ∷ lines) h = ap (λ o. as_list o ++ comments_in lines) h.0
 all_quiet : (g : Bytes) → is_unsigned g ≡ true → all_in g ≡ []
 all_quiet g h = comments_bare (lines_of g) (lines_bare g h)
 
--- at a glance, by which no comment is above what the gap is before
-pub none_quiet : (g seen : Bytes) (quiet : Bool) (above : List Bytes) → g ≡ seen → quiet ≡ is_unsigned g → quiet ≡ true → above ≡ [] → above ≡ all_in seen
-none_quiet g seen quiet above i q t e = e ∙ (sym (all_quiet g (sym q ∙ t)) ∙ ap all_in i)
+-- at a glance, by which no comment is in the gap
+pub gap_quiet : (gap : Bytes) (quiet : Bool) (old : List Bytes) → quiet ≡ is_unsigned gap → quiet ≡ true → old ≡ old ++ all_in gap
+gap_quiet gap quiet old q t = sym (ap (λ texts. old ++ texts) (all_quiet gap (sym q ∙ t)) ∙ append-nil old)
 
 others_quiet : (g : Bytes) → is_unsigned g ≡ true → others_in g ≡ []
 others_quiet g h = (none_in g (all_quiet g h)).1
@@ -93,18 +93,9 @@ next_gap [] (suc at) = refl
 next_gap (x ∷ ps) zero = refl
 next_gap (x ∷ ps) (suc at) = next_gap ps at
 
-abbrev pub quiet_after : List Part → ℕ → Bool
-quiet_after ps at = is_unsigned (first_seen_gap (map seen (drop at ps))) && is_unsigned (first_seen_gap (map seen (drop (at + 1) ps)))
-
-pub nothing_after : (ps : List Part) (at : ℕ) → quiet_after ps at ≡ true → (above_after (map seen (drop at ps)) ≡ []) × (suffix_in (item_gap (map seen (drop at ps))) ≡ None)
-nothing_after ps at h =
-    let w = and_parts (is_unsigned (first_seen_gap (map seen (drop at ps)))) (is_unsigned (first_seen_gap (map seen (drop (at + 1) ps)))) h in
+pub nothing_after : (ps : List Part) (at : ℕ) → is_unsigned (first_seen_gap (map seen (drop at ps))) ≡ true → is_unsigned (first_seen_gap (map seen (drop (at + 1) ps))) ≡ true →
+    (above_after (map seen (drop at ps)) ≡ []) × (suffix_in (item_gap (map seen (drop at ps))) ≡ None)
+nothing_after ps at h k =
     let next : is_unsigned (first_seen_gap (drop 1 (map seen (drop at ps)))) ≡ true =
-    subst (λ (g : Bytes). is_unsigned g ≡ true) (ap (λ k. first_seen_gap (map seen (drop k ps))) (add-one at) ∙ next_gap ps at) w.1 in
-    (above_at (map seen (drop at ps)) w.0 next, suffix_at (map seen (drop at ps)) w.0 next)
-
--- ---- before a part of a row
-
-pub gap_quiet : (at : ℕ) (gap : Bytes) (quiet : Bool) (old : List Bytes) → quiet ≡ is_unsigned gap → quiet ≡ true → old ≡ old ++ gap_inside at gap
-gap_quiet zero gap quiet old q t = sym (append-nil old)
-gap_quiet (suc at) gap quiet old q t = sym (ap (λ texts. old ++ texts) (all_quiet gap (sym q ∙ t)) ∙ append-nil old)
+    subst (λ (g : Bytes). is_unsigned g ≡ true) (ap (λ k. first_seen_gap (map seen (drop k ps))) (add-one at) ∙ next_gap ps at) k in
+    (above_at (map seen (drop at ps)) h next, suffix_at (map seen (drop at ps)) h next)

@@ -1,6 +1,5 @@
 //! What is before a part of a tree.
-ghost use Rattle.std.specs.Prelude.{◌≡◌, ◌&&◌, ◌+◌, ◌<◌, ◌≤◌, [], map, drop, length, false, get_or, nat_eq, IsTrue, MatchOption};
-ghost use Rattle.bz_items.specs.Characters.{line_feed};
+ghost use Rattle.std.specs.Prelude.{◌≡◌, ◌&&◌, ◌+◌, ◌<◌, ◌≤◌, [], map, drop, length, false, IsTrue, MatchOption};
 ghost use Rattle.bz_value.specs.Gaps.{has_newline};
 ghost use Rattle.bz_value.specs.Proper.{is_operator};
 ghost use Rattle.bz_hosts.specs.View.{begins_seen_operator, first_seen_gap, is_split, last_gap, plain, seen};
@@ -22,17 +21,6 @@ fn is_quiet(gap: &Gap) -> bool
     gap.as_slice().iter().all(|byte| *byte != b'#')
 }
 
-/// Whether the first byte is a newline.
-#[inline(always)]
-fn begins_line(bytes: &[u8]) -> bool
-    ensures { result ≡ nat_eq (get_or bytes.now 0 0) line_feed }
-{
-    match bytes {
-        [] => false,
-        [first, ..] => *first == b'\n',
-    }
-}
-
 /// Whether an unescaped newline is in the gap.
 #[inline(always)]
 #[tactic(auto, using(crate::proofs::UnsignedGaps::spacing_breaks))]
@@ -41,31 +29,19 @@ fn breaks(gap: &Gap) -> bool
 {
     let bytes = gap.as_slice();
     if gap.is_spacing() {
-        return begins_line(bytes);
+        return matches!(bytes, [b'\n', ..]);
     }
     has_newline(bytes)
 }
 
-/// The gap before the first token of a part, if it has one.
-#[cycle(first)]
-#[inline(always)]
-fn first_gap(part: &Part) -> Option<&Gap>
-    ensures { MatchOption result ([] ≡ (seen part.now).gap) (λ gap. gap.now ≡ (seen part.now).gap) }
-{
-    match part {
-        Part::Leaf(leaf) => Some(&leaf.gap),
-        Part::Node(node) => first_gap_at(node.parts.as_slice(), 0),
-    }
-}
-
-/// The gap before the part with this index, if there is one.
-#[cycle(first)]
+/// The gap before the first token of the part with this index, if there is one.
 fn first_gap_at(parts: &[Part], at: usize) -> Option<&Gap>
     ensures { MatchOption result ([] ≡ first_seen_gap (map seen (drop at parts.now))) (λ gap. gap.now ≡ first_seen_gap (map seen (drop at parts.now))) }
 {
     match parts.get(at) {
         None => None,
-        Some(part) => first_gap(part),
+        Some(Part::Leaf(leaf)) => Some(&leaf.gap),
+        Some(Part::Node(node)) => first_gap_at(node.parts.as_slice(), 0),
     }
 }
 
@@ -73,9 +49,9 @@ fn first_gap_at(parts: &[Part], at: usize) -> Option<&Gap>
 pub fn gap_before(part: &Part) -> &[u8]
     ensures { result.now ≡ (seen part.now).gap }
 {
-    match first_gap(part) {
-        None => &[],
-        Some(gap) => gap.as_slice(),
+    match part {
+        Part::Leaf(leaf) => leaf.gap.as_slice(),
+        Part::Node(node) => gap_at(node.parts.as_slice(), 0),
     }
 }
 
@@ -83,10 +59,7 @@ pub fn gap_before(part: &Part) -> &[u8]
 pub fn gap_at(parts: &[Part], at: usize) -> &[u8]
     ensures { result.now ≡ first_seen_gap (map seen (drop at parts.now)) }
 {
-    match first_gap_at(parts, at) {
-        None => &[],
-        Some(gap) => gap.as_slice(),
-    }
+    first_gap_at(parts, at).map_or(&[], |gap| gap.as_slice())
 }
 
 /// Whether it is seen at a glance that no comment is before the part with this index.
@@ -94,10 +67,7 @@ pub fn gap_at(parts: &[Part], at: usize) -> &[u8]
 pub fn is_quiet_at(parts: &[Part], at: usize) -> bool
     ensures { result ≡ is_unsigned (first_seen_gap (map seen (drop at parts.now))) }
 {
-    match first_gap_at(parts, at) {
-        None => true,
-        Some(gap) => is_quiet(gap),
-    }
+    first_gap_at(parts, at).is_none_or(is_quiet)
 }
 
 /// The gap before the last of these parts.
@@ -114,10 +84,7 @@ pub fn gap_of_last(parts: &[Part]) -> &[u8]
 pub fn breaks_before(parts: &[Part], at: usize) -> bool
     ensures { result ≡ has_newline (first_seen_gap (map seen (drop at parts.now))) }
 {
-    match first_gap_at(parts, at) {
-        None => false,
-        Some(gap) => breaks(gap),
-    }
+    first_gap_at(parts, at).is_some_and(breaks)
 }
 
 /// Whether an unescaped newline is before a part from this index on.
@@ -140,29 +107,19 @@ pub fn is_followed(parts: &[Part], at: usize) -> bool
     at < parts.len() && parts.len() - at > 1
 }
 
-/// Whether the part is a token of an operator, in a row of operands and operators.
-fn is_operator(part: &Part) -> bool
-    ensures { result ≡ is_operator (plain (seen part.now)) }
-{
-    match part {
-        Part::Leaf(leaf) => is_operator_class(leaf.class),
-        Part::Node(_) => false,
-    }
-}
-
 /// Whether the part is a token of an operator, where the row that it is in is one of operands and operators.
 pub fn is_operator_in(binary: bool, part: &Part) -> bool
     ensures { result ≡ (binary && is_operator (plain (seen part.now))) }
 {
-    binary && is_operator(part)
+    match part {
+        Part::Leaf(leaf) => binary && is_operator_class(leaf.class),
+        Part::Node(_) => false,
+    }
 }
 
 /// Whether the part with this index is a token of an operator.
 pub fn is_operator_at(parts: &[Part], at: usize) -> bool
     ensures { result ≡ begins_seen_operator (map seen (drop at parts.now)) }
 {
-    match parts.get(at) {
-        None => false,
-        Some(part) => is_operator(part),
-    }
+    parts.get(at).is_some_and(|part| is_operator_in(true, part))
 }

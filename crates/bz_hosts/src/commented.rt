@@ -6,10 +6,11 @@ ghost use Rattle.bz_value.specs.Gaps.{suffix_in as suffix_decoded};
 ghost use Rattle.bz_hosts.specs.View.{plain, seen};
 ghost use Rattle.bz_hosts.specs.private.Walks.{above_after, item_gap, line_gap};
 
-use crate::marks::{above_next, gap_after_item, gap_after_statement, is_quiet_after};
+use crate::before::is_quiet_at;
+use crate::marks::{gap_after_statement, gaps_after_item};
 use bz_grammar::Part;
 use bz_items::{Items, Memory, Text};
-use bz_value::{Comments, Expr, Item, suffix_in};
+use bz_value::{Comments, Expr, Item, push_all, push_others, suffix_in};
 use std::alloc::{AllocError, Global};
 use std::mem;
 
@@ -27,11 +28,14 @@ pub(crate) fn comment_last(
     ensures items { OnOk result ((xs : List Expr) (x : Part) → items.old.items ≡ xs ++ plain (seen x) ∷ []
         → items.new.items ≡ xs ++ (seen x).make (record { before = above.old; suffix = suffix_decoded (item_gap (map seen (drop at parts.now))) }) false ∷ []) }
 {
-    if above.is_empty() && is_quiet_after(parts, at) {
+    if above.is_empty() && is_quiet_at(parts, at) && is_quiet_at(parts, at + 1) {
         return Ok(());
     }
-    let next = above_next(alloc, parts, at)?;
-    let suffix = suffix_in(alloc, gap_after_item(parts, at))?;
+    let (between, after) = gaps_after_item(parts, at);
+    let mut next = Items::new(alloc);
+    push_all(alloc, between, &mut next)?;
+    push_others(alloc, after, &mut next)?;
+    let suffix = suffix_in(alloc, after)?;
     let comments = Comments::new(alloc, mem::replace(above, next), suffix)?;
     items.reserve(1)?;
     let Some(expr) = items.pop() else {

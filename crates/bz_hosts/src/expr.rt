@@ -6,7 +6,7 @@ ghost use Rattle.bz_hosts.specs.View.{form_of_frame, loose_in, loose_of, plain, 
 
 use crate::before::{breaks_from, is_followed, is_operator_in};
 use crate::commented::comment_last;
-use crate::marks::{before_operator, breaks_after, comments_above_first, opens, push_gap};
+use crate::marks::{breaks_after, breaks_operator, opens, push_gap};
 use bz_grammar::{Class, Kind, Node, Part};
 use bz_items::{Items, Memory, Text};
 use bz_value::{Comments, EndComments, Expr, Form, Seq, Token, is_binary, is_sequence, lead_of};
@@ -114,13 +114,13 @@ pub fn row_of(
     let mut operator = false;
     let mut newline = false;
     for (at, part) in parts.iter().enumerate() {
-        push_gap(alloc, parts, at, loose)?;
         let inside = operator;
         operator = is_operator_in(binary, part);
-        // what is before an operand is not looked for: it can be deep in there
-        newline = operator && before_operator(parts, at, inside, newline);
+        newline = breaks_operator(operator, parts, at, inside, newline);
         let line_break = breaks_after(operator, newline, parts, at + 1);
         push_expr(alloc, part, line_break, loose, &mut exprs)?;
+        // what is before the first part is outside
+        push_gap(alloc, parts, at + 1, loose)?;
     }
     Ok(Items::from_vec(exprs))
 }
@@ -141,21 +141,13 @@ pub fn head_of(
         return Ok(exprs);
     }
     let exprs = row_of(alloc, &parts[..lead], false, loose)?;
-    push_gap(alloc, parts, lead, loose)?;
-    push_loose(alloc, &parts[lead], loose)?;
-    Ok(exprs)
-}
-
-/// Appends what is loose in a part.
-#[cycle(seen)]
-fn push_loose(alloc: Global, part: &Part, loose: &mut Items<Text>) -> Result<(), Memory>
-    ensures { OnOk result (loose.new ≡ loose.old ++ (seen part.now).loose) }
-{
-    match part {
-        // as the bracket is
-        Part::Leaf(_) => Ok(()),
-        Part::Node(node) => push_form(alloc, node, loose, &mut Vec::new(alloc)),
+    if lead > 0 {
+        push_gap(alloc, parts, lead, loose)?;
     }
+    if let Part::Node(bracket) = &parts[lead] {
+        push_form(alloc, bracket, loose, &mut Vec::new(alloc))?;
+    }
+    Ok(exprs)
 }
 
 /// The sequence whose items are from this index on, after the opening bracket.
@@ -166,7 +158,8 @@ pub fn seq_of(alloc: Global, parts: &[Part], from: usize) -> Result<Seq, Memory>
 {
     let mut items = Vec::with_capacity(alloc, parts.len() / 2)?;
     // the comments above the next item; what is loose in the item goes there too
-    let mut above = comments_above_first(alloc, parts, from)?;
+    let mut above = Items::new(alloc);
+    push_gap(alloc, parts, from, &mut above)?;
     let mut at = from;
     while is_followed(parts, at) {
         push_expr(alloc, &parts[at], false, &mut above, &mut items)?;

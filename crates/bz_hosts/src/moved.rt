@@ -8,7 +8,7 @@ ghost use Rattle.bz_hosts.specs.View.{form_of_frame, loose_in, loose_of, row_exp
 use crate::before::{breaks_from, is_followed, is_operator_in};
 use crate::commented::comment_last;
 use crate::expr::{form_of, head_of, push_form, token_of};
-use crate::marks::{before_operator, breaks_after, comments_above_first, opens, push_gap};
+use crate::marks::{breaks_after, breaks_operator, opens, push_gap};
 use bz_grammar::{Node, Part};
 use bz_items::{Items, Memory, Text};
 use bz_value::{EndComments, Expr, Seq, is_binary, is_sequence, lead_of};
@@ -136,12 +136,12 @@ fn row_moved(
     let mut newline = false;
     let mut at = 0;
     while at < left.len() {
-        push_gap(alloc, left.as_slice(), at, loose)?;
         let inside = operator;
         operator = is_operator_in(binary, &left[at]);
-        newline = operator && before_operator(left.as_slice(), at, inside, newline);
+        newline = breaks_operator(operator, left.as_slice(), at, inside, newline);
         let line_break = breaks_after(operator, newline, left.as_slice(), at + 1);
         push_moved(alloc, &mut left[at], depth, line_break, loose, &mut exprs)?;
+        push_gap(alloc, left.as_slice(), at + 1, loose)?;
         at = give_back(at + 1, &mut left);
     }
     drop_row(left);
@@ -157,7 +157,8 @@ fn seq_moved(alloc: Global, parts: Items<Part>, depth: usize, from: usize) -> Re
     let split = breaks_from(parts.as_slice(), from);
     let mut items = Vec::with_capacity(alloc, parts.len() / 2)?;
     // the comments above the next item; what is loose in the item goes there too
-    let mut above = comments_above_first(alloc, parts.as_slice(), from)?;
+    let mut above = Items::new(alloc);
+    push_gap(alloc, parts.as_slice(), from, &mut above)?;
     let mut left = parts.into_vec();
     let mut at = from;
     while is_followed(left.as_slice(), at) {

@@ -12,7 +12,7 @@ use crate::before::{gap_at, gap_of_last, is_followed};
 use crate::commented::push_statement;
 use crate::groups::{push_all_groups, push_groups};
 use crate::moved::{DEPTH, drop_row, give_back, push_moved};
-use crate::viewing::{room_for, without_room};
+use crate::viewing::without_room;
 use bz_grammar::{Part, Tree};
 use bz_items::{Items, Memory, Text};
 use bz_value::{File, Item, past_first_line};
@@ -36,7 +36,7 @@ pub fn into_view(alloc: Global, tree: Tree) -> Result<File, Memory>
 fn into_items(alloc: Global, lines: Items<Part>) -> Result<Items<Item>, Memory>
     ensures { IfOk result (λ items. items ≡ file_items [] lines) }
 {
-    let mut items = room_for(alloc, lines.len())?;
+    let mut items = Items::from_vec(Vec::with_capacity(alloc, lines.len())?);
     let mut left = Text::from_vec(Vec::new(alloc));
     for mut line in lines.into_vec() {
         left = push_moved_line(alloc, left.as_slice(), &mut line, &mut items)?;

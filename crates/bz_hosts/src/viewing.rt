@@ -32,13 +32,6 @@ pub fn view(alloc: Global, tree: &Tree) -> Result<File, Memory>
 /// Of this many items or fewer the room beside them is let be.
 const FEW: usize = 64;
 
-/// No items, with room for one for each line of a file, which is how many most files have.
-pub(crate) fn room_for(alloc: Global, lines: usize) -> Result<Items<Item>, Memory>
-    ensures { IfOk result (λ items. items ≡ []) }
-{
-    Ok(Items::from_vec(Vec::with_capacity(alloc, lines)?))
-}
-
 /// The same items, without the room beside them, which is as much again after a growth.
 pub(crate) fn without_room(items: Items<Item>) -> Items<Item>
     ensures { result ≡ items }
@@ -54,7 +47,8 @@ pub(crate) fn without_room(items: Items<Item>) -> Items<Item>
 fn items_of(alloc: Global, lines: &[Part]) -> Result<Items<Item>, Memory>
     ensures { IfOk result (λ items. items ≡ file_items [] lines.now) }
 {
-    let mut items = room_for(alloc, lines.len())?;
+    // most files have an item a line
+    let mut items = Items::from_vec(Vec::with_capacity(alloc, lines.len())?);
     let mut left: &[u8] = &[];
     for line in lines {
         left = push_line_items(alloc, left, line, &mut items)?;

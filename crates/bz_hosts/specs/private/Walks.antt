@@ -1,14 +1,9 @@
 -- What the walk over a tree has so far, for private functions.
-use Rattle.std.specs.Prelude.{ℕ, Bool, zero, suc, not, nat_eq, List, [], ◌∷◌, ◌++◌}
+use Rattle.std.specs.Prelude.{Bool, not, nat_eq, List, [], ◌∷◌, ◌++◌}
 use Rattle.std.specs.List.{list_all}
 use Rattle.bz_items.specs.Characters.{Bytes, number_sign}
 use Rattle.bz_value.specs.Gaps.{others_in, all_in}
 use Rattle.bz_hosts.specs.View.{Seen}
-
--- the comments of the gap before the part of a row with this index: what is before its first part is outside
-abbrev pub gap_inside : ℕ → Bytes → List Bytes
-gap_inside zero gap = []
-gap_inside (suc at) gap = all_in gap
 
 -- After an item, from its mark on: the gap that its suffix is in, and what is above the next item.
 abbrev pub item_gap : List Seen → Bytes

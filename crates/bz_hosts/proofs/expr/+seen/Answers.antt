@@ -1,13 +1,12 @@
-use Rattle.std.proofs.Common.{◌≡◌, ◌&&◌, if◌then◌else◌, map, ◌+◌, sym, refl, ◌∙◌, drop, arith}
+use Rattle.std.proofs.Common.{◌≡◌, ◌++◌, map, ◌+◌, append-nil, sym, refl, ap, ◌∙◌, drop, arith}
 use Rattle.std.proofs.lemmas.List.{take_all}
-use Rattle.std.proofs.lemmas.Result.{on_ok_weaker}
-use Rattle.bz_value.specs.Gaps.{has_newline}
+use Rattle.bz_grammar.specs.declared.tree.Part.{Part}
 use Rattle.bz_hosts.specs.View.{first_seen_gap, seen}
 use Rattle.bz_hosts.proofs.HostSteps.{item_more, items_done}
 use Rattle.bz_hosts.proofs.NodeViews.{node_pushed, node_loose}
-use Rattle.bz_hosts.proofs.RowSteps.{part_here, at_operator, at_operand, row_more, row_done, loose_done, loose_more, head_row, bracket_loose, most_taken}
+use Rattle.bz_hosts.proofs.RowSteps.{part_here, gap_inside, gap_at_first, gap_at_later, row_more, row_done, loose_done, loose_more, head_row, bracket_loose, most_taken}
 use Rattle.bz_hosts.proofs.expr.+seen.Goals as goal
-use Rattle.bz_hosts.proofs.expr.+seen.Goals.{row_of-then-operator, row_of-else-operator}
+use Rattle.bz_hosts.proofs.expr.+seen.Goals.{head_of-then-lead-gt0+in_ok-push_gap, head_of-else-lead-gt0, head_of-in-Node+in_ok-push_form, head_of-in_default}
 
 pub push_expr-returns-in_ok-push_form-in-Node-clause-exprs : goal.push_expr-returns-in_ok-push_form-in-Node-clause-exprs
 push_expr-returns-in_ok-push_form-in-Node-clause-exprs t c = node_pushed c.args.part.now c.in-Node.node c.args.line_break c.args.exprs.now.items _ c.in-Node.is c.in_ok-push_form-in-Node.ensures.exprs
@@ -18,14 +17,9 @@ push_expr-returns-in_ok-push_form-in-Node-clause-loose t c = node_loose c.args.p
 pub row_of-loop-at-preserved : goal.row_of-loop-at-preserved
 row_of-loop-at-preserved t c =
     let here = part_here c.args.parts.now c.loop-at.at c.index-parts-at.result c.loop-at-test.true c.index-parts-at.is in
-    let newline : c.if-operator.newline ≡ (c.is_operator_in-operator.result && (if c.loop-at.operator then c.loop-at.newline else has_newline (first_seen_gap (map seen (drop c.loop-at.at c.args.parts.now))))) =
-    elim c.if-operator.branch [
-      | row_of-then-operator w ↦ w.newline-is ∙ (w.before_operator-newline.ensures ∙ at_operator c.is_operator_in-operator.result _ w.if-operator.true)
-      | row_of-else-operator w ↦ w.newline-is ∙ at_operand c.is_operator_in-operator.result _ w.if-operator.false
-    ] in
     record {
-      exprs = row_more _ _ _ _ _ _ _ _ _ _ _ _ _ here c.is_operator_in-operator.ensures newline c.breaks_after-line_break.ensures refl c.loop-at.invariant.exprs c.in_ok-push_expr.ensures.exprs;
-      loose = loose_more c.loop-at.at _ _ _ _ _ _ _ here c.in_ok-push_gap.ensures c.in_ok-push_expr.ensures.loose c.loop-at.invariant.loose;
+      exprs = row_more _ _ _ _ _ _ _ _ _ _ _ _ _ here c.is_operator_in-operator.ensures c.breaks_operator-newline.ensures c.breaks_after-line_break.ensures refl c.loop-at.invariant.exprs c.in_ok-push_expr.ensures.exprs;
+      loose = loose_more _ _ _ _ _ _ _ here c.in_ok-push_expr.ensures.loose c.in_ok-push_gap.ensures c.loop-at.invariant.loose;
     }
 
 pub row_of-returns-clause-exprs : goal.row_of-returns-clause-exprs
@@ -56,7 +50,16 @@ head_of-returns-clause-exprs t c = head_row c.args.parts.now _ c.args.lead _ ref
 
 pub head_of-returns-clause-loose : goal.head_of-returns-clause-loose
 head_of-returns-clause-loose t c =
-    bracket_loose c.args.parts.now _ c.args.lead c.index-parts-lead.result c.args.loose.now _ _ _ (omega arith) c.index-parts-lead.is refl c.in_ok-exprs-2.ensures.loose c.in_ok-push_gap.ensures c.in_ok-push_loose.ensures
-
-pub push_loose-returns-in-Node : goal.push_loose-returns-in-Node
-push_loose-returns-in-Node t c = on_ok_weaker c.push_form.result (node_loose c.args.part.now c.in-Node.node c.args.loose.now c.push_form.new.loose c.in-Node.is) c.push_form.ensures.loose
+    let part = c.index-parts-lead.result in
+    let outside = c.in_ok-exprs-2.ensures.loose in
+    let gap : c.if-lead-gt0.loose ≡ c.row_of-2.new.loose ++ gap_inside c.args.lead (first_seen_gap (map seen (drop c.args.lead c.args.parts.now))) =
+    elim c.if-lead-gt0.branch [
+      | head_of-then-lead-gt0+in_ok-push_gap w ↦ w.loose-is ∙ gap_at_later c.args.lead _ _ _ w.if-lead-gt0.true w.in_ok-push_gap.ensures
+      | head_of-else-lead-gt0 w ↦ w.loose-is ∙ gap_at_first c.args.lead _ _ w.if-lead-gt0.false
+    ] in
+    let own : c.match-parts-lead.loose ≡ c.if-lead-gt0.loose ++ (seen part).loose =
+    elim c.match-parts-lead.branch [
+      | head_of-in-Node+in_ok-push_form w ↦ w.loose-is ∙ node_loose part _ _ _ w.in-Node.is w.in_ok-push_form.ensures.loose
+      | head_of-in_default w ↦ w.loose-is ∙ (sym (append-nil c.if-lead-gt0.loose) ∙ ap (λ (x : Part). c.if-lead-gt0.loose ++ (seen x).loose) (sym w.in_default.is))
+    ] in
+    bracket_loose c.args.parts.now _ c.args.lead part c.args.loose.now _ _ _ (omega arith) c.index-parts-lead.is refl outside gap own

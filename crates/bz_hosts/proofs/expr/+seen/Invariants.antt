@@ -1,13 +1,12 @@
 use Rattle.std.proofs.Common.{◌≡◌, ◌-◌, ◌++◌, false, length, map, drop}
 use Rattle.bz_value.specs.Gaps.{all_in}
 use Rattle.bz_hosts.specs.View.{first_seen_gap, items_in, loose_in, row_exprs, seen}
-use Rattle.bz_hosts.proofs.RowSteps.{loose_from}
 use Rattle.bz_hosts.proofs.expr.+seen.Given as goal
 
 abbrev pub invariant-row_of-loop-at : goal.invariant-row_of-loop-at
 invariant-row_of-loop-at l = record {
   exprs : l.exprs.items ++ row_exprs l.binary l.operator l.newline (map seen (drop l.at l.parts)) ≡ row_exprs l.binary false false (map seen l.parts);
-  loose : l.loose ++ loose_from l.at (map seen (drop l.at l.parts)) ≡ l.fn.loose ++ loose_in (map seen l.parts);
+  loose : l.loose ++ loose_in (map seen (drop l.at l.parts)) ≡ l.fn.loose ++ loose_in (map seen l.parts);
 }
 
 abbrev pub invariant-seq_of-loop-alloc : goal.invariant-seq_of-loop-alloc

@@ -1,7 +1,6 @@
 use Rattle.std.proofs.Common.{◌≡◌, ◌+◌, ◌-◌, ◌*◌, ◌++◌, false, length, map, drop}
 use Rattle.bz_value.specs.Gaps.{all_in}
 use Rattle.bz_hosts.specs.View.{first_seen_gap, items_in, loose_in, row_exprs, seen}
-use Rattle.bz_hosts.proofs.RowSteps.{loose_from}
 use Rattle.bz_hosts.proofs.moved.+moved.Given as goal
 
 abbrev pub decreases-push_form_moved : goal.decreases-push_form_moved
@@ -19,7 +18,7 @@ decreases-seq_moved l = 3 * l.depth + 2
 abbrev pub invariant-row_moved-loop-at : goal.invariant-row_moved-loop-at
 invariant-row_moved-loop-at l = record {
   exprs : l.exprs.items ++ row_exprs l.binary l.operator l.newline (map seen (drop l.at l.left.items)) ≡ row_exprs l.binary false false (map seen l.fn.parts);
-  loose : l.loose ++ loose_from l.at (map seen (drop l.at l.left.items)) ≡ l.fn.loose ++ loose_in (map seen l.fn.parts);
+  loose : l.loose ++ loose_in (map seen (drop l.at l.left.items)) ≡ l.fn.loose ++ loose_in (map seen l.fn.parts);
 }
 
 abbrev pub decreases-row_moved-loop-at : goal.decreases-row_moved-loop-at
