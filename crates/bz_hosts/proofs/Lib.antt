@@ -4,7 +4,6 @@ pub mod Claim
 pub mod Cuts
 pub mod Files
 pub mod Gathered
-mod GivenBack
 pub mod GroupSteps
 pub mod HostSteps
 pub mod HostsJoined

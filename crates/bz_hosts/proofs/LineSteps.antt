@@ -1,6 +1,7 @@
 -- Steps of the loops over the lines of a file and the statements of a line.
 use Rattle.std.proofs.Common.{ℕ, zero, suc, false, ◌≡◌, List, [], ◌∷◌, ◌++◌, ◌<◌, ◌≤◌, ◌+◌, ◌-◌, refl, sym, ap, ◌∙◌, map, drop, length, get_or, append_assoc, append-nil, length-drop, arith}
 use Rattle.std.proofs.lemmas.List.{length-map}
+use Rattle.bz_lex.specs.declared.leaf.Leaf.{Leaf}
 use Rattle.bz_grammar.specs.declared.tree.Node.{Node}
 use Rattle.bz_grammar.specs.declared.tree.Part.{Part}
 use Rattle.bz_grammar.specs.declared.tree.Part.TheVariants as p
@@ -93,3 +94,11 @@ pub line_pushed : (x : Part) (n : Node) (ps : List Part) (left : List GapLine) (
 line_pushed x n ps left g h r above old mid new i j e m a s f k xs =
     line_made (map seen ps) left g h r above old mid new xs e m a s f k
     ∙ (ap (λ qs. old ++ line_and_rest left (map seen qs) xs) j ∙ sym (ap (λ y. old ++ file_items left (y ∷ xs)) i ∙ ap (λ t. old ++ t) (file_node n left xs)))
+
+-- the end, which leaves no line
+pub end_pushed : (x : Part) (l : Leaf) (left : List GapLine) (g r : Bytes) (old new : List Item) → x ≡ p.Leaf l → g ≡ l.gap → new ≡ old ++ blocks (groups_of (left ++ lines_of g)) → r ≡ [] →
+    (xs : List Part) → new ++ file_items (lines_of r) xs ≡ old ++ file_items left (x ∷ xs)
+end_pushed x l left g r old new i j e k xs =
+    ap (λ t. new ++ file_items (lines_of t) xs) k
+    ∙ (ap (λ t. t ++ file_items [] xs) (e ∙ ap (λ t. old ++ blocks (groups_of (left ++ lines_of t))) j)
+    ∙ (append_assoc old (blocks (groups_of (left ++ lines_of l.gap))) (file_items [] xs) ∙ ap (λ y. old ++ file_items left (y ∷ xs)) (sym i)))

@@ -1,5 +1,5 @@
 //! The expression of a part, and the comments inside it that are in no host or sequence of its own.
-ghost use Rattle.std.specs.Prelude.{◌≡◌, [], ◌∷◌, ◌++◌, ◌+◌, ◌≤◌, map, take, drop, suc, false, IfOk, OnOk};
+ghost use Rattle.std.specs.Prelude.{◌≡◌, [], ◌∷◌, ◌++◌, ◌≤◌, map, take, drop, suc, false, IfOk, OnOk};
 ghost use Rattle.bz_value.specs.Comments.{no_comments};
 ghost use Rattle.bz_value.specs.Frames.{frame};
 ghost use Rattle.bz_hosts.specs.View.{form_of_frame, loose_in, loose_of, plain, row_exprs, seen, seq_in};

@@ -1,5 +1,5 @@
 //! What the gaps between the parts of a row say.
-ghost use Rattle.std.specs.Prelude.{◌≡◌, ◌++◌, ◌+◌, ◌<◌, ◌&&◌, ◌||◌, not, map, drop, length, if◌then◌else◌, OnOk};
+ghost use Rattle.std.specs.Prelude.{◌≡◌, ◌++◌, ◌<◌, ◌&&◌, ◌||◌, not, map, drop, length, if◌then◌else◌, OnOk};
 ghost use Rattle.bz_value.specs.Frames.{is_comprehension};
 ghost use Rattle.bz_value.specs.Gaps.{all_in, has_newline, others_in};
 ghost use Rattle.bz_hosts.specs.View.{begins_seen_operator, first_seen_gap, is_open, seen};
@@ -39,11 +39,14 @@ pub fn breaks_operator(
 ) -> bool
     ensures { result ≡ (operator && (if inside then newline else has_newline (first_seen_gap (map seen (drop at parts.now))))) }
 {
-    if inside {
-        return operator && newline;
-    }
     // what is before an operand is not looked for: it can be deep in there
-    operator && breaks_before(parts, at)
+    if !operator {
+        return false;
+    }
+    if inside {
+        return newline;
+    }
+    breaks_before(parts, at)
 }
 
 /// Whether a token of an operator breaks after which the part with this index is: it is the operator's last token,

@@ -1,6 +1,6 @@
 //! The expression of a part that is given up: its tokens are moved into it, and what was walked over of a long row is given back
 //! on the way, so that a row and what is made of it are not held at once as wholes.
-ghost use Rattle.std.specs.Prelude.{◌≡◌, ◌∷◌, [], ◌++◌, ◌+◌, ◌-◌, ◌<◌, ◌≤◌, length, map, drop, false, IfOk, OnOk};
+ghost use Rattle.std.specs.Prelude.{◌≡◌, ◌∷◌, [], ◌++◌, ◌-◌, ◌<◌, ◌≤◌, length, map, drop, false, IfOk, OnOk};
 ghost use Rattle.bz_value.specs.Comments.{no_comments};
 ghost use Rattle.bz_value.specs.Frames.{frame};
 ghost use Rattle.bz_hosts.specs.View.{form_of_frame, loose_in, loose_of, row_exprs, seen, seq_in};
@@ -37,9 +37,7 @@ pub(crate) fn give_back(at: usize, parts: &mut Vec<Part>) -> usize
     if gone < MANY || gone < parts.len() / 4 {
         return at;
     }
-    let kept = parts.len() - gone;
-    parts.rotate_left(gone);
-    parts.truncate(kept);
+    drop(parts.drain(..gone));
     parts.shrink_to_fit();
     1
 }

@@ -1,8 +1,6 @@
 //! The view of a tree that is given up.
-ghost use Rattle.std.specs.Prelude.{◌≡◌, ◌++◌, ◌∷◌, [], ◌+◌, List, map, IfOk, OnOk};
-ghost use Rattle.bz_grammar.specs.declared.tree.Part.{Part};
+ghost use Rattle.std.specs.Prelude.{◌≡◌, ◌++◌, [], map, IfOk, OnOk};
 ghost use Rattle.bz_grammar.specs.Legal.{IsBuild};
-ghost use Rattle.bz_value.specs.Gaps.{lines_of};
 ghost use Rattle.bz_value.specs.Counted.{times};
 ghost use Rattle.bz_items.specs.Characters.{Bytes};
 ghost use Rattle.bz_hosts.specs.Kept.{occurrences};
@@ -39,34 +37,21 @@ fn into_items(alloc: Global, lines: Items<Part>) -> Result<Items<Item>, Memory>
     let mut items = Items::from_vec(Vec::with_capacity(alloc, lines.len())?);
     let mut left = Text::from_vec(Vec::new(alloc));
     for mut line in lines.into_vec() {
-        left = push_moved_line(alloc, left.as_slice(), &mut line, &mut items)?;
+        let before = left.as_slice();
+        match &mut line {
+            Part::Leaf(end) => {
+                push_all_groups(alloc, before, end.gap.as_slice(), &mut items)?;
+                left = Text::from_vec(Vec::new(alloc));
+            }
+            Part::Node(line) => {
+                let parts = mem::replace(&mut line.parts, Items::new(alloc));
+                let above = push_groups(alloc, before, gap_at(parts.as_slice(), 0), &mut items)?;
+                left = Text::from_slice(alloc, past_first_line(gap_of_last(parts.as_slice())))?;
+                push_moved_statements(alloc, parts, above, &mut items)?;
+            }
+        }
     }
     Ok(without_room(items))
-}
-
-/// Appends the items of a line, or of the end, whose statements are given up, with the comment lines `left` before it. Returned: the gap
-/// whose lines are before the next one. The error: memory was refused.
-fn push_moved_line(
-    alloc: Global,
-    left: &[u8],
-    line: &mut Part,
-    items: &mut Items<Item>,
-) -> Result<Text, Memory>
-    ensures { IfOk result (λ rest. (xs : List Part) → items.new ++ file_items (lines_of rest) xs ≡ items.old ++ file_items (lines_of left.now) (line.old ∷ xs)) }
-{
-    match line {
-        Part::Leaf(end) => {
-            push_all_groups(alloc, left, end.gap.as_slice(), items)?;
-            Ok(Text::from_vec(Vec::new(alloc)))
-        }
-        Part::Node(line) => {
-            let parts = mem::replace(&mut line.parts, Items::new(alloc));
-            let above = push_groups(alloc, left, gap_at(parts.as_slice(), 0), items)?;
-            let rest = Text::from_slice(alloc, past_first_line(gap_of_last(parts.as_slice())))?;
-            push_moved_statements(alloc, parts, above, items)?;
-            Ok(rest)
-        }
-    }
 }
 
 /// Appends the statements of a line, which are given up, the first with these comments above it.

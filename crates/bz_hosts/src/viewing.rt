@@ -1,10 +1,8 @@
 //! The view of a tree as a file value.
-ghost use Rattle.std.specs.Prelude.{◌≡◌, [], ◌∷◌, ◌++◌, List, map, IfOk, OnOk};
-ghost use Rattle.bz_grammar.specs.declared.tree.Part.{Part};
+ghost use Rattle.std.specs.Prelude.{◌≡◌, [], ◌++◌, map, IfOk, OnOk};
 ghost use Rattle.bz_grammar.specs.Legal.{IsBuild};
 ghost use Rattle.bz_value.specs.Counted.{times};
 ghost use Rattle.bz_items.specs.Characters.{Bytes};
-ghost use Rattle.bz_value.specs.Gaps.{lines_of};
 ghost use Rattle.bz_hosts.specs.Kept.{occurrences};
 ghost use Rattle.bz_hosts.specs.View.{file_items, seen, statements_in, view_of};
 
@@ -49,35 +47,23 @@ fn items_of(alloc: Global, lines: &[Part]) -> Result<Items<Item>, Memory>
 {
     // most files have an item a line
     let mut items = Items::from_vec(Vec::with_capacity(alloc, lines.len())?);
+    // what the gap of the Newline before says after its first line
     let mut left: &[u8] = &[];
     for line in lines {
-        left = push_line_items(alloc, left, line, &mut items)?;
+        match line {
+            Part::Leaf(end) => {
+                push_all_groups(alloc, left, end.gap.as_slice(), &mut items)?;
+                left = &[];
+            }
+            Part::Node(line) => {
+                let parts = line.parts.as_slice();
+                let above = push_groups(alloc, left, gap_at(parts, 0), &mut items)?;
+                push_statements(alloc, parts, above, &mut items)?;
+                left = past_first_line(gap_of_last(parts));
+            }
+        }
     }
     Ok(without_room(items))
-}
-
-/// Appends the items of a line, or those of the end, where `left` is what the gap of the Newline before says after its
-/// first line. Returns the same of the line's own Newline.
-fn push_line_items<'a>(
-    alloc: Global,
-    left: &[u8],
-    line: &'a Part,
-    items: &mut Items<Item>,
-) -> Result<&'a [u8], Memory>
-    ensures { IfOk result (λ rest. (xs : List Part) → items.new ++ file_items (lines_of rest.now) xs ≡ items.old ++ file_items (lines_of left.now) (line.now ∷ xs)) }
-{
-    match line {
-        Part::Leaf(end) => {
-            push_all_groups(alloc, left, end.gap.as_slice(), items)?;
-            Ok(&[])
-        }
-        Part::Node(line) => {
-            let parts = line.parts.as_slice();
-            let above = push_groups(alloc, left, gap_at(parts, 0), items)?;
-            push_statements(alloc, parts, above, items)?;
-            Ok(past_first_line(gap_of_last(parts)))
-        }
-    }
 }
 
 /// Appends the statements of a line, the first with these comments above it.

@@ -1,9 +1,10 @@
-use Rattle.std.proofs.Common.{arith}
-use Rattle.bz_hosts.proofs.GivenBack.{given_back}
+use Rattle.std.proofs.Common.{◌≡◌, ◌+◌, ◌-◌, drop, ap, ◌∙◌, arith, rules}
+use Rattle.std.proofs.lemmas.List.{drop-drop}
 use Rattle.bz_hosts.proofs.moved.give_back.Goals as goal
 
 pub returns-clause-rest : goal.returns-clause-rest
 returns-clause-rest c =
-    let ok = c.args.parts.now.ok.0 in
-    let count = c.len-2.ensures in
-    given_back c.args.parts.now.items c.args.at c.len-2.result _ _ _ c.requires.later c.requires.within (omega arith) c.rotate_left.ensures.items c.truncate.ensures.items c.shrink_to_fit.ensures.items
+    let parts = c.args.parts.now.items in
+    let left : c.shrink_to_fit.new.self.items ≡ drop (c.args.at - 1) parts = search rules in
+    let next : c.args.at - 1 + 1 ≡ c.args.at = omega arith in
+    ap (drop 1) left ∙ (drop-drop 1 (c.args.at - 1) parts ∙ ap (λ n. drop n parts) next)
