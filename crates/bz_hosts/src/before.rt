@@ -67,7 +67,10 @@ pub fn gap_at(parts: &[Part], at: usize) -> &[u8]
 pub fn is_quiet_at(parts: &[Part], at: usize) -> bool
     ensures { result ≡ is_unsigned (first_seen_gap (map seen (drop at parts.now))) }
 {
-    first_gap_at(parts, at).is_none_or(is_quiet)
+    match first_gap_at(parts, at) {
+        None => true,
+        Some(gap) => is_quiet(gap),
+    }
 }
 
 /// The gap before the last of these parts.
@@ -111,10 +114,7 @@ pub fn is_followed(parts: &[Part], at: usize) -> bool
 pub fn is_operator_in(binary: bool, part: &Part) -> bool
     ensures { result ≡ (binary && is_operator (plain (seen part.now))) }
 {
-    match part {
-        Part::Leaf(leaf) => binary && is_operator_class(leaf.class),
-        Part::Node(_) => false,
-    }
+    binary && matches!(part, Part::Leaf(leaf) if is_operator_class(leaf.class))
 }
 
 /// Whether the part with this index is a token of an operator.

@@ -12,7 +12,7 @@ use bz_value::{is_comprehension, push_all};
 use std::alloc::Global;
 
 /// Appends the comments of the gap before the part with this index. The error: memory was refused.
-#[tactic(auto, using(crate::proofs::UnsignedGaps::gap_quiet))]
+#[tactic(auto, using(crate::proofs::UnsignedGaps::gap_quiet, crate::proofs::UnsignedGaps::gap_past))]
 #[inline(always)]
 pub fn push_gap(
     alloc: Global,
@@ -22,6 +22,10 @@ pub fn push_gap(
 ) -> Result<(), Memory>
     ensures { OnOk result (comments.new ≡ comments.old ++ all_in (first_seen_gap (map seen (drop at parts.now)))) }
 {
+    // past the last part, which is known with no call
+    if at >= parts.len() {
+        return Ok(());
+    }
     if is_quiet_at(parts, at) {
         return Ok(());
     }

@@ -37,7 +37,9 @@ pub(crate) fn give_back(at: usize, parts: &mut Vec<Part>) -> usize
     if gone < MANY || gone < parts.len() / 4 {
         return at;
     }
-    drop(parts.drain(..gone));
+    let kept = parts.len() - gone;
+    parts.rotate_left(gone);
+    parts.truncate(kept);
     parts.shrink_to_fit();
     1
 }
