@@ -1,7 +1,6 @@
 -- A gap without a number sign has no comment.
-use Rattle.std.proofs.Common.{◌≡◌, ◌⊎◌, ℕ, suc, zero, Bool, true, false, not, if◌then◌else◌, nat_eq, List, [], ◌∷◌, ◌++◌, ◌+◌, ◌≤◌, length, inl, inr, Option, None, Some, refl, sym, ap, ◌∙◌, subst, map, drop, get_or, replicate, append-nil, add-one}
+use Rattle.std.proofs.Common.{◌≡◌, ◌⊎◌, ℕ, suc, zero, Bool, true, false, not, if◌then◌else◌, nat_eq, List, [], ◌∷◌, ◌++◌, ◌+◌, inl, inr, Option, None, Some, refl, sym, ap, ◌∙◌, subst, map, drop, get_or, replicate, append-nil, add-one}
 use Rattle.std.specs.List.{AllByRecursion}
-use Rattle.std.proofs.lemmas.List.{drop_all}
 use Rattle.std.proofs.lemmas.Bool.{and_parts, cases_Bool, not-true}
 use Rattle.bz_grammar.specs.declared.tree.Part.{Part}
 use Rattle.bz_lex.specs.Gaps.{is_indent}
@@ -65,9 +64,6 @@ all_quiet g h = comments_bare (lines_of g) (lines_bare g h)
 -- at a glance, by which no comment is in the gap
 pub gap_quiet : (gap : Bytes) (quiet : Bool) (old : List Bytes) → quiet ≡ is_unsigned gap → quiet ≡ true → old ≡ old ++ all_in gap
 gap_quiet gap quiet old q t = sym (ap (λ texts. old ++ texts) (all_quiet gap (sym q ∙ t)) ∙ append-nil old)
-
-pub gap_past : (ps : List Part) (at : ℕ) (old : List Bytes) → length ps ≤ at → old ≡ old ++ all_in (first_seen_gap (map seen (drop at ps)))
-gap_past ps at old l = sym (ap (λ qs. old ++ all_in (first_seen_gap (map seen qs))) (drop_all at ps l) ∙ append-nil old)
 
 others_quiet : (g : Bytes) → is_unsigned g ≡ true → others_in g ≡ []
 others_quiet g h = (none_in g (all_quiet g h)).1

@@ -9,7 +9,6 @@ mod joined;
 mod laws;
 mod marks;
 mod moved;
-mod taken;
 mod viewing;
 
 pub use before::{gap_at, gap_before, gap_of_last};
@@ -19,5 +18,4 @@ pub use joined::ends_with_line;
 pub use laws::{
     comments_kept, hosts_by_place, views_are_proper, views_join, worked_hosts, worked_views,
 };
-pub use taken::into_view;
-pub use viewing::{push_statements, view};
+pub use viewing::{into_view, push_statements, view};

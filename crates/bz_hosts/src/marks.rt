@@ -12,7 +12,7 @@ use bz_value::{is_comprehension, push_all};
 use std::alloc::Global;
 
 /// Appends the comments of the gap before the part with this index. The error: memory was refused.
-#[tactic(auto, using(crate::proofs::UnsignedGaps::gap_quiet, crate::proofs::UnsignedGaps::gap_past))]
+#[tactic(auto, using(crate::proofs::UnsignedGaps::gap_quiet))]
 #[inline(always)]
 pub fn push_gap(
     alloc: Global,
@@ -22,10 +22,6 @@ pub fn push_gap(
 ) -> Result<(), Memory>
     ensures { OnOk result (comments.new ≡ comments.old ++ all_in (first_seen_gap (map seen (drop at parts.now)))) }
 {
-    // past the last part, which is known with no call
-    if at >= parts.len() {
-        return Ok(());
-    }
     if is_quiet_at(parts, at) {
         return Ok(());
     }
@@ -44,11 +40,8 @@ pub fn breaks_operator(
     ensures { result ≡ (operator && (if inside then newline else has_newline (first_seen_gap (map seen (drop at parts.now))))) }
 {
     // what is before an operand is not looked for: it can be deep in there
-    if !operator {
-        return false;
-    }
-    if inside {
-        return newline;
+    if inside || !operator {
+        return operator && newline;
     }
     breaks_before(parts, at)
 }

@@ -71,8 +71,7 @@ pub(crate) fn push_moved(
     match part {
         Part::Leaf(leaf) => {
             exprs.reserve(1)?;
-            let none = Text::from_slice(alloc, &[])?;
-            let text = mem::replace(&mut leaf.token, none);
+            let text = mem::replace(&mut leaf.token, Text::from_slice(alloc, &[])?);
             exprs.push_reserved(token_of(leaf.class, text, line_break));
             Ok(())
         }

@@ -1,6 +1,6 @@
 use Rattle.std.proofs.Common.{◌≡◌, ◌-◌, ◌++◌, [], length, map, drop}
 use Rattle.bz_hosts.specs.View.{seen, statements_in}
-use Rattle.bz_hosts.proofs.taken.push_moved_statements.Given as goal
+use Rattle.bz_hosts.proofs.viewing.push_moved_statements.Given as goal
 
 abbrev pub invariant-loop-alloc : goal.invariant-loop-alloc
 invariant-loop-alloc l = record {

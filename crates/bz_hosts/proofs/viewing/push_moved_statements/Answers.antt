@@ -4,7 +4,7 @@ use Rattle.bz_grammar.specs.declared.tree.Part.{Part}
 use Rattle.bz_value.specs.declared.value.Expr.{Expr}
 use Rattle.bz_hosts.specs.View.{plain, seen}
 use Rattle.bz_hosts.proofs.LineSteps.{statement_more, statements_done}
-use Rattle.bz_hosts.proofs.taken.push_moved_statements.Goals as goal
+use Rattle.bz_hosts.proofs.viewing.push_moved_statements.Goals as goal
 
 pub loop-alloc-preserved : goal.loop-alloc-preserved
 loop-alloc-preserved c =
