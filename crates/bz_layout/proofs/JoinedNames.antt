@@ -58,13 +58,19 @@ front_is_less form front xs d same l is =
     omega (arith, all)
 
 -- a row of tokens
-pub leaves_row : (form : Form) (xs : List Expr) (x : Expr) → xs ≡ form.parts → 1 ≤ length xs → x ≡ get_or xs 0 x → list_all is_lone_token xs ≡ true → (m : ℕ) → row_written m form ≡ v.text_of x ++ past_front m form
-leaves_row form xs x same l is all m =
-    let parts : form.parts ≡ x ∷ drop 1 xs = first_and_rest form xs x x same l (sym is) in
-    let w = and_parts (is_lone_token x) (list_all is_lone_token (drop 1 xs)) (ap (list_all is_lone_token) (sym parts ∙ sym same) ∙ all) in
-    ap (row_text form.kind form.open_break m m) parts ∙
-    (row_tokens form.kind form.open_break m m x (drop 1 xs) w.1 ∙
-    (ap (λ t. t ++ past_first form.kind form.open_break m (x ∷ drop 1 xs)) (token_text x m w.0) ∙ ap (λ ys. v.text_of x ++ past_first form.kind form.open_break m ys) (sym parts)))
+leaves_row : (kind : Kind) (open_break : Bool) (m : ℕ) (xs : List Expr) → list_all is_lone_token xs ≡ true → row_text kind open_break m m xs ≡ v.first_text xs ++ past_first kind open_break m xs
+leaves_row kind open_break m [] all = refl
+leaves_row kind open_break m (x ∷ xs) all =
+    let w = and_parts (is_lone_token x) (list_all is_lone_token xs) all in
+    row_tokens kind open_break m m x xs w.1 ∙ ap (λ t. t ++ past_first kind open_break m (x ∷ xs)) (token_text x m w.0)
+
+-- the innermost of forms is written, and those that it is in are left
+pub leaves_turn : (form at : Form) (xs : List Expr) (m : ℕ) (out one two : Drafted) (text rest : Bytes) → xs ≡ at.parts → list_all is_lone_token xs ≡ true → row_written m form ≡ row_written m at ++ rest →
+    text ≡ v.first_text xs → one ≡ pushed out text → two ≡ pushed one (past_front m at) → pushed two rest ≡ pushed out (row_written m form)
+leaves_turn form at xs m out one two text rest same all so_far is first second =
+    let leaves : row_written m at ≡ v.first_text xs ++ past_front m at = rw (sym same) (leaves_row at.kind at.open_break m xs all) in
+    three_pushed out one two text (past_front m at) rest (row_written m form) first second
+    (so_far ∙ (ap (λ t. t ++ rest) leaves ∙ (ap (λ t. (t ++ past_front m at) ++ rest) (sym is) ∙ append_assoc text (past_front m at) rest)))
 
 -- ---- the loops
 

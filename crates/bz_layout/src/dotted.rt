@@ -12,7 +12,7 @@ use crate::draft::Draft;
 use crate::row_gaps::push_row_gap;
 use bz_grammar::Kind;
 use bz_items::Memory;
-use bz_rule::text_of;
+use bz_rule::{first_text, text_of};
 use bz_value::{Expr, Form};
 
 fn is_token(part: &Expr) -> bool
@@ -40,16 +40,10 @@ fn front_of(form: &Form) -> Option<&Form>
     ensures row { IfSome result (λ front. (margin : ℕ) → row_written margin form.now ≡ row_written margin front.now ++ past_front margin form.now) }
     ensures less { IfSome result (λ front. fronts (e.Form front.now) < fronts (e.Form form.now)) }
 {
-    let [first, tokens @ ..] = form.parts.as_slice() else {
-        return None;
-    };
-    let Expr::Form(front) = first else {
-        return None;
-    };
-    if !is_dot(front) || !are_tokens(tokens) {
-        return None;
+    match form.parts.as_slice() {
+        [Expr::Form(front), tokens @ ..] if is_dot(front) && are_tokens(tokens) => Some(front),
+        _ => None,
     }
-    Some(front)
 }
 
 /// Appends what follows the first part of a row, where that is tokens, each after its gap.
@@ -65,26 +59,7 @@ fn push_past_front(out: &mut Draft, form: &Form, margin: usize) -> Result<(), Me
     Ok(())
 }
 
-/// Appends a row of tokens, and says whether it is one; else nothing is appended.
-#[tactic(auto, using(crate::proofs::Pushing::pushed_twice, crate::proofs::JoinedNames::leaves_row))]
-fn push_leaves(out: &mut Draft, form: &Form, margin: usize) -> Result<bool, Memory>
-    ensures leaves { result ≡ Ok true → out.new ≡ pushed out.old (row_written margin form.now) }
-    ensures other { result ≡ Ok false → out.new ≡ out.old }
-{
-    let row = form.parts.as_slice();
-    let [first, ..] = row else {
-        return Ok(false);
-    };
-    if !are_tokens(row) {
-        return Ok(false);
-    }
-    out.push_bytes(text_of(first))?;
-    push_past_front(out, form, margin)?;
-    Ok(true)
-}
-
 /// Appends the row of names joined by dots, and says whether it is one; else nothing is appended. The error: a growth was refused.
-#[tactic(auto, using(crate::proofs::Pushing::pushed_twice))]
 pub fn push_dotted(out: &mut Draft, form: &Form, margin: usize) -> Result<bool, Memory>
     ensures dotted { result ≡ Ok true → out.new ≡ pushed out.old (row_written margin form.now) }
     ensures other { result ≡ Ok false → out.new ≡ out.old }
@@ -95,9 +70,12 @@ pub fn push_dotted(out: &mut Draft, form: &Form, margin: usize) -> Result<bool, 
         outer.push(at)?;
         at = front;
     }
-    if !push_leaves(out, at, margin)? {
+    let names = at.parts.as_slice();
+    if !are_tokens(names) {
         return Ok(false);
     }
+    out.push_bytes(first_text(names))?;
+    push_past_front(out, at, margin)?;
     while let Some(next) = outer.pop() {
         push_past_front(out, next, margin)?;
     }

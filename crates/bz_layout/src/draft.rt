@@ -6,8 +6,9 @@ ghost use Rattle.bz_layout.specs.Drafts.{drafted, pushed};
 ghost use Rattle.bz_layout.specs.Layout.{new_line_at, margin_lines, suffix_text, ended};
 ghost use Rattle.bz_layout.specs.Written.{comment_lines};
 
-use crate::gaps::{deeper_margin, push_comments, push_margin};
+use crate::gaps::{deeper_margin, push_comments};
 use bz_items::{Memory, Text};
+use std::alloc::AllocError;
 use std::marker::Model;
 
 /// A text that is being written. Of one that is longer than its limit only this is known.
@@ -62,20 +63,21 @@ impl Draft {
     pub fn push_bytes(&mut self, bytes: &[u8]) -> Result<(), Memory>
         ensures { OnOk result (self.new ≡ pushed self.old bytes.now) }
     {
-        self.text.extend_from_slice(bytes)?;
-        Ok(())
+        self.text.extend_from_slice(bytes)
     }
 
     /// Appends the spaces of a margin. They are left out where the text is longer than its limit already: margins make a layout longer
     /// than its value by far. The error: a growth was refused.
-    #[tactic(auto, using(crate::proofs::Pushing::appended, crate::proofs::Pushing::past))]
+    #[tactic(auto, using(crate::proofs::Pushing::appended, crate::proofs::Pushing::past, std::proofs::lemmas::Grind::common_steps))]
     pub fn push_margin(&mut self, margin: usize) -> Result<(), Memory>
         ensures { OnOk result (self.new ≡ pushed self.old (replicate margin space)) }
     {
         if self.text.len() > self.limit {
             return Ok(());
         }
-        push_margin(&mut self.text, margin)
+        let end = self.text.len().checked_add(margin).ok_or(AllocError)?;
+        self.text.resize(end, b' ')?;
+        Ok(())
     }
 
     /// Appends a newline and the spaces of a margin. The error: a growth was refused.

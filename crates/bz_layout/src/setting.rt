@@ -49,16 +49,6 @@ fn is_shallow(items: &[Item]) -> bool
     are_items_within(items, DEPTH_LIMIT as usize - 1)
 }
 
-/// What is between an item, where there is one, and those below.
-fn blank_below(above: &Option<Item>, items: &[Item]) -> &'static [u8]
-    ensures { result.now ≡ gap_below above.now items.now }
-{
-    match above {
-        None => b"",
-        Some(item) => blank_before(item, items),
-    }
-}
-
 /// Appends the layout of the file value to a text, below an item where one is given. None: a growth was refused, or the text or the
 /// tree of the layout would be past a limit; what was appended by then is not specified.
 pub fn append_file(out: &mut Vec<u8>, above: &Option<Item>, file: &File) -> Option<()>
@@ -70,7 +60,8 @@ pub fn append_file(out: &mut Vec<u8>, above: &Option<Item>, file: &File) -> Opti
     if !is_shallow(items) {
         return None;
     }
-    out.extend_from_slice(blank_below(above, items)).ok()?;
+    out.extend_from_slice(blank_before(above.as_ref(), items))
+        .ok()?;
     let alloc = *out.allocator();
     let mut draft = Draft::new(mem::replace(out, Vec::new(alloc)), LENGTH_LIMIT);
     push_items(&mut draft, items).ok()?;

@@ -1,9 +1,10 @@
 //! The single spaces between the parts of a row, and the blank lines between items.
 ghost use Rattle.std.specs.Prelude.{◌≡◌, ◌∷◌, [], if◌then◌else◌};
+ghost use Rattle.std.specs.Option.{option_copied};
 ghost use Rattle.bz_items.specs.Characters.{line_feed};
 ghost use Rattle.bz_grammar.specs.Shapes as shapes;
 ghost use Rattle.bz_value.specs.Roots.{root};
-ghost use Rattle.bz_layout.specs.LaidOut.{before_next};
+ghost use Rattle.bz_layout.specs.Appended.{gap_below};
 ghost use Rattle.bz_layout.specs.Spaces as spaces;
 ghost use Rattle.bz_layout.specs.Written as written;
 
@@ -66,13 +67,10 @@ fn has_space_after(kind: Kind, expr: &Expr) -> bool
 fn has_space_before(kind: Kind, expr: &Expr) -> bool
     ensures { result ≡ spaces.is_spaced_before kind (root expr.now) }
 {
-    let Expr::Token(token) = expr else {
-        return false;
-    };
-    match token.class {
-        Class::Mark => !is_tight(kind, token.text.as_slice()),
-        Class::Keyword => true,
-        _ => false,
+    match expr {
+        Expr::Token(token) if token.class == Class::Mark => !is_tight(kind, token.text.as_slice()),
+        Expr::Token(token) => token.class == Class::Keyword,
+        Expr::Form(_) => false,
     }
 }
 
@@ -117,30 +115,22 @@ pub fn is_spaced(kind: Kind, left: &Expr, right: &Expr) -> bool
         || is_number(left) && has_mark(b".", right)
 }
 
-/// Whether both expressions are forms of this kind.
-fn are_both(kind: Kind, above: &Expr, below: &Expr) -> bool
-    ensures { result ≡ written.are_both kind above.now below.now }
-{
-    is_of_kind(kind, above) && is_of_kind(kind, below)
-}
-
 /// Whether a statement is right below another, with no blank line between.
 pub fn is_close(above: &Expr, below: &Expr) -> bool
     ensures { (if result then [] else (line_feed ∷ [])) ≡ written.gap_between (Item.Stmt above.now) (Item.Stmt below.now) }
 {
-    if !below.comments().before().is_empty() {
-        return false;
-    }
-    are_both(Kind::Load, above, below) || are_both(Kind::Assign, above, below)
+    below.comments().before().is_empty()
+        && (is_of_kind(Kind::Load, above) && is_of_kind(Kind::Load, below)
+            || is_of_kind(Kind::Assign, above) && is_of_kind(Kind::Assign, below))
 }
 
-/// What is between an item and those that follow: a blank line, or nothing.
-pub fn blank_before(item: &Item, others: &[Item]) -> &'static [u8]
-    ensures { result.now ≡ before_next item.now others.now }
+/// What is between an item, where there is one, and those that follow: a blank line, or nothing.
+pub fn blank_before(item: Option<&Item>, others: &[Item]) -> &'static [u8]
+    ensures { result.now ≡ gap_below (option_copied item.entry) others.now }
 {
     match (item, others) {
-        (_, []) => b"",
-        (Item::Stmt(above), [Item::Stmt(below), ..]) if is_close(above, below) => b"",
+        (None, _) | (_, []) => b"",
+        (Some(Item::Stmt(above)), [Item::Stmt(below), ..]) if is_close(above, below) => b"",
         _ => b"\n",
     }
 }

@@ -38,8 +38,7 @@ pub fn leave_gap(gap: &mut Vec<u8>, item: &Item, others: &[Item]) -> Result<(), 
         Item::Block(texts) => push_comments(gap, texts.as_slice())?,
         Item::Stmt(_) => gap.clear(),
     }
-    gap.extend_from_slice(blank_before(item, others))?;
-    Ok(())
+    gap.extend_from_slice(blank_before(Some(item), others))
 }
 
 /// Makes of the gap before the first of the items the one before what follows this many. The error: a growth was refused.

@@ -12,7 +12,7 @@ use crate::breaks::is_broken;
 use crate::dotted::push_dotted;
 use crate::draft::Draft;
 use crate::gaps::deeper_margin;
-use crate::row_gaps::{is_assignment, margin_after, push_row_gap};
+use crate::row_gaps::{is_assignment, push_row_gap};
 use crate::spaces::blank_before;
 use bz_grammar::Kind;
 use bz_items::{Memory, Text};
@@ -26,10 +26,7 @@ pub fn push_expr(out: &mut Draft, expr: &Expr, margin: usize) -> Result<(), Memo
     ensures { OnOk result (out.new ≡ pushed out.old (written.text_of expr.now margin)) }
 {
     match expr {
-        Expr::Token(token) => {
-            out.push_bytes(token.text.as_slice())?;
-            Ok(())
-        }
+        Expr::Token(token) => out.push_bytes(token.text.as_slice()),
         Expr::Form(form) => push_form(out, form, margin),
     }
 }
@@ -82,8 +79,7 @@ pub fn push_row(out: &mut Draft, form: &Form, margin: usize) -> Result<(), Memor
     let mut inner = margin;
     for (i, part) in row.iter().enumerate() {
         push_expr(out, part, inner)?;
-        push_row_gap(out, form, margin, part, &row[i + 1..])?;
-        inner = margin_after(form, margin, part)?;
+        inner = push_row_gap(out, form, margin, part, &row[i + 1..])?;
     }
     Ok(())
 }
@@ -100,17 +96,15 @@ pub fn push_body(out: &mut Draft, form: &Form, margin: usize, closer: u8) -> Res
     push_joined(out, form, margin, closer)
 }
 
-/// Appends what is between an item on one line and the others that follow: a lone item may have a comma.
-#[tactic(auto, using(crate::proofs::Pushing::pushed_none))]
-fn push_comma(out: &mut Draft, others: &[Expr], one: bool) -> Result<(), Memory>
-    ensures { OnOk result (out.new ≡ pushed out.old (comma_text one others.now)) }
+/// What is between an item on one line and the others that follow: a lone item may have a comma.
+fn comma_after(others: &[Expr], one: bool) -> &'static [u8]
+    ensures { result.now ≡ comma_text one others.now }
 {
     match others {
-        [] if one => out.push(b',')?,
-        [] => {}
-        _ => out.push_bytes(b", ")?,
+        [] if one => b",",
+        [] => b"",
+        _ => b", ",
     }
-    Ok(())
 }
 
 /// Appends items joined by a comma and a space, and the closing bracket; a tuple of one ends with a comma.
@@ -123,11 +117,10 @@ fn push_joined(out: &mut Draft, form: &Form, margin: usize, closer: u8) -> Resul
     let mut one = matches!(form.kind, Kind::Tuple) && items.len() == 1;
     for (i, item) in items.iter().enumerate() {
         push_expr(out, item, margin)?;
-        push_comma(out, &items[i + 1..], one)?;
+        out.push_bytes(comma_after(&items[i + 1..], one))?;
         one = false;
     }
-    out.push(closer)?;
-    Ok(())
+    out.push(closer)
 }
 
 /// Appends items on lines of their own, each with its comments above it, a comma and its suffix, end comments, and the closing bracket.
@@ -146,8 +139,7 @@ fn push_stacked(out: &mut Draft, form: &Form, margin: usize, closer: u8) -> Resu
         out.push_after(item.comments().suffix())?;
     }
     out.push_ended(form.seq.end.as_slice(), margin)?;
-    out.push(closer)?;
-    Ok(())
+    out.push(closer)
 }
 
 /// Appends a statement on lines of its own: its comments above it, its suffix, a newline.
@@ -159,8 +151,7 @@ pub fn push_statement(out: &mut Draft, expr: &Expr) -> Result<(), Memory>
     out.push_comments(comments.before())?;
     push_expr(out, expr, 0)?;
     out.push_after(comments.suffix())?;
-    out.push(b'\n')?;
-    Ok(())
+    out.push(b'\n')
 }
 
 /// The layout of an expression at margin 0, as text. The error: a growth was refused.
@@ -198,7 +189,7 @@ pub fn push_items(out: &mut Draft, items: &[Item]) -> Result<(), Memory>
 {
     for (i, item) in items.iter().enumerate() {
         push_item(out, item)?;
-        out.push_bytes(blank_before(item, &items[i + 1..]))?;
+        out.push_bytes(blank_before(Some(item), &items[i + 1..]))?;
     }
     Ok(())
 }
