@@ -1,6 +1,6 @@
 -- What the windows that are made say of the layout.
 use Rattle.std.proofs.Common.{ℕ, suc, min, ◌^◌, ◌≡◌, ◌<◌, ◌≤◌, ◌-◌, List, [], ◌+◌, length, sym, ap, ◌∙◌, subst, arith, flat_map}
-use Rattle.std.specs.Prelude.{Option, None, Some, MatchOption}
+use Rattle.std.specs.Prelude.{Option, None, Some, MatchOption, Result, Ok, Err, IfOk}
 use Rattle.bz_edit.specs.Windows.{AreThere, window_parts, with_windows}
 use Rattle.bz_edit.specs.declared.part_windows.PartWindow.{PartWindow}
 use Rattle.bz_grammar.specs.Spell.{spell_part, spell_node, limit}
@@ -11,7 +11,7 @@ use Rattle.bz_layout.specs.Windows.{AreTextsOf, IsLayoutOf}
 use Rattle.bz_layout.specs.Written.{layout}
 use Rattle.bz_layout.specs.declared.writer.TextWindow.{TextWindow}
 use Rattle.bz_layout.specs.declared.writer.Writer.{Writer}
-use Rattle.bz_layout.specs.private.Reached.{AreReached, IsPut, gone_length, text_count}
+use Rattle.bz_layout.specs.private.Reached.{IsPut, gone_length, text_count}
 use Rattle.bz_layout.specs.private.Windows.{line_count_in, AreLinesOver}
 use Rattle.bz_layout.proofs.Reaching.{size_put, gone_most}
 use Rattle.bz_layout.proofs.Spelled.{laid_out_spelled}
@@ -46,19 +46,19 @@ whole_length tree items parts ts found w old gone less n h short same made lost 
     let own : gone ≡ gone_length w.made tree.parts = lost ∙ (ap (λ us. gone_length us parts) made ∙ ap (gone_length w.made) same) in
     omega (arith, all, new, most, p.windows.count, p.windows.few, short, is, own, left, sum)
 
--- where the writer begins, over the windows that count lines, if the code has the items of the file and the parts of the tree
-pub started : (tree : Node) (file items before : List Item) (parts : List Part) (windows counted : List Window) (lines : ℕ) (w : Writer) → items ≡ file → parts ≡ tree.parts → IsProper file → lines ≡ length parts - 1 →
-    (line_count_in before ≡ lines → AreOver windows before items → AreLinesOver counted before items) → (IsProper items → AreReached (lines_from [] before) (lines_from [] items) w before items) →
-    IsLayoutOf before tree → AreOver windows before file → AreLinesOver counted before items × AreReached parts (lines_from [] items) w before items
-started tree file items before parts windows counted lines w e f proper is over begin l h =
+-- what is made of the items of the file and the parts of the tree, over windows that count lines
+pub of_tree : {E : Type 0} (tree : Node) (file items : List Item) (parts : List Part) (windows counted : List Window) (lines : ℕ) (made : Result (Option Writer) E) → items ≡ file → parts ≡ tree.parts → IsProper file → lines ≡ length parts - 1 →
+    ((before : List Item) → line_count_in before ≡ lines → AreOver windows before items → AreLinesOver counted before items) →
+    IfOk made (λ found. (before : List Item) → lines_from [] before ≡ parts → IsProper items → AreLinesOver counted before items →
+    MatchOption found (limit < length (layout items)) (λ w. IsPut parts (lines_from [] items) w.made w.bytes w.done)) →
+    IfOk made (λ found. (before : List Item) → IsLayoutOf before tree → AreOver windows before file → MatchOption found (limit < length (layout file)) (λ w. IsPut tree.parts (lines_from [] file) w.made w.bytes w.done))
+of_tree tree file items parts windows counted lines (Err error) e f proper is over h = tt
+of_tree tree file items parts windows counted lines (Ok found) e f proper is over h = λ before l o.
     let own : lines_from [] before ≡ parts = ap (λ n. n.parts) l.laid_out ∙ sym f in
-    let all : length parts ≡ suc (line_count_in before) = ap length (sym own) ∙ length_lines [] before in (
-      over (omega (arith, all, is)) (subst (AreOver windows before) (sym e) h),
-      subst (λ ps. AreReached ps (lines_from [] items) w before items) own (begin (subst IsProper (sym e) proper)),
-    )
+    let all : length parts ≡ suc (line_count_in before) = ap length (sym own) ∙ length_lines [] before in
+    subst (λ ys. MatchOption found (limit < length (layout ys)) (λ w. IsPut tree.parts (lines_from [] ys) w.made w.bytes w.done)) e
+    (subst (λ ps. MatchOption found (limit < length (layout items)) (λ w. IsPut ps (lines_from [] items) w.made w.bytes w.done)) f
+    (h before own (subst IsProper (sym e) proper) (over before (omega (arith, all, is)) (subst (AreOver windows before) (sym e) o))))
 
-pub put_as : (tree : Node) (file items : List Item) (parts : List Part) (w : Writer) → items ≡ file → parts ≡ tree.parts → IsPut parts (lines_from [] items) w.made w.bytes w.done → IsPut tree.parts (lines_from [] file) w.made w.bytes w.done
-put_as tree file items parts w e f p = subst (λ ps. IsPut ps (lines_from [] file) w.made w.bytes w.done) f (subst (λ ys. IsPut parts (lines_from [] ys) w.made w.bytes w.done) e p)
-
-pub long_as : (file items : List Item) → items ≡ file → IsProper file → limit < length (flat_map spell_part (lines_from [] items)) → limit < length (layout file)
-long_as file items e h long = subst (λ n. limit < n) (ap (λ ys. length (flat_map spell_part (lines_from [] ys))) e ∙ ap length (laid_out_spelled file h)) long
+pub past_limit : (items : List Item) → IsProper items → limit < length (flat_map spell_part (lines_from [] items)) → limit < length (layout items)
+past_limit items h long = subst (λ n. limit < n) (ap length (laid_out_spelled items h)) long

@@ -46,8 +46,6 @@ use Rattle.bz_layout.proofs.Margins.{FitsFlush, coded_byte, first_append, first_
 use Rattle.bz_layout.proofs.Standing.{Placed, laid_out_stands, at_node}
 use Rattle.bz_layout.proofs.LegalParts.{IsGood, build_good}
 use Rattle.bz_layout.proofs.Spelled.{laid_out_spelled}
-use Rattle.bz_layout.proofs.Elements.{in_line_class}
-use Rattle.bz_layout.proofs.Spots.{lexeme_in_line, token_goes_on, node_goes_on}
 
 -- ---- what holds of each leaf of a part
 

@@ -1,7 +1,10 @@
 -- Windows of items: how many lines give way to them, and how deep the layout is.
 use Rattle.std.proofs.Common.{ℕ, zero, suc, ◌≡◌, ◌<◌, ◌≤◌, ◌-◌, List, [], ◌∷◌, ◌++◌, ◌+◌, length, get_or, take, drop, refl, sym, ap, ◌∙◌, subst, arith, length-drop, max, false, true, true≢false}
 use Rattle.std.proofs.lemmas.List.{drop-drop, drop_more}
-use Rattle.std.specs.Prelude.{◌↔◌, IsTrue, Bool}
+use Rattle.std.proofs.Math.Dec.{eqb}
+use Rattle.std.proofs.lemmas.Bool.{eqb-true}
+use Rattle.std.specs.Option.{option_eq}
+use Rattle.std.specs.Prelude.{◌↔◌, IfSome, IsTrue, Bool, None, Option, Some}
 use Rattle.bz_grammar.specs.Spell.{depth_of, depth_limit}
 use Rattle.bz_value.specs.declared.value.Item.{Item}
 use Rattle.bz_value.specs.declared.value.Item.TheVariants as i
@@ -50,6 +53,11 @@ all_lines (w ∷ ws) xs ys e h =
     let most = count_most w.gone (drop w.from xs) in
     let rest = lines_most ws (drop (w.from + w.gone) xs) (drop (w.from + w.come) ys) h.3 in
     (w.gone, h.0, h.1, h.2, omega (arith, front, all, most, rest, e), all_lines ws (drop (w.from + w.gone) xs) (drop (w.from + w.come) ys) (omega (arith, front, all, most, rest, e)) h.3)
+
+-- a count that is this one
+pub same_count : (found : Option ℕ) (n m : ℕ) → option_eq eqb found (Some n) ≡ true → IfSome found (λ k. k ≡ m) → n ≡ m
+same_count None n m e h = absurd cc
+same_count (Some k) n m e h = sym (eqb-true k n e) ∙ h
 
 -- ---- all windows as one
 

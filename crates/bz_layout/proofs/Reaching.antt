@@ -2,7 +2,7 @@
 use Rattle.std.proofs.Common.{ℕ, min, ◌^◌, Bool, true, false, ◌≡◌, ◌<◌, ◌≤◌, ◌-◌, List, [], ◌∷◌, ◌++◌, ◌+◌, length, get_or, if◌then◌else◌, take, drop, refl, sym, ap, ◌∙◌, subst, arith, flat_map, append_assoc, append-nil, length-append, length-drop, true≢false}
 use Rattle.std.specs.Prelude.{None, Some}
 use Rattle.std.proofs.lemmas.Bool.{le-leb}
-use Rattle.std.proofs.lemmas.List.{drop_more, take-append-drop, drop-drop, drop_min, take_min, take_at, drop_at}
+use Rattle.std.proofs.lemmas.List.{drop_more, take-append-drop, drop-drop, take_at, drop_at}
 use Rattle.std.proofs.Math.Seq.{take-add}
 use Rattle.std.proofs.lemmas.Grind.{flat_map-append}
 use Rattle.bz_edit.specs.Windows.{AreThere, window_parts}
@@ -16,14 +16,6 @@ use Rattle.bz_layout.specs.declared.writer.TextWindow.{TextWindow}
 use Rattle.bz_layout.specs.private.Reached.{windows_end, windows_front, text_count, gone_length, Reached, IsPut}
 use Rattle.bz_layout.proofs.Pushing.{pushed_none, pushed_twice}
 use Rattle.bz_layout.proofs.Windows.{cut_window}
-
--- ---- places among parts
-
-pub from_least : (at : ℕ) (xs : List Part) → drop (min at (length xs)) xs ≡ drop at xs
-from_least at xs = drop_min at xs
-
-pub until_least : (at : ℕ) (xs : List Part) → take (min at (length xs)) xs ≡ take at xs
-until_least at xs = take_min at xs
 
 -- ---- windows of parts, one after another
 

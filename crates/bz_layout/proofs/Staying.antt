@@ -1,4 +1,4 @@
--- What each item does to the windows that are made: those that came, and those that stay.
+-- What each item does to the windows that are made: those that and those that stay.
 use Rattle.std.proofs.Common.{ℕ, zero, suc, true, false, ◌≡◌, ◌<◌, ◌≤◌, ◌-◌, List, [], ◌∷◌, ◌++◌, ◌+◌, length, get_or, take, drop, refl, sym, ap, ◌∙◌, subst, arith, flat_map, append-nil, length-append, length-drop}
 use Rattle.std.proofs.lemmas.List.{drop_more, drop_all, drop-drop, drop-take, drop_at, get_or-take}
 use Rattle.std.specs.Prelude.{slice_get}
@@ -34,6 +34,7 @@ use Rattle.bz_layout.proofs.Reaching.{put_line, take_lines, skip_lines, opened, 
 use Rattle.bz_layout.proofs.Readable.{readable}
 use Rattle.bz_layout.proofs.Spelled.{spell_line}
 use Rattle.bz_layout.proofs.Windows.{front_lines, lines_cut, front_same, length_front}
+use Rattle.bz_layout.proofs.Writing.{rest_here}
 
 -- what is left of both begins with the same item
 same_first : (n k : ℕ) (xs ys : List Item) (y : Item) → k < n → n ≤ length xs → take n xs ≡ take n ys → y ≡ get_or ys k y → drop k xs ≡ y ∷ drop (k + 1) xs
@@ -51,21 +52,20 @@ module _ {parts all : List Part} where
   line_put w left (i.Stmt x) ys h r =
       reach_as (ap (pushed w.window.text) (sym (spell_line w.window.gap.items x (readable Begins x (line_expr Begins x h.1))))) refl refl (put_line (line_part w.window.gap.items x) r)
 
-  pub came : (w : Writer) (v : OpenWindow) (xs ys : List Item) (y : Item) → v.text ≡ pushed w.window.text (own_text w.window.gap.items y) → v.gap.items ≡ left_gap w.window.gap.items y ++ before_next y ys →
-      v.is_open ≡ true → AreReached parts all w xs (y ∷ ys) → AreReached parts all (record w { window = v }) xs ys
-  came w v xs ys y text gap shown r = record {
-    above = r.above;
-    proper = r.proper.1;
-    lines = reach_as text shown (ap (λ g. lines_from g ys) gap) (line_put w (lines_from r.above xs) y ys r.proper.0 r.lines);
-  }
-
   -- a turn of the loop over them
-  pub came_turn : (w : Writer) (v : OpenWindow) (xs items others : List Item) (at : ℕ) (y : Item) → at < length items → y ≡ get_or items at y → others ≡ drop (at + 1) items →
-      v.text ≡ pushed w.window.text (own_text w.window.gap.items y) → v.gap.items ≡ left_gap w.window.gap.items y ++ before_next y others → v.is_open ≡ true →
+  pub came_turn : (w : Writer) (v : OpenWindow) (xs items : List Item) (at : ℕ) (y : Item) → at < length items → y ≡ get_or items at y → v.text ≡ pushed w.window.text (own_text w.window.gap.items y) →
+      v.gap.items ≡ left_gap w.window.gap.items y ++ before_next y (take (length items - (at + 1)) (drop (at + 1) items)) → v.is_open ≡ true →
       AreReached parts all w xs (drop at items) → AreReached parts all (record w { window = v }) xs (drop (at + 1) items)
-  came_turn w v xs items others at y h is rest text gap shown r =
+  came_turn w v xs items at y h is text gap shown r =
       let first : drop at items ≡ y ∷ drop (at + 1) items = drop_more items at y h ∙ ap (λ x. x ∷ drop (at + 1) items) (sym is) in
-      came w v xs (drop (at + 1) items) y text (gap ∙ ap (λ zs. left_gap w.window.gap.items y ++ before_next y zs) rest) shown (subst (AreReached parts all w xs) first r)
+      let here : AreReached parts all w xs (y ∷ drop (at + 1) items) = subst (AreReached parts all w xs) first r in
+      record {
+        above = here.above;
+        proper = here.proper.1;
+        lines =
+            reach_as text shown (ap (λ g. lines_from g (drop (at + 1) items)) (gap ∙ ap (λ zs. left_gap w.window.gap.items y ++ before_next y zs) (rest_here items (at + 1))))
+            (line_put w (lines_from here.above xs) y (drop (at + 1) items) here.proper.0 here.lines);
+      }
 
   -- ---- items that were taken out
 
@@ -92,14 +92,17 @@ module _ {parts all : List Part} where
   -- ---- items that stay
 
   -- a turn of the loop over them: the line of an item gives way, and is put again
-  pub stay_turn : (w : Writer) (v : OpenWindow) (xs items others : List Item) (count at lines part : ℕ) (y : Item) → at < count → count ≤ length items → y ≡ get_or items at y → others ≡ drop (at + 1) items →
-      v.text ≡ pushed w.window.text (own_text w.window.gap.items y) → v.gap.items ≡ left_gap w.window.gap.items y ++ before_next y others → v.is_open ≡ true →
-      lines ≡ line_count_in (y ∷ []) → (w.part + lines ≤ length parts → part ≡ w.part + lines) → count ≤ length xs → take count xs ≡ take count items →
+  pub stay_turn : (w : Writer) (v : OpenWindow) (xs items : List Item) (count at lines part : ℕ) (y : Item) → at < count → count ≤ length items → y ≡ get_or items at y → v.text ≡ pushed w.window.text (own_text w.window.gap.items y) →
+      v.gap.items ≡ left_gap w.window.gap.items y ++ before_next y (take (length items - (at + 1)) (drop (at + 1) items)) → v.is_open ≡ true →
+      lines ≡ line_count_in (take (at + 1 - at) (drop at items)) → (w.part + lines ≤ length parts → part ≡ w.part + lines) → count ≤ length xs → take count xs ≡ take count items →
       AreReached parts all w (drop at xs) (drop at items) → AreReached parts all (record w { window = v; part = part }) (drop (at + 1) xs) (drop (at + 1) items)
-  stay_turn w v xs items others count at lines part y h l is rest text gap shown own past many same r =
+  stay_turn w v xs items count at lines part y h l is text gap shown own past many same r =
+      let new : drop at items ≡ y ∷ drop (at + 1) items = same_first count at items items y h l refl is in
+      let one : at + 1 - at ≡ 1 = omega arith in
+      let here : lines ≡ line_count_in (y ∷ []) = own ∙ (ap (λ n. line_count_in (take n (drop at items))) one ∙ ap (λ ys. line_count_in (take 1 ys)) new) in
       let old : drop at xs ≡ y ∷ drop (at + 1) xs = same_first count at xs items y h many same is in
-      came_turn (record w { window = record (w.window) { is_open = true }; part = part }) v (drop (at + 1) xs) items others at y (omega (arith, h, l)) is rest text gap shown
-      (took w (y ∷ drop (at + 1) xs) (drop at items) 1 lines part (omega arith) (sym own) past (subst (λ zs. AreReached parts all w zs (drop at items)) old r))
+      came_turn (record w { window = record (w.window) { is_open = true }; part = part }) v (drop (at + 1) xs) items at y (omega (arith, h, l)) is text gap shown
+      (took w (y ∷ drop (at + 1) xs) (drop at items) 1 lines part (omega arith) (sym here) past (subst (λ zs. AreReached parts all w zs (drop at items)) old r))
 
 -- ---- a line that stays, and those after it
 
@@ -167,12 +170,12 @@ module _ {parts all : List Part} where
       (subst (λ zs. AreReached parts all w zs (i.Stmt x ∷ ys)) first r)
 
   -- the open window ends, and the rest of the items is passed over
-  pub advanced : (w v : Writer) (u : OpenWindow) (items others : List Item) (at count lines part : ℕ) → at < count → count ≤ length items → others ≡ drop at items →
+  pub advanced : (w v : Writer) (u : OpenWindow) (items : List Item) (at count lines part : ℕ) → at < count → count ≤ length items →
       ((left rest : List Part) → IsAt parts all w left rest → IsAt parts all v left rest) → v.window.is_open ≡ false → v.window.gap.items ≡ w.window.gap.items → v.part ≡ w.part →
-      HasNext w.window.gap.items (drop at items) (drop w.part parts) → u.text ≡ v.window.text → u.is_open ≡ v.window.is_open → u.gap.items ≡ statement_gap v.window.gap.items (count - at) others →
-      lines ≡ line_count_in (take (count - at) others) → (v.part + lines ≤ length parts → part ≡ v.part + lines) → (xs : List Item) → count ≤ length xs → take count xs ≡ take count items →
+      HasNext w.window.gap.items (drop at items) (drop w.part parts) → u.text ≡ v.window.text → u.is_open ≡ v.window.is_open → u.gap.items ≡ statement_gap v.window.gap.items (count - at) (take (length items - at) (drop at items)) →
+      lines ≡ line_count_in (take (count - at) (drop at items)) → (v.part + lines ≤ length parts → part ≡ v.part + lines) → (xs : List Item) → count ≤ length xs → take count xs ≡ take count items →
       AreReached parts all w (drop at xs) (drop at items) → AreReached parts all (record v { window = u; base = part; part = part }) (drop count xs) (drop count items)
-  advanced w v u items others at count lines part h l is close shut gap here has text still left own past xs many same r =
+  advanced w v u items at count lines part h l close shut gap here has text still left own past xs many same r =
       let n : ℕ = count - at in
       let both : at + n ≡ count = omega (arith, h) in
       let rest_same : take n (drop at xs) ≡ take n (drop at items) =
@@ -187,7 +190,7 @@ module _ {parts all : List Part} where
       subst (λ zs. AreReached parts all (record v { window = u; base = part; part = part }) zs (drop count items)) (end xs)
       (subst (λ zs. AreReached parts all (record v { window = u; base = part; part = part }) (drop n (drop at xs)) zs) (end items)
       (skipped v u (drop at xs) (drop at items) n part shut text still (omega (arith, h)) (omega (arith, length-drop at xs, many, h)) (omega (arith, length-drop at items, l, h)) rest_same next
-      (left ∙ ap (statement_gap v.window.gap.items n) is) (subst (λ m. v.part + m ≤ length parts → part ≡ v.part + m) (own ∙ ap (λ ys. line_count_in (take n ys)) is) past) closed))
+      (left ∙ ap (statement_gap v.window.gap.items n) (rest_here items at)) (subst (λ m. v.part + m ≤ length parts → part ≡ v.part + m) own past) closed))
 
   -- ---- the end
 
@@ -213,30 +216,30 @@ IsOver parts all ws w items = (before : List Item) × AreLinesOver ws before ite
 
 module _ {parts all : List Part} where
   -- a turn of the loop over them
-  pub over_turn : (w v u : Writer) (ws : List Window) (x : Window) (items others past : List Item) (part : ℕ) → others ≡ drop x.from items → past ≡ drop (x.from + x.come) items → IsOver parts all (x ∷ ws) w items →
+  pub over_turn : (w v u : Writer) (ws : List Window) (x : Window) (items past : List Item) (part : ℕ) → past ≡ drop (x.from + x.come) items → IsOver parts all (x ∷ ws) w items →
       Passes parts x.from x.from items w v → (v.part + x.gone ≤ length parts → part ≡ v.part + x.gone) →
-      ((before : List Item) → AreReached parts all (record v { window = record (v.window) { is_open = true }; part = part }) before others → AreReached parts all u before (drop x.come others)) →
+      ((before : List Item) → AreReached parts all (record v { window = record (v.window) { is_open = true }; part = part }) before (drop x.from items) → AreReached parts all u before (drop (x.from + x.come) items)) →
       IsOver parts all ws u past
-  over_turn w v u ws x items others past part is_others is_past (xs, (gone, old, new, same, count, rest), r) step gone_past put =
-      let taken = took v (drop x.from xs) (drop x.from items) gone x.gone part (omega (arith, length-drop x.from xs, old)) count gone_past (step all xs (omega (arith, old)) (sym same) r) in
-      let come : drop x.come others ≡ past = ap (drop x.come) is_others ∙ (drop-drop x.come x.from items ∙ sym is_past) in (
+  over_turn w v u ws x items past part is_past (xs, (gone, old, new, same, count, rest), r) step gone_past put =
+      let taken = took v (drop x.from xs) (drop x.from items) gone x.gone part (omega (arith, length-drop x.from xs, old)) count gone_past (step all xs (omega (arith, old)) (sym same) r) in (
         drop gone (drop x.from xs),
         subst (λ zs. AreLinesOver ws zs past) (sym (drop-drop gone x.from xs)) (subst (AreLinesOver ws (drop (x.from + gone) xs)) (sym is_past) rest),
-        subst (AreReached parts all u (drop gone (drop x.from xs))) come (put (drop gone (drop x.from xs)) (subst (AreReached parts all _ (drop gone (drop x.from xs))) (sym is_others) taken)),
+        subst (AreReached parts all u (drop gone (drop x.from xs))) (sym is_past) (put (drop gone (drop x.from xs)) taken),
       )
-
-  -- no window is left: what is left of both is the same
-  pub over_end : (w v : Writer) (items : List Item) (n : ℕ) → n ≡ length items → IsOver parts all [] w items → Passes parts n n items w v → AreReached parts all v [] []
-  over_end w v items n e (xs, same, r) step =
-      let many : length xs ≡ length items = ap length same in
-      subst (λ zs. AreReached parts all v [] zs) (drop_all n items (omega (arith, e)))
-      (subst (λ zs. AreReached parts all v zs (drop n items)) (drop_all n xs (omega (arith, e, many))) (step all xs (omega (arith, e, many)) (ap (take n) same) r))
 
   pub over_next : (w : Writer) (ws : List Window) (k : ℕ) (d : Window) (items : List Item) → k < length ws → IsOver parts all (drop k ws) w items → IsOver parts all (get_or ws k d ∷ drop (k + 1) ws) w items
   over_next w ws k d items h over = subst (λ vs. IsOver parts all vs w items) (drop_more ws k d h) over
 
   pub over_none : (w : Writer) (ws : List Window) (k : ℕ) (items : List Item) → length ws ≤ k → IsOver parts all (drop k ws) w items → IsOver parts all [] w items
   over_none w ws k items h over = subst (λ vs. IsOver parts all vs w items) (drop_all k ws h) over
+
+  -- no window is left: what is left of both is the same
+  pub over_last : (w v : Writer) (ws : List Window) (k : ℕ) (items : List Item) → length ws ≤ k → IsOver parts all (drop k ws) w items → Passes parts (length items) (length items) items w v → AreReached parts all v [] []
+  over_last w v ws k items h over step =
+      let here = over_none w ws k items h over in
+      let many : length here.0 ≡ length items = ap length here.1 in
+      subst (λ zs. AreReached parts all v [] zs) (drop_all (length items) items (omega arith))
+      (subst (λ zs. AreReached parts all v zs (drop (length items) items)) (drop_all (length items) here.0 (omega (arith, many))) (step all here.0 (omega (arith, many)) (ap (take (length items)) here.1) here.2))
 
 -- ---- the beginning
 

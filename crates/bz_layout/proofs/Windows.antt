@@ -1,13 +1,14 @@
 -- The lines in front of a place, how many there are, and the gap before it.
-use Rattle.std.proofs.Common.{ℕ, zero, suc, ◌≡◌, ◌<◌, ◌≤◌, ◌+◌, ◌-◌, List, [], ◌∷◌, ◌++◌, length, get_or, take, drop, refl, sym, ap, ◌∙◌, arith, append_assoc}
+use Rattle.std.proofs.Common.{ℕ, zero, suc, ◌≡◌, ◌<◌, ◌≤◌, ◌+◌, ◌-◌, List, [], ◌∷◌, ◌++◌, length, get_or, take, drop, count_by, cond, refl, sym, ap, ◌∙◌, arith, append_assoc}
 use Rattle.std.proofs.lemmas.List.{drop_more, take-append-drop, drop-drop}
+use Rattle.std.proofs.lemmas.List.Recursion.{is_count_by}
 use Rattle.bz_grammar.specs.declared.tree.Part.{Part}
 use Rattle.bz_value.specs.declared.value.Item.{Item}
 use Rattle.bz_value.specs.declared.value.Item.TheVariants as i
 use Rattle.bz_items.specs.Characters.{Bytes}
 use Rattle.bz_layout.specs.Written.{gap_between, comment_lines}
 use Rattle.bz_layout.specs.LaidOut.{line_part, left_gap, before_next, lines_from}
-use Rattle.bz_layout.specs.private.Windows.{line_count_in, statement_gap}
+use Rattle.bz_layout.specs.private.Windows.{makes_line, line_count_in, statement_gap}
 
 -- ---- a window of a list
 
@@ -69,16 +70,12 @@ length_lines gap [] = refl
 length_lines gap (i.Block texts ∷ xs) = length_lines ((gap ++ comment_lines texts) ++ before_next (i.Block texts) xs) xs
 length_lines gap (i.Stmt x ∷ xs) = ap suc (length_lines (before_next (i.Stmt x) xs) xs)
 
-counted_first : (x : Item) (xs : List Item) → line_count_in (x ∷ xs) ≡ line_count_in (x ∷ []) + line_count_in xs
-counted_first (i.Block texts) xs = omega arith
+counted_first : (x : Item) (xs : List Item) → line_count_in (x ∷ xs) ≡ cond (makes_line x) (1 + line_count_in xs) (line_count_in xs)
+counted_first (i.Block texts) xs = refl
 counted_first (i.Stmt x) xs = omega arith
 
-pub at_most_one : (x : Item) → line_count_in (x ∷ []) ≤ 1
-at_most_one (i.Block texts) = omega arith
-at_most_one (i.Stmt x) = omega arith
-
-pub counted_next : (xs : List Item) (k : ℕ) (d : Item) → k < length xs → line_count_in (drop k xs) ≡ line_count_in (get_or xs k d ∷ []) + line_count_in (drop (k + 1) xs)
-counted_next xs k d h = ap line_count_in (drop_more xs k d h) ∙ counted_first (get_or xs k d) (drop (k + 1) xs)
+pub counted : (xs : List Item) → count_by makes_line xs ≡ line_count_in xs
+counted xs = sym (is_count_by line_count_in makes_line refl counted_first xs)
 
 -- ---- the gap before a place
 

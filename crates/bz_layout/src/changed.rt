@@ -1,5 +1,5 @@
 //! What of the layout's text is another where items came in the place of others.
-ghost use Rattle.std.specs.Prelude.{◌≡◌, ◌<◌, ◌≤◌, [], drop, length, take, List, IfOk, MatchOption, Err};
+ghost use Rattle.std.specs.Prelude.{◌≡◌, ◌<◌, ◌≤◌, [], length, List, IfOk, MatchOption, Err};
 ghost use Rattle.std.specs.List.{flat_map};
 ghost use Rattle.bz_edit.specs.Windows.{AreThere, with_windows};
 ghost use Rattle.bz_edit.specs.declared.part_windows.PartWindow.{PartWindow};
@@ -11,10 +11,10 @@ ghost use Rattle.bz_layout.specs.private.Reached.{IsPut, gone_length};
 ghost use Rattle.bz_value.specs.Windows.{AreOver, AreWithin};
 ghost use Rattle.bz_value.specs.declared.value.Item.{Item};
 
-use crate::limits::are_windows_within;
-use crate::line_windows::{all_as_one, counted};
+use crate::depth::are_windows_within;
+use crate::line_windows::{all_as_one, old_lines};
 use crate::setting::SetFault;
-use crate::writer::{TextWindow, Writer, cut_parts, go_over, new_writer};
+use crate::writer::{TextWindow, Writer, cut_parts, go_over};
 use bz_grammar::{DEPTH_LIMIT, LENGTH_LIMIT, Part, Tree, length_with};
 use bz_items::{Items, Memory};
 use bz_value::{File, Item, Window};
@@ -59,13 +59,11 @@ fn written(
     let items = file.items.as_slice();
     let parts = tree.root.parts.as_slice();
     let lines = parts.len().saturating_sub(1);
-    let one = [all_as_one(items, windows, lines)];
-    let counted = counted(items, windows, &one, lines);
-    let mut writer = new_writer(alloc);
-    if !go_over(&mut writer, parts, items, counted)? {
-        return Ok(None);
+    if old_lines(items, windows) == Some(lines) {
+        return go_over(alloc, parts, items, windows);
     }
-    Ok(Some(writer))
+    let one = all_as_one(items, windows, lines);
+    go_over(alloc, parts, items, &[one])
 }
 
 /// Where the layout's text is another than the one that a tree spells, if that is the layout of items of which these came in the place of others: what is

@@ -1,8 +1,11 @@
-//! Whether a value is too deep. No walk goes deeper than the bound.
-ghost use Rattle.std.specs.Prelude.{◌≤◌, ◌↔◌, IsTrue};
+//! Whether a value or its layout is too deep. No walk goes deeper than the bound, and no tree is made for it.
+ghost use Rattle.std.specs.Prelude.{◌∷◌, [], ◌≤◌, ◌↔◌, IsTrue};
 ghost use Rattle.bz_layout.specs.Depths.{depth_expr, deepest_of, depth_inside, depth_items};
+ghost use Rattle.bz_layout.specs.private.Windows.{come_items};
+ghost use Rattle.bz_value.specs.Windows.{AreWithin};
 
-use bz_value::{Expr, Form, Item, is_sequence};
+use crate::line_windows::split_window;
+use bz_value::{Expr, Form, Item, Window, is_sequence};
 
 /// Whether what is laid out of the expression has at most this depth.
 #[cycle(within)]
@@ -38,6 +41,46 @@ pub fn are_within(exprs: &[Expr], depth: usize) -> bool
         if !is_within(expr, depth) {
             return false;
         }
+    }
+    true
+}
+
+/// Whether the line of the item has at most this depth.
+fn is_item_within(item: &Item, depth: usize) -> bool
+    ensures { IsTrue result ↔ (depth_items (item.now ∷ []) ≤ depth) }
+{
+    match item {
+        Item::Block(_) => true,
+        Item::Stmt(expr) => depth > 0 && is_within(expr, depth - 1),
+    }
+}
+
+/// Whether the lines of the items have at most this depth.
+#[tactic(auto, using(crate::proofs::Measured::depth_next))]
+pub fn are_items_within(items: &[Item], depth: usize) -> bool
+    ensures { IsTrue result ↔ (depth_items items.now ≤ depth) }
+{
+    for item in items {
+        if !is_item_within(item, depth) {
+            return false;
+        }
+    }
+    true
+}
+
+/// Whether the lines of the items that came have at most this depth.
+#[tactic(auto, using(crate::proofs::LineWindows::within_next))]
+pub fn are_windows_within(items: &[Item], windows: &[Window], depth: usize) -> bool
+    requires { AreWithin windows.now items.now }
+    ensures { IsTrue result ↔ (depth_items (come_items windows.now items.now) ≤ depth) }
+{
+    let mut rest = items;
+    for window in windows {
+        let (_stay, come, past) = split_window(rest, window);
+        if !are_items_within(come, depth) {
+            return false;
+        }
+        rest = past;
     }
     true
 }

@@ -1,8 +1,12 @@
-//! Gaps: margins and comments.
-ghost use Rattle.std.specs.Prelude.{◌≡◌, ◌++◌, ◌+◌, OnOk, IfOk};
+//! Gaps: margins and comments, and the gap that items leave to what follows.
+ghost use Rattle.std.specs.Prelude.{◌≡◌, ◌++◌, ◌+◌, ◌≤◌, length, OnOk, IfOk};
+ghost use Rattle.bz_layout.specs.LaidOut.{before_next, left_gap};
 ghost use Rattle.bz_layout.specs.Written.{comment_lines};
+ghost use Rattle.bz_layout.specs.private.Windows.{statement_gap};
 
+use crate::spaces::blank_before;
 use bz_items::{Memory, Text};
+use bz_value::Item;
 use std::alloc::AllocError;
 
 /// The margin of what is inside a broken sequence. The error: no text is that wide.
@@ -19,6 +23,29 @@ pub fn push_comments(out: &mut Vec<u8>, texts: &[Text]) -> Result<(), Memory>
     for text in texts {
         out.extend_from_slice(text.as_slice())?;
         out.push(b'\n')?;
+    }
+    Ok(())
+}
+
+/// Makes of the gap before an item the one before what follows. The error: a growth was refused.
+pub fn leave_gap(gap: &mut Vec<u8>, item: &Item, others: &[Item]) -> Result<(), Memory>
+    ensures { OnOk result (gap.new.items ≡ left_gap gap.old.items item.now ++ before_next item.now others.now) }
+{
+    match item {
+        Item::Block(texts) => push_comments(gap, texts.as_slice())?,
+        Item::Stmt(_) => gap.clear(),
+    }
+    gap.extend_from_slice(blank_before(Some(item), others))
+}
+
+/// Makes of the gap before the first of the items the one before what follows this many. The error: a growth was refused.
+#[tactic(auto, using(crate::proofs::Windows::gap_next, crate::proofs::Writing::rest_here))]
+pub fn pass_over(gap: &mut Vec<u8>, items: &[Item], count: usize) -> Result<(), Memory>
+    requires { count ≤ length items.now }
+    ensures { OnOk result (gap.new.items ≡ statement_gap gap.old.items count items.now) }
+{
+    for at in 0..count {
+        leave_gap(gap, &items[at], &items[at + 1..])?;
     }
     Ok(())
 }

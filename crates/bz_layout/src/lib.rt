@@ -8,12 +8,10 @@ mod dotted;
 mod draft;
 mod gaps;
 mod laws;
-mod limits;
 mod line_windows;
 mod row_gaps;
 mod setting;
 mod spaces;
-mod statement_gaps;
 mod texts;
 mod writer;
 

@@ -1,45 +1,52 @@
 //! Windows that count the lines of what was taken out. Of the items that were there only the lines of the tree are known.
-ghost use Rattle.std.specs.Prelude.{ℕ, ◌≡◌, ◌+◌, ◌≤◌, ◌∷◌, [], drop, length, take, List, IfSome, IsTrue};
+ghost use Rattle.std.specs.Prelude.{◌≡◌, ◌+◌, ◌≤◌, ◌∷◌, [], drop, length, take, List, IfSome};
 ghost use Rattle.bz_layout.specs.private.Windows as counts;
 ghost use Rattle.bz_value.specs.Windows.{AreOver, AreWithin};
 ghost use Rattle.bz_value.specs.declared.value.Item.{Item};
 
-use crate::statement_gaps::count_lines;
 use bz_value::{Item, Window};
 
-/// The items of a window that came.
-pub fn come_of<'a>(items: &'a [Item], window: &Window) -> &'a [Item]
-    requires { window.now.from + window.now.come ≤ length items.now }
-    ensures { result.now ≡ take window.now.come (drop window.now.from items.now) }
+/// Whether an item has a line.
+fn makes_line(item: &Item) -> bool
+    ensures { result ≡ counts.makes_line item.now }
 {
-    let (_stay, others) = items.split_at(window.from);
-    let (come, _following) = others.split_at(window.come);
-    come
+    matches!(item, Item::Stmt(_))
 }
 
-/// The items that are past a window.
-pub fn past<'a>(items: &'a [Item], window: &Window) -> &'a [Item]
-    requires { window.now.from + window.now.come ≤ length items.now }
-    ensures { result.now ≡ drop (window.now.from + window.now.come) items.now }
+/// How many lines the items have, the end not counted.
+#[tactic(auto, using(crate::proofs::Windows::counted))]
+pub fn count_lines(items: &[Item]) -> usize
+    ensures { result ≡ counts.line_count_in items.now }
 {
-    let (_front, following) = items.split_at(window.from + window.come);
-    following
+    items.iter().filter(|item| makes_line(item)).count()
+}
+
+/// The items that stay before a window, those of it that came, and those past it.
+pub fn split_window<'a>(items: &'a [Item], window: &Window) -> (&'a [Item], &'a [Item], &'a [Item])
+    requires { window.now.from + window.now.come ≤ length items.now }
+    ensures stay { result.0.now ≡ take window.now.from items.now }
+    ensures come { result.1.now ≡ take window.now.come (drop window.now.from items.now) }
+    ensures past { result.2.now ≡ drop (window.now.from + window.now.come) items.now }
+{
+    let (stay, others) = items.split_at(window.from);
+    let (come, past) = others.split_at(window.come);
+    (stay, come, past)
 }
 
 /// How many lines there were, if each item that was taken out had one; none where no list has as many.
 #[tactic(auto, using(crate::proofs::LineWindows::within_next))]
-fn old_lines(items: &[Item], windows: &[Window]) -> Option<usize>
+pub fn old_lines(items: &[Item], windows: &[Window]) -> Option<usize>
     requires { AreWithin windows.now items.now }
     ensures { IfSome result (λ count. count ≡ counts.old_lines windows.now items.now) }
 {
     let mut count: usize = 0;
     let mut rest = items;
     for window in windows {
-        let (stay, _others) = rest.split_at(window.from);
+        let (stay, _come, past) = split_window(rest, window);
         count = count
             .checked_add(count_lines(stay))?
             .checked_add(window.gone)?;
-        rest = past(rest, window);
+        rest = past;
     }
     count.checked_add(count_lines(rest))
 }
@@ -53,7 +60,7 @@ fn come_end(items: &[Item], windows: &[Window]) -> usize
 {
     let mut rest = items;
     for window in windows {
-        rest = past(rest, window);
+        rest = split_window(rest, window).2;
     }
     items.len() - rest.len()
 }
@@ -73,31 +80,10 @@ pub fn all_as_one(items: &[Item], windows: &[Window], lines: usize) -> Window
     };
     let from = first.from;
     let end = come_end(items, windows);
-    let (front, _rest) = items.split_at(from);
-    let (_until, following) = items.split_at(end);
-    let past_front = lines.saturating_sub(count_lines(front));
+    let past_front = lines.saturating_sub(count_lines(&items[..from]));
     Window {
         from,
-        gone: past_front.saturating_sub(count_lines(following)),
+        gone: past_front.saturating_sub(count_lines(&items[end..])),
         come: end - from,
-    }
-}
-
-/// The windows, if each item that was taken out had a line, else the one window of all.
-#[tactic(auto, using(crate::proofs::LineWindows::all_lines))]
-pub fn counted<'a>(
-    items: &[Item],
-    windows: &'a [Window],
-    one: &'a [Window],
-    lines: usize,
-) -> &'a [Window]
-    requires { AreWithin windows.now items.now }
-    ensures within { AreWithin one.now items.now → AreWithin result.now items.now }
-    ensures over { (before : List Item) → counts.line_count_in before ≡ lines → AreOver windows.now before items.now
-        → counts.AreLinesOver one.now before items.now → counts.AreLinesOver result.now before items.now }
-{
-    match old_lines(items, windows) {
-        Some(count) if count == lines => windows,
-        _ => one,
     }
 }

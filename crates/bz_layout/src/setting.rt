@@ -4,8 +4,8 @@ ghost use Rattle.bz_layout.specs.Appended.{gap_below};
 ghost use Rattle.bz_layout.specs.LaidOut.{laid_out};
 ghost use Rattle.bz_layout.specs.Written.{layout};
 
+use crate::depth::are_items_within;
 use crate::draft::Draft;
-use crate::limits::are_items_within;
 use crate::spaces::blank_before;
 use crate::texts::push_items;
 use bz_grammar::{DEPTH_LIMIT, LENGTH_LIMIT};

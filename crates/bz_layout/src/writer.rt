@@ -1,5 +1,5 @@
 //! Text windows in the making: the lines that change, and where they are among those of the tree.
-ghost use Rattle.std.specs.Prelude.{◌≡◌, ◌∷◌, ◌++◌, ◌+◌, ◌-◌, ◌<◌, ◌≤◌, [], true, false, drop, length, take, slice_get, List, IfOk, IsTrue, OnOk};
+ghost use Rattle.std.specs.Prelude.{◌≡◌, ◌∷◌, ◌++◌, ◌+◌, ◌-◌, ◌<◌, ◌≤◌, [], true, false, drop, length, take, slice_get, List, IfOk, IsTrue, MatchOption, OnOk};
 ghost use Rattle.std.specs.List.{flat_map};
 ghost use Rattle.bz_grammar.specs.Spell.{leaves_part, limit, spell_part};
 ghost use Rattle.bz_grammar.specs.declared.tree.Part.{Part};
@@ -11,16 +11,14 @@ ghost use Rattle.bz_layout.specs.private.Windows.{AreLinesOver};
 ghost use Rattle.bz_value.specs.Proper.{IsProper};
 ghost use Rattle.bz_value.specs.Windows.{AreWithin};
 ghost use Rattle.bz_value.specs.declared.value.Item.{Item};
-ghost use Rattle.bz_value.specs.declared.value.Item.TheVariants as i;
 
 use crate::draft::Draft;
-use crate::gaps::push_comments;
-use crate::line_windows::past;
-use crate::statement_gaps::{count_lines, item_lines, leave_gap, pass_over};
+use crate::gaps::{leave_gap, pass_over, push_comments};
+use crate::line_windows::{count_lines, split_window};
 use crate::texts::push_statement;
 use bz_grammar::{LENGTH_LIMIT, Part, first_of};
 use bz_items::{Items, Memory, Text};
-use bz_value::{Expr, Item, Window};
+use bz_value::{Item, Window};
 use std::alloc::Global;
 use std::mem;
 
@@ -80,7 +78,7 @@ pub fn new_writer(alloc: Global) -> Writer
 }
 
 /// The parts before a place, and the others.
-#[tactic(auto, using(crate::proofs::Reaching::until_least, crate::proofs::Reaching::from_least))]
+#[tactic(auto, using(std::proofs::lemmas::List::take_min, std::proofs::lemmas::List::drop_min))]
 pub fn cut_parts(parts: &[Part], at: usize) -> (&[Part], &[Part])
     ensures front { result.0.now ≡ take at parts.now }
     ensures back { result.1.now ≡ drop at parts.now }
@@ -99,15 +97,12 @@ fn place_past(parts: &[Part], at: usize, count: usize) -> usize
 fn has_gap(parts: &[Part], gap: &[u8]) -> bool
     ensures { IsTrue result → HasGap (slice_get (flat_map leaves_part parts.now) 0) gap.now }
 {
-    match first_of(parts) {
-        None => false,
-        Some(leaf) => leaf.gap.as_slice() == gap,
-    }
+    first_of(parts).is_some_and(|leaf| leaf.gap.as_slice() == gap)
 }
 
 /// Whether the item is a statement, and this gap with its comments is before the first of the parts.
 fn has_line(alloc: Global, parts: &[Part], gap: &[u8], item: &Item) -> Result<bool, Memory>
-    ensures { IfOk result (λ same. IsTrue same → HasNext gap.now (item.now ∷ []) parts.now) }
+    ensures { IfOk result (λ same. IsTrue same → (others : List Item) → HasNext gap.now (item.now ∷ others) parts.now) }
 {
     let Item::Stmt(expr) = item else {
         return Ok(false);
@@ -117,66 +112,33 @@ fn has_line(alloc: Global, parts: &[Part], gap: &[u8], item: &Item) -> Result<bo
     Ok(has_gap(parts, &above))
 }
 
-/// Appends the line of an item, if it has one: a statement, after its gap.
+/// Appends the line of an item, if it has one: a statement, after its gap. To the gap what is between it and the others.
 #[tactic(auto, using(crate::proofs::Pushing::pushed_none, crate::proofs::Pushing::pushed_twice))]
-fn put_line(text: &mut Draft, gap: &[u8], item: &Item) -> Result<(), Memory>
-    ensures { OnOk result (text.new ≡ pushed text.old (own_text gap.now item.now)) }
-{
-    match item {
-        Item::Block(_) => Ok(()),
-        Item::Stmt(expr) => {
-            text.push_bytes(gap)?;
-            push_statement(text, expr)
-        }
-    }
-}
-
-/// Appends the line of an item, if it has one, and to the gap what is between it and the others.
 fn put_item(window: &mut OpenWindow, item: &Item, others: &[Item]) -> Result<(), Memory>
     ensures text { OnOk result (window.new.text ≡ pushed window.old.text (own_text window.old.gap.items item.now)) }
     ensures gap { OnOk result (window.new.gap.items ≡ left_gap window.old.gap.items item.now ++ before_next item.now others.now) }
     ensures opened { OnOk result (window.new.is_open ≡ true) }
 {
-    put_line(&mut window.text, &window.gap, item)?;
+    if let Item::Stmt(expr) = item {
+        window.text.push_bytes(&window.gap)?;
+        push_statement(&mut window.text, expr)?;
+    }
     leave_gap(&mut window.gap, item, others)?;
     window.is_open = true;
     Ok(())
 }
 
-/// Appends the lines of the first of the items, which came.
+/// Appends the lines of the items of a window, which came.
 #[tactic(auto, using(crate::proofs::Staying::came_turn))]
-fn put_items(writer: &mut Writer, items: &[Item], count: usize) -> Result<(), Memory>
-    requires { count ≤ length items.now }
-    ensures { OnOk result ((parts all : List Part) (before : List Item) → AreReached parts all writer.old before items.now
-        → AreReached parts all writer.new before (drop count items.now)) }
+fn put_items(writer: &mut Writer, items: &[Item], window: &Window) -> Result<(), Memory>
+    requires { window.now.from + window.now.come ≤ length items.now }
+    ensures { OnOk result ((parts all : List Part) (before : List Item) → AreReached parts all writer.old before (drop window.now.from items.now)
+        → AreReached parts all writer.new before (drop (window.now.from + window.now.come) items.now)) }
 {
-    for at in 0..count {
-        let (_passed, others) = items.split_at(at + 1);
-        put_item(&mut writer.window, &items[at], others)?;
+    for at in window.from..window.from + window.come {
+        put_item(&mut writer.window, &items[at], &items[at + 1..])?;
     }
     Ok(())
-}
-
-/// Passes over the first of the items, which stay, up to the first whose line stays as well: its place, or how many they are. The line of
-/// each is put in the place of the one that it had.
-fn stay(writer: &mut Writer, parts: &[Part], items: &[Item], count: usize) -> Result<usize, Memory>
-    requires { count ≤ length items.now }
-    ensures within { IfOk result (λ at. at ≤ count) }
-    ensures reached { IfOk result (λ at. Passes parts.now count at items.now writer.old writer.new) }
-    ensures same { IfOk result (λ at. at < count → HasNext writer.new.window.gap.items (drop at items.now) (drop writer.new.part parts.now)) }
-{
-    let alloc = writer.made.alloc();
-    for at in 0..count {
-        let (_passed, others) = items.split_at(at + 1);
-        let item = &items[at];
-        let (_before, left) = cut_parts(parts, writer.part);
-        if has_line(alloc, left, &writer.window.gap, item)? {
-            return Ok(at);
-        }
-        put_item(&mut writer.window, item, others)?;
-        writer.part = place_past(parts, writer.part, item_lines(item));
-    }
-    Ok(count)
 }
 
 /// Ends the open window, if anything is changed in it. No: the texts are longer than a text may be.
@@ -190,20 +152,18 @@ fn close(writer: &mut Writer) -> Result<bool, Memory>
     if !writer.window.is_open {
         return Ok(true);
     }
-    let alloc = writer.made.alloc();
-    let next = Draft::new(Vec::new(alloc), LENGTH_LIMIT);
+    let next = Draft::new(Vec::new(writer.made.alloc()), LENGTH_LIMIT);
     let Some(lines) = mem::replace(&mut writer.window.text, next).into_bytes() else {
         return Ok(false);
     };
-    let text = Text::from_vec(lines);
-    let bytes = writer.bytes.saturating_add(text.len());
+    let bytes = writer.bytes.saturating_add(lines.len());
     if bytes > LENGTH_LIMIT {
         return Ok(false);
     }
     writer.made.push(TextWindow {
         from: writer.base.saturating_sub(writer.done),
         gone: writer.part.saturating_sub(writer.base),
-        text,
+        text: Text::from_vec(lines),
     })?;
     writer.window.is_open = false;
     writer.bytes = bytes;
@@ -225,18 +185,22 @@ fn advance(
     ensures long { IfOk result (λ fits. fits ≡ false → (all : List Part) (before : List Item) → count ≤ length before → take count before ≡ take count items.now
         → AreReached parts.now all writer.old before items.now → limit < length (flat_map spell_part all)) }
 {
-    let at = stay(writer, parts, items, count)?;
-    if at == count {
-        return Ok(true);
+    let alloc = writer.made.alloc();
+    for at in 0..count {
+        let item = &items[at];
+        let (_before, left) = cut_parts(parts, writer.part);
+        if has_line(alloc, left, &writer.window.gap, item)? {
+            if !close(writer)? {
+                return Ok(false);
+            }
+            writer.part = place_past(parts, writer.part, count_lines(&items[at..count]));
+            writer.base = writer.part;
+            pass_over(&mut writer.window.gap, &items[at..], count - at)?;
+            return Ok(true);
+        }
+        put_item(&mut writer.window, item, &items[at + 1..])?;
+        writer.part = place_past(parts, writer.part, count_lines(&items[at..at + 1]));
     }
-    if !close(writer)? {
-        return Ok(false);
-    }
-    let (_put, others) = items.split_at(at);
-    let (lines, _following) = others.split_at(count - at);
-    writer.part = place_past(parts, writer.part, count_lines(lines));
-    writer.base = writer.part;
-    pass_over(&mut writer.window.gap, others, count - at)?;
     Ok(true)
 }
 
@@ -255,35 +219,34 @@ fn put_end(writer: &mut Writer, parts: &[Part]) -> Result<(), Memory>
     Ok(())
 }
 
-/// Goes over all windows of items, which count the lines that gave way, and makes those of the text. No: the texts are longer than a
-/// text may be.
+/// The windows of the text, where those of items count the lines that gave way; none where the texts are longer than a text may be.
 pub fn go_over(
-    writer: &mut Writer,
+    alloc: Global,
     parts: &[Part],
     items: &[Item],
     windows: &[Window],
-) -> Result<bool, Memory>
+) -> Result<Option<Writer>, Memory>
     requires { AreWithin windows.now items.now }
-    ensures put { IfOk result (λ fits. IsTrue fits → (all : List Part) (before : List Item) → AreLinesOver windows.now before items.now
-        → AreReached parts.now all writer.old before items.now → IsPut parts.now all writer.new.made writer.new.bytes writer.new.done) }
-    ensures long { IfOk result (λ fits. fits ≡ false → (all : List Part) (before : List Item) → AreLinesOver windows.now before items.now
-        → AreReached parts.now all writer.old before items.now → limit < length (flat_map spell_part all)) }
+    ensures { IfOk result (λ made. (before : List Item) → lines_from [] before ≡ parts.now → IsProper items.now → AreLinesOver windows.now before items.now
+        → MatchOption made (limit < length (written.layout items.now)) (λ writer. IsPut parts.now (lines_from [] items.now) writer.made writer.bytes writer.done)) }
 {
+    let mut writer = new_writer(alloc);
     let mut rest = items;
     for window in windows {
-        if !advance(writer, parts, rest, window.from)? {
-            return Ok(false);
+        if !advance(&mut writer, parts, rest, window.from)? {
+            return Ok(None);
         }
         writer.window.is_open = true;
         writer.part = place_past(parts, writer.part, window.gone);
-        let (_stay, others) = rest.split_at(window.from);
-        put_items(writer, others, window.come)?;
-        rest = past(rest, window);
+        put_items(&mut writer, rest, window)?;
+        rest = split_window(rest, window).2;
     }
-    if !advance(writer, parts, rest, rest.len())? {
-        return Ok(false);
+    if !advance(&mut writer, parts, rest, rest.len())? {
+        return Ok(None);
     }
-    put_end(writer, parts)?;
-    let fits = close(writer)?;
-    Ok(fits)
+    put_end(&mut writer, parts)?;
+    if !close(&mut writer)? {
+        return Ok(None);
+    }
+    Ok(Some(writer))
 }

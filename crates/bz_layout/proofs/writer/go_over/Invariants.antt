@@ -1,7 +1,7 @@
-use Rattle.std.proofs.Common.{List, drop}
-use Rattle.bz_grammar.specs.declared.tree.Part.{Part}
-use Rattle.bz_layout.specs.private.Reached.{AreReached}
+use Rattle.std.proofs.Common.{◌≡◌, List, [], drop}
+use Rattle.bz_layout.specs.LaidOut.{lines_from}
 use Rattle.bz_layout.specs.private.Windows.{AreLinesOver}
+use Rattle.bz_value.specs.Proper.{IsProper}
 use Rattle.bz_value.specs.Windows.{AreWithin}
 use Rattle.bz_value.specs.declared.value.Item.{Item}
 use Rattle.bz_layout.proofs.Staying.{IsOver}
@@ -10,4 +10,4 @@ use Rattle.bz_layout.proofs.writer.go_over.Given as goal
 abbrev pub invariant-loop-window : goal.invariant-loop-window
 invariant-loop-window l =
     AreWithin (drop l.window-index l.windows) l.rest
-    × ((all : List Part) (before : List Item) → AreLinesOver l.windows before l.items → AreReached l.parts all l.fn.writer before l.items → IsOver l.parts all (drop l.window-index l.windows) l.writer l.rest)
+    × ((before : List Item) → lines_from [] before ≡ l.parts → IsProper l.items → AreLinesOver l.windows before l.items → IsOver l.parts (lines_from [] l.items) (drop l.window-index l.windows) l.writer l.rest)

@@ -5,4 +5,4 @@ use Rattle.bz_value.specs.declared.value.Item.{Item}
 use Rattle.bz_layout.proofs.writer.put_items.Given as goal
 
 abbrev pub invariant-loop-at : goal.invariant-loop-at
-invariant-loop-at l = (parts all : List Part) (before : List Item) → AreReached parts all l.fn.writer before l.items → AreReached parts all l.writer before (drop l.at l.items)
+invariant-loop-at l = (parts all : List Part) (before : List Item) → AreReached parts all l.fn.writer before (drop l.window.from l.items) → AreReached parts all l.writer before (drop l.at l.items)

@@ -1,5 +1,5 @@
 use Rattle.bz_layout.specs.private.Reached.{Passes}
-use Rattle.bz_layout.proofs.writer.stay.Given as goal
+use Rattle.bz_layout.proofs.writer.advance.Given as goal
 
 abbrev pub invariant-loop-at : goal.invariant-loop-at
 invariant-loop-at l = Passes l.parts l.count l.at l.items l.fn.writer l.writer

@@ -1,6 +1,6 @@
 use Rattle.std.proofs.Common.{◌≡◌, ◌-◌, drop}
 use Rattle.bz_layout.specs.private.Windows.{statement_gap}
-use Rattle.bz_layout.proofs.statement_gaps.pass_over.Given as goal
+use Rattle.bz_layout.proofs.gaps.pass_over.Given as goal
 
 -- what is left of the items makes of the gap so far the one that all of them leave
 abbrev pub invariant-loop-at : goal.invariant-loop-at

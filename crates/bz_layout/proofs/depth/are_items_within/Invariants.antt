@@ -1,7 +1,7 @@
 use Rattle.std.proofs.Common.{◌≤◌, drop}
 use Rattle.std.specs.Prelude.{◌↔◌}
 use Rattle.bz_layout.specs.Depths.{depth_items}
-use Rattle.bz_layout.proofs.limits.are_items_within.Given as goal
+use Rattle.bz_layout.proofs.depth.are_items_within.Given as goal
 
 abbrev pub invariant-loop-item : goal.invariant-loop-item
 invariant-loop-item l = (depth_items (drop l.item-index l.items) ≤ l.depth) ↔ (depth_items l.items ≤ l.depth)

@@ -3,7 +3,7 @@ use Rattle.std.specs.Prelude.{◌↔◌}
 use Rattle.bz_layout.specs.Depths.{depth_items}
 use Rattle.bz_layout.specs.private.Windows.{come_items}
 use Rattle.bz_value.specs.Windows.{AreWithin}
-use Rattle.bz_layout.proofs.limits.are_windows_within.Given as goal
+use Rattle.bz_layout.proofs.depth.are_windows_within.Given as goal
 
 abbrev pub invariant-loop-window : goal.invariant-loop-window
 invariant-loop-window l =
