@@ -5,6 +5,8 @@ use Rattle.std.proofs.lemmas.Bool.{and_parts}
 use Rattle.std.proofs.lemmas.List.{drop_more, take_all, length-drop, map-append}
 use Rattle.bz_grammar.specs.declared.kind.Kind.{Kind}
 use Rattle.bz_grammar.specs.declared.kind.Kind.TheVariants as k
+use Rattle.bz_grammar.specs.Kinds.{kind_number}
+use Rattle.bz_grammar.proofs.Numbers.{same_kind}
 use Rattle.bz_value.specs.declared.value.Expr.{Expr, Token, Form'}
 use Rattle.bz_value.specs.declared.value.Expr.TheVariants as e
 use Rattle.bz_value.specs.declared.value.Form.{Form}
@@ -42,14 +44,14 @@ first_and_rest : (form : Form) (xs : List Expr) (d x : Expr) → xs ≡ form.par
 first_and_rest form [] d x same l is = absurd (omega (arith, l))
 first_and_rest form (y ∷ ys) d x same l is = sym same ∙ ap (λ z. z ∷ ys) is
 
-pub front_row : (form front : Form) (xs : List Expr) (d : Expr) → xs ≡ form.parts → 1 ≤ length xs → get_or xs 0 d ≡ e.Form front → front.kind ≡ k.Dot →
+pub front_row : (form front : Form) (xs : List Expr) (d : Expr) → xs ≡ form.parts → 1 ≤ length xs → get_or xs 0 d ≡ e.Form front → kind_number front.kind ≡ kind_number k.Dot →
     true ≡ list_all is_lone_token (take (length xs - 1) (drop 1 xs)) → (m : ℕ) → row_written m form ≡ row_written m front ++ past_front m form
 front_row form front xs d same l is dot all m =
     let tokens : List Expr = drop 1 xs in
     let parts : form.parts ≡ e.Form front ∷ tokens = first_and_rest form xs d (e.Form front) same l is in
     ap (row_text form.kind form.open_break m m) parts ∙
     (row_tokens form.kind form.open_break m m (e.Form front) tokens (sym (all ∙ ap (list_all is_lone_token) (take_all (length xs - 1) tokens (all_left xs 1)))) ∙
-    (ap (λ t. t ++ past_first form.kind form.open_break m (e.Form front ∷ tokens)) (row_form front m (ap frame dot)) ∙
+    (ap (λ t. t ++ past_first form.kind form.open_break m (e.Form front ∷ tokens)) (row_form front m (ap frame (same_kind front.kind k.Dot dot))) ∙
     ap (λ ys. row_written m front ++ past_first form.kind form.open_break m ys) (sym parts)))
 
 pub front_is_less : (form front : Form) (xs : List Expr) (d : Expr) → xs ≡ form.parts → 1 ≤ length xs → get_or xs 0 d ≡ e.Form front → fronts (e.Form front) < fronts (e.Form form)

@@ -243,11 +243,10 @@ module _ {parts all : List Part} where
 
 -- ---- the beginning
 
-pub begun : (before items : List Item) (w : Writer) → w.made ≡ [] → w.window.text ≡ drafted limit [] → w.window.gap.items ≡ [] → w.window.is_open ≡ false → w.bytes ≡ 0 → w.done ≡ 0 → w.base ≡ 0 → w.part ≡ 0 → IsProper items →
-    AreReached (lines_from [] before) (lines_from [] items) w before items
-begun before items w made text gap shut bytes done base part proper =
-    let parts : List Part = lines_from [] before in
-    let start : Reached parts (lines_from [] items) [] (drafted limit []) false 0 0 0 0 parts (lines_from [] items) = record {
+pub begun : (parts : List Part) (before items : List Item) (w : Writer) → w.made ≡ [] → w.window.text ≡ drafted limit [] → w.window.gap.items ≡ [] → w.window.is_open ≡ false → w.bytes ≡ 0 → w.done ≡ 0 → w.base ≡ 0 → w.part ≡ 0 → lines_from [] before ≡ parts →
+    IsProper items → AreReached parts (lines_from [] items) w before items
+begun parts before items w made text gap shut bytes done base part own proper =
+    let start : Reached parts (lines_from [] items) [] (drafted limit []) false 0 0 0 0 (lines_from [] before) (lines_from [] items) = record {
       before = record { new = []; texts = tt; there = tt; done_is = refl; count = refl; few = omega arith };
       own = [];
       ahead = omega arith;
@@ -255,7 +254,7 @@ begun before items w made text gap shut bytes done base part proper =
       within = omega arith;
       text = sym (pushed_none (drafted limit []));
       closed = λ e. (refl, refl);
-      left_is = refl;
+      left_is = sym own;
       rest_is = refl;
     } in
     record {

@@ -8,7 +8,7 @@ use Rattle.std.specs.Cmp.Derive.{both_true}
 use Rattle.bz_token.specs.declared.class.Class.TheVariants as c
 use Rattle.bz_grammar.specs.declared.kind.Kind.{Kind}
 use Rattle.bz_grammar.specs.Shapes.{equals, has_token}
-use Rattle.bz_items.specs.Characters.{Bytes, comma}
+use Rattle.bz_items.specs.Characters.{Bytes, comma, line_feed}
 use Rattle.bz_value.specs.declared.value.Form.{Form}
 use Rattle.bz_value.specs.declared.value.Expr.{Expr, Token, Form'}
 use Rattle.bz_value.specs.declared.value.Expr.TheVariants as e
@@ -17,7 +17,7 @@ use Rattle.bz_value.specs.Proper.{comments_of, has_break}
 use Rattle.bz_value.specs.declared.value.Item.{Item}
 use Rattle.bz_value.specs.Roots.{root}
 use Rattle.bz_layout.specs.Layout.{Piece, new_line_at, margin_lines, ended, suffix_text, stacked, joined, rowed, headed, laid_in, is_broken, is_tuple, gap_after, margin_after}
-use Rattle.bz_layout.specs.Written.{piece_text, text_of, item_text, layout}
+use Rattle.bz_layout.specs.Written.{piece_text, text_of, comment_lines, item_text, layout}
 use Rattle.bz_layout.specs.LaidOut.{before_next}
 use Rattle.bz_layout.specs.Writings.{writings, row_text, comma_text, joined_text, stacked_text, body_text}
 use Rattle.bz_layout.specs.Drafts.{Drafted, pushed}
@@ -149,6 +149,11 @@ above_next m ts k d h = ap (margin_lines m) (drop_more ts k d h)
 
 pub above_end : (d : Drafted) (m : ℕ) (ts : List Bytes) (k : ℕ) → length ts ≤ k → pushed d (margin_lines m (drop k ts)) ≡ d
 above_end d m ts k l = pushed_end (margin_lines m) d ts k refl l
+
+-- at no margin they are lines
+pub above_none : (ts : List Bytes) → margin_lines 0 ts ≡ comment_lines ts
+above_none [] = refl
+above_none (t ∷ ts) = ap (λ rest. t ++ (line_feed ∷ rest)) (above_none ts)
 
 pub ended_next : (m : ℕ) (ts : List Bytes) (k : ℕ) (d : Bytes) → k < length ts → ended m (drop k ts) ≡ new_line_at (m + 4) ++ (get_or ts k d ++ ended m (drop (k + 1) ts))
 ended_next m ts k d h = ap (ended m) (drop_more ts k d h)

@@ -13,12 +13,6 @@ pub fn is_of_kind(kind: Kind, expr: &Expr) -> bool
     matches!(expr, Expr::Form(form) if form.kind.number() == kind.number())
 }
 
-fn is_named_argument(expr: &Expr) -> bool
-    ensures { result ≡ layout.is_named_argument expr.now }
-{
-    is_of_kind(Kind::Named, expr) || is_of_kind(Kind::Star, expr)
-}
-
 fn has_comment(expr: &Expr) -> bool
     ensures { result ≡ layout.has_comment expr.now }
 {
@@ -35,7 +29,7 @@ fn have_comment(items: &[Expr]) -> bool
 fn have_named(items: &[Expr]) -> bool
     ensures { result ≡ layout.has_named items.now }
 {
-    items.iter().any(is_named_argument)
+    items.iter().any(|item| is_of_kind(Kind::Named, item) || is_of_kind(Kind::Star, item))
 }
 
 /// Whether a sequence of this many items is broken whatever they are.

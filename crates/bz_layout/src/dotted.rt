@@ -1,8 +1,7 @@
 //! Names joined by dots, as text: forms of which each is the first part of the next one. A text has room for 32,764 of them, so no call
 //! goes into them.
-ghost use Rattle.std.specs.Prelude.{◌≡◌, ◌<◌, ◌++◌, ℕ, Ok, true, false, IsTrue, IfSome, OnOk};
+ghost use Rattle.std.specs.Prelude.{◌≡◌, ◌<◌, ◌++◌, ℕ, Ok, true, false, IfSome, OnOk};
 ghost use Rattle.std.specs.List.{list_all};
-ghost use Rattle.bz_grammar.specs.declared.kind.Kind.TheVariants as kinds;
 ghost use Rattle.bz_value.specs.declared.value.Expr.TheVariants as e;
 ghost use Rattle.bz_rule.specs.private.Named.{fronts};
 ghost use Rattle.bz_layout.specs.Drafts.{pushed};
@@ -15,23 +14,10 @@ use bz_items::Memory;
 use bz_rule::{first_text, text_of};
 use bz_value::{Expr, Form};
 
-fn is_token(part: &Expr) -> bool
-    ensures { result ≡ is_lone_token part.now }
-{
-    matches!(part, Expr::Token(_))
-}
-
 fn are_tokens(parts: &[Expr]) -> bool
     ensures { result ≡ list_all is_lone_token parts.now }
 {
-    parts.iter().all(is_token)
-}
-
-/// Whether a form is of names joined by dots.
-fn is_dot(form: &Form) -> bool
-    ensures { IsTrue result → form.now.kind ≡ kinds.Dot }
-{
-    matches!(form.kind, Kind::Dot)
+    parts.iter().all(|part| matches!(part, Expr::Token(_)))
 }
 
 /// The form that a row begins with, where it is of names joined by dots and tokens alone follow.
@@ -41,7 +27,8 @@ fn front_of(form: &Form) -> Option<&Form>
     ensures less { IfSome result (λ front. fronts (e.Form front.now) < fronts (e.Form form.now)) }
 {
     match form.parts.as_slice() {
-        [Expr::Form(front), tokens @ ..] if is_dot(front) && are_tokens(tokens) => Some(front),
+        [Expr::Form(front), tokens @ ..]
+            if front.kind.number() == Kind::Dot.number() && are_tokens(tokens) => { Some(front) }
         _ => None,
     }
 }

@@ -4,9 +4,8 @@ ghost use Rattle.std.specs.Option.{option_copied};
 ghost use Rattle.bz_items.specs.Characters.{Bytes, space};
 ghost use Rattle.bz_layout.specs.Drafts.{drafted, pushed};
 ghost use Rattle.bz_layout.specs.Layout.{new_line_at, margin_lines, suffix_text, ended};
-ghost use Rattle.bz_layout.specs.Written.{comment_lines};
 
-use crate::gaps::{deeper_margin, push_comments};
+use crate::gaps::deeper_margin;
 use bz_items::{Memory, Text};
 use std::alloc::AllocError;
 use std::marker::Model;
@@ -124,13 +123,5 @@ impl Draft {
             self.push_bytes(text.as_slice())?;
         }
         Ok(())
-    }
-
-    /// Appends comment lines, each with its newline. The error: a growth was refused.
-    #[tactic(auto, using(crate::proofs::Pushing::appended))]
-    pub fn push_comments(&mut self, texts: &[Text]) -> Result<(), Memory>
-        ensures { OnOk result (self.new ≡ pushed self.old (comment_lines texts.now)) }
-    {
-        push_comments(&mut self.text, texts)
     }
 }

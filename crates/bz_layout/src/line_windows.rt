@@ -6,19 +6,15 @@ ghost use Rattle.bz_value.specs.declared.value.Item.{Item};
 
 use bz_value::{Item, Window};
 
-/// Whether an item has a line.
-fn makes_line(item: &Item) -> bool
-    ensures { result ≡ counts.makes_line item.now }
-{
-    matches!(item, Item::Stmt(_))
-}
-
 /// How many lines the items have, the end not counted.
 #[tactic(auto, using(crate::proofs::Windows::counted))]
 pub fn count_lines(items: &[Item]) -> usize
     ensures { result ≡ counts.line_count_in items.now }
 {
-    items.iter().filter(|item| makes_line(item)).count()
+    items
+        .iter()
+        .filter(|item| matches!(item, Item::Stmt(_)))
+        .count()
 }
 
 /// The items that stay before a window, those of it that came, and those past it.

@@ -143,12 +143,12 @@ fn push_stacked(out: &mut Draft, form: &Form, margin: usize, closer: u8) -> Resu
 }
 
 /// Appends a statement on lines of its own: its comments above it, its suffix, a newline.
-#[tactic(auto, using(crate::proofs::Pushing::pushed_twice))]
+#[tactic(auto, using(crate::proofs::Pushing::pushed_twice, crate::proofs::Writing::above_none))]
 pub fn push_statement(out: &mut Draft, expr: &Expr) -> Result<(), Memory>
     ensures { OnOk result (out.new ≡ pushed out.old (written.item_text (i.Stmt expr.now))) }
 {
     let comments = expr.comments();
-    out.push_comments(comments.before())?;
+    out.push_above(comments.before(), 0)?;
     push_expr(out, expr, 0)?;
     out.push_after(comments.suffix())?;
     out.push(b'\n')
@@ -164,11 +164,12 @@ pub fn expr_text(alloc: Global, expr: &Expr) -> Result<Text, Memory>
 }
 
 /// Appends an item of a file, with its newlines.
+#[tactic(auto, using(crate::proofs::Writing::above_none))]
 pub fn push_item(out: &mut Draft, item: &Item) -> Result<(), Memory>
     ensures { OnOk result (out.new ≡ pushed out.old (written.item_text item.now)) }
 {
     match item {
-        Item::Block(texts) => out.push_comments(texts.as_slice()),
+        Item::Block(texts) => out.push_above(texts.as_slice(), 0),
         Item::Stmt(expr) => push_statement(out, expr),
     }
 }

@@ -61,7 +61,7 @@ pub struct Writer {
 /// A writer at the beginning of a tree.
 #[tactic(auto, using(crate::proofs::Staying::begun))]
 pub fn new_writer(alloc: Global) -> Writer
-    ensures { (before items : List Item) → IsProper items → AreReached (lines_from [] before) (lines_from [] items) result before items }
+    ensures { (parts : List Part) (before items : List Item) → lines_from [] before ≡ parts → IsProper items → AreReached parts (lines_from [] items) result before items }
 {
     Writer {
         made: Items::new(alloc),

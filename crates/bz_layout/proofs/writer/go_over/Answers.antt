@@ -1,19 +1,14 @@
-use Rattle.std.proofs.Common.{◌+◌, [], get_or, take, drop, length, refl, sym, arith, ap, subst}
+use Rattle.std.proofs.Common.{◌+◌, [], get_or, take, drop, length, refl, sym, arith, ap}
 use Rattle.bz_layout.specs.LaidOut.{lines_from}
 use Rattle.bz_layout.proofs.Changes.{past_limit}
 use Rattle.bz_layout.proofs.LineWindows.{within_next}
 use Rattle.bz_layout.proofs.Reaching.{finished}
 use Rattle.bz_layout.proofs.Staying.{over_next, over_none, over_last, over_turn}
 use Rattle.bz_value.specs.declared.windows.Window.{Window}
-use Rattle.bz_layout.specs.private.Reached.{AreReached}
 use Rattle.bz_layout.proofs.writer.go_over.Goals as goal
 
 abbrev none : Window
 none = record { from = 0; gone = 0; come = 0 }
-
-pub loop-window-init : goal.loop-window-init
-loop-window-init c =
-    (c.requires, λ before is proper over. (before, over, subst (λ ps. AreReached ps (lines_from [] c.args.items.now) c.new_writer-writer.result before c.args.items.now) is (c.new_writer-writer.ensures before c.args.items.now proper)))
 
 pub returns-then-not-branch : goal.returns-then-not-branch
 returns-then-not-branch c = λ before is proper over.
