@@ -36,14 +36,9 @@ fn have_named(items: &[Expr]) -> bool
 fn is_long(kind: Kind, items: &[Expr]) -> bool
     ensures { result ≡ (nat_le 2 (length items.now) && (layout.is_listed kind || (layout.is_call kind && layout.has_named items.now))) }
 {
-    if items.len() < 2 {
-        return false;
-    }
-    match kind {
-        Kind::List | Kind::Dict => true,
-        Kind::Call => have_named(items),
-        _ => false,
-    }
+    items.len() >= 2
+        && (matches!(kind, Kind::List | Kind::Dict)
+            || matches!(kind, Kind::Call) && have_named(items))
 }
 
 /// Whether the items of the form's sequence are on lines of their own.
@@ -52,8 +47,8 @@ pub fn is_broken(form: &Form) -> bool
 {
     let items = form.seq.items.as_slice();
     // The flag first: where it is settled, no item need be looked at.
-    if form.seq.split && !items.is_empty() {
-        return true;
-    }
-    have_comment(items) || !form.seq.end.is_empty() || is_long(form.kind, items)
+    form.seq.split && !items.is_empty()
+        || have_comment(items)
+        || !form.seq.end.is_empty()
+        || is_long(form.kind, items)
 }

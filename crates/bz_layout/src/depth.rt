@@ -25,10 +25,8 @@ pub fn is_within(expr: &Expr, depth: usize) -> bool
 fn is_inside_within(form: &Form, depth: usize) -> bool
     ensures { IsTrue result ↔ (depth_inside form.now ≤ depth) }
 {
-    if !are_within(form.parts.as_slice(), depth) {
-        return false;
-    }
-    !is_sequence(form.kind) || are_within(form.seq.items.as_slice(), depth)
+    are_within(form.parts.as_slice(), depth)
+        && (!is_sequence(form.kind) || are_within(form.seq.items.as_slice(), depth))
 }
 
 /// Whether what is laid out of each of the expressions has at most this depth.
@@ -45,23 +43,15 @@ pub fn are_within(exprs: &[Expr], depth: usize) -> bool
     true
 }
 
-/// Whether the line of the item has at most this depth.
-fn is_item_within(item: &Item, depth: usize) -> bool
-    ensures { IsTrue result ↔ (depth_items (item.now ∷ []) ≤ depth) }
-{
-    match item {
-        Item::Block(_) => true,
-        Item::Stmt(expr) => depth > 0 && is_within(expr, depth - 1),
-    }
-}
-
 /// Whether the lines of the items have at most this depth.
 #[tactic(auto, using(crate::proofs::Measured::depth_next))]
 pub fn are_items_within(items: &[Item], depth: usize) -> bool
     ensures { IsTrue result ↔ (depth_items items.now ≤ depth) }
 {
     for item in items {
-        if !is_item_within(item, depth) {
+        if let Item::Stmt(expr) = item
+            && (depth == 0 || !is_within(expr, depth - 1))
+        {
             return false;
         }
     }

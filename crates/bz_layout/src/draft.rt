@@ -75,8 +75,7 @@ impl Draft {
             return Ok(());
         }
         let end = self.text.len().checked_add(margin).ok_or(AllocError)?;
-        self.text.resize(end, b' ')?;
-        Ok(())
+        self.text.resize(end, b' ')
     }
 
     /// Appends a newline and the spaces of a margin. The error: a growth was refused.

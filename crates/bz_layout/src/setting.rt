@@ -83,9 +83,7 @@ pub fn text_of_file(alloc: Global, file: &File, about: usize) -> Result<Text, Se
     let room = Vec::with_capacity(alloc, about.saturating_add(about / 4))?;
     let mut out = Draft::new(room, LENGTH_LIMIT);
     push_items(&mut out, items)?;
-    let Some(bytes) = out.into_bytes() else {
-        return Err(SetFault::TooLarge);
-    };
+    let bytes = out.into_bytes().ok_or(SetFault::TooLarge)?;
     if !is_shallow(items) {
         return Err(SetFault::TooDeep);
     }
