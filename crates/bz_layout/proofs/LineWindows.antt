@@ -65,9 +65,6 @@ abbrev gone_end : List Window → ℕ
 gone_end [] = 0
 gone_end (w ∷ ws) = (w.from + w.gone) + gone_end ws
 
-drop_both : (n m : ℕ) (xs : List Item) → drop m (drop n xs) ≡ drop (n + m) xs
-drop_both n m xs = drop-drop m n xs
-
 -- past the last of them all is the same
 past_all : (ws : List Window) (xs ys : List Item) → AreOver ws xs ys → (gone_end ws ≤ length xs) × (come_end ws ≤ length ys) × (drop (gone_end ws) xs ≡ drop (come_end ws) ys)
 past_all [] xs ys h = (omega arith, omega arith, h)
@@ -77,7 +74,7 @@ past_all (w ∷ ws) xs ys h =
     let new : length (drop (w.from + w.come) ys) ≡ length ys - (w.from + w.come) = length-drop (w.from + w.come) ys in (
       omega (arith, old, rest.0, h.0),
       omega (arith, new, rest.1, h.1),
-      sym (drop_both (w.from + w.gone) (gone_end ws) xs) ∙ (rest.2 ∙ drop_both (w.from + w.come) (come_end ws) ys),
+      sym (drop-drop (gone_end ws) (w.from + w.gone) xs) ∙ (rest.2 ∙ drop-drop (come_end ws) (w.from + w.come) ys),
     )
 
 gone_past : (from n so : ℕ) (xs : List Item) → n ≡ so - from → from ≤ so → line_count_in (take n (drop from xs)) + (line_count_in (take from xs) + line_count_in (drop so xs)) ≡ line_count_in xs
@@ -87,27 +84,32 @@ gone_past from n so xs e h =
     let past : line_count_in (drop (from + n) xs) ≡ line_count_in (drop so xs) = ap (λ k. line_count_in (drop k xs)) end in
     omega (arith, all, past)
 
+-- where the first of them begins
+abbrev pub first_from : List Window → ℕ
+first_from ws = (get_or ws 0 (record { from = 0; gone = 0; come = 0 })).from
+
+before_first : (ws : List Window) (xs ys : List Item) → AreOver ws xs ys → (first_from ws ≤ gone_end ws) × (first_from ws ≤ come_end ws) × (take (first_from ws) ys ≡ take (first_from ws) xs)
+before_first [] xs ys h = (omega arith, omega arith, refl)
+before_first (w ∷ ws) xs ys h = (omega arith, omega arith, h.2)
+
 -- one window from the first to the last of them
-pub one_over : (ws : List Window) (xs ys : List Item) (d : Window) (from end lines gone come : ℕ) → 1 ≤ length ws → from ≡ (get_or ws 0 d).from → end ≡ come_end ws → line_count_in xs ≡ lines →
+pub one_over : (ws : List Window) (xs ys : List Item) (from end lines gone come : ℕ) → from ≡ first_from ws → end ≡ come_end ws → line_count_in xs ≡ lines →
     gone ≡ lines - line_count_in (take from ys) - line_count_in (drop end ys) → come ≡ end - from → AreOver ws xs ys → AreLinesOver (record { from = from; gone = gone; come = come } ∷ []) xs ys
-one_over [] xs ys d from end lines gone come some f e l g c h = absurd (omega (arith, some))
-one_over (w ∷ ws) xs ys d from end lines gone come some f e l g c h =
-    let past = past_all (w ∷ ws) xs ys h in
-    let so : ℕ = gone_end (w ∷ ws) in
-    let first : from ≡ w.from = f in
-    let most : from ≤ (w.from + w.gone) + gone_end ws = omega (arith, first) in
-    let one : from ≡ w.from = f in
-    let last : end ≡ (w.from + w.come) + come_end ws = e in
-    let least : from ≤ end = omega (arith, one, last) in
+one_over ws xs ys from end lines gone come f e l g c h =
+    let past = past_all ws xs ys h in
+    let front = before_first ws xs ys h in
+    let so : ℕ = gone_end ws in
+    let most : from ≤ so = omega (arith, f, front.0) in
+    let least : from ≤ end = omega (arith, f, e, front.1) in
     let took : line_count_in (take (so - from) (drop from xs)) + (line_count_in (take from xs) + line_count_in (drop so xs)) ≡ line_count_in xs = gone_past from (so - from) so xs refl most in
-    let same : line_count_in (take from ys) ≡ line_count_in (take from xs) = rw f (ap line_count_in h.2) in
+    let same : line_count_in (take from ys) ≡ line_count_in (take from xs) = rw f (ap line_count_in front.2) in
     let after : line_count_in (drop so xs) ≡ line_count_in (drop end ys) = ap line_count_in past.2 ∙ ap (λ n. line_count_in (drop n ys)) (sym e) in
     let all_gone : from + (so - from) ≡ so = omega (arith, most) in
     let all_come : from + come ≡ end = omega (arith, least, c) in (
       so - from,
       omega (arith, all_gone, past.0),
       omega (arith, all_come, past.1, e),
-      rw f h.2,
+      rw f front.2,
       omega (arith, took, same, after, l, g),
       ap (λ n. drop n xs) all_gone ∙ (past.2 ∙ ap (λ n. drop n ys) (sym (all_come ∙ e))),
     )

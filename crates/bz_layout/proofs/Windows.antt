@@ -1,5 +1,5 @@
 -- The lines in front of a place, how many there are, and the gap before it.
-use Rattle.std.proofs.Common.{ℕ, zero, suc, ◌≡◌, ◌<◌, ◌≤◌, ◌+◌, ◌-◌, List, [], ◌∷◌, ◌++◌, length, get_or, take, drop, count_by, cond, refl, sym, ap, ◌∙◌, arith, append_assoc}
+use Rattle.std.proofs.Common.{ℕ, zero, suc, Bool, true, false, ◌≡◌, ◌<◌, ◌≤◌, ◌+◌, ◌-◌, List, [], ◌∷◌, ◌++◌, length, get_or, take, drop, count_by, cond, refl, sym, ap, ◌∙◌, arith, append_assoc}
 use Rattle.std.proofs.lemmas.List.{drop_more, take-append-drop, drop-drop}
 use Rattle.std.proofs.lemmas.List.Recursion.{is_count_by}
 use Rattle.bz_grammar.specs.declared.tree.Part.{Part}
@@ -8,7 +8,7 @@ use Rattle.bz_value.specs.declared.value.Item.TheVariants as i
 use Rattle.bz_items.specs.Characters.{Bytes}
 use Rattle.bz_layout.specs.Written.{gap_between, comment_lines}
 use Rattle.bz_layout.specs.LaidOut.{line_part, left_gap, before_next, lines_from}
-use Rattle.bz_layout.specs.private.Windows.{makes_line, line_count_in, statement_gap}
+use Rattle.bz_layout.specs.private.Windows.{line_count_in, statement_gap}
 
 -- ---- a window of a list
 
@@ -69,6 +69,11 @@ pub length_lines : (gap : Bytes) (xs : List Item) → length (lines_from gap xs)
 length_lines gap [] = refl
 length_lines gap (i.Block texts ∷ xs) = length_lines ((gap ++ comment_lines texts) ++ before_next (i.Block texts) xs) xs
 length_lines gap (i.Stmt x ∷ xs) = ap suc (length_lines (before_next (i.Stmt x) xs) xs)
+
+-- whether an item has a line
+abbrev pub makes_line : Item → Bool
+makes_line (i.Block texts) = false
+makes_line (i.Stmt x) = true
 
 counted_first : (x : Item) (xs : List Item) → line_count_in (x ∷ xs) ≡ cond (makes_line x) (1 + line_count_in xs) (line_count_in xs)
 counted_first (i.Block texts) xs = refl

@@ -1,5 +1,5 @@
 //! Whether a value or its layout is too deep. No walk goes deeper than the bound, and no tree is made for it.
-ghost use Rattle.std.specs.Prelude.{◌∷◌, [], ◌≤◌, ◌↔◌, IsTrue};
+ghost use Rattle.std.specs.Prelude.{◌≤◌, ◌↔◌, IsTrue};
 ghost use Rattle.bz_layout.specs.Depths.{depth_expr, deepest_of, depth_inside, depth_items};
 ghost use Rattle.bz_layout.specs.private.Windows.{come_items};
 ghost use Rattle.bz_value.specs.Windows.{AreWithin};

@@ -67,14 +67,7 @@ pub fn all_as_one(items: &[Item], windows: &[Window], lines: usize) -> Window
     ensures within { result.from + result.come ≤ length items.now }
     ensures over { (before : List Item) → counts.line_count_in before ≡ lines → AreOver windows.now before items.now → counts.AreLinesOver (result ∷ []) before items.now }
 {
-    let [first, ..] = windows else {
-        return Window {
-            from: 0,
-            gone: 0,
-            come: 0,
-        };
-    };
-    let from = first.from;
+    let from = windows.first().map_or(0, |first| first.from);
     let end = come_end(items, windows);
     let past_front = lines.saturating_sub(count_lines(&items[..from]));
     Window {

@@ -19,22 +19,15 @@ fn is_lone_mark(mark: &[u8]) -> bool
     matches!(mark, b"(" | b")" | b"[" | b"]" | b"{" | b"}" | b"," | b":")
 }
 
-/// Whether the mark in a row of the kind is right before its operand.
-fn is_prefix(kind: Kind, mark: &[u8]) -> bool
-    ensures { result ≡ spaces.is_prefix_mark kind mark.now }
-{
-    match kind {
-        Kind::Unary | Kind::Star => true,
-        Kind::Param => matches!(mark, b"*" | b"**"),
-        _ => false,
-    }
-}
-
 /// Whether the mark of a row of the kind has no space at either side.
 fn is_tight(kind: Kind, mark: &[u8]) -> bool
     ensures { result ≡ spaces.is_tight kind mark.now }
 {
-    is_lone_mark(mark) || matches!(mark, b".") || is_prefix(kind, mark)
+    match kind {
+        Kind::Unary | Kind::Star => true,
+        Kind::Param => is_lone_mark(mark) || matches!(mark, b"." | b"*" | b"**"),
+        _ => is_lone_mark(mark) || matches!(mark, b"."),
+    }
 }
 
 /// Whether a space is after the mark in a row of the kind.
