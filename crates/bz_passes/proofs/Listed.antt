@@ -1,10 +1,10 @@
 -- The items of one list, sorted: sorted again they stay; what is kept of them; flags are not seen; where its old first item and the marks go.
-use Rattle.std.proofs.Common.{ℕ, ◌-◌, ◌<◌, Bool, true, false, not, ◌&&◌, ◌||◌, List, [], ◌∷◌, ◌++◌, ◌≡◌, refl, sym, ap, subst, ◌∙◌, length, take, drop, map, if◌then◌else◌, inl, inr, arith, drop_at, take_at, length-append, length-drop, length-take-le, take-append-drop}
+use Rattle.std.proofs.Common.{◌-◌, Bool, true, false, not, ◌&&◌, ◌||◌, List, [], ◌∷◌, ◌++◌, ◌≡◌, codes, refl, sym, ap, subst, ◌∙◌, map, if◌then◌else◌, inl, inr}
 use Rattle.std.proofs.lemmas.Bool.{cases_Bool, and_right, false_from_ne_true, true_from_ne_false, true≢false, or_from, or_parts, and_from}
 use Rattle.std.proofs.lemmas.Slice.Eq.{bytes_eq-Decides}
 use Rattle.std.proofs.Math.Path.{fun_ext}
 use Rattle.std.specs.Bool.{beq}
-use Rattle.std.specs.List.{filter, list_any, list_all, AllByRecursion, slice_rotate_right}
+use Rattle.std.specs.List.{filter, list_any, list_all, AllByRecursion}
 use Rattle.std.specs.Ordering.{is_lt}
 use Rattle.bz_label.specs.Keys.{key_order}
 use Rattle.std.specs.Cmp.{IsStrictWeakOrder}
@@ -20,7 +20,7 @@ use Rattle.bz_value.specs.Proper.{comments_of}
 use Rattle.bz_rule.specs.Values.{has_class, text_of, above, with_above}
 use Rattle.bz_passes.specs.Sorting.{insert_by, sort_by, NoneBefore, Rises}
 use Rattle.bz_rule.specs.QuoteMarks.{between}
-use Rattle.bz_passes.specs.Lists.{above_first, is_taken, precedes, has_no_comment, without_repeats, in_order, without_marks, marked_by, sorted, settled_list, MovesMarks, is_marked, keep_marks, keep_sorted, other_comments}
+use Rattle.bz_passes.specs.Lists.{above_first, is_taken, precedes, has_no_comment, without_repeats, in_order, without_marks, marked_by, sorted, settled_list, MovesMarks, any_marked, is_marked, keep_marks, keep_sorted, other_comments}
 use Rattle.bz_passes.proofs.Ranks.{item_ranks}
 use Rattle.bz_passes.specs.private.Repeats.{Climbs, is_passed}
 use Rattle.bz_passes.proofs.Keeping.{Keeps, Settles, all_joined, both, same_first, same_after}
@@ -166,10 +166,10 @@ climbs_fine (x ∷ xs) c = record { rising = climbs_rises (x ∷ xs) c; clean = 
 pub rising_settled : (outside : List Bytes) (b : Bool) (xs : List Expr) → Climbs precedes xs → settled_list outside b xs ≡ xs
 rising_settled outside b xs c = by_test (λ ys. ys ≡ xs) (is_taken outside b xs) (sorted xs) xs (fine_stays xs (climbs_fine xs c)) refl
 
--- a list that neither the table names nor a comment may mark stays
-pub untaken_stays : (outside : List Bytes) (b : Bool) (xs : List Expr) → b ≡ false → outside ≡ [] → above_first xs ≡ [] → settled_list outside b xs ≡ xs
-untaken_stays outside b xs unnamed none bare =
-    let untaken : is_taken outside b xs ≡ false = rw (unnamed, none, bare) (and_right (list_all (has_class c.String) xs) false refl) in
+-- a list that neither the table names nor a comment marks stays
+pub unmarked_stays : (outside : List Bytes) (b : Bool) (xs : List Expr) → b ≡ false → any_marked keep_sorted (outside ++ above_first xs) ≡ false → settled_list outside b xs ≡ xs
+unmarked_stays outside b xs unnamed none =
+    let untaken : is_taken outside b xs ≡ false = rw (unnamed, none) (and_right (not (any_marked (codes "do not sort") (outside ++ above_first xs)) && list_all (has_class c.String) xs) false refl) in
     rw untaken refl
 
 -- ---- comments that move

@@ -10,12 +10,11 @@ use Rattle.bz_value.specs.Frames.{frame, Frame, row, sequence, has_brackets}
 use Rattle.bz_items.specs.Characters.{Bytes}
 use Rattle.bz_value.specs.Proper.{comments_of}
 use Rattle.bz_layout.specs.Flags.{settled_split, with_flags, each_with_flags}
-use Rattle.bz_rule.specs.Values.{has_kind, has_class, text_of, parts_of, items_of, with_parts, with_items, above, with_above, on_row, on_items, on_lists}
+use Rattle.bz_rule.specs.Values.{has_kind, has_class, text_of, parts_of, items_of, with_parts, with_items, above, with_above}
 pub use Rattle.bz_rule.proofs.Opened.{made, own_parts, own_items}
 use Rattle.bz_passes.specs.Passes.{quotes_in, each_on_strings, with_double}
 use Rattle.bz_passes.proofs.Keeping.{both}
 use Rattle.bz_grammar.specs.declared.kind.Kind.TheVariants as k
-use Rattle.bz_grammar.specs.Shapes.{is_kind}
 use Rattle.bz_layout.specs.Layout.{is_broken}
 use Rattle.bz_rule.specs.private.Named.{fronts, fronts_among}
 use Rattle.bz_rule.proofs.Forms.{fronts_Form}
@@ -212,29 +211,10 @@ pub parts_with_items : (xs : List Expr) (x : Expr) → parts_of (with_items xs x
 parts_with_items xs (Token t) = refl
 parts_with_items xs (Form' own s parts s' items end split open_break comments) = items_hidden-the_row-Expr-0 (items-the_row-Expr _ parts)
 
--- ---- changes of lists
+-- ---- other lists in a form
 
 abbrev pub in_form : Form → List Expr → List Expr → Bool → Expr
 in_form f parts items split = e.Form (record { kind = f.kind; parts = parts; seq = record { items = items; end = f.seq.end; split = split }; open_break = f.open_break; comments = f.comments })
-
-pub row_Form : (kind : Kind) (change : List Expr → List Expr) (f : Form) → on_row kind change (e.Form f) ≡ (if is_kind f.kind kind then in_form f (change f.parts) f.seq.items f.seq.split else e.Form f)
-row_Form kind change f =
-    ap (λ (x : Expr). if is_kind f.kind kind then x else e.Form f)
-    (ap (λ xs. with_parts (change xs) (e.Form f)) (parts_are f) ∙ ap (λ items. in_form f (change f.parts) items f.seq.split) (items_are f))
-
-pub sequence_Form : (kind : Kind) (change : List Expr → List Expr) (f : Form) → on_items kind change (e.Form f) ≡ (if is_kind f.kind kind then in_form f f.parts (change f.seq.items) f.seq.split else e.Form f)
-sequence_Form kind change f =
-    ap (λ (x : Expr). if is_kind f.kind kind then x else e.Form f)
-    (ap (λ xs. with_items (change xs) (e.Form f)) (items_are f) ∙ ap (λ parts. in_form f parts (change f.seq.items) f.seq.split) (parts_are f))
-
-by_both : {X : Type 0} (b : Bool) (x y z w v : X) → x ≡ (if b then y else w) → z ≡ v → (if b then x else z) ≡ (if b then y else v)
-by_both true x y z w v here there = here
-by_both false x y z w v here there = there
-
-pub lists_by_kind : (change : List Expr → List Expr) (f : Form) → on_lists change (e.Form f)
-    ≡ (if is_kind f.kind k.Sum then in_form f (map (on_items k.List change) f.parts) f.seq.items f.seq.split
-    else (if is_kind f.kind k.List then in_form f f.parts (change f.seq.items) f.seq.split else e.Form f))
-lists_by_kind change f = by_both (is_kind f.kind k.Sum) _ _ _ (e.Form f) _ (row_Form k.Sum (map (on_items k.List change)) f) (sequence_Form k.List change f)
 
 -- ---- flags of a form, by its kind
 

@@ -1,9 +1,11 @@
 -- Pieces of a file that no load is sorted across are tidied apart, and windows of a tidy file by themselves.
-use Rattle.std.proofs.Common.{◌||◌, ℕ, zero, suc, ◌+◌, ◌≤◌, Bool, true, false, ◌&&◌, inl, inr, List, [], ◌∷◌, ◌++◌, ◌≡◌, length, take, drop, refl, sym, ap, ◌∙◌, subst, arith, append_assoc, append-nil, drop_at, length-append, length-drop, length-take-le, take-append-drop, take_at}
+use Rattle.std.proofs.Common.{◌||◌, ℕ, zero, suc, ◌+◌, ◌-◌, ◌≤◌, Bool, true, false, ◌&&◌, inl, inr, List, [], ◌∷◌, ◌++◌, ◌≡◌, length, take, drop, refl, sym, ap, ◌∙◌, subst, arith, append_assoc, append-nil, drop_at, length-append, length-drop, length-take-le, take-append-drop, take_at}
 use Rattle.std.proofs.Math.Seq.{take-add}
 use Rattle.std.proofs.lemmas.Bool.{cases_Bool, or_parts}
 use Rattle.std.proofs.lemmas.List.{drop-map, length-map, map-append, take-map}
 use Rattle.std.proofs.lemmas.List.Elements.{All-append, All-drop, All-take}
+use Rattle.std.specs.Option.{option_map_or}
+use Rattle.std.specs.Prelude.{slice_get}
 use Rattle.bz_grammar.specs.declared.kind.Kind.TheVariants as k
 use Rattle.bz_value.specs.Empty.{is_empty}
 use Rattle.bz_value.specs.declared.value.Item.{Item}
@@ -15,7 +17,7 @@ use Rattle.bz_rule.specs.Values.{above, has_kind}
 use Rattle.bz_passes.specs.Changes.{after_passes}
 use Rattle.bz_passes.specs.Joined.{TidiedAlone, begins_with_load, item_tidied}
 use Rattle.bz_passes.specs.Passes.{is_run_load, load_precedes, loads, path_precedes, taken, tidied}
-use Rattle.bz_passes.specs.private.Borders.{AreSetApart, AreTidied, any_touched, ends_with_load, tidied_over, touches}
+use Rattle.bz_passes.specs.private.Borders.{AreSetApart, AreTidied, any_touched, ends_with_load, last_passes, tidied_over, touches}
 use Rattle.bz_passes.proofs.Composed.{above_outside, kind_outside, taken_stays}
 use Rattle.bz_passes.proofs.Sorting.{cut_at, Starts, Ordered, ordered_stays, sort_length, sort_ordered}
 use Rattle.bz_passes.proofs.Keeping.{both}
@@ -30,7 +32,7 @@ tidied_alone item = by_items (item ∷ [])
 pub each_between : (front : List Item) (x : Item) (rest : List Item) → each (front ++ x ∷ rest) ≡ each front ++ item_tidied x ∷ each rest
 each_between front x rest = map-append item_tidied front (x ∷ rest)
 
-tidied_length : (items : List Item) → length (tidied items) ≡ length items
+pub tidied_length : (items : List Item) → length (tidied items) ≡ length items
 tidied_length items = ap length (by_items items) ∙ (sort_length load_precedes (each items) ∙ length-map items item_tidied)
 
 -- ---- an item that is not sorted cuts
@@ -162,7 +164,7 @@ module _ (w : Window) (items back : List Item) (within : w.from + w.come ≤ len
 
 -- ---- all windows
 
-over_length : (ws : List Window) (items : List Item) → AreWithin ws items → length (tidied_over ws items) ≡ length items
+pub over_length : (ws : List Window) (items : List Item) → AreWithin ws items → length (tidied_over ws items) ≡ length items
 over_length [] items h = refl
 over_length (w ∷ ws) items h =
     let back : List Item = drop (w.from + w.come) items in
@@ -222,7 +224,14 @@ apart_tidied ws vs old new a e = record {
 
 -- ---- the last of some items
 
-pub last_load : (front : List Item) (item : Item) → ends_with_load (front ++ item ∷ []) ≡ is_run_load item
-last_load [] item = refl
-last_load (x ∷ []) item = refl
-last_load (x ∷ y ∷ ys) item = last_load (y ∷ ys) item
+pub by_last : (test : Item → Bool) (items : List Item) → last_passes test items ≡ option_map_or test (slice_get items (length items - 1)) false
+by_last test [] = refl
+by_last test (x ∷ []) = refl
+by_last test (x ∷ y ∷ ys) =
+    let last : suc (length (y ∷ ys) - 1) ≡ length (x ∷ y ∷ ys) - 1 = omega arith in
+    by_last test (y ∷ ys) ∙ ap (λ n. option_map_or test (slice_get (x ∷ y ∷ ys) n) false) last
+
+pub last_of_more : (test : Item → Bool) (front : List Item) (item : Item) → last_passes test (front ++ item ∷ []) ≡ test item
+last_of_more test [] item = refl
+last_of_more test (x ∷ []) item = refl
+last_of_more test (x ∷ y ∷ ys) item = last_of_more test (y ∷ ys) item

@@ -1,9 +1,10 @@
 -- One item that came in a tidy file, tidied by itself and moved to its place among the loads, makes the whole tidy.
-use Rattle.std.proofs.Common.{ℕ, zero, suc, ◌+◌, ◌-◌, ◌≤◌, ◌<◌, ◌⊎◌, ◌&&◌, inl, inr, true, false, get_or, List, [], ◌∷◌, ◌++◌, ◌≡◌, length, take, drop, refl, sym, ap, ◌∙◌, subst, arith, append_assoc, append-nil, drop-drop, drop_at, length-append, length-drop, length-take-le, take-append-drop, take-take, take_at}
-use Rattle.std.proofs.lemmas.Bool.{and_left, and_parts, and_right, true_from_ne_false, true≢false}
-use Rattle.std.proofs.lemmas.List.{drop-append-le, drop_more, take_more}
-use Rattle.std.proofs.lemmas.List.Elements.{All-append, All-drop, All-take}
-use Rattle.std.specs.List.{AllByRecursion}
+use Rattle.std.proofs.Common.{ℕ, zero, suc, ◌+◌, ◌-◌, ◌≤◌, ◌<◌, ◌⊎◌, ◌&&◌, inl, inr, true, false, not, get_or, List, [], ◌∷◌, ◌++◌, ◌≡◌, length, take, drop, refl, sym, ap, ◌∙◌, subst, arith, append_assoc, append-nil, drop-drop, drop_at, length-append, length-drop, length-take-le, take-append-drop, take-take, take_at}
+use Rattle.std.proofs.lemmas.Bool.{and_left, and_parts, and_right, cases_Bool, not-false, not-true, true_from_ne_false, true≢false}
+use Rattle.std.proofs.lemmas.List.{drop-append-le, get_or-drop, take_more}
+use Rattle.std.proofs.lemmas.List.Elements.{All-append, All-drop, All-from_recursion, All-take, recursion_from_All}
+use Rattle.std.specs.List.{AllByRecursion, AllWithin}
+use Rattle.std.specs.List.Sorted.{IsPartitionPoint, IsPartitionedBy}
 use Rattle.bz_value.specs.declared.value.Item.{Item}
 use Rattle.bz_value.specs.declared.windows.Window.{Window}
 use Rattle.bz_value.specs.Proper.{IsProper, IsProperItem}
@@ -12,11 +13,11 @@ use Rattle.bz_passes.specs.Joined.{item_tidied}
 use Rattle.bz_passes.specs.Sorting.{insert_by, sort_by}
 use Rattle.bz_passes.specs.Passes.{is_run_load, load_precedes, loads, path_precedes, tidied}
 use Rattle.bz_passes.specs.private.Ranks.{path_ranks}
-use Rattle.bz_passes.specs.private.Borders.{AreLoads, AreTidied, IsStillToTidy, ends_with_load, tidied_over, AreInOrder, IsMoved, IsPlaceOf, first_precedes, one_at, precedes_last}
+use Rattle.bz_passes.specs.private.Borders.{AreLoads, AreTidied, IsStillToTidy, ends_with_load, tidied_over, AreInOrder, IsMoved, IsPlaceBack, IsPlaceOf, first_precedes, one_at, precedes_last}
 use Rattle.bz_passes.proofs.Keeping.{both}
-use Rattle.bz_passes.proofs.Pieces.{InOrder, IsTidy, back_stays, each_between, front_stays, ordered_drop, ordered_take, over_still, over_within, tidied_alone, tidy_is}
+use Rattle.bz_passes.proofs.Pieces.{InOrder, IsTidy, back_stays, each_between, front_stays, last_of_more, ordered_drop, ordered_take, over_still, over_within, tidied_alone, tidy_is}
 use Rattle.bz_passes.proofs.Settling.{by_items, each, item_settles}
-use Rattle.bz_passes.proofs.Sorting.{Starts, climbs_by, insert_starts, ordered_by, ordered_stays}
+use Rattle.bz_passes.proofs.Sorting.{Starts, climbs_by, insert_starts, ordered_stays}
 
 -- ---- the place of one item among sorted ones
 
@@ -40,11 +41,6 @@ placed x (y ∷ z ∷ front) later rest o p a s f =
 abbrev pub AllLater : Item → List Item → Type 0
 AllLater x others = AllByRecursion (λ y. load_precedes x y ≡ true) others
 
-pub last_preceded : (x : Item) (front : List Item) (last : Item) → precedes_last x (front ++ last ∷ []) ≡ load_precedes x last
-last_preceded x [] last = refl
-last_preceded x (y ∷ []) last = refl
-last_preceded x (y ∷ z ∷ front) last = last_preceded x (z ∷ front) last
-
 -- a later load follows what the item precedes
 next_later : (x y z : Item) → load_precedes x y ≡ true → load_precedes z y ≡ false → is_run_load z ≡ true → load_precedes x z ≡ true
 next_later x y z h n l =
@@ -58,33 +54,40 @@ later_too : (x y : Item) (ys : List Item) → load_precedes x y ≡ true → InO
 later_too x y [] h o a = tt
 later_too x y (z ∷ zs) h o a = let next : load_precedes x z ≡ true = next_later x y z h o.0 a.0 in (next, later_too x z zs next o.1 a.1)
 
-loads_after : (n : ℕ) (xs : List Item) → AreLoads xs → AreLoads (drop n xs)
-loads_after zero xs a = a
-loads_after (suc n) [] a = tt
-loads_after (suc n) (x ∷ xs) a = loads_after n xs a.1
+-- of a run, what the item doesn't precede is before what it precedes
+pub parted : (x : Item) (xs : List Item) → InOrder xs → AreLoads xs → IsPartitionedBy (λ y. not (load_precedes x y)) xs
+parted x [] o a i j d b l h = absurd (omega (arith, l))
+parted x (y ∷ ys) o a (suc i) zero d b l h = absurd (omega (arith, b))
+parted x (y ∷ ys) o a (suc i) (suc j) d b l h = parted x ys o.1 a.1 i j d (omega (arith, b)) (omega (arith, l)) h
+parted x (y ∷ ys) o a zero zero d b l h = h
+parted x (y ∷ ys) o a zero (suc j) d b l h = elim (cases_Bool (load_precedes x y)) [
+  | inl t ↦ absurd (true≢false (sym h ∙ ap not (All-from_recursion (λ z. load_precedes x z ≡ true) ys (later_too x y ys t o a.1) j d (omega (arith, l)))))
+  | inr f ↦ ap not f
+]
 
-pub fewer_loads : (low more : ℕ) (others : List Item) → low ≤ more → AreLoads (drop low others) → AreLoads (drop more others)
-fewer_loads low more others b a =
-    let sum : low + (more - low) ≡ more = omega (arith, b) in
-    subst AreLoads (drop-drop (more - low) low others ∙ ap (λ n. drop n others) sum) (loads_after (more - low) (drop low others) a)
-
-pub later_from : (x : Item) (low middle : ℕ) (others : List Item) (d : Item) → low ≤ middle → middle < length others → AreLoads (drop low others) → load_precedes x (get_or others middle d) ≡ true
-    → AreInOrder others → AllLater x (drop middle others)
-later_from x low middle others d at bound a h o =
-    let rest : drop middle others ≡ get_or others middle d ∷ drop (middle + 1) others = drop_more others middle d bound in
-    subst (AllLater x) (sym rest) (
-      h,
-      later_too x (get_or others middle d) (drop (middle + 1) others) h
-          (subst InOrder rest (ordered_drop middle others (ordered_by load_precedes others o))) (fewer_loads low (middle + 1) others (omega (arith, at)) a),
-    )
-
-pub stops_after : (x : Item) (middle : ℕ) (others : List Item) (d : Item) → middle < length others → load_precedes x (get_or others middle d) ≡ false → precedes_last x (take (middle + 1) others) ≡ false
-stops_after x middle others d bound n = ap (precedes_last x) (take_more others middle d bound) ∙ (last_preceded x (take middle others) (get_or others middle d) ∙ n)
-
-pub no_load_stops : (x : Item) (others : List Item) → ends_with_load others ≡ false → precedes_last x others ≡ false
+no_load_stops : (x : Item) (others : List Item) → ends_with_load others ≡ false → precedes_last x others ≡ false
 no_load_stops x [] n = refl
 no_load_stops x (y ∷ []) n = and_left (is_run_load x && is_run_load y) (path_precedes x y) (and_right (is_run_load x) (is_run_load y) n)
 no_load_stops x (y ∷ z ∷ ys) n = no_load_stops x (z ∷ ys) n
+
+-- the place in a run between these, among all items up to it
+module _ (x : Item) (start : ℕ) (others xs : List Item) (e : xs ≡ drop start others) where
+  stops_at : (k : ℕ) → k ≤ length xs → ends_with_load (take start others) ≡ false → AllWithin (λ y. not (load_precedes x y) ≡ true) xs 0 k → precedes_last x (take (start + k) others) ≡ false
+  stops_at zero b n p = subst (λ m. precedes_last x (take m others) ≡ false) (omega arith) (no_load_stops x (take start others) n)
+  stops_at (suc m) b n p =
+      let at : load_precedes x (get_or others (start + m) x) ≡ false =
+      ap (load_precedes x) (sym (get_or-drop start others m x) ∙ ap (λ ys. get_or ys m x) (sym e)) ∙ not-true _ (p m x (omega arith) (omega arith)) in
+      ap (λ n. precedes_last x (take n others)) (omega arith)
+      ∙ (ap (precedes_last x) (take_more others (start + m) x (omega (arith, b, ap length e, length-drop start others)))
+      ∙ (last_of_more (load_precedes x) (take (start + m) others) (get_or others (start + m) x) ∙ at))
+
+  pub placed_back : (k : ℕ) → k ≤ length xs → ends_with_load (take start others) ≡ false
+      → IsPartitionPoint (λ y. not (load_precedes x y) ≡ true) (λ y. not (load_precedes x y) ≡ false) xs k → IsPlaceBack x (start + k) others
+  placed_back k b n p = record {
+    later = subst (AllLater x) (ap (drop k) e ∙ drop-drop k start others) (recursion_from_All (λ y. load_precedes x y ≡ true) (drop k xs)
+        (λ i d l. ap (load_precedes x) (get_or-drop k xs i d) ∙ not-false _ (p.1 (k + i) d (omega arith) (omega (arith, l, length-drop k xs)))));
+    stops = stops_at k b n p.0;
+  }
 
 -- ---- tidying an item twice
 

@@ -18,14 +18,12 @@ pub fn begins_with_load(items: &[Item]) -> bool
 }
 
 /// Whether the last item is one.
+#[tactic(auto, using(crate::proofs::Pieces::by_last))]
 fn ends_with_load(items: &[Item]) -> bool
     ensures load { result ≡ ends_so items.now }
     ensures some { IsTrue result → 0 < length items.now }
 {
-    match items.split_last() {
-        Some((last, _)) => last.is_comparable(),
-        None => false,
-    }
+    items.last().is_some_and(|last| last.is_comparable())
 }
 
 /// Whether such loads are on both sides of a place.
@@ -131,8 +129,6 @@ pub(crate) fn set_apart(
     };
     let all = joined(*first, others)?;
     let wide = widened(items, all)?;
-    let mut one = Items::new(alloc);
-    one.push(wide)?;
-    *windows = one;
+    *windows = Items::from_vec(Vec::from_slice(alloc, &[wide])?);
     Ok(())
 }

@@ -72,10 +72,9 @@ fn is_any_commented(items: &[Expr]) -> bool
 fn is_taken(outside: &[Text], by_table: bool, items: &[Expr]) -> bool
     ensures { result ≡ is_taken_in outside.now by_table items.now }
 {
-    if has_mark(DO_NOT_SORT, outside, items) || !are_strings(items) {
-        return false;
-    }
-    has_mark(KEEP_SORTED, outside, items) || (by_table && !is_any_commented(items))
+    !has_mark(DO_NOT_SORT, outside, items)
+        && are_strings(items)
+        && (has_mark(KEEP_SORTED, outside, items) || (by_table && !is_any_commented(items)))
 }
 
 /// Copies of those comments that have the mark of a list that is kept sorted, or of those that don't.
@@ -92,23 +91,11 @@ fn split_marks(alloc: Global, comments: &[Text], marked: bool) -> Result<Items<T
     Ok(copies)
 }
 
-fn push_copies(comments: &[Text], following: &mut Items<Text>) -> Result<(), Memory>
-    ensures { OnOk result (following.new ≡ following.old ++ comments.now) }
-{
-    for comment in comments {
-        following.push(comment.copy()?)?;
-    }
-    Ok(())
-}
-
 /// The item with these comments above it in place of its own.
 fn set_above(alloc: Global, before: Items<Text>, x: &mut Expr) -> Result<(), Memory>
     ensures { OnOk result (x.new ≡ with_above before x.old) }
 {
-    let suffix = match x.comments().suffix() {
-        None => None,
-        Some(text) => Some(text.copy()?),
-    };
+    let suffix = x.comments().suffix().map(Text::copy).transpose()?;
     let comments = Comments::new(alloc, before, suffix)?;
     match x {
         Expr::Token(token) => token.comments = comments,
@@ -137,7 +124,9 @@ fn put_marks(alloc: Global, mut marks: Items<Text>, items: &mut [Expr]) -> Resul
     ensures { OnOk result (items.new ≡ marked_by marks items.old) }
 {
     if let [first, ..] = items {
-        push_copies(first.comments().before(), &mut marks)?;
+        for comment in first.comments().before() {
+            marks.push(comment.copy()?)?;
+        }
         set_above(alloc, marks, first)?;
     }
     Ok(())
@@ -188,17 +177,10 @@ fn are_rising(items: &[Expr]) -> bool
     items.is_sorted_by(|x, y| item_order(x, y).is_lt())
 }
 
-/// Whether the table, or a comment above, may say that the list is sorted. Most lists of other attributes have none.
-#[tactic(auto, using(crate::proofs::Listed::untaken_stays))]
-fn may_be_taken(outside: &[Text], by_table: bool, items: &[Expr]) -> bool
-    ensures { result ≡ false → settled_list outside.now by_table items.now ≡ items.now }
-{
-    by_table || !outside.is_empty() || !comments_above(items).is_empty()
-}
-
 /// Sorts the items of a list, where it is taken; else it stays as it is. `outside`: the comments above the attribute or the
-/// assignment; `by_table`: whether the table has the attribute. The error: a growth was refused; the items are then lost.
-#[tactic(auto, using(crate::proofs::Listed::rising_settled))]
+/// assignment; `by_table`: whether the table has the attribute. Most lists are neither in the table nor marked, which is seen first.
+/// The error: a growth was refused; the items are then lost.
+#[tactic(auto, using(crate::proofs::Listed::unmarked_stays, crate::proofs::Listed::rising_settled))]
 pub(crate) fn sort_list(
     alloc: Global,
     outside: &[Text],
@@ -207,7 +189,7 @@ pub(crate) fn sort_list(
 ) -> Result<(), Memory>
     ensures { OnOk result (items.new ≡ settled_list outside.now by_table items.old) }
 {
-    if !may_be_taken(outside, by_table, items.as_slice()) {
+    if !by_table && !has_mark(KEEP_SORTED, outside, items.as_slice()) {
         return Ok(());
     }
     if !are_rising(items.as_slice()) && is_taken(outside, by_table, items.as_slice()) {

@@ -1,6 +1,6 @@
 //! The loads of a file, which are sorted run by run.
 ghost use Rattle.std.specs.Prelude.{◌≡◌};
-ghost use Rattle.bz_passes.specs.Passes.{is_run_load, load_path, path_order as order_of};
+ghost use Rattle.bz_passes.specs.Passes.{is_run_load, load_path, path_order};
 ghost use Rattle.bz_passes.specs.private.Ranks.{path_ranks};
 
 use crate::runs::InRuns;
@@ -9,13 +9,6 @@ use bz_label::bytes::group;
 use bz_rule::{between, first_text};
 use bz_value::{Expr, Item};
 use std::cmp::Ordering;
-
-/// By what paths begin with, in the reverse order of keys, then by their bytes.
-fn path_order(path: &[u8], other: &[u8]) -> Ordering
-    ensures { result ≡ order_of path.now other.now }
-{
-    group(other).cmp(&group(path)).then(path.cmp(other))
-}
 
 /// The path of a load: the text between the quote marks of its first item.
 fn path_of(item: &Item) -> &[u8]
@@ -27,23 +20,21 @@ fn path_of(item: &Item) -> &[u8]
     }
 }
 
-/// Items of a file: loads without comments above are compared, by path.
+/// Items of a file: loads without comments above are compared, by what their paths begin with, in the reverse order of keys, and then
+/// by path.
 impl InRuns for Item {
     ghost compares = { is_run_load };
 
-    ghost order = { λ x y. order_of (load_path x) (load_path y) };
+    ghost order = { λ x y. path_order (load_path x) (load_path y) };
 
     fn is_comparable(&self) -> bool {
-        match self {
-            Item::Stmt(Expr::Form(form)) => {
-                form.kind.number() == Kind::Load.number() && form.comments.before().is_empty()
-            }
-            _ => false,
-        }
+        matches!(self, Item::Stmt(Expr::Form(form))
+            if form.kind.number() == Kind::Load.number() && form.comments.before().is_empty())
     }
 
     fn compare(&self, other: &Item) -> Ordering {
-        path_order(path_of(self), path_of(other))
+        let (path, other) = (path_of(self), path_of(other));
+        group(other).cmp(&group(path)).then(path.cmp(other))
     }
 
     ghost ranks = { path_ranks };

@@ -1,29 +1,14 @@
 //! Repeats in a list that is in order.
 ghost use Rattle.std.specs.Prelude.{◌≡◌, [], ◌∷◌, IfOk, OnOk, List};
 ghost use Rattle.bz_value.specs.declared.value.Expr.{Expr as Value};
-ghost use Rattle.bz_passes.specs.Lists.{has_no_comment as is_bare, precedes, without_repeats};
-ghost use Rattle.bz_passes.specs.private.Repeats.{AreKept, is_text_at, repeats_at, tied_places, ties_last};
+ghost use Rattle.bz_passes.specs.Lists.{precedes, without_repeats};
+ghost use Rattle.bz_passes.specs.private.Repeats.{AreKept, is_text_at, repeats_at, tied_places};
 ghost use Rattle.bz_passes.specs.Sorting.{Rises};
 
 use bz_items::Memory;
 use bz_rule::{between, text_of};
 use bz_value::Expr;
 use std::alloc::Global;
-
-fn has_no_comment(x: &Expr) -> bool
-    ensures { result ≡ is_bare x.now }
-{
-    let comments = x.comments();
-    comments.before().is_empty() && comments.suffix().is_none()
-}
-
-/// Whether the item ties with the last one: its token has the same text between its quote marks.
-fn is_tied(kept: &[Expr], x: &Expr) -> bool
-    ensures { result ≡ ties_last kept.now x.now }
-{
-    kept.last()
-        .is_some_and(|last| between(text_of(last)) == between(text_of(x)))
-}
 
 fn has_text_at(kept: &[Expr], text: &[u8], place: usize) -> bool
     ensures { result ≡ is_text_at kept.now text.now place }
@@ -38,11 +23,15 @@ fn stands(kept: &[Expr], places: &[usize], text: &[u8]) -> bool
     places.iter().any(|place| has_text_at(kept, text, *place))
 }
 
-/// Drops the places of the last tie where an item begins another one.
+/// Drops the places of the last tie where an item begins another one: its token has another text between its quote marks.
 fn begin_tie(kept: &[Expr], x: &Expr, places: &mut Vec<usize>)
     ensures { places.new.items ≡ tied_places kept.now x.now places.old.items }
 {
-    if !is_tied(kept, x) {
+    let key = between(text_of(x));
+    let is_tied = kept
+        .last()
+        .is_some_and(|last| between(text_of(last)) == key);
+    if !is_tied {
         places.clear();
     }
 }
@@ -53,14 +42,8 @@ fn keep(kept: &mut Vec<Expr>, places: &mut Vec<usize>, x: Expr) -> Result<(), Me
 {
     begin_tie(kept.as_slice(), &x, places);
     if !stands(kept.as_slice(), places.as_slice(), text_of(&x)) {
-        let place = kept.len();
-        kept.push(x)?;
-        places.push(place)?;
-        return Ok(());
-    }
-    if has_no_comment(&x) {
-        // By a call: dropped here, each form of it would be a path of this proof.
-        drop(x);
+        places.push(kept.len())?;
+    } else if x.comments().is_none() {
         return Ok(());
     }
     kept.push(x)?;

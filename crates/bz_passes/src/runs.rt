@@ -1,5 +1,5 @@
 //! Sorting each unbroken run of comparable items by itself.
-ghost use Rattle.std.specs.Prelude.{◌≡◌, ◌≤◌, ◌++◌, ◌&&◌, Bool, true, length, take, drop, slice_range, OnOk};
+ghost use Rattle.std.specs.Prelude.{◌≡◌, ◌&&◌, Bool, true, OnOk};
 ghost use Rattle.std.specs.Cmp.{IsStrictWeakOrder};
 ghost use Rattle.std.specs.List.{AllByRecursion};
 ghost use Rattle.std.specs.Ordering.{is_lt};

@@ -14,7 +14,7 @@ use crate::quotes::quote;
 use crate::runs::sort_runs;
 use crate::symbols::sort_symbols;
 use crate::walk::change_lists_and_arguments;
-use bz_items::{Items, Memory};
+use bz_items::Memory;
 use bz_value::{Expr, File, Item};
 use std::alloc::Global;
 
@@ -38,14 +38,11 @@ fn change_statement(alloc: Global, x: &mut Expr) -> Result<(), Memory>
 fn tidy_item(alloc: Global, item: &mut Item) -> Result<(), Memory>
     ensures { OnOk result (item.new ≡ item_tidied item.old) }
 {
-    match item {
-        Item::Block(_) => Ok(()),
-        Item::Stmt(x) => {
-            change_statement(alloc, x)?;
-            settle(x);
-            Ok(())
-        }
+    if let Item::Stmt(x) = item {
+        change_statement(alloc, x)?;
+        settle(x);
     }
+    Ok(())
 }
 
 /// The passes over items that are alone. The error: memory was refused; part of an item may then be lost.
@@ -56,13 +53,6 @@ pub(crate) fn tidy_items(alloc: Global, items: &mut [Item]) -> Result<(), Memory
         tidy_item(alloc, item)?;
     }
     sort_runs(alloc, items)?;
-    Ok(())
-}
-
-fn tidy_all(alloc: Global, items: &mut Items<Item>) -> Result<(), Memory>
-    ensures { OnOk result (items.new ≡ tidied items.old) }
-{
-    tidy_items(alloc, items.as_mut_slice())?;
     Ok(())
 }
 
@@ -77,6 +67,6 @@ pub fn tidy(alloc: Global, file: File) -> Result<File, Memory>
     ensures program { IfOk result (λ new. KeepsProgram file new) }
 {
     let File { mut items } = file;
-    tidy_all(alloc, &mut items)?;
+    tidy_items(alloc, items.as_mut_slice())?;
     Ok(File { items })
 }

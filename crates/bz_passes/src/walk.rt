@@ -1,6 +1,6 @@
 //! The way to what is changed: from a statement to the arguments of a rule, to the value of an attribute or of an
 //! assignment, to its lists.
-ghost use Rattle.std.specs.Prelude.{◌≡◌, OnOk, map, codes, bytes_eq};
+ghost use Rattle.std.specs.Prelude.{◌≡◌, OnOk, codes, bytes_eq};
 ghost use Rattle.bz_grammar.specs.declared.kind.Kind.TheVariants as k;
 ghost use Rattle.bz_rule.specs.Rules.{is_text, dotted_name};
 ghost use Rattle.bz_rule.specs.Values.{on_first, on_items, on_third, on_lists};
@@ -26,60 +26,33 @@ struct ListPlace<'a> {
     by_table: bool,
 }
 
-#[tactic(auto, unfolding(crate::specs::Changes::list_changed))]
-fn change_items(alloc: Global, place: ListPlace<'_>, items: &mut Items<Expr>) -> Result<(), Memory>
-    ensures { OnOk result (items.new ≡ list_changed place.entry.has_labels place.entry.outside.now place.entry.by_table items.old) }
-{
-    shorten_labels(alloc, place.has_labels, items)?;
-    sort_list(alloc, place.outside, place.by_table, items)
-}
-
 /// Changes a list; any other expression stays.
-#[tactic(auto, using(crate::proofs::Parts::sequence_Form))]
+#[tactic(auto, unfolding(crate::specs::Changes::list_changed))]
 fn change_list(alloc: Global, place: ListPlace<'_>, x: &mut Expr) -> Result<(), Memory>
     ensures { OnOk result (x.new ≡ on_items k.List (list_changed place.entry.has_labels place.entry.outside.now place.entry.by_table) x.old) }
 {
-    match x {
-        Expr::Token(_) => Ok(()),
-        Expr::Form(form) => {
-            if form.kind == Kind::List {
-                change_items(alloc, place, &mut form.seq.items)?;
-            }
-            Ok(())
-        }
-    }
-}
-
-/// Changes the lists among the operands of a sum.
-fn change_operands(
-    alloc: Global,
-    place: ListPlace<'_>,
-    operands: &mut Items<Expr>,
-) -> Result<(), Memory>
-    ensures { OnOk result (operands.new ≡ map (on_items k.List (list_changed place.entry.has_labels place.entry.outside.now place.entry.by_table)) operands.old) }
-{
-    for x in operands.as_mut_slice().iter_mut() {
-        change_list(alloc, place, x)?;
+    if let Expr::Form(form) = x
+        && form.kind == Kind::List
+    {
+        shorten_labels(alloc, place.has_labels, &mut form.seq.items)?;
+        sort_list(alloc, place.outside, place.by_table, &mut form.seq.items)?;
     }
     Ok(())
 }
 
-/// Changes the lists of a value.
-#[tactic(auto, using(crate::proofs::Parts::lists_by_kind))]
+/// Changes the lists of a value: itself, or the lists among the operands of a sum.
 fn change_lists(alloc: Global, place: ListPlace<'_>, x: &mut Expr) -> Result<(), Memory>
     ensures { OnOk result (x.new ≡ on_lists (list_changed place.entry.has_labels place.entry.outside.now place.entry.by_table) x.old) }
 {
-    match x {
-        Expr::Token(_) => Ok(()),
-        Expr::Form(form) => {
-            if form.kind == Kind::Sum {
-                change_operands(alloc, place, &mut form.parts)?;
-            } else if form.kind == Kind::List {
-                change_items(alloc, place, &mut form.seq.items)?;
-            }
-            Ok(())
+    if let Expr::Form(form) = x
+        && form.kind == Kind::Sum
+    {
+        for operand in form.parts.as_mut_slice().iter_mut() {
+            change_list(alloc, place, operand)?;
         }
+        return Ok(());
     }
+    change_list(alloc, place, x)
 }
 
 /// Changes the lists of what is after a name or a target and its sign.
@@ -92,44 +65,22 @@ fn change_third(alloc: Global, place: ListPlace<'_>, parts: &mut Items<Expr>) ->
     Ok(())
 }
 
-/// What the lists of an attribute of this name are in, in a rule of this kind.
-#[tactic(auto, unfolding(crate::specs::Changes::attribute_changed))]
-fn place_in<'a>(kind: &[u8], name: &[u8], outside: &'a [Text]) -> ListPlace<'a>
-    ensures { on_lists (list_changed result.has_labels result.outside.now result.by_table) ≡ attribute_changed kind.now name.now outside.entry.now }
-{
-    ListPlace {
-        has_labels: is_label_attribute(name),
-        outside,
-        by_table: is_sorted(kind, name),
-    }
-}
-
 /// Changes the value of a named argument of a rule of this kind; any other argument stays.
+#[tactic(auto, unfolding(crate::specs::Changes::attribute_changed))]
 fn change_attribute(alloc: Global, kind: &[u8], x: &mut Expr) -> Result<(), Memory>
     ensures { OnOk result (x.new ≡ on_attribute (attribute_changed kind.now) x.old) }
 {
-    match x {
-        Expr::Token(_) => Ok(()),
-        Expr::Form(form) => {
-            if form.kind != Kind::Named {
-                return Ok(());
-            }
-            let name = first_text(form.parts.as_slice());
-            let place = place_in(kind, name, form.comments.before());
-            change_third(alloc, place, &mut form.parts)?;
-            Ok(())
-        }
+    if let Expr::Form(form) = x
+        && form.kind == Kind::Named
+    {
+        let name = first_text(form.parts.as_slice());
+        let place = ListPlace {
+            has_labels: is_label_attribute(name),
+            outside: form.comments.before(),
+            by_table: is_sorted(kind, name),
+        };
+        change_third(alloc, place, &mut form.parts)?;
     }
-}
-
-/// Changes the values of the arguments of a rule of this kind, and then sorts them.
-fn change_arguments(alloc: Global, kind: &[u8], arguments: &mut [Expr]) -> Result<(), Memory>
-    ensures { OnOk result (arguments.new ≡ arguments_changed kind.now arguments.old) }
-{
-    for x in arguments.iter_mut() {
-        change_attribute(alloc, kind, x)?;
-    }
-    sort_runs(alloc, arguments)?;
     Ok(())
 }
 
@@ -144,15 +95,19 @@ fn kind_of(function: &Expr) -> &'static [u8]
     }
 }
 
-/// Changes the arguments of a call of a name, or of names joined by dots; those of any other call stay.
-#[tactic(auto, using(crate::proofs::Settling::of_same_kind))]
+/// Changes the values of the arguments of a call of a name, or of names joined by dots, and then sorts them; the arguments of any
+/// other call stay.
 fn change_called(alloc: Global, function: &Expr, arguments: &mut [Expr]) -> Result<(), Memory>
     ensures { OnOk result (arguments.new ≡ of_rule arguments_changed (dotted_name function.now) arguments.old) }
 {
     if !is_named(function) {
         return Ok(());
     }
-    change_arguments(alloc, kind_of(function), arguments)?;
+    let kind = kind_of(function);
+    for x in arguments.iter_mut() {
+        change_attribute(alloc, kind, x)?;
+    }
+    sort_runs(alloc, arguments)?;
     Ok(())
 }
 
@@ -160,27 +115,19 @@ fn change_called(alloc: Global, function: &Expr, arguments: &mut [Expr]) -> Resu
 fn change_call(alloc: Global, x: &mut Expr) -> Result<(), Memory>
     ensures { OnOk result (x.new ≡ on_call arguments_changed x.old) }
 {
-    match x {
-        Expr::Token(_) => Ok(()),
-        Expr::Form(form) => {
-            if form.kind != Kind::Call {
-                return Ok(());
-            }
-            match only(form.parts.as_slice()) {
-                Some(function) => {
-                    change_called(alloc, function, form.seq.items.as_mut_slice())?;
-                    Ok(())
-                }
-                None => Ok(()),
-            }
-        }
+    if let Expr::Form(form) = x
+        && form.kind == Kind::Call
+        && let Some(function) = only(form.parts.as_slice())
+    {
+        change_called(alloc, function, form.seq.items.as_mut_slice())?;
     }
+    Ok(())
 }
 
 fn change_first(alloc: Global, parts: &mut Items<Expr>) -> Result<(), Memory>
     ensures { OnOk result (parts.new ≡ on_first (on_call arguments_changed) parts.old) }
 {
-    if let Some(call) = parts.as_mut_slice().first_mut() {
+    if let [call, ..] = parts.as_mut_slice() {
         change_call(alloc, call)?;
     }
     Ok(())

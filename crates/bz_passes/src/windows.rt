@@ -1,9 +1,9 @@
 //! Tidying a file in which items came in the place of others of a tidy one.
-ghost use Rattle.std.specs.Prelude.{◌≡◌, ◌≤◌, ◌<◌, ◌+◌, ◌++◌, ◌∷◌, List, Ok, false, true, drop, length, slice_range, take, IfOk, IfSome, IsTrue, OnOk};
+ghost use Rattle.std.specs.Prelude.{◌≡◌, ◌≤◌, ◌<◌, ◌+◌, ◌∷◌, List, Ok, false, true, drop, length, take, IfOk, IfSome, OnOk};
 ghost use Rattle.bz_value.specs.Windows.{AreOver, AreWithin};
 ghost use Rattle.bz_value.specs.declared.value.Item.{Item};
 ghost use Rattle.bz_passes.specs.Passes.{tidied as tidied_all};
-ghost use Rattle.bz_passes.specs.private.Borders.{AreTidied, IsStillToTidy, tidied_over, AreInOrder, IsMoved, IsPlaceBack, IsPlaceOf, first_precedes as precedes_from, one_at, precedes_last as precedes_end};
+ghost use Rattle.bz_passes.specs.private.Borders.{AreTidied, IsStillToTidy, tidied_over, AreInOrder, IsMoved, IsPlaceBack, IsPlaceOf, one_at, precedes_last as precedes_end};
 
 use crate::borders::{set_apart, start_of_run};
 use crate::runs::precedes;
@@ -29,42 +29,23 @@ fn tidy_each(alloc: Global, windows: &[Window], items: &mut [Item]) -> Result<()
     Ok(())
 }
 
-fn tidy_within(alloc: Global, windows: &[Window], items: &mut Items<Item>) -> Result<(), Memory>
-    requires { AreWithin windows.now items.old }
-    ensures { OnOk result (items.new ≡ tidied_over windows.now items.old) }
-{
-    tidy_each(alloc, windows, items.as_mut_slice())?;
-    Ok(())
-}
-
 /// The same in a file. The error: memory was refused; the file has no items then.
-#[tactic(auto, using(crate::proofs::Pieces::over_proper))]
 fn tidy_in(alloc: Global, windows: &[Window], file: &mut File) -> Result<(), Memory>
     requires { AreWithin windows.now file.old }
     ensures { OnOk result (file.new ≡ tidied_over windows.now file.old) }
 {
     let mut items = mem::replace(&mut file.items, Items::new(alloc));
-    tidy_within(alloc, windows, &mut items)?;
+    tidy_each(alloc, windows, items.as_mut_slice())?;
     file.items = items;
     Ok(())
 }
 
 /// Whether an item comes before the last of others.
+#[tactic(auto, using(crate::proofs::Pieces::by_last))]
 fn precedes_last(item: &Item, others: &[Item]) -> bool
-    ensures load { result ≡ precedes_end item.now others.now }
-    ensures some { IsTrue result → 0 < length others.now }
+    ensures { result ≡ precedes_end item.now others.now }
 {
-    match others.split_last() {
-        Some((last, _)) => precedes(item, last),
-        None => false,
-    }
-}
-
-/// Whether the first of others comes before an item.
-fn first_precedes(item: &Item, others: &[Item]) -> bool
-    ensures { result ≡ precedes_from item.now others.now }
-{
-    others.first().is_some_and(|first| precedes(first, item))
+    others.last().is_some_and(|last| precedes(item, last))
 }
 
 /// The place among others, which are in order, of an item that is after them: before those at their end that it precedes. One look at
@@ -73,20 +54,12 @@ fn place_back(item: &Item, others: &[Item]) -> usize
     ensures bound { result ≤ length others.now }
     ensures place { AreInOrder others.now → IsPlaceBack item.now result others.now }
 {
-    let mut high = others.len();
     if !precedes_last(item, others) {
-        return high;
+        return others.len();
     }
-    let mut low = start_of_run(others);
-    while low < high {
-        let middle = low + (high - low) / 2;
-        if precedes(item, &others[middle]) {
-            high = middle;
-        } else {
-            low = middle + 1;
-        }
-    }
-    low
+    let start = start_of_run(others);
+    let (_, loads) = others.split_at(start);
+    start + loads.partition_point(|other| !precedes(item, other))
 }
 
 /// The place to which the item at this place is to be moved; none where it isn't known to be one before it.
@@ -96,7 +69,7 @@ fn place_of_single(file: &File, from: usize) -> Option<usize>
 {
     let (front, rest) = file.items.as_slice().split_at(from);
     let (item, rest) = rest.split_first()?;
-    if first_precedes(item, rest) {
+    if rest.first().is_some_and(|first| precedes(first, item)) {
         return None;
     }
     Some(place_back(item, front))
@@ -161,17 +134,6 @@ fn tidy_single(alloc: Global, file: &mut File, windows: &mut Items<Window>) -> R
     Ok(true)
 }
 
-/// Tidies the items of the windows, which are made such that no load is sorted into or out of them. The error: memory was refused; the
-/// file has no items then.
-fn tidy_apart(alloc: Global, file: &mut File, windows: &mut Items<Window>) -> Result<(), Memory>
-    requires { AreWithin windows.old file.old }
-    ensures { OnOk result (AreTidied windows.old windows.new file.old file.new) }
-{
-    set_apart(alloc, file.items.as_slice(), windows)?;
-    tidy_in(alloc, windows.as_slice(), file)?;
-    Ok(())
-}
-
 /// Tidies a file in which, at these windows, items came in the place of those of a tidy one: what came is tidied, window by window, and
 /// what is elsewhere is not touched, since it is tidy and stays where it is. A load that came alone is moved to its place. Other
 /// windows next to loads that are sorted with theirs become one, which holds these too. The windows are then where the file
@@ -189,6 +151,7 @@ pub fn tidy_windows(
     if tidy_single(alloc, file, windows)? {
         return Ok(());
     }
-    tidy_apart(alloc, file, windows)?;
+    set_apart(alloc, file.items.as_slice(), windows)?;
+    tidy_in(alloc, windows.as_slice(), file)?;
     Ok(())
 }

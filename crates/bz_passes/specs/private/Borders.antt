@@ -8,11 +8,15 @@ use Rattle.bz_passes.specs.Joined.{begins_with_load}
 use Rattle.bz_passes.specs.Passes.{is_run_load, tidied, load_precedes}
 use Rattle.bz_passes.specs.private.Repeats.{Climbs}
 
+-- whether the last of these items passes a test
+abbrev pub last_passes : (Item → Bool) → List Item → Bool
+last_passes test [] = false
+last_passes test (item ∷ []) = test item
+last_passes test (item ∷ next ∷ items) = last_passes test (next ∷ items)
+
 -- whether the last of these items is a load that is sorted with its neighbours
 abbrev pub ends_with_load : List Item → Bool
-ends_with_load [] = false
-ends_with_load (item ∷ []) = is_run_load item
-ends_with_load (item ∷ next ∷ items) = ends_with_load (next ∷ items)
+ends_with_load = last_passes is_run_load
 
 abbrev pub AreLoads : List Item → Type 0
 AreLoads = AllByRecursion (λ item. is_run_load item ≡ true)
@@ -59,9 +63,7 @@ pub record IsStillToTidy (windows others : List Window) (old mid : List Item) : 
 
 -- whether the item comes before the last of these
 abbrev pub precedes_last : Item → List Item → Bool
-precedes_last x [] = false
-precedes_last x (y ∷ []) = load_precedes x y
-precedes_last x (y ∷ z ∷ ys) = precedes_last x (z ∷ ys)
+precedes_last x = last_passes (load_precedes x)
 
 -- whether the first of these comes before the item
 abbrev pub first_precedes : Item → List Item → Bool

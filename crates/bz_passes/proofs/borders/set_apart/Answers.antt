@@ -1,4 +1,4 @@
-use Rattle.std.proofs.Common.{◌≤◌, ◌+◌, ◌∙◌, ◌++◌, ◌∷◌, [], ap, length, subst, sym}
+use Rattle.std.proofs.Common.{◌≤◌, ◌+◌, ◌∙◌, length, subst, sym}
 use Rattle.bz_value.specs.Windows.{AreWithin}
 use Rattle.bz_passes.proofs.Joining.{joined_apart, joined_within}
 use Rattle.bz_passes.proofs.borders.set_apart.Goals as goal
@@ -11,5 +11,5 @@ widened-requires c =
 
 pub returns : goal.returns
 returns c =
-    joined_apart c.args.windows.now c.push.new.self c.in-Some.others.now c.in-Some.first.now c.in_ok-all.all c.in_ok-wide.wide c.args.items.now
-    (sym c.as_slice-2.ensures ∙ c.in-Some.ensures.cases.0) c.in_ok-all.ensures c.in_ok-wide.ensures (c.in_ok-push.ensures.ok ∙ ap (λ ws. ws ++ c.in_ok-wide.wide ∷ []) c.new-one.ensures)
+    joined_apart c.args.windows.now c.from_vec.result c.in-Some.others.now c.in-Some.first.now c.in_ok-all.all c.in_ok-wide.wide c.args.items.now
+    (sym c.as_slice-2.ensures ∙ c.in-Some.ensures.cases.0) c.in_ok-all.ensures c.in_ok-wide.ensures (c.from_vec.ensures ∙ c.in_ok-from_slice.ensures.items)

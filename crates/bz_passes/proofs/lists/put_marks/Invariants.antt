@@ -1,0 +1,6 @@
+use Rattle.std.proofs.Common.{◌≡◌, ◌++◌, drop}
+use Rattle.bz_passes.specs.Lists.{above_first}
+use Rattle.bz_passes.proofs.lists.put_marks.Given as goal
+
+abbrev pub invariant-loop-comment : goal.invariant-loop-comment
+invariant-loop-comment l = l.marks ++ drop l.comment-index l.comment-items ≡ l.fn.marks ++ above_first l.fn.items

@@ -1,7 +1,0 @@
-use Rattle.std.proofs.Common.{◌≡◌, ◌++◌, map, take, drop}
-use Rattle.bz_passes.specs.Passes.{on_attribute}
-use Rattle.bz_passes.specs.Changes.{attribute_changed}
-use Rattle.bz_passes.proofs.walk.change_arguments.Given as goal
-
-abbrev pub invariant-loop-x : goal.invariant-loop-x
-invariant-loop-x l = take l.x-index l.arguments ++ map (on_attribute (attribute_changed l.fn.kind)) (drop l.x-index l.arguments) ≡ map (on_attribute (attribute_changed l.fn.kind)) l.fn.arguments
