@@ -2,7 +2,6 @@
 use Rattle.std.proofs.Common.{ℕ, zero, suc, ◌+◌, ◌-◌, ◌<◌, Bool, true, false, ◌&&◌, ◌||◌, List, [], ◌∷◌, ◌++◌, ◌≡◌, refl, sym, ap, ◌∙◌, subst, arith, length, length-append, append_assoc, Option, Some, None, slice_get, if◌then◌else◌}
 use Rattle.std.specs.List.{AllByRecursion, list_any}
 use Rattle.std.specs.Option.{option_map_or}
-use Rattle.std.specs.Prelude.{◌↔◌, IsTrue}
 use Rattle.std.specs.Str.{bytes_eq}
 use Rattle.std.specs.Ordering.{is_lt, ordering_reverse}
 use Rattle.std.specs.declared.cmp.Ordering.{Ordering}
@@ -13,9 +12,6 @@ use Rattle.std.proofs.lemmas.List.Folds.{list_any-append}
 use Rattle.std.proofs.lemmas.Slice.Eq.{bytes_eq-Decides}
 use Rattle.bz_label.specs.Keys.{key_order}
 use Rattle.bz_label.proofs.Orders.{key_total, key_ties}
-use Rattle.bz_value.specs.Comments.{HostComments, no_comments}
-use Rattle.bz_value.specs.Empty.{is_empty, is_none}
-use Rattle.bz_value.specs.Proper.{comments_of}
 use Rattle.bz_value.specs.declared.value.Expr.{Expr}
 use Rattle.bz_items.specs.Characters.{Bytes}
 use Rattle.bz_rule.specs.Values.{text_of}
@@ -55,17 +51,6 @@ old_token true false c p f g h i = ap (λ z. z && p) (g refl)
 old_token false true c p f g h i = let e : false ≡ true = f refl in cc
 old_token false false true p f g h i = let e : false ≡ true = h refl in cc
 old_token false false false p f g h i = refl
-
-without_comments : (before : List Bytes) (suffix : Option Bytes) (b : Bool) → IsTrue b ↔ ◌≡◌ {A = HostComments} (record { before = before; suffix = suffix }) no_comments → b ≡ (is_empty before && is_none suffix)
-without_comments [] None true h = refl
-without_comments [] None false h = h.1 refl
-without_comments [] (Some text) true h = let e : Some text ≡ None = ap (λ (own : HostComments). own.suffix) (h.0 refl) in cc
-without_comments [] (Some text) false h = refl
-without_comments (line ∷ lines) suffix true h = let e : line ∷ lines ≡ [] = ap (λ (own : HostComments). own.before) (h.0 refl) in cc
-without_comments (line ∷ lines) suffix false h = refl
-
-pub bare_is : (x : Expr) (own : HostComments) (b : Bool) → own ≡ comments_of x → IsTrue b ↔ (own ≡ no_comments) → b ≡ has_no_comment x
-bare_is x own b e h = without_comments own.before own.suffix b h ∙ ap (λ (of : HostComments). is_empty of.before && is_none of.suffix) e
 
 -- ---- places
 

@@ -14,15 +14,12 @@ use bz_value::{Expr, is_sequence};
 pub fn settle(x: &mut Expr)
     ensures { x.new ≡ with_flags x.old }
 {
-    match x {
-        Expr::Token(_) => {}
-        Expr::Form(form) => {
-            if is_sequence(form.kind) {
-                form.seq.split = is_broken(form);
-            }
-            settle_each(form.kind, &mut form.parts);
-            settle_each(form.kind, &mut form.seq.items);
+    if let Expr::Form(form) = x {
+        if is_sequence(form.kind) {
+            form.seq.split = is_broken(form);
         }
+        settle_each(form.kind, &mut form.parts);
+        settle_each(form.kind, &mut form.seq.items);
     }
 }
 

@@ -39,21 +39,14 @@ fn is_string(x: &Expr) -> bool
     matches!(x, Expr::Token(token) if token.class.number() == Class::String.number())
 }
 
-/// The comments above the first item.
-fn comments_above(items: &[Expr]) -> &[Text]
-    ensures { result.now ≡ above_first items.now }
-{
-    match items {
-        [] => &[],
-        [first, ..] => first.comments().before(),
-    }
-}
-
 /// Whether the mark is above the list or above its first item.
 fn has_mark(mark: &[u8], outside: &[Text], items: &[Expr]) -> bool
     ensures { result ≡ marked_in_any mark.now (outside.now ++ above_first items.now) }
 {
-    any_marked(mark, outside) || any_marked(mark, comments_above(items))
+    any_marked(mark, outside)
+        || items
+            .first()
+            .is_some_and(|first| any_marked(mark, first.comments().before()))
 }
 
 fn are_strings(items: &[Expr]) -> bool

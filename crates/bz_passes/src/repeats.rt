@@ -1,7 +1,7 @@
 //! Repeats in a list that is in order.
 ghost use Rattle.std.specs.Prelude.{◌≡◌, [], ◌∷◌, IfOk, OnOk, List};
 ghost use Rattle.bz_value.specs.declared.value.Expr.{Expr as Value};
-ghost use Rattle.bz_passes.specs.Lists.{precedes, without_repeats};
+ghost use Rattle.bz_passes.specs.Lists.{has_no_comment as is_bare, precedes, without_repeats};
 ghost use Rattle.bz_passes.specs.private.Repeats.{AreKept, is_text_at, repeats_at, tied_places};
 ghost use Rattle.bz_passes.specs.Sorting.{Rises};
 
@@ -9,6 +9,13 @@ use bz_items::Memory;
 use bz_rule::{between, text_of};
 use bz_value::Expr;
 use std::alloc::Global;
+
+fn has_no_comment(x: &Expr) -> bool
+    ensures { result ≡ is_bare x.now }
+{
+    let comments = x.comments();
+    comments.before().is_empty() && comments.suffix().is_none()
+}
 
 fn has_text_at(kept: &[Expr], text: &[u8], place: usize) -> bool
     ensures { result ≡ is_text_at kept.now text.now place }
@@ -43,7 +50,7 @@ fn keep(kept: &mut Vec<Expr>, places: &mut Vec<usize>, x: Expr) -> Result<(), Me
     begin_tie(kept.as_slice(), &x, places);
     if !stands(kept.as_slice(), places.as_slice(), text_of(&x)) {
         places.push(kept.len())?;
-    } else if x.comments().is_none() {
+    } else if has_no_comment(&x) {
         return Ok(());
     }
     kept.push(x)?;

@@ -1,20 +1,11 @@
 //! The texts of strings: double quote marks, and labels without a repeated name.
-ghost use Rattle.std.specs.Prelude.{◌≡◌, ◌++◌, ◌&&◌, ◌||◌, not, IfOk, OnOk};
-ghost use Rattle.bz_items.specs.Characters.{backslash, quotation_mark};
-ghost use Rattle.bz_passes.specs.Passes.{begins_single, has_character, with_double, shorter_string};
+ghost use Rattle.std.specs.Prelude.{◌≡◌, ◌++◌, IfOk, OnOk};
+ghost use Rattle.bz_passes.specs.Passes.{with_double, shorter_string};
 
 use bz_items::{Memory, Text};
 use bz_label::bytes::unrepeated;
 use bz_rule::{body, inside, marks_of};
 use std::alloc::Global;
-
-/// Whether double quote marks may replace those of the string: it has no prefix and single marks, and holds neither a
-/// double mark nor a backslash.
-fn takes_double(text: &[u8]) -> bool
-    ensures { result ≡ (begins_single text.now && not (has_character quotation_mark text.now || has_character backslash text.now)) }
-{
-    matches!(text, [b'\'', ..]) && !(text.contains(&b'"') || text.contains(&b'\\'))
-}
 
 /// A text between equal marks. The error: memory was refused.
 fn in_marks(alloc: Global, marks: &[u8], text: &[u8]) -> Result<Text, Memory>
@@ -33,9 +24,10 @@ fn in_marks(alloc: Global, marks: &[u8], text: &[u8]) -> Result<Text, Memory>
 pub(crate) fn double_quoted(alloc: Global, text: &mut Text) -> Result<(), Memory>
     ensures { OnOk result (text.new ≡ with_double text.old) }
 {
-    if takes_double(text.as_slice()) {
-        let count = marks_of(text.as_slice());
-        *text = in_marks(alloc, &b"\"\"\""[..count], inside(count, text.as_slice()))?;
+    let old = text.as_slice();
+    if matches!(old, [b'\'', ..]) && !(old.contains(&b'"') || old.contains(&b'\\')) {
+        let count = marks_of(old);
+        *text = in_marks(alloc, &b"\"\"\""[..count], inside(count, old))?;
     }
     Ok(())
 }

@@ -1,5 +1,5 @@
 //! Tidying a file in which items came in the place of others of a tidy one.
-ghost use Rattle.std.specs.Prelude.{◌≡◌, ◌≤◌, ◌<◌, ◌+◌, ◌∷◌, List, Ok, false, true, drop, length, take, IfOk, IfSome, OnOk};
+ghost use Rattle.std.specs.Prelude.{◌≡◌, ◌≤◌, ◌<◌, ◌+◌, ◌∷◌, List, Ok, false, true, drop, length, take, IfSome, OnOk};
 ghost use Rattle.bz_value.specs.Windows.{AreOver, AreWithin};
 ghost use Rattle.bz_value.specs.declared.value.Item.{Item};
 ghost use Rattle.bz_passes.specs.Passes.{tidied as tidied_all};
@@ -75,26 +75,16 @@ fn place_of_single(file: &File, from: usize) -> Option<usize>
     Some(place_back(item, front))
 }
 
-/// The items with the one at a place moved to another before it. The error: memory was refused; the items are then lost.
-fn moved_back(items: Items<Item>, from: usize, to: usize) -> Result<Items<Item>, Memory>
-    requires order { to ≤ from }
-    requires within { from < length items }
-    ensures { IfOk result (λ moved. IsMoved from to items moved) }
-{
-    let mut items = items.into_vec();
-    let item = items.remove(from);
-    items.insert(to, item)?;
-    Ok(Items::from_vec(items))
-}
-
 /// Moves the item at a place of a file to one before it. The error: memory was refused; the file has no items then.
 fn move_back(alloc: Global, file: &mut File, from: usize, to: usize) -> Result<(), Memory>
     requires order { to ≤ from }
     requires within { from < length file.old }
     ensures { OnOk result (IsMoved from to file.old file.new) }
 {
-    let items = mem::replace(&mut file.items, Items::new(alloc));
-    file.items = moved_back(items, from, to)?;
+    let mut items = mem::replace(&mut file.items, Items::new(alloc)).into_vec();
+    let item = items.remove(from);
+    items.insert(to, item)?;
+    file.items = Items::from_vec(items);
     Ok(())
 }
 

@@ -1,11 +1,11 @@
-use Rattle.std.proofs.Common.{◌≡◌, ◌++◌, ◌∷◌, ◌∙◌, [], true, false, ap, refl, sym, length, List, ℕ, rules}
+use Rattle.std.proofs.Common.{◌≡◌, ◌++◌, ◌∷◌, ◌∙◌, [], true, false, ap, refl, length, List, ℕ, rules}
 use Rattle.bz_value.specs.declared.value.Expr.{Expr as Value}
 use Rattle.bz_passes.specs.Lists.{has_no_comment}
 use Rattle.bz_rule.specs.Values.{text_of}
 use Rattle.bz_passes.specs.private.Repeats.{repeats_at, tied_places}
-use Rattle.bz_passes.proofs.Dropping.{bare_is, turn_new, turn_old, turn_dropped, turned}
+use Rattle.bz_passes.proofs.Dropping.{turn_new, turn_old, turn_dropped, turned}
 use Rattle.bz_passes.proofs.repeats.keep.Goals as goal
-use Rattle.bz_passes.proofs.repeats.keep.Goals.{then-not-stands+in_ok-push, else-not-stands+else-is_none}
+use Rattle.bz_passes.proofs.repeats.keep.Goals.{then-not-stands+in_ok-push, else-not-stands+else-has_no_comment}
 
 pub returns : goal.returns
 returns c = λ all rest k.
@@ -17,18 +17,18 @@ returns c = λ all rest k.
           let f : repeats_at kept places (text_of c.args.x) ≡ false = search rules in
           let b : w.push.new.self.items ≡ places ++ length kept ∷ [] = search rules in
           turned all _ _ _ _ rest a (ap (λ ps. ps.items) w.places-is ∙ b) (turn_new all kept c.args.places.now.items rest c.args.x f k)
-      | else-not-stands+else-is_none w ↦
+      | else-not-stands+else-has_no_comment w ↦
           let t : repeats_at kept places (text_of c.args.x) ≡ true = search rules in
-          let f : has_no_comment c.args.x ≡ false = sym (bare_is c.args.x _ _ w.comments.ensures w.is_none.ensures) ∙ w.if-is_none.false in
+          let f : has_no_comment c.args.x ≡ false = search rules in
           let b : c.begin_tie.new.places.items ≡ places = search rules in
           turned all _ _ _ _ rest a (ap (λ ps. ps.items) w.places-is ∙ b) (turn_old all kept c.args.places.now.items rest c.args.x t f k)
     ]
 
-pub returns-then-is_none : goal.returns-then-is_none
-returns-then-is_none c = λ all rest k.
+pub returns-then-has_no_comment : goal.returns-then-has_no_comment
+returns-then-has_no_comment c = λ all rest k.
     let kept : List Value = c.args.kept.now.items in
     let places : List ℕ = tied_places kept c.args.x c.args.places.now.items in
     let t : repeats_at kept places (text_of c.args.x) ≡ true = search rules in
-    let h : has_no_comment c.args.x ≡ true = sym (bare_is c.args.x _ _ c.comments.ensures c.is_none.ensures) ∙ c.if-is_none.true in
+    let h : has_no_comment c.args.x ≡ true = search rules in
     let b : c.begin_tie.new.places.items ≡ places = search rules in
     turned all kept kept _ _ rest refl b (turn_dropped all kept c.args.places.now.items rest c.args.x t h k)
