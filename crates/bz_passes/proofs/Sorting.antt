@@ -1,5 +1,5 @@
 -- What stable sorting leaves, keeps and passes on; and what no item passes cuts a list, and each piece is sorted by itself.
-use Rattle.std.proofs.Common.{ℕ, ◌+◌, ◌&&◌, Bool, true, false, not, List, [], ◌∷◌, ◌≡◌, refl, sym, ap, ◌∙◌, length, map, inl, inr, ◌-◌, ◌<◌, ◌≤◌, ◌++◌, ap₂, subst, if◌then◌else◌, arith, take, drop, get_or, slice_range, append_assoc, drop-drop, drop_at, length-append, length-take-le, take-append-drop, take_at}
+use Rattle.std.proofs.Common.{ℕ, ◌+◌, ◌&&◌, Bool, true, false, not, List, [], ◌∷◌, ◌≡◌, refl, sym, ap, ◌∙◌, length, map, inl, inr, ◌-◌, ◌<◌, ◌≤◌, ◌++◌, ap₂, subst, if◌then◌else◌, arith, take, drop, get_or, slice_range, append_assoc, append-nil, drop-drop, drop_at, length-append, length-take-le, take-append-drop, take_at}
 use Rattle.std.proofs.lemmas.Bool.{and_parts, and_right, cases_Bool, not-true, and_left}
 use Rattle.std.proofs.lemmas.List.Elements.{All-from_recursion, recursion_from_All}
 use Rattle.std.proofs.lemmas.List.Sorted.{All-permutation, IsPermutation-cons, IsPermutation-middle, IsPermutation-refl, IsPermutation-trans, length_permutation, sum_by-IsPermutation}
@@ -14,7 +14,8 @@ use Rattle.bz_passes.specs.Sorting.{insert_by, sort_by}
 use Rattle.bz_passes.specs.private.Repeats.{Climbs}
 use Rattle.bz_passes.proofs.Keeping.{Keeps, Settles, both, same_first, same_after}
 use borrow.Rule.Slice.PartMut.{put_mid}
-use Rattle.std.proofs.lemmas.List.{drop_more}
+use Rattle.std.proofs.lemmas.List.{drop_all, drop_more, take_all}
+use Rattle.bz_rule.specs.Values.{on_rest}
 use Rattle.std.proofs.lemmas.List.Edits.{length-between}
 
 -- ---- items that change places
@@ -142,6 +143,14 @@ pub put_there : {X : Type 0} (from at : ℕ) (items ys new : List X) → from �
 put_there from at items ys new a e =
     let stop : from + (at - from) ≡ at = omega (arith, a) in
     ap₂ (λ zs z. take from items ++ (zs ++ z)) e (drop-drop (at - from) from items ∙ ap (λ k. drop k items) stop) ∙ sym (append_assoc (take from items) new (drop at items))
+
+-- what all but the first of a list became, in the list
+pub rest_put : {X : Type 0} (f : List X → List X) (items ys : List X) → 1 ≤ length items → ys ≡ f (slice_range items 1 (length items)) → put_mid 1 (length items - 1) items ys ≡ on_rest f items
+rest_put f [] ys b e = absurd (omega (arith, b))
+rest_put f (x ∷ xs) ys b e =
+    let own : slice_range (x ∷ xs) 1 (length (x ∷ xs)) ≡ xs = take_all (length (x ∷ xs) - 1) xs (omega arith) in
+    put_there 1 (length (x ∷ xs)) (x ∷ xs) ys (f xs) b (e ∙ ap f own)
+    ∙ (ap (λ z. x ∷ (f xs ++ z)) (drop_all (length (x ∷ xs)) (x ∷ xs) (omega arith)) ∙ ap (λ z. x ∷ z) (append-nil (f xs)))
 
 module _ {X : Type 0} (lt : X → X → Bool) (bar : X) (before : (x : X) → lt bar x ≡ false) (following : (x : X) → lt x bar ≡ false) where
   insert_bar : (ys : List X) → insert_by lt bar ys ≡ bar ∷ ys

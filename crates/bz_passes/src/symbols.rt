@@ -10,21 +10,14 @@ use bz_rule::local_name;
 use bz_value::Expr;
 use std::alloc::Global;
 
-fn sort_all(alloc: Global, symbols: &mut [Expr]) -> Result<(), Memory>
-    ensures { OnOk result (symbols.new ≡ sort_by symbol_precedes symbols.old) }
-{
-    symbols.sort_by(alloc, |x, y| local_name(x).cmp(local_name(y)))?;
-    Ok(())
-}
-
 /// Sorts the items of a load after its path by local name; equal ones stay in their old order. The error: a growth was refused.
 fn sort_rest(alloc: Global, items: &mut [Expr]) -> Result<(), Memory>
     ensures { OnOk result (items.new ≡ on_rest (sort_by symbol_precedes) items.old) }
 {
-    match items {
-        [] => Ok(()),
-        [_, symbols @ ..] => sort_all(alloc, symbols),
+    if let [_, symbols @ ..] = items {
+        symbols.sort_by(alloc, |x, y| local_name(x).cmp(local_name(y)))?;
     }
+    Ok(())
 }
 
 /// Sorts the symbols of a load; any other statement stays. The error: a growth was refused; the statement is then as before.

@@ -3,7 +3,7 @@ ghost use Rattle.std.specs.Prelude.{◌≡◌, ◌≤◌, ◌<◌, ◌+◌, ◌�
 ghost use Rattle.bz_value.specs.Windows.{AreOver, AreWithin};
 ghost use Rattle.bz_value.specs.declared.value.Item.{Item};
 ghost use Rattle.bz_passes.specs.Passes.{tidied as tidied_all};
-ghost use Rattle.bz_passes.specs.private.Borders.{AreTidied, IsStillToTidy, tidied_over, AreInOrder, IsMoved, IsPlaceBack, IsPlaceOf, one_at, precedes_last as precedes_end};
+ghost use Rattle.bz_passes.specs.private.Borders.{AreTidied, IsStillToTidy, tidied_over, AreInOrder, IsMoved, IsPlaceBack, IsPlaceOf, one_at};
 
 use crate::borders::{set_apart, start_of_run};
 use crate::runs::precedes;
@@ -40,21 +40,13 @@ fn tidy_in(alloc: Global, windows: &[Window], file: &mut File) -> Result<(), Mem
     Ok(())
 }
 
-/// Whether an item comes before the last of others.
-#[tactic(auto, using(crate::proofs::Pieces::by_last))]
-fn precedes_last(item: &Item, others: &[Item]) -> bool
-    ensures { result ≡ precedes_end item.now others.now }
-{
-    others.last().is_some_and(|last| precedes(item, last))
-}
-
 /// The place among others, which are in order, of an item that is after them: before those at their end that it precedes. One look at
 /// each load at the end, and comparisons by halving; where it doesn't precede the last one, no more than that is compared.
 fn place_back(item: &Item, others: &[Item]) -> usize
     ensures bound { result ≤ length others.now }
     ensures place { AreInOrder others.now → IsPlaceBack item.now result others.now }
 {
-    if !precedes_last(item, others) {
+    if !others.last().is_some_and(|last| precedes(item, last)) {
         return others.len();
     }
     let start = start_of_run(others);

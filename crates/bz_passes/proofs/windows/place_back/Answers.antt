@@ -1,11 +1,23 @@
-use Rattle.std.proofs.Common.{not, rules, subst, sym}
+use Rattle.std.proofs.Common.{◌≡◌, ◌∙◌, ◌-◌, ap, arith, false, length, not, rules, slice_get, subst, sym}
+use Rattle.std.specs.Option.{option_map_or}
+use Rattle.std.proofs.lemmas.List.{drop_all, take_all}
 use Rattle.std.proofs.lemmas.List.Sorted.{IsPartitionPoint-from_clause}
 use Rattle.bz_passes.specs.Passes.{load_precedes}
-use Rattle.bz_passes.specs.private.Borders.{AreLoads}
-use Rattle.bz_passes.proofs.Pieces.{InOrder, ordered_drop}
-use Rattle.bz_passes.proofs.Single.{parted, placed_back}
+use Rattle.bz_passes.specs.private.Borders.{AreLoads, precedes_last}
+use Rattle.bz_passes.proofs.Pieces.{InOrder, by_last, ordered_drop}
+use Rattle.bz_passes.proofs.Single.{AllLater, parted, placed_back}
 use Rattle.bz_passes.proofs.Sorting.{ordered_by}
 use Rattle.bz_passes.proofs.windows.place_back.Goals as goal
+
+pub returns-then-not-is_some_and-clause-place : goal.returns-then-not-is_some_and-clause-place
+returns-then-not-is_some_and-clause-place c = λ o.
+    let item = c.args.item.now in
+    let others = c.args.others.now in
+    let last : option_map_or (load_precedes item) (slice_get others (length others - 1)) false ≡ false = search rules in
+    record {
+      later = subst (AllLater item) (sym (drop_all (length others) others (omega arith))) tt;
+      stops = ap (precedes_last item) (take_all (length others) others (omega arith)) ∙ (by_last (load_precedes item) others ∙ last);
+    }
 
 pub returns-clause-place : goal.returns-clause-place
 returns-clause-place c = λ o.

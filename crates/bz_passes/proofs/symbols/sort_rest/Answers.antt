@@ -1,0 +1,12 @@
+use Rattle.std.proofs.Common.{rules}
+use Rattle.bz_passes.specs.Passes.{symbol_precedes}
+use Rattle.bz_passes.specs.Sorting.{sort_by}
+use Rattle.bz_passes.proofs.Ranks.{symbol_ranks}
+use Rattle.bz_passes.proofs.Sorting.{rest_put}
+use Rattle.bz_passes.proofs.Stable.{from_sort_by}
+use Rattle.bz_passes.proofs.symbols.sort_rest.Goals as goal
+
+pub returns-in_ok-sort_by : goal.returns-in_ok-sort_by
+returns-in_ok-sort_by c =
+    rest_put (sort_by symbol_precedes) c.args.items.now _ c.in-len1-up.len_at_least
+    (from_sort_by symbol_precedes symbol_ranks _ _ c.in_ok-sort_by.ensures.sorted c.in_ok-sort_by.ensures.stable (λ h a r h' k. search rules))
