@@ -3,9 +3,8 @@ ghost use Rattle.std.specs.Prelude.{◌≡◌, IfOk, OnOk};
 ghost use Rattle.bz_value.specs.Counted.{times};
 ghost use Rattle.bz_items.specs.Characters.{Bytes};
 ghost use Rattle.bz_layout.specs.Flags.{IsSettled};
-ghost use Rattle.bz_passes.specs.Passes.{taken, tidied};
+ghost use Rattle.bz_passes.specs.Passes.{tidied};
 ghost use Rattle.bz_passes.specs.Programs.{KeepsProgram};
-ghost use Rattle.bz_passes.specs.Changes.{after_passes};
 ghost use Rattle.bz_passes.specs.Joined.{item_tidied};
 
 use crate::flags::settle;
@@ -15,31 +14,22 @@ use crate::runs::sort_runs;
 use crate::symbols::sort_symbols;
 use crate::walk::change_lists_and_arguments;
 use bz_items::Memory;
-use bz_value::{Expr, File, Item};
+use bz_value::{File, Item};
 use std::alloc::Global;
 
 /// The mark of a statement that stays as it is.
 const LEAVE_ALONE: &[u8] = b"buildifier: leave-alone";
 
-/// The passes over a statement; one marked `buildifier: leave-alone` stays.
-#[tactic(auto, using(crate::proofs::Settling::passes_taken))]
-fn change_statement(alloc: Global, x: &mut Expr) -> Result<(), Memory>
-    ensures { OnOk result (x.new ≡ taken after_passes x.old) }
-{
-    if any_marked(LEAVE_ALONE, x.comments().before()) {
-        return Ok(());
-    }
-    quote(alloc, x)?;
-    change_lists_and_arguments(alloc, x)?;
-    sort_symbols(alloc, x)
-}
-
-/// The passes over an item: what is no statement stays.
+/// The passes over an item: what is no statement stays, and so does one marked `buildifier: leave-alone`, but for its flags.
 fn tidy_item(alloc: Global, item: &mut Item) -> Result<(), Memory>
     ensures { OnOk result (item.new ≡ item_tidied item.old) }
 {
     if let Item::Stmt(x) = item {
-        change_statement(alloc, x)?;
+        if !any_marked(LEAVE_ALONE, x.comments().before()) {
+            quote(alloc, x)?;
+            change_lists_and_arguments(alloc, x)?;
+            sort_symbols(alloc, x)?;
+        }
         settle(x);
     }
     Ok(())
