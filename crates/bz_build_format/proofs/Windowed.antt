@@ -335,10 +335,6 @@ tree_read tree parts text ws h is read =
     let own : AreRead text ws tree.parts = subst (AreRead text ws) is read in
     (own.0, subst (λ kind. Reads text (let m : Node = record { kind = kind; parts = window_parts ws tree.parts } in m)) (sym h.file.root) own.1)
 
--- the first of these windows is among the parts
-pub first_among : (t : TextWindow) (texts ts : List TextWindow) (left : List Part) → AreAmong texts left → texts ≡ t ∷ ts → t.from + t.gone ≤ length left
-first_among t texts ts left among cut = (subst (λ l. AreAmong l left) cut among).0
-
 -- what is said of a result, of its value
 pub ok_gives : {A E : Type 0} (P : A → Type 0) (r : Result A E) (x : A) → result_ok r ≡ Some x → IfOk r P → P x
 ok_gives P (Ok y) x e h = subst P (same_Some y x e) h

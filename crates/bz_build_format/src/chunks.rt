@@ -2,10 +2,10 @@
 ghost use Rattle.std.specs.Prelude.{◌≤◌, ◌<◌, Bool, List, Option, IfOk, IfSome, length, take};
 ghost use Rattle.bz_build_format.specs.private.Chunks.{SourceKind, build_files, bzl_files, IsAppended, IsFormattedAs, LayersJoin, ReadsAs};
 
-use crate::cut::{CHUNK, TRIES, Unseen, chunk_end, why_unseen};
+use crate::cut::{CHUNK, TRIES, chunk_end, may_go_on};
 use bz_bzl_layout::{append_bzl, level};
 use bz_bzl_value::{BzlFile, BzlItem, begins_bare, view_bzl_front};
-use bz_grammar::LENGTH_LIMIT;
+use bz_grammar::{LENGTH_LIMIT, ReadFault};
 use bz_hosts::{ends_with_line, into_view};
 use bz_items::Text;
 use bz_layout::append_file;
@@ -13,14 +13,6 @@ use bz_passes::{begins_with_load, tidy};
 use bz_tree::{parse, parse_bzl};
 use bz_value::{File, Item};
 use std::alloc::Global;
-
-/// What the beginning of a text says.
-#[derive(Drop)]
-pub(crate) struct Chunk<F> {
-    file: F,
-    /// It ends so that another one may follow it.
-    ends: bool,
-}
 
 /// What a text of one kind of files says.
 pub(crate) trait Source: Drop + Sized {
@@ -33,14 +25,10 @@ pub(crate) trait Source: Drop + Sized {
 
     ghost items: { Self → List Self.Item };
 
-    /// What a text says. One that may not follow another is taken at the beginning alone, and one that none may follow at the end alone.
-    fn seen(
-        alloc: Global,
-        text: &[u8],
-        is_first: bool,
-        is_last: bool,
-    ) -> Result<Chunk<Self>, Unseen>
-        ensures { IfOk result (λ chunk. ReadsAs kind text.now (items chunk.file) is_first chunk.ends) };
+    /// What a text says, and whether it ends so that another one may follow it. None: it may not follow another one, and isn't the first. The
+    /// error: it is not read, or memory was refused.
+    fn seen(alloc: Global, text: &[u8], is_first: bool) -> Result<Option<(Self, bool)>, ReadFault>
+        ensures { IfOk result (λ seen. IfSome seen (λ chunk. ReadsAs kind text.now (items chunk.0) is_first chunk.1)) };
 
     /// Appends the formatted text of what a chunk says, below the item above it. Its last item; none: it has no items, or is not formatted
     /// apart from those above, a limit is passed, or memory was refused.
@@ -61,20 +49,11 @@ impl Source for File {
         alloc: Global,
         text: &[u8],
         _is_first: bool,
-        is_last: bool,
-    ) -> Result<Chunk<File>, Unseen> {
-        let tree = match parse(alloc, text) {
-            Ok(tree) => tree,
-            Err(fault) => return Err(why_unseen(&fault, text, is_last)),
-        };
+    ) -> Result<Option<(File, bool)>, ReadFault> {
+        let tree = parse(alloc, text)?;
         let ends = ends_with_line(&tree);
-        if !ends && !is_last {
-            return Err(Unseen::Short);
-        }
-        let Ok(file) = into_view(alloc, tree) else {
-            return Err(Unseen::Never);
-        };
-        Ok(Chunk { file, ends })
+        let file = into_view(alloc, tree)?;
+        Ok(Some((file, ends)))
     }
 
     fn append(self, out: &mut Vec<u8>, above: &Option<Item>) -> Option<Item> {
@@ -102,22 +81,13 @@ impl Source for BzlFile {
         alloc: Global,
         text: &[u8],
         is_first: bool,
-        is_last: bool,
-    ) -> Result<Chunk<BzlFile>, Unseen> {
-        let tree = match parse_bzl(alloc, text) {
-            Ok(tree) => tree,
-            Err(fault) => return Err(why_unseen(&fault, text, is_last)),
-        };
+    ) -> Result<Option<(BzlFile, bool)>, ReadFault> {
+        let tree = parse_bzl(alloc, text)?;
         if !is_first && !begins_bare(&tree) {
-            return Err(Unseen::Never);
+            return Ok(None);
         }
-        let Ok((file, ends)) = view_bzl_front(alloc, &tree) else {
-            return Err(Unseen::Never);
-        };
-        if !ends && !is_last {
-            return Err(Unseen::Short);
-        }
-        Ok(Chunk { file, ends })
+        let front = view_bzl_front(alloc, &tree)?;
+        Ok(Some(front))
     }
 
     fn append(mut self, out: &mut Vec<u8>, above: &Option<BzlItem>) -> Option<BzlItem> {
@@ -128,18 +98,29 @@ impl Source for BzlFile {
     }
 }
 
-/// The first chunk of a text that is read by itself, and its length.
-fn first_chunk<F: Source>(alloc: Global, text: &[u8], is_first: bool) -> Option<(Chunk<F>, usize)>
+/// What the first chunk of a text says that is read by itself, whether another one may follow it, and its length. Only the last one ends so that
+/// none may.
+fn first_chunk<F: Source>(alloc: Global, text: &[u8], is_first: bool) -> Option<(F, bool, usize)>
     requires { 0 < length text.now }
-    ensures reads { IfSome result (λ found. ReadsAs F.kind (take found.1 text.now) (F.items found.0.file) is_first found.0.ends) }
-    ensures len { IfSome result (λ found. (0 < found.1) × (found.1 ≤ length text.now)) }
+    ensures reads { IfSome result (λ found. ReadsAs F.kind (take found.2 text.now) (F.items found.0) is_first found.1) }
+    ensures len { IfSome result (λ found. (0 < found.2) × (found.2 ≤ length text.now)) }
 {
     for doublings in 0..TRIES {
         let len = chunk_end(text, CHUNK << doublings, F::BARE);
-        match F::seen(alloc, &text[..len], is_first, len == text.len()) {
-            Ok(chunk) => return Some((chunk, len)),
-            Err(Unseen::Never) => return None,
-            Err(Unseen::Short) => {}
+        let chunk = &text[..len];
+        let is_last = len == text.len();
+        match F::seen(alloc, chunk, is_first) {
+            Ok(seen) => {
+                let (file, ends) = seen?;
+                if ends || is_last {
+                    return Some((file, ends, len));
+                }
+            }
+            Err(fault) => {
+                if is_last || !may_go_on(&fault, chunk) {
+                    return None;
+                }
+            }
         }
     }
     None
@@ -164,10 +145,10 @@ pub(crate) fn chunks_formatted<F: Source>(alloc: Global, text: &[u8]) -> Option<
         if !ends {
             return None;
         }
-        let (chunk, len) = first_chunk::<F>(alloc, &text[at..], last.is_none())?;
-        let item = chunk.file.append(&mut out, &last)?;
+        let (file, follows, len) = first_chunk::<F>(alloc, &text[at..], last.is_none())?;
+        let item = file.append(&mut out, &last)?;
         last = Some(item);
-        ends = chunk.ends;
+        ends = follows;
         at += len;
     }
     Some(Text::from_vec(out))

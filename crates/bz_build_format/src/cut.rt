@@ -11,25 +11,14 @@ pub(crate) const CHUNK: usize = 128;
 /// How often a chunk that ends within a statement is tried again, at twice the length.
 pub(crate) const TRIES: usize = 20;
 
-/// Why a chunk is not seen.
-pub(crate) enum Unseen {
-    /// It may be read where more of the text is taken.
-    Short,
-    /// It is not read, or memory was refused.
-    Never,
-}
-
-/// Why a text is not seen that is not read: with more after it, if it is not the last, it may be, where a string is open, or the end is
-/// not expected.
-pub(crate) fn why_unseen(fault: &ReadFault, text: &[u8], is_last: bool) -> Unseen {
+/// Whether a text that is not read may be where more is after it: a string is open, or the end is not expected.
+pub(crate) fn may_go_on(fault: &ReadFault, text: &[u8]) -> bool {
     match fault {
-        _ if is_last => Unseen::Never,
-        ReadFault::OpenString { .. } => Unseen::Short,
-        ReadFault::Unexpected { line, .. }
-            if *line as usize > text.iter().filter(|byte| **byte == b'\n').count() => {
-            Unseen::Short
+        ReadFault::OpenString { .. } => true,
+        ReadFault::Unexpected { line, .. } => {
+            *line as usize > text.iter().filter(|byte| **byte == b'\n').count()
         }
-        _ => Unseen::Never,
+        _ => false,
     }
 }
 
@@ -39,18 +28,6 @@ fn begins_statement(text: &[u8]) -> bool {
         [b'l', b'o', b'a', b'd', ..] | [b'e', b'l', ..] => false,
         [first, ..] => first.is_ascii_alphabetic() || *first == b'_',
         [] => false,
-    }
-}
-
-/// The place after the line that goes on at this place of a text.
-fn line_end(text: &[u8], from: usize) -> usize
-    requires { from < length text.now }
-    ensures bound { result ≤ length text.now }
-    ensures further { from < result }
-{
-    match memchr(b'\n', &text[from..]) {
-        Some(count) => from + count + 1,
-        None => text.len(),
     }
 }
 
@@ -79,7 +56,10 @@ pub(crate) fn chunk_end(text: &[u8], from: usize, bare: bool) -> usize
 {
     let mut at = from;
     while at < text.len() {
-        at = line_end(text, at);
+        at = match memchr(b'\n', &text[at..]) {
+            Some(count) => at + count + 1,
+            None => text.len(),
+        };
         if begins_statement(&text[at..]) {
             let end = code_end(&text[..at], bare);
             if end > 0 {

@@ -29,18 +29,14 @@ fn rest_of<'a>(side: Side, end: &[u8], text: &'a [u8]) -> Option<&'a [u8]>
 fn rest_of_leaf<'a>(side: Side, leaf: &Leaf, text: &'a [u8]) -> Option<&'a [u8]>
     ensures { IfSome result (λ rest. text.now ≡ joined_at side (spell_leaf leaf.now) rest.now) }
 {
-    match side {
-        Side::Front => {
-            let rest = rest_of(side, leaf.gap.as_slice(), text)?;
-            let following = rest_of(side, leaf.token.as_slice(), rest)?;
-            Some(following)
-        }
-        Side::Back => {
-            let rest = rest_of(side, leaf.token.as_slice(), text)?;
-            let before = rest_of(side, leaf.gap.as_slice(), rest)?;
-            Some(before)
-        }
-    }
+    let (gap, token) = (leaf.gap.as_slice(), leaf.token.as_slice());
+    let (first, last) = match side {
+        Side::Front => (gap, token),
+        Side::Back => (token, gap),
+    };
+    let rest = rest_of(side, first, text)?;
+    let rest = rest_of(side, last, rest)?;
+    Some(rest)
 }
 
 /// What is left of a text without what a part spells at a side of it; none where something else is there.

@@ -1,8 +1,5 @@
 //! Windows of parts, read of windows of texts.
-ghost use Rattle.std.specs.Prelude.{◌≡◌, ◌⊎◌, ◌<◌, ◌≤◌, ◌+◌, ◌-◌, ◌^◌, ◌++◌, [], ◌∷◌, IfOk, IfErr, IfSome, IsTrue, List, OnOk, drop, length, take};
-ghost use Rattle.bz_items.specs.Characters.{line_feed};
-ghost use Rattle.bz_lex.specs.declared.leaf.Leaf.{Leaf as Token};
-ghost use Rattle.bz_grammar.specs.declared.tree.Part.{Part as Line};
+ghost use Rattle.std.specs.Prelude.{◌≡◌, ◌⊎◌, ◌<◌, ◌≤◌, ◌+◌, ◌-◌, ◌^◌, ◌++◌, [], ◌∷◌, IfOk, IfErr, IfSome, IsTrue, List, OnOk, length, take};
 ghost use Rattle.bz_grammar.specs.Joined.{AreWholeLines, file_with};
 ghost use Rattle.bz_grammar.specs.Legal.{Accepted, IsBuild, LegalBuild, Reads};
 ghost use Rattle.bz_grammar.specs.Spell.{limit, spell_node};
@@ -22,24 +19,19 @@ use bz_layout::TextWindow;
 use bz_tree::parse;
 use std::alloc::{AllocError, Global};
 
-/// Whether the last of the parts is a line feed, with what is before it.
-fn end_in_line_feed(parts: &[Part]) -> bool
-    ensures { IsTrue result → (front : List Line) × (last : Token) × (parts.now ≡ front ++ Part.Leaf last ∷ []) × (last.token ≡ line_feed ∷ []) }
-{
-    match parts.split_last() {
-        Some((Part::Leaf(leaf), _)) => leaf.token.as_slice() == b"\n".as_slice(),
-        _ => false,
-    }
-}
-
 /// Whether the parts of a file are whole lines: the last of them, if there is one, ends with a line feed.
 fn are_whole_lines(parts: &[Part]) -> bool
     ensures { IsTrue result → AreWholeLines parts.now }
 {
-    match parts.split_last() {
-        Some((Part::Node(line), _)) => end_in_line_feed(line.parts.as_slice()),
-        Some(_) => false,
-        None => true,
+    let Some((last, _)) = parts.split_last() else {
+        return true;
+    };
+    let Part::Node(line) = last else {
+        return false;
+    };
+    match line.parts.as_slice().split_last() {
+        Some((Part::Leaf(leaf), _)) => leaf.token.as_slice() == b"\n".as_slice(),
+        _ => false,
     }
 }
 
@@ -62,36 +54,8 @@ fn lines_read(alloc: Global, text: &[u8]) -> Option<Items<Part>>
     Some(lines)
 }
 
-/// The lines of a text, in the place of as many parts as `gone` says, after the first `from` ones. None where they, or the parts around them as
-/// far as `reach`, are no whole lines, or a growth was refused.
-fn lines_at(
-    alloc: Global,
-    parts: &[Part],
-    from: usize,
-    gone: usize,
-    reach: usize,
-    text: &[u8],
-) -> Option<PartWindow>
-    requires within { from + gone ≤ reach }
-    requires reach { reach < length parts.now }
-    requires legal { LegalBuild (file_with parts.now) }
-    ensures { IfSome result (λ new. IsPutAmong reach parts.now new (spelled_parts (take from parts.now) ++ (text.now ++ spelled_parts (take (reach - (from + gone)) (drop (from + gone) parts.now))))) }
-{
-    lines_join();
-    lines_split();
-    if !are_whole_lines(&parts[..from]) || !are_whole_lines(&parts[from + gone..reach]) {
-        return None;
-    }
-    let lines = lines_read(alloc, text)?;
-    Some(PartWindow {
-        from,
-        gone,
-        parts: lines,
-    })
-}
-
 /// The lines of a text in the place of parts from `from` as far as `reach`, but for those that it has in common with them at its beginning and at its
-/// end. None where they aren't read by themselves, or a growth was refused.
+/// end. None where they, or the parts around them as far as `reach`, are no whole lines, or a growth was refused.
 fn cut_lines(
     alloc: Global,
     parts: &[Part],
@@ -104,16 +68,31 @@ fn cut_lines(
     requires legal { LegalBuild (file_with parts.now) }
     ensures { IfSome result (λ new. IsPutAmong reach parts.now new (spelled_parts (take from parts.now) ++ text.now)) }
 {
+    lines_join();
+    lines_split();
     let (at, rest) = same(Side::Front, &parts[from..reach], text);
-    let left = &parts[from + at..reach];
+    let from = from + at;
+    if !are_whole_lines(&parts[..from]) {
+        return None;
+    }
+    let left = &parts[from..reach];
     let mut stay = left.len();
     // comments alone are no lines: they are read with the line below them
     for _ in 0..2 {
         let (_, kept) = left.split_at(left.len() - stay);
         let (count, middle) = same(Side::Back, kept, rest);
-        let found = lines_at(alloc, parts, from + at, left.len() - count, reach, middle);
-        if found.is_some() || count == 0 {
-            return found;
+        let gone = left.len() - count;
+        if are_whole_lines(&parts[from + gone..reach])
+            && let Some(lines) = lines_read(alloc, middle)
+        {
+            return Some(PartWindow {
+                from,
+                gone,
+                parts: lines,
+            });
+        }
+        if count == 0 {
+            return None;
         }
         stay = count - 1;
     }
@@ -157,16 +136,16 @@ fn end_window(
     lines_join();
     lines_split();
     let end = parts.len() - 1;
-    if let Some(rest) = rest_of_part(Side::Back, &parts[end], text) {
-        if let Some(new) = cut_lines(alloc, parts, from, end, rest) {
-            return Ok(new);
-        }
+    if let Some(rest) = rest_of_part(Side::Back, &parts[end], text)
+        && let Some(new) = cut_lines(alloc, parts, from, end, rest)
+    {
+        return Ok(new);
     }
     let (count, rest) = same(Side::Front, &parts[from..end], text);
-    if are_whole_lines(&parts[..from + count]) {
-        if let Ok(new) = rest_read(alloc, parts, from + count, rest) {
-            return Ok(new);
-        }
+    if are_whole_lines(&parts[..from + count])
+        && let Ok(new) = rest_read(alloc, parts, from + count, rest)
+    {
+        return Ok(new);
     }
     let new = rest_read(alloc, parts, from, text)?;
     Ok(new)

@@ -7,10 +7,10 @@ loop-at-init g c = (inl (refl, c.in-Ok.ensures.items, refl), omega arith)
 
 pub loop-at-preserved : goal.loop-at-preserved
 loop-at-preserved g c = (
-  next_begun g.F.Source.kind c.requires c.args.text.now c.loop-at.out.items c.append.new.out.items c.loop-at.at c.in_ok-chunk.len c.loop-at.last c.in_ok-item.item
-      (g.F.Source.items c.in_ok-chunk.chunk.file) c.loop-at.ends c.is_none.result c.in_ok-chunk.chunk.ends c.loop-at.invariant.1 c.is_none.ensures c.loop-at.invariant.0 c.if-not-ends.false
-      c.in_ok-chunk.ensures.reads c.in_ok-item.ensures (omega (arith, c.if-text-gt-LENGTH_LIMIT.false)),
-  still_within c.args.text.now c.loop-at.at c.in_ok-chunk.len c.loop-at.invariant.1 c.in_ok-chunk.ensures.len.1,
+  next_begun g.F.Source.kind c.requires c.args.text.now c.loop-at.out.items c.append.new.out.items c.loop-at.at c.in_ok-file.len c.loop-at.last c.in_ok-item.item
+      (g.F.Source.items c.in_ok-file.file) c.loop-at.ends c.is_none.result c.in_ok-file.follows c.loop-at.invariant.1 c.is_none.ensures c.loop-at.invariant.0 c.if-not-ends.false
+      c.in_ok-file.ensures.reads c.in_ok-item.ensures (omega (arith, c.if-text-gt-LENGTH_LIMIT.false)),
+  still_within c.args.text.now c.loop-at.at c.in_ok-file.len c.loop-at.invariant.1 c.in_ok-file.ensures.len.1,
 )
 
 pub returns : goal.returns

@@ -1,10 +1,10 @@
-use Rattle.std.proofs.Common.{◌∙◌, ap}
-use Rattle.bz_grammar.specs.declared.tree.Node.{Node}
+use Rattle.std.proofs.Common.{◌++◌, ◌∙◌, ◌∷◌, [], ap, rules}
+use Rattle.bz_grammar.specs.declared.tree.Part.{Part}
 use Rattle.bz_build_format.proofs.Lines.{whole_lines}
 use Rattle.bz_build_format.proofs.reading.are_whole_lines.Goals as goal
 
-pub returns-in-Some-Node-default : goal.returns-in-Some-Node-default
-returns-in-Some-Node-default c t =
-    let found = c.in-Some-Node-default in
-    whole_lines c.args.parts.now found.field-0-1.now c.as_slice.result.now found.field-0-0.now found.line found.ensures.cases.0 found.field-0-0-is
-    (c.as_slice.ensures ∙ ap (λ (n : Node). n.parts) found.line-is) (c.end_in_line_feed.ensures t)
+pub returns-in-Some-Leaf-default : goal.returns-in-Some-Leaf-default
+returns-in-Some-Leaf-default c t =
+    let last = c.in-Some-Leaf-default in
+    whole_lines c.args.parts.now c.in-Some.field-0-1.now c.as_slice.result.now c.in-Some.last.now c.in-Node.line c.in-Some.ensures.cases.0 c.in-Node.is c.as_slice.ensures
+    (last.field-0-1.now, _, last.ensures.cases.0 ∙ ap (λ (x : Part). last.field-0-1.now ++ x ∷ []) last.field-0-0-is, search rules)

@@ -2,8 +2,8 @@ use Rattle.std.proofs.Common.{◌+◌, ◌++◌, ◌∙◌, ◌∷◌, List, [],
 use Rattle.std.proofs.lemmas.List.{nil_from_length}
 use Rattle.bz_edit.specs.declared.part_windows.PartWindow.{PartWindow}
 use Rattle.bz_grammar.specs.declared.tree.Part.{Part}
-use Rattle.bz_build_format.specs.private.Lines.{AreRead, IsPushed, IsPutAmong, spelled_parts, text_with}
-use Rattle.bz_build_format.proofs.Windowed.{AreBefore, begun, ended, ended_by, first_among, next, none_there, ok_gives}
+use Rattle.bz_build_format.specs.private.Lines.{AreAmong, AreRead, IsPushed, IsPutAmong, spelled_parts, text_with}
+use Rattle.bz_build_format.proofs.Windowed.{AreBefore, begun, ended, ended_by, next, none_there, ok_gives}
 use Rattle.bz_build_format.proofs.reading.each_read.Goals as goal
 
 pub loop-window-init : goal.loop-window-init
@@ -34,7 +34,7 @@ loop-window-preserved c =
     subst (λ (ps : List Part). AreBefore c.args.parts.now total c.push_window-in-Some.new.read c.in_ok-kept.kept ps c.in-Some.others.now) (sym c.split_at-in-Some.ensures.back)
     (next c.lines_join.ensures.build c.lines_split.ensures c.args.parts.now total c.loop-window.read c.push_window-in-Some.new.read c.loop-window.kept reach c.in_ok-kept.kept left t c.loop-window.texts.now
     c.in-Some.others.now c.in_ok-new-2.new c.loop-window.invariant c.in-Some.ensures.cases.0 c.requires.short refl
-    (omega (arith, first_among t c.loop-window.texts.now c.in-Some.others.now left c.loop-window.invariant.among c.in-Some.ensures.cases.0, c.if-reach-left.false))
+    (omega (arith, (subst (λ l. AreAmong l left) c.in-Some.ensures.cases.0 c.loop-window.invariant.among).0, c.if-reach-left.false))
     (subst (λ s. IsPutAmong reach left c.in_ok-new-2.new (spelled_parts (take t.from left) ++ s)) c.as_slice-text.ensures c.in_ok-new-2.ensures) pushed)
 
 pub returns : goal.returns
