@@ -43,9 +43,7 @@ fn lines_read(alloc: Global, text: &[u8]) -> Option<Items<Part>>
     if text.is_empty() {
         return Some(Items::new(alloc));
     }
-    let Ok(tree) = parse(alloc, text) else {
-        return None;
-    };
+    let tree = parse(alloc, text).ok()?;
     if !ends_with_line(&tree) {
         return None;
     }
@@ -156,7 +154,7 @@ fn end_window(
 fn push_window(
     read: &mut Items<PartWindow>,
     kept: usize,
-    new: PartWindow,
+    mut new: PartWindow,
     reach: usize,
 ) -> Result<usize, Memory>
     requires within { new.from + new.gone ≤ reach }
@@ -167,11 +165,8 @@ fn push_window(
         return Ok(kept + reach);
     }
     let behind = reach - new.from - new.gone;
-    read.push(PartWindow {
-        from: kept + new.from,
-        gone: new.gone,
-        parts: new.parts,
-    })?;
+    new.from += kept;
+    read.push(new)?;
     Ok(behind)
 }
 
@@ -228,14 +223,12 @@ fn whole_text(alloc: Global, parts: &[Part], windows: &[TextWindow]) -> Result<T
 {
     let mut out = Vec::new(alloc);
     let mut left = parts;
-    let mut texts = windows;
-    while let Some((window, others)) = texts.split_first() {
+    for window in windows {
         let (before, following) = left.split_at(window.from);
         push_parts(&mut out, before)?;
         out.extend_from_slice(window.text.as_slice())?;
         let (_, behind) = following.split_at(window.gone);
         left = behind;
-        texts = others;
     }
     push_parts(&mut out, left)?;
     Ok(Text::from_vec(out))

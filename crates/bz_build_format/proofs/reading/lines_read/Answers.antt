@@ -1,9 +1,11 @@
-use Rattle.std.proofs.Common.{ap}
+use Rattle.std.proofs.Common.{◌∙◌, ap, sym}
+use Rattle.bz_grammar.specs.Legal.{Reads}
 use Rattle.bz_grammar.specs.declared.tree.Node.{Node}
 use Rattle.bz_build_format.proofs.Lines.{lines_of_read}
+use Rattle.bz_build_format.proofs.Windowed.{ok_gives}
 use Rattle.bz_build_format.proofs.reading.lines_read.Goals as goal
 
 pub returns : goal.returns
 returns c =
-    lines_of_read c.lines_join.ensures.build c.args.text.now c.in-Ok.tree c.tree.inside.root.parts c.pop.new.self c.pop.result c.in-Ok.ensures.ok (c.ends_with_line.ensures c.if-not-ends_with_line.false)
+    lines_of_read c.lines_join.ensures.build c.args.text.now c.in_ok-tree.tree c.tree.inside.root.parts c.pop.new.self c.pop.result (ok_gives (λ tree. Reads c.args.text.now tree) c.parse.result c.in_ok-tree.tree (sym c.ok.ensures.value ∙ c.in_ok-tree.was) c.parse.ensures.ok) (c.ends_with_line.ensures c.if-not-ends_with_line.false)
     (ap (λ (n : Node). n.parts) c.tree.view_is) c.pop.ensures
