@@ -98,8 +98,8 @@ impl Source for BzlFile {
     }
 }
 
-/// What the first chunk of a text says that is read by itself, whether another one may follow it, and its length. Only the last one ends so that
-/// none may.
+/// What the first chunk of a text says that is read by itself, whether another one may follow it, and its length. One that none may follow is taken
+/// at the end alone.
 fn first_chunk<F: Source>(alloc: Global, text: &[u8], is_first: bool) -> Option<(F, bool, usize)>
     requires { 0 < length text.now }
     ensures reads { IfSome result (λ found. ReadsAs F.kind (take found.2 text.now) (F.items found.0) is_first found.1) }
@@ -110,17 +110,10 @@ fn first_chunk<F: Source>(alloc: Global, text: &[u8], is_first: bool) -> Option<
         let chunk = &text[..len];
         let is_last = len == text.len();
         match F::seen(alloc, chunk, is_first) {
-            Ok(seen) => {
-                let (file, ends) = seen?;
-                if ends || is_last {
-                    return Some((file, ends, len));
-                }
-            }
-            Err(fault) => {
-                if is_last || !may_go_on(&fault, chunk) {
-                    return None;
-                }
-            }
+            Ok(Some((file, ends))) if ends || is_last => return Some((file, ends, len)),
+            Ok(None) => return None,
+            Err(fault) if is_last || !may_go_on(&fault, chunk) => return None,
+            _ => {} // more of the text is tried
         }
     }
     None
