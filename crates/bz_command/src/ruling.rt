@@ -126,11 +126,7 @@ fn change(work: Work<'_, '_>, operation: &Operation, list: &mut Items<Expr>) -> 
         Operation::Attribute(operation) => {
             change_attributes(alloc, operation, current, work.found, list)
         }
-        Operation::Value(operation) => {
-            let given = mem::replace(list, Items::new(alloc));
-            *list = change_values(alloc, operation, current, given)?;
-            Ok(())
-        }
+        Operation::Value(operation) => change_values(alloc, operation, current, list),
         Operation::Dict(operation) => change_dicts(alloc, operation, current, list),
         Operation::Comment(CommentOperation::Add { host, text }) => {
             change_comments(alloc, current, host, Change::Add(text.as_slice()), list)

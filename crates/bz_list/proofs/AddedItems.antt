@@ -1,5 +1,5 @@
 -- What is added is what is not known yet.
-use Rattle.std.proofs.Common.{◌≡◌, Bool, true, false, not, ◌||◌, List, [], ◌∷◌, ◌++◌, refl, sym, ap, ◌∙◌, map, true≢false}
+use Rattle.std.proofs.Common.{◌≡◌, Bool, true, false, not, ◌||◌, List, [], ◌∷◌, refl, sym, ap, ◌∙◌, map, true≢false}
 use Rattle.std.specs.Prelude.{Option, Some, if◌then◌else◌}
 use Rattle.std.specs.Bool.{OnFalse}
 use Rattle.std.specs.List.{list_any}

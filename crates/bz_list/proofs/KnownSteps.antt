@@ -5,7 +5,7 @@ use Rattle.std.specs.List.{list_any, flat_map}
 use Rattle.std.specs.Option.{option_map_or}
 use Rattle.std.specs.declared.cmp.Ordering.{Ordering}
 use Rattle.std.specs.Ordering.{is_eq, ordering_then, bool_cmp, nat_cmp}
-use Rattle.std.specs.Cmp.{tied_then}
+use Rattle.std.specs.Cmp.{both_ways, tied_then}
 use Rattle.std.specs.Cmp.Lexicographic.{slice_cmp}
 use Rattle.std.specs.BTreeMap.{is_at}
 use Rattle.std.specs.BTreeSet.{BTreeSet, insert_key}
@@ -13,6 +13,7 @@ use Rattle.std.proofs.lemmas.Bool.{cases_Bool, and_from, and_parts}
 use Rattle.std.proofs.lemmas.List.{at_drop_all, drop_more}
 use Rattle.std.proofs.lemmas.List.Folds.{list_any_none}
 use Rattle.std.proofs.lemmas.Map.Text.{is_eq-slice_cmp}
+use Rattle.std.proofs.Math.Bool.{and_assoc}
 use Rattle.std.proofs.Math.Path.{fun_ext}
 use Rattle.bz_label.specs.declared.label.Label.{Label}
 use Rattle.bz_label.specs.Read.{label_in, is_equal, are_equal, is_same}
@@ -60,12 +61,9 @@ own_key key =
 
 -- equal both ways
 key_alike : (one other : Bool × Label) → are_one_key one other ≡ are_one_key other one
-key_alike one other = by (are_one_key one other) (are_one_key other one) refl refl
-  where
-    by : (b c : Bool) → are_one_key one other ≡ b → are_one_key other one ≡ c → b ≡ c
-    by true c h i = sym (own_key one) ∙ (ap (λ key. are_one_key key one) (equal_keys one other h) ∙ i)
-    by false true h i = sym h ∙ (ap (are_one_key one) (equal_keys other one i) ∙ own_key one)
-    by false false h i = refl
+key_alike one other =
+    both_ways (are_one_key one other) (are_one_key other one) (λ h. ap (λ key. are_one_key key one) (sym (equal_keys one other h)) ∙ own_key one)
+    (λ h. ap (λ key. are_one_key key other) (sym (equal_keys other one h)) ∙ own_key other)
 
 -- ---- words mean one value where their keys are equal
 
@@ -107,10 +105,6 @@ flag_ties false false = refl
 texts_tie : (one other : Bytes) (following : Ordering) → is_eq (ordering_then (slice_cmp nat_cmp one other) following) ≡ (bytes_eq one other && is_eq following)
 texts_tie one other following = sym (tied_then (slice_cmp nat_cmp one other) following) ∙ ap (λ b. b && is_eq following) (is_eq-slice_cmp one other)
 
-and_turn : (a b c : Bool) → (a && (b && c)) ≡ ((a && b) && c)
-and_turn true b c = refl
-and_turn false b c = refl
-
 key_ties : (one other : Key) → is_eq (key_cmp one other) ≡ are_one_key (parts_of_key one) (parts_of_key other)
 key_ties one other =
     let a : Bytes = one.repository.items in
@@ -120,7 +114,7 @@ key_ties one other =
     sym (tied_then (bool_cmp one.is_label other.is_label) _)
     ∙ both (λ x y. x && y) (flag_ties one.is_label other.is_label)
     (texts_tie a b _ ∙ (ap (λ z. bytes_eq a b && z) (texts_tie c d _ ∙ ap (λ z. bytes_eq c d && z) (is_eq-slice_cmp one.name.items other.name.items))
-    ∙ and_turn (bytes_eq a b) (bytes_eq c d) (bytes_eq one.name.items other.name.items)))
+    ∙ sym (and_assoc (bytes_eq a b) (bytes_eq c d) (bytes_eq one.name.items other.name.items))))
 
 pub key_found : (current attribute word : Bytes) (set : BTreeSet Key) (key : Key) → parts_of_key key ≡ word_key current attribute word
     → list_any (is_at (key_cmp key)) set.keys ≡ knows_word current attribute set word

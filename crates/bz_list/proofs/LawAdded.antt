@@ -28,7 +28,7 @@ use Rattle.bz_command_syntax.specs.Quoted.{is_escaped}
 use Rattle.bz_rule.proofs.ProperChanges.{by_test, by_case}
 use Rattle.bz_attribute.proofs.PlainWords.{IsPlain, equal_self, body_quoted}
 use Rattle.bz_list.proofs.KnownSteps.{meant_alike}
-use Rattle.bz_list.proofs.ListedForms.{added_found}
+use Rattle.bz_list.proofs.ListedForms.{added_found, some_lists}
 use Rattle.bz_list.specs.private.Listing.{value_with}
 use Rattle.std.proofs.Math.Bool.{or_assoc, or-false}
 use Rattle.std.proofs.lemmas.Grind.{flat_map-append}
@@ -79,8 +79,9 @@ adding_again current name words xs value e l t =
     let none : added (items_in value) ≡ [] = ap (map (string_of current name)) (none_fresh current name (items_in value) words t) in
     let same : with_more (added (items_in value)) value ≡ value = ap (λ more. with_more more value) none ∙ more_none value in
     added_found name added xs value e
-    ∙ (ap (λ b. if not b && is_no_list value then Err NotAList else Ok (with_value name (if b then with_more (added (items_in value)) value else plus value (list_of (added []))) xs)) l
-    ∙ ap Ok (ap (λ v. with_value name v xs) same ∙ with_value_same name value xs e))
+    ∙ (if_false (is_no_list value) (Err NotAList) _ (some_lists value l)
+    ∙ (ap (λ b. Ok (with_value name (if b then with_more (added (items_in value)) value else plus value (list_of (added []))) xs)) l
+    ∙ ap Ok (ap (λ v. with_value name v xs) same ∙ with_value_same name value xs e)))
 
 -- ---- a shorter label of a plain word
 
@@ -315,7 +316,7 @@ added_is_there current name words xs new plain e = found_or_new (attribute name 
         (there_new current name words value plain (items_list (strings [])))
     found_or_new (Some value) d =
         let made : Expr = value_with strings value in
-        are_added current name words (with_value name made xs) new made (made_if (not (has_lists value) && is_no_list value) (with_value name made xs) new (sym (added_found name strings xs value d) ∙ e))
+        are_added current name words (with_value name made xs) new made (made_if (is_no_list value) (with_value name made xs) new (sym (added_found name strings xs value d) ∙ e))
         (attribute_changed name value made xs d) (there_with value)
 
 -- ---- removing what was added to an absent attribute

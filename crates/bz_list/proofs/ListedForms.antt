@@ -5,7 +5,7 @@ use Rattle.std.specs.List.{flat_map, list_any, filter, position}
 use Rattle.std.specs.Option.{option_map_or}
 use Rattle.bz_grammar.specs.declared.kind.Kind.TheVariants as k
 use Rattle.std.proofs.lemmas.List.{append-nil, at_drop_all}
-use Rattle.bz_value.specs.declared.value.Expr.{Expr}
+use Rattle.bz_value.specs.declared.value.Expr.{Expr, Token, Form'}
 use Rattle.bz_value.specs.Empty.{is_empty}
 use Rattle.bz_attribute.specs.Lists.{items_in, listed, lists_of, is_empty_list, is_no_list, has_lists, is_some_item, with_more, body_of, are_one}
 use Rattle.bz_attribute.proofs.ListsThere.{in_sum, in_value, items_there, some_filtered}
@@ -155,19 +155,24 @@ no_items value h = by (lists_of value) h
     by [] e = refl
     by (x ∷ xs) e = absurd (true≢false e)
 
+-- what has lists can be taken as one
+pub some_lists : (value : Expr) → has_lists value ≡ true → is_no_list value ≡ false
+some_lists (Token t) lists = absurd (true≢false (sym lists))
+some_lists (Form' k.Dict s parts s' items end split open_break comments) lists = absurd (true≢false (sym lists))
+some_lists (Form' _ s parts s' items end split open_break comments) lists = refl
+
 pub added_found : (name : Bytes) (added : List Expr → List Expr) (xs : List Expr) (value : Expr) → attribute name xs ≡ Some value
-    → with_items_added name added xs ≡ (if not (has_lists value) && is_no_list value then Err NotAList else Ok (with_value name (value_with added value) xs))
+    → with_items_added name added xs ≡ (if is_no_list value then Err NotAList else Ok (with_value name (value_with added value) xs))
 added_found name added xs value found =
     by_there (attribute name xs) value (Ok (with_new name (list_of (added [])) xs)) (λ value. grown (has_lists value) (is_no_list value) (with_more (added (items_in value)) value) (plus value (list_of (added [])))) found
-    ∙ by (has_lists value) (is_no_list value) (with_more (added (items_in value)) value) (plus value (list_of (added [])))
+    ∙ by (has_lists value) (is_no_list value) (some_lists value) (with_more (added (items_in value)) value) (plus value (list_of (added [])))
   where
     grown : Bool → Bool → Expr → Expr → Arguments
     grown lists none more sum = if lists then Ok (with_value name more xs) else (if none then Err NotAList else Ok (with_value name sum xs))
 
-    by : (lists none : Bool) (more sum : Expr) → grown lists none more sum ≡ (if not lists && none then Err NotAList else Ok (with_value name (if lists then more else sum) xs))
-    by true none more sum = refl
-    by false true more sum = refl
-    by false false more sum = refl
+    by : (lists none : Bool) → (lists ≡ true → none ≡ false) → (more sum : Expr) → grown lists none more sum ≡ (if none then Err NotAList else Ok (with_value name (if lists then more else sum) xs))
+    by true none apart more sum = rw (apart refl) refl
+    by false none apart more sum = refl
 
 -- ---- the first element that passes, changed in its place; and where none passes
 

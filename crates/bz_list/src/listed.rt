@@ -1,15 +1,12 @@
 //! Items that are added to the lists of an attribute, removed from them and moved to another one, and the table of all commands on values.
-//!
-//! Where memory is refused, an expression that is owned is dropped by a call: a `?` drops it in place, which is a path of the proof for
-//! each of its parts.
-ghost use Rattle.std.specs.Prelude.{◌≡◌, ◌⊎◌, ◌&&◌, ◌++◌, ◌∷◌, [], ℕ, List, Ok, Err, IfOk, OnOk, IfErr, map, not};
+ghost use Rattle.std.specs.Prelude.{◌≡◌, ◌⊎◌, ◌++◌, ◌∷◌, [], ℕ, List, Ok, Err, IfOk, OnOk, IfErr, map, not};
 ghost use Rattle.std.specs.List.{filter, flat_map, list_any};
 ghost use Rattle.bz_grammar.specs.declared.kind.Kind.TheVariants as kinds;
 ghost use Rattle.bz_value.specs.Empty.{is_empty};
 ghost use Rattle.bz_rule.specs.Rules.{attribute as value_there};
 ghost use Rattle.bz_rule.specs.Values.{has_kind as is_of, on_items, on_lists};
 ghost use Rattle.bz_attribute.specs.Attributes.{on_first_that};
-ghost use Rattle.bz_attribute.specs.Lists.{fresh, has_lists as has_lists_in, is_item as is_item_of, is_no_list as is_no_list_there, items_in, listed as as_listed, travelled, with_more};
+ghost use Rattle.bz_attribute.specs.Lists.{fresh, is_item as is_item_of, items_in, listed as as_listed, with_more};
 ghost use Rattle.bz_attribute.specs.Made.{string_of as string_made};
 ghost use Rattle.bz_list.specs.Changes.{with_items_added, remove_values, move, values_changed};
 ghost use Rattle.bz_list.specs.private.KnownValues.{knows_word};
@@ -29,14 +26,11 @@ use bz_grammar::Kind;
 use bz_items::{Items, Memory, Text};
 use bz_rule::{attribute, inside, text_of};
 use bz_value::{Expr, Refusal};
-use std::alloc::{AllocError, Global};
+use std::alloc::Global;
 use std::mem;
 
 /// Whether memory was given for a step.
 type Done = Result<(), Memory>;
-
-/// What a command made of the arguments, or its refusal.
-type Changed = Result<Items<Expr>, Refusal>;
 
 /// What is added to an attribute.
 #[derive(Drop)]
@@ -49,63 +43,32 @@ enum Added<'a> {
 
 /// Puts the string of a word after the others, unless the word is known.
 #[tactic(auto, using(crate::proofs::AddedItems::one_more))]
-fn push_string(slot: Slot<'_>, word: &[u8], known: &mut Known, items: &mut Vec<Expr>) -> Done
-    ensures { (rest : List (List ℕ)) → OnOk result (items.new.items ++ new_strings slot.entry.current.now slot.entry.attribute.now (knows_word slot.entry.current.now slot.entry.attribute.now known.new) rest ≡ items.old.items ++ new_strings slot.entry.current.now slot.entry.attribute.now (knows_word slot.entry.current.now slot.entry.attribute.now known.old) (word.now ∷ rest)) }
+fn push_string(slot: Slot<'_>, word: &[u8], known: &mut Known, items: &mut Items<Expr>) -> Done
+    ensures { (rest : List (List ℕ)) → OnOk result (items.new ++ new_strings slot.entry.current.now slot.entry.attribute.now (knows_word slot.entry.current.now slot.entry.attribute.now known.new) rest ≡ items.old ++ new_strings slot.entry.current.now slot.entry.attribute.now (knows_word slot.entry.current.now slot.entry.attribute.now known.old) (word.now ∷ rest)) }
 {
-    items.reserve(1)?;
-    if !insert(known, slot, Some(word))? {
-        return Ok(());
+    if insert(known, slot, Some(word))? {
+        items.push(string_of(slot, word)?)?;
     }
-    items.push_reserved(string_of(slot, word)?);
     Ok(())
 }
 
-/// Puts an item after the others.
-fn push_item(x: Expr, items: &mut Vec<Expr>) -> Done
-    ensures { OnOk result (items.new.items ≡ items.old.items ++ x ∷ []) }
-{
-    if let Err(refused) = items.reserve(1) {
-        drop(x);
-        return Err(refused);
-    }
-    items.push_reserved(x);
-    Ok(())
-}
-
-/// Puts an item after the others as it comes to the attribute.
-fn push_shortened(slot: Slot<'_>, mut x: Expr, items: &mut Vec<Expr>) -> Done
-    ensures { OnOk result (items.new.items ≡ items.old.items ++ travelled slot.entry.current.now slot.entry.attribute.now x ∷ []) }
-{
-    if let Err(refused) = Change::Shorten.on_item(slot, &mut x) {
-        drop(x);
-        return Err(refused);
-    }
-    push_item(x, items)?;
-    Ok(())
-}
-
-/// The same, unless the item is known.
+/// Puts an item after the others as it comes to the attribute, unless it is known.
 #[tactic(auto, using(crate::proofs::AddedItems::one_more))]
-fn push_moved(slot: Slot<'_>, x: Expr, known: &mut Known, items: &mut Vec<Expr>) -> Done
-    ensures { (rest : List Expr) → OnOk result (items.new.items ++ new_items slot.entry.current.now slot.entry.attribute.now (knows_word slot.entry.current.now slot.entry.attribute.now known.new) rest ≡ items.old.items ++ new_items slot.entry.current.now slot.entry.attribute.now (knows_word slot.entry.current.now slot.entry.attribute.now known.old) (x ∷ rest)) }
+fn push_moved(slot: Slot<'_>, mut x: Expr, known: &mut Known, items: &mut Items<Expr>) -> Done
+    ensures { (rest : List Expr) → OnOk result (items.new ++ new_items slot.entry.current.now slot.entry.attribute.now (knows_word slot.entry.current.now slot.entry.attribute.now known.new) rest ≡ items.old ++ new_items slot.entry.current.now slot.entry.attribute.now (knows_word slot.entry.current.now slot.entry.attribute.now known.old) (x ∷ rest)) }
 {
-    let Ok(is_new) = insert(known, slot, body_of(&x)) else {
-        drop(x);
-        return Err(AllocError);
-    };
-    if !is_new {
-        drop(x);
+    if !insert(known, slot, body_of(&x))? {
         return Ok(());
     }
-    push_shortened(slot, x, items)?;
-    Ok(())
+    Change::Shorten.on_item(slot, &mut x)?;
+    items.push(x)
 }
 
 /// The items that are added to those that are known, each once and as it comes to the attribute.
-fn added_items(slot: Slot<'_>, added: Added<'_>, mut known: Known) -> Result<Vec<Expr>, Memory>
-    ensures { IfOk result (λ items. items.items ≡ added_to slot.entry.current.now slot.entry.attribute.now added.entry (knows_word slot.entry.current.now slot.entry.attribute.now known)) }
+fn added_items(slot: Slot<'_>, added: Added<'_>, mut known: Known) -> Result<Items<Expr>, Memory>
+    ensures { IfOk result (λ items. items ≡ added_to slot.entry.current.now slot.entry.attribute.now added.entry (knows_word slot.entry.current.now slot.entry.attribute.now known)) }
 {
-    let mut items = Vec::new(slot.alloc);
+    let mut items = Items::new(slot.alloc);
     match added {
         Added::Words(words) => {
             for word in words {
@@ -154,20 +117,20 @@ fn is_there(slot: Slot<'_>, word: &[u8], operands: &[Expr]) -> bool
 
 /// The string of a word that is added alone to the items of lists: no set of these is made.
 #[tactic(auto, using(crate::proofs::AddedItems::one_fresh))]
-fn one_beside(slot: Slot<'_>, word: &[u8], operands: &[Expr]) -> Result<Vec<Expr>, Memory>
-    ensures { IfOk result (λ items. items.items ≡ map (string_made slot.entry.current.now slot.entry.attribute.now) (fresh slot.entry.current.now slot.entry.attribute.now (flat_map as_listed operands.now) [] (word.now ∷ []))) }
+fn one_beside(slot: Slot<'_>, word: &[u8], operands: &[Expr]) -> Result<Items<Expr>, Memory>
+    ensures { IfOk result (λ items. items ≡ map (string_made slot.entry.current.now slot.entry.attribute.now) (fresh slot.entry.current.now slot.entry.attribute.now (flat_map as_listed operands.now) [] (word.now ∷ []))) }
 {
-    let mut items = Vec::new(slot.alloc);
+    let mut items = Items::new(slot.alloc);
     if !is_there(slot, word, operands) {
-        push_item(string_of(slot, word)?, &mut items)?;
+        items.push(string_of(slot, word)?)?;
     }
     Ok(items)
 }
 
 /// The items that are added to those of the lists among these expressions.
 #[tactic(auto, using(crate::proofs::AddedItems::added_there))]
-fn added_beside(slot: Slot<'_>, added: Added<'_>, operands: &[Expr]) -> Result<Vec<Expr>, Memory>
-    ensures { IfOk result (λ items. items.items ≡ added_by slot.entry.current.now slot.entry.attribute.now added.entry (flat_map as_listed operands.now)) }
+fn added_beside(slot: Slot<'_>, added: Added<'_>, operands: &[Expr]) -> Result<Items<Expr>, Memory>
+    ensures { IfOk result (λ items. items ≡ added_by slot.entry.current.now slot.entry.attribute.now added.entry (flat_map as_listed operands.now)) }
 {
     if let Added::Words([word]) = &added {
         return one_beside(slot, word.as_slice(), operands);
@@ -182,10 +145,9 @@ fn added_beside(slot: Slot<'_>, added: Added<'_>, operands: &[Expr]) -> Result<V
 fn append_to_first(more: &mut Vec<Expr>, operands: &mut Items<Expr>) -> Done
     ensures { OnOk result (operands.new ≡ on_first_that (is_of kinds.List) (on_items kinds.List (λ items. items ++ more.old.items)) operands.old) }
 {
-    let Some(at) = first_of_kind(Kind::List, operands.as_slice()) else {
-        return Ok(());
-    };
-    append_to(Kind::List, more, operands.at_mut(at))?;
+    if let Some(at) = first_of_kind(Kind::List, operands.as_slice()) {
+        append_to(Kind::List, more, operands.at_mut(at))?;
+    }
     Ok(())
 }
 
@@ -204,78 +166,61 @@ fn append_to_value(more: &mut Vec<Expr>, value: &mut Expr) -> Done
 
 /// A value with items at the end of its first list; one that is no list becomes a sum with a new one.
 #[tactic(auto, using(crate::proofs::ListedForms::no_items))]
-fn grown(slot: Slot<'_>, mut more: Vec<Expr>, mut value: Expr) -> Result<Expr, Memory>
-    ensures { (added : List Expr → List Expr) → more.items ≡ added (items_in value) → IfOk result (λ new. new ≡ value_with added value) }
+fn grown(slot: Slot<'_>, more: Items<Expr>, mut value: Expr) -> Result<Expr, Memory>
+    ensures { (added : List Expr → List Expr) → more ≡ added (items_in value) → IfOk result (λ new. new ≡ value_with added value) }
 {
     if has_lists(&value) {
-        let Ok(()) = append_to_value(&mut more, &mut value) else {
-            drop(value);
-            return Err(AllocError);
-        };
+        append_to_value(&mut more.into_vec(), &mut value)?;
         return Ok(value);
     }
-    let list = list_of(slot.alloc, Items::from_vec(more));
-    let sum = plus(slot.alloc, value, list)?;
+    let sum = plus(slot.alloc, value, list_of(slot.alloc, more))?;
     Ok(sum)
-}
-
-/// Whether a value takes no items.
-fn is_refused(value: &Expr) -> bool
-    ensures { result ≡ (not (has_lists_in value.now) && is_no_list_there value.now) }
-{
-    !has_lists(value) && is_no_list(value)
 }
 
 /// Adds items to an attribute.
 #[tactic(auto, using(crate::proofs::ListedForms::added_found))]
-fn add_items(slot: Slot<'_>, added: Added<'_>, mut arguments: Items<Expr>) -> Changed
-    ensures ok { IfOk result (λ new. with_items_added slot.entry.attribute.now (added_by slot.entry.current.now slot.entry.attribute.now added.entry) arguments ≡ Ok new) }
-    ensures err { IfErr result (λ refusal. (with_items_added slot.entry.attribute.now (added_by slot.entry.current.now slot.entry.attribute.now added.entry) arguments ≡ Err refusal) ⊎ (refusal ≡ Refusal.Memory)) }
+fn add_items(slot: Slot<'_>, added: Added<'_>, arguments: &mut Items<Expr>) -> Result<(), Refusal>
+    ensures ok { OnOk result (with_items_added slot.entry.attribute.now (added_by slot.entry.current.now slot.entry.attribute.now added.entry) arguments.old ≡ Ok arguments.new) }
+    ensures err { IfErr result (λ refusal. (with_items_added slot.entry.attribute.now (added_by slot.entry.current.now slot.entry.attribute.now added.entry) arguments.old ≡ Err refusal) ⊎ (refusal ≡ Refusal.Memory)) }
 {
-    let Some(value) = take_value(slot.alloc, slot.attribute, &mut arguments) else {
-        let items = added_beside(slot, added, &[])?;
-        let list = list_of(slot.alloc, Items::from_vec(items));
-        add_attribute(slot.alloc, slot.attribute, list, &mut arguments)?;
-        return Ok(arguments);
+    let Some(value) = take_value(slot.alloc, slot.attribute, arguments) else {
+        let list = list_of(slot.alloc, added_beside(slot, added, &[])?);
+        add_attribute(slot.alloc, slot.attribute, list, arguments)?;
+        return Ok(());
     };
-    if is_refused(&value) {
-        drop(value);
+    if is_no_list(&value) {
         return Err(Refusal::NotAList);
     }
-    let Ok(more) = added_beside(slot, added, operands_of(&value)) else {
-        drop(value);
-        return Err(Refusal::Memory);
-    };
+    let more = added_beside(slot, added, operands_of(&value))?;
     let value = grown(slot, more, value)?;
-    set_value(slot.attribute, value, &mut arguments);
-    Ok(arguments)
+    set_value(slot.attribute, value, arguments);
+    Ok(())
 }
 
 /// Takes the items that the command is meant for.
-fn take_in(slot: Slot<'_>, chosen: &Chosen, items: &mut Items<Expr>, taken: &mut Vec<Expr>) -> Done
+fn take_in(
+    slot: Slot<'_>,
+    chosen: &Chosen,
+    items: &mut Items<Expr>,
+    taken: &mut Items<Expr>,
+) -> Done
     ensures left { OnOk result (items.new ≡ filter (is_left slot.entry.current.now slot.entry.attribute.now chosen.now) items.old) }
-    ensures taken { OnOk result (taken.new.items ≡ taken.old.items ++ filter (chooses slot.entry.current.now slot.entry.attribute.now chosen.now) items.old) }
+    ensures taken { OnOk result (taken.new ≡ taken.old ++ filter (chooses slot.entry.current.now slot.entry.attribute.now chosen.now) items.old) }
 {
-    let mut left = Vec::new(slot.alloc);
     for x in mem::replace(items, Items::new(slot.alloc)).into_vec() {
-        let Ok(is_taken) = is_chosen(slot, chosen, &x) else {
-            drop(x);
-            return Err(AllocError);
-        };
-        if is_taken {
-            push_item(x, taken)?;
+        if is_chosen(slot, chosen, &x)? {
+            taken.push(x)?;
         } else {
-            push_item(x, &mut left)?;
+            items.push(x)?;
         }
     }
-    *items = Items::from_vec(left);
     Ok(())
 }
 
 /// The same of a list; any other expression stays.
-fn take_from_list(slot: Slot<'_>, chosen: &Chosen, x: &mut Expr, taken: &mut Vec<Expr>) -> Done
+fn take_from_list(slot: Slot<'_>, chosen: &Chosen, x: &mut Expr, taken: &mut Items<Expr>) -> Done
     ensures left { OnOk result (x.new ≡ on_items kinds.List (filter (is_left slot.entry.current.now slot.entry.attribute.now chosen.now)) x.old) }
-    ensures taken { OnOk result (taken.new.items ≡ taken.old.items ++ filter (chooses slot.entry.current.now slot.entry.attribute.now chosen.now) (as_listed x.old)) }
+    ensures taken { OnOk result (taken.new ≡ taken.old ++ filter (chooses slot.entry.current.now slot.entry.attribute.now chosen.now) (as_listed x.old)) }
 {
     if !has_kind(Kind::List, x) {
         return Ok(());
@@ -288,9 +233,14 @@ fn take_from_list(slot: Slot<'_>, chosen: &Chosen, x: &mut Expr, taken: &mut Vec
 
 /// The same of the lists of a value.
 #[tactic(auto, using(crate::proofs::ListedForms::sum_taken, crate::proofs::ListedForms::own_items_in))]
-fn take_from_lists(slot: Slot<'_>, chosen: &Chosen, value: &mut Expr, taken: &mut Vec<Expr>) -> Done
+fn take_from_lists(
+    slot: Slot<'_>,
+    chosen: &Chosen,
+    value: &mut Expr,
+    taken: &mut Items<Expr>,
+) -> Done
     ensures left { OnOk result (value.new ≡ on_lists (filter (is_left slot.entry.current.now slot.entry.attribute.now chosen.now)) value.old) }
-    ensures taken { OnOk result (taken.new.items ≡ taken.old.items ++ filter (chooses slot.entry.current.now slot.entry.attribute.now chosen.now) (items_in value.old)) }
+    ensures taken { OnOk result (taken.new ≡ taken.old ++ filter (chooses slot.entry.current.now slot.entry.attribute.now chosen.now) (items_in value.old)) }
 {
     if !has_kind(Kind::Sum, value) {
         return take_from_list(slot, chosen, value, taken);
@@ -308,11 +258,10 @@ fn put_back(name: &[u8], taken: &[Expr], value: Expr, arguments: &mut Items<Expr
     ensures { arguments.new ≡ put_back name.now (not (is_empty taken.now)) value arguments.old }
 {
     if !taken.is_empty() && is_empty_list(&value) {
-        drop(value);
         remove_first(name, arguments);
-        return;
+    } else {
+        set_value(name, value, arguments);
     }
-    set_value(name, value, arguments);
 }
 
 /// Takes the items that the command is meant for from the attribute's lists, and the attribute where its value is empty then.
@@ -324,38 +273,40 @@ fn take_items(
     ensures left { OnOk result (arguments.new ≡ without_chosen slot.entry.attribute.now (chooses slot.entry.current.now slot.entry.attribute.now chosen.now) (value_there slot.entry.attribute.now arguments.old) arguments.old) }
     ensures taken { IfOk result (λ taken. taken ≡ chosen_in (chooses slot.entry.current.now slot.entry.attribute.now chosen.now) (value_there slot.entry.attribute.now arguments.old)) }
 {
-    let mut taken = Vec::new(slot.alloc);
+    let mut taken = Items::new(slot.alloc);
     let Some(mut value) = take_value(slot.alloc, slot.attribute, arguments) else {
-        return Ok(Items::from_vec(taken));
+        return Ok(taken);
     };
-    let Ok(()) = take_from_lists(slot, chosen, &mut value, &mut taken) else {
-        drop(value);
-        return Err(AllocError);
-    };
+    take_from_lists(slot, chosen, &mut value, &mut taken)?;
     put_back(slot.attribute, taken.as_slice(), value, arguments);
-    Ok(Items::from_vec(taken))
+    Ok(taken)
 }
 
 /// Items that are one of the words go; the attribute goes where its whole value is then an empty list.
-fn remove_values(slot: Slot<'_>, words: &[Text], mut arguments: Items<Expr>) -> Changed
-    ensures ok { IfOk result (λ new. remove_values slot.entry.current.now slot.entry.attribute.now words.now arguments ≡ Ok new) }
-    ensures err { IfErr result (λ refusal. (remove_values slot.entry.current.now slot.entry.attribute.now words.now arguments ≡ Err refusal) ⊎ (refusal ≡ Refusal.Memory)) }
+fn remove_values(slot: Slot<'_>, words: &[Text], arguments: &mut Items<Expr>) -> Result<(), Refusal>
+    ensures ok { OnOk result (remove_values slot.entry.current.now slot.entry.attribute.now words.now arguments.old ≡ Ok arguments.new) }
+    ensures err { IfErr result (λ refusal. (remove_values slot.entry.current.now slot.entry.attribute.now words.now arguments.old ≡ Err refusal) ⊎ (refusal ≡ Refusal.Memory)) }
 {
     let Some(value) = attribute(slot.attribute, arguments.as_slice()) else {
-        return Ok(arguments);
+        return Ok(());
     };
     if is_no_list(value) {
         return Err(Refusal::NotAList);
     }
     let chosen = words_chosen(slot, words)?;
-    let _gone = take_items(slot, &chosen, &mut arguments)?;
-    Ok(arguments)
+    take_items(slot, &chosen, arguments)?;
+    Ok(())
 }
 
 /// Items leave one attribute and are added to another.
-fn move_values(from: Slot<'_>, to: &[u8], values: &Values, mut arguments: Items<Expr>) -> Changed
-    ensures ok { IfOk result (λ new. move from.entry.current.now from.entry.attribute.now to.now values.now arguments ≡ Ok new) }
-    ensures err { IfErr result (λ refusal. (move from.entry.current.now from.entry.attribute.now to.now values.now arguments ≡ Err refusal) ⊎ (refusal ≡ Refusal.Memory)) }
+fn move_values(
+    from: Slot<'_>,
+    to: &[u8],
+    values: &Values,
+    arguments: &mut Items<Expr>,
+) -> Result<(), Refusal>
+    ensures ok { OnOk result (move from.entry.current.now from.entry.attribute.now to.now values.now arguments.old ≡ Ok arguments.new) }
+    ensures err { IfErr result (λ refusal. (move from.entry.current.now from.entry.attribute.now to.now values.now arguments.old ≡ Err refusal) ⊎ (refusal ≡ Refusal.Memory)) }
 {
     let Some(value) = attribute(from.attribute, arguments.as_slice()) else {
         return Err(Refusal::NoAttribute);
@@ -364,9 +315,9 @@ fn move_values(from: Slot<'_>, to: &[u8], values: &Values, mut arguments: Items<
         return Err(Refusal::NotAList);
     }
     let chosen = values_chosen(from, values)?;
-    let taken = take_items(from, &chosen, &mut arguments)?;
+    let taken = take_items(from, &chosen, arguments)?;
     if taken.is_empty() {
-        return Ok(arguments);
+        return Ok(());
     }
     let to = Slot {
         attribute: to,
@@ -375,16 +326,16 @@ fn move_values(from: Slot<'_>, to: &[u8], values: &Values, mut arguments: Items<
     add_items(to, Added::Moved(taken), arguments)
 }
 
-/// What an operation on the values of attributes makes of the arguments of a rule, which are given up where it is refused. `current`
-/// is the path of the file's package. Errors: the refusal of the operation; `Memory`: a growth was refused.
+/// What an operation on the values of attributes makes of the arguments of a rule. `current` is the path of the file's package. Errors:
+/// the refusal of the operation; `Memory`: a growth was refused. After an error part of the arguments may be lost.
 pub fn change_values(
     alloc: Global,
     operation: &ValueOperation,
     current: &[u8],
-    arguments: Items<Expr>,
-) -> Result<Items<Expr>, Refusal>
-    ensures ok { IfOk result (λ new. values_changed operation.now current.now arguments ≡ Ok new) }
-    ensures err { IfErr result (λ refusal. (values_changed operation.now current.now arguments ≡ Err refusal) ⊎ (refusal ≡ Refusal.Memory)) }
+    arguments: &mut Items<Expr>,
+) -> Result<(), Refusal>
+    ensures ok { OnOk result (values_changed operation.now current.now arguments.old ≡ Ok arguments.new) }
+    ensures err { IfErr result (λ refusal. (values_changed operation.now current.now arguments.old ≡ Err refusal) ⊎ (refusal ≡ Refusal.Memory)) }
 {
     match operation {
         ValueOperation::Add { attribute, values } => {

@@ -73,10 +73,9 @@ impl Change<'_> {
     pub(crate) fn on_item(self, slot: Slot<'_>, x: &mut Expr) -> Result<(), Memory>
         ensures { OnOk result (x.new ≡ item_changed_by self.entry slot.entry.current.now slot.entry.attribute.now x.old) }
     {
-        let Some(text) = self.new_text(slot, x)? else {
-            return Ok(());
-        };
-        set_text(text, x);
+        if let Some(text) = self.new_text(slot, x)? {
+            set_text(text, x);
+        }
         Ok(())
     }
 
@@ -145,21 +144,21 @@ impl Change<'_> {
         alloc: Global,
         current: &[u8],
         attributes: &Attributes,
-        mut arguments: Items<Expr>,
-    ) -> Result<Items<Expr>, Memory>
-        ensures { IfOk result (λ new. new ≡ in_attributes attributes.now (value_changed_by self.entry current.now) arguments) }
+        arguments: &mut Items<Expr>,
+    ) -> Result<(), Memory>
+        ensures { OnOk result (arguments.new ≡ in_attributes attributes.now (value_changed_by self.entry current.now) arguments.old) }
     {
         let Attributes::Named(name) = attributes else {
             for x in arguments.as_mut_slice().iter_mut() {
                 self.on_other(alloc, current, x)?;
             }
-            return Ok(arguments);
+            return Ok(());
         };
         let Some(at) = place_of(name.as_slice(), arguments.as_slice()) else {
-            return Ok(arguments);
+            return Ok(());
         };
         let slot = Slot::new(alloc, current, name.as_slice());
         self.on_argument(slot, arguments.at_mut(at))?;
-        Ok(arguments)
+        Ok(())
     }
 }

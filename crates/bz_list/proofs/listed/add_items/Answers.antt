@@ -14,8 +14,8 @@ returns-clause-ok c =
     let name = c.args.slot.attribute.now in
     let value = c.in-Some.value in
     let added : List Expr → List Expr = added_by c.args.slot.current.now name c.args.added in
-    let own : attribute name c.args.arguments ≡ Some value = search rules in
-    added_found name added c.args.arguments value own
-    ∙ (if_false _ (Err NotAList) _ (sym c.if-is_refused.ensures)
+    let own : attribute name c.args.arguments.now ≡ Some value = search rules in
+    added_found name added c.args.arguments.now value own
+    ∙ (if_false _ (Err NotAList) _ (sym c.if-is_no_list.ensures)
     ∙ ap Ok (sym (c.set_value.ensures
-    ∙ (ap (λ (x : Expr). with_value name x c.take_value.new.arguments) (c.in_ok-value.ensures added (c.in-Ok.ensures ∙ ap added c.operands_of.ensures)) ∙ c.in-Some.ensures.place _))))
+    ∙ (ap (λ (x : Expr). with_value name x c.take_value.new.arguments) (c.in_ok-value.ensures added (c.in_ok-more.ensures ∙ ap added c.operands_of.ensures)) ∙ c.in-Some.ensures.place _))))

@@ -1,5 +1,5 @@
 use Rattle.std.proofs.Common.{◌≡◌, List, sym, ap, ◌∙◌, subst}
-use Rattle.std.specs.Prelude.{Ok, IfOk}
+use Rattle.std.specs.Prelude.{Ok, OnOk}
 use Rattle.bz_items.specs.Characters.{Bytes}
 use Rattle.bz_command_syntax.specs.declared.command.ValueOperation.{ValueOperation}
 use Rattle.bz_attribute.specs.Attributes.{Arguments}
@@ -8,9 +8,9 @@ use Rattle.bz_list.proofs.listed.change_values.Goals as goal
 
 pub returns-in-Add-clause-ok : goal.returns-in-Add-clause-ok
 returns-in-Add-clause-ok c =
-    let xs = c.args.arguments in
+    let xs = c.args.arguments.now in
     let slot = c.new-slot.result in
-    subst (λ (made : Arguments). IfOk c.add_items.result (λ new. made ≡ Ok new))
+    subst (λ (made : Arguments). OnOk c.add_items.result (made ≡ Ok c.add_items.new.arguments))
     (sym (ap (λ (operation : ValueOperation). values_changed operation c.args.current.now xs) c.in-Add.is
     ∙ (ap (λ (current : Bytes). add current c.in-Add.attribute c.in-Add.values xs) (sym c.new-slot.ensures.current)
     ∙ (ap (λ (name : Bytes). add slot.current.now name c.in-Add.values xs) (sym (c.new-slot.ensures.attribute ∙ c.as_slice.ensures))
@@ -19,8 +19,8 @@ returns-in-Add-clause-ok c =
 
 pub returns-in_ok-on_attributes-in-Replace-clause-ok : goal.returns-in_ok-on_attributes-in-Replace-clause-ok
 returns-in_ok-on_attributes-in-Replace-clause-ok c =
-    ap (λ (operation : ValueOperation). values_changed operation c.args.current.now c.args.arguments) c.in-Replace.is ∙ ap Ok (sym c.in_ok-on_attributes-in-Replace.ensures)
+    ap (λ (operation : ValueOperation). values_changed operation c.args.current.now c.args.arguments.now) c.in-Replace.is ∙ ap Ok (sym c.in_ok-on_attributes-in-Replace.ensures)
 
 pub returns-in_ok-on_attributes-in-Substitute-clause-ok : goal.returns-in_ok-on_attributes-in-Substitute-clause-ok
 returns-in_ok-on_attributes-in-Substitute-clause-ok c =
-    ap (λ (operation : ValueOperation). values_changed operation c.args.current.now c.args.arguments) c.in-Substitute.is ∙ ap Ok (sym c.in_ok-on_attributes-in-Substitute.ensures)
+    ap (λ (operation : ValueOperation). values_changed operation c.args.current.now c.args.arguments.now) c.in-Substitute.is ∙ ap Ok (sym c.in_ok-on_attributes-in-Substitute.ensures)

@@ -11,6 +11,6 @@ returns-clause-ok c =
     let current = c.args.slot.current.now in
     let name = c.args.slot.attribute.now in
     let value = c.in-Some.value.now in
-    let own : attribute name c.args.arguments ≡ Some value = search rules in
+    let own : attribute name c.args.arguments.now ≡ Some value = search rules in
     let listable : is_no_list value ≡ false = search rules in
-    removed current name c.args.words.now c.args.arguments c.take_items.new.arguments (chooses current name c.in_ok-chosen.chosen) value c.in_ok-chosen.ensures own listable c.in_ok-_gone.ensures.left
+    removed current name c.args.words.now c.args.arguments.now c.take_items.new.arguments (chooses current name c.in_ok-chosen.chosen) value c.in_ok-chosen.ensures own listable c.in_ok-take_items.ensures.left

@@ -18,5 +18,5 @@ returns-clause-left c =
     let own : attribute name c.args.arguments.now ≡ Some c.in-Some.value = search rules in
     c.put_back.ensures
     ∙ (ap (λ (xs : List Expr). put_back name (not (is_empty xs)) c.take_from_lists.new.value after) taken
-    ∙ (ap (λ (x : Expr). put_back name (not (is_empty (filter test (items_in c.in-Some.value)))) x after) c.in-Ok.ensures.left
+    ∙ (ap (λ (x : Expr). put_back name (not (is_empty (filter test (items_in c.in-Some.value)))) x after) c.in_ok-take_from_lists.ensures.left
     ∙ left_there name test c.args.arguments.now after c.in-Some.value own c.in-Some.ensures.place c.in-Some.ensures.gone))
