@@ -18,7 +18,7 @@ use Rattle.bz_command.specs.Effect.{NewItem, before_rest, first_mark, item_line,
 use Rattle.bz_command_syntax.specs.declared.command.Operation.{Operation}
 use Rattle.bz_command.specs.declared.ruling.Work.{Work}
 use Rattle.bz_command.specs.private.Looks.{marks_by, one_made_by, places_by}
-use Rattle.bz_command.specs.private.Steps.{lines_after_items}
+use Rattle.bz_command.specs.private.Steps.{each_meant, lines_after_items}
 use Rattle.bz_command.proofs.TargetMarks.{as_many}
 use Rattle.bz_command.proofs.RunningItems.{NewItems, with_front, with_next}
 
@@ -34,7 +34,7 @@ first_place at (true ∷ marks) = ap (λ places. at ∷ places) (none_marked (at
 first_place at (false ∷ marks) = first_place (at + 1) marks
 
 pub first_meant : (which : Which) (lines : List ℕ) (items : List Item) → which ≡ t.Package
-    → take 1 (marked_places 0 (map (is_rule_of_kind (codes "package")) items)) ≡ marked_places 0 (meant which lines items)
+    → take 1 (marked_places 0 (each_meant which lines items)) ≡ marked_places 0 (meant which lines items)
 first_meant which lines items is = rw is (sym (first_place 0 (map (is_rule_of_kind (codes "package")) items)))
 
 -- the rules of a name by an index of names
@@ -43,12 +43,9 @@ index_meant which name lines items is = rw is refl
 
 -- ---- places that are marked
 
-suc_is_not_zero : (n : ℕ) → (suc n == 0) ≡ false
-suc_is_not_zero = eqb-suc-zero
-
 pub any_place : (at : ℕ) (marks : List Bool) (places : List ℕ) → places ≡ marked_places at marks → not (length places == 0) ≡ list_any (λ mark. mark) marks
 any_place at [] places is = ap (λ ps. not (length ps == 0)) is
-any_place at (true ∷ marks) places is = ap (λ ps. not (length ps == 0)) is ∙ ap not (suc_is_not_zero (length (marked_places (at + 1) marks)))
+any_place at (true ∷ marks) places is = ap (λ ps. not (length ps == 0)) is ∙ ap not (eqb-suc-zero (length (marked_places (at + 1) marks)))
 any_place at (false ∷ marks) places is = any_place (at + 1) marks places is
 
 pub ascend_from : (k i n : ℕ) (places : List ℕ) → k ≤ i → Ascend i n places → Ascend k n places
@@ -178,7 +175,7 @@ no_lines (i.Stmt x ∷ items) = no_lines items
 
 pub none_after : (lines : List ℕ) (items : List Item) (none : Bool) → none ≡ (length lines == 0) → none ≡ true → lines ≡ lines_after_items lines items
 none_after [] items none is empty = sym (no_lines items)
-none_after (line ∷ lines) items none is empty = absurd (true≢false (sym empty ∙ (is ∙ suc_is_not_zero (length lines))))
+none_after (line ∷ lines) items none is empty = absurd (true≢false (sym empty ∙ (is ∙ eqb-suc-zero (length lines))))
 
 -- ---- what is printed, place by place
 

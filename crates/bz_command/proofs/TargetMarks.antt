@@ -1,5 +1,6 @@
 -- Marks of items.
 use Rattle.std.proofs.Common.{◌≡◌, ℕ, Bool, true, false, List, [], ◌∷◌, suc, length, map, refl, ap, ◌∙◌, Option, Some, None, option_map, is_some}
+use Rattle.std.proofs.lemmas.List.{length-map}
 use Rattle.std.specs.Option.{option_and_then, option_map_or}
 use Rattle.bz_label.specs.declared.target.Which.{Which}
 use Rattle.bz_label.specs.declared.target.Which.TheVariants as t
@@ -7,7 +8,8 @@ use Rattle.bz_value.specs.declared.value.Expr.{Expr}
 use Rattle.bz_value.specs.declared.value.Item.{Item}
 use Rattle.bz_items.specs.Characters.{Bytes}
 use Rattle.bz_rule.specs.Rules.{Call, Rule, dotted_name, named, is_rule_of_kind, has_name}
-use Rattle.bz_command.specs.Effect.{is_rule, lines_after_item, on_line, first_mark, meant}
+use Rattle.bz_command.specs.Effect.{is_rule, item_line, lines_after_item, on_line, first_mark, meant}
+use Rattle.bz_command.specs.private.Steps.{each_meant, is_meant_at}
 
 abbrev made : List Expr → Bytes → Rule
 made arguments kind = record { kind = kind; arguments = arguments }
@@ -23,22 +25,35 @@ rule_of_call (Some call) = of (dotted_name call.function)
 
 -- ---- there are as many marks as items
 
-each_marked : {X : Type 0} (test : X → Bool) (xs : List X) → length (map test xs) ≡ length xs
-each_marked test [] = refl
-each_marked test (x ∷ xs) = ap (λ n. suc n) (each_marked test xs)
-
 line_marks : (line : ℕ) (lines : List ℕ) (items : List Item) → length (on_line line lines items) ≡ length items
 line_marks line lines [] = refl
 line_marks line lines (item ∷ items) = ap (λ n. suc n) (line_marks line (lines_after_item lines item) items)
 
 first_marks : (marks : List Bool) → length (first_mark marks) ≡ length marks
 first_marks [] = refl
-first_marks (true ∷ marks) = ap (λ n. suc n) (each_marked (λ _. false) marks)
+first_marks (true ∷ marks) = ap (λ n. suc n) (length-map marks (λ _. false))
 first_marks (false ∷ marks) = ap (λ n. suc n) (first_marks marks)
 
 pub as_many : (which : Which) (lines : List ℕ) (items : List Item) → length (meant which lines items) ≡ length items
-as_many t.All lines items = each_marked is_rule items
-as_many (t.Kind kind) lines items = each_marked (is_rule_of_kind kind) items
+as_many t.All lines items = length-map items is_rule
+as_many (t.Kind kind) lines items = length-map items (is_rule_of_kind kind)
 as_many (t.Line line) lines items = line_marks line lines items
-as_many t.Package lines items = first_marks (map (is_rule_of_kind _) items) ∙ each_marked (is_rule_of_kind _) items
-as_many (t.Name name) lines items = each_marked (has_name name) items
+as_many t.Package lines items = first_marks (map (is_rule_of_kind _) items) ∙ length-map items (is_rule_of_kind _)
+as_many (t.Name name) lines items = length-map items (has_name name)
+
+-- ---- items one by one
+
+pub next_meant : (which : Which) (lines : List ℕ) (item : Item) (items : List Item)
+    → each_meant which lines (item ∷ items) ≡ is_meant_at which (item_line lines item) item ∷ each_meant which (lines_after_item lines item) items
+next_meant t.All lines item items = refl
+next_meant (t.Kind kind) lines item items = refl
+next_meant (t.Line line) lines item items = refl
+next_meant t.Package lines item items = refl
+next_meant (t.Name name) lines item items = refl
+
+pub none_meant : (which : Which) (lines : List ℕ) → each_meant which lines [] ≡ []
+none_meant t.All lines = refl
+none_meant (t.Kind kind) lines = refl
+none_meant (t.Line line) lines = refl
+none_meant t.Package lines = refl
+none_meant (t.Name name) lines = refl

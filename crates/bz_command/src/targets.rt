@@ -1,10 +1,9 @@
 //! The rules that a target means.
-ghost use Rattle.std.specs.Prelude.{◌≡◌, ◌≤◌, ◌+◌, ◌-◌, ◌++◌, ◌∷◌, ℕ, Bool, List, IfOk, IfSome, OnOk, drop, length, map, take};
+ghost use Rattle.std.specs.Prelude.{◌≡◌, ◌≤◌, ◌+◌, ◌-◌, ◌++◌, ◌∷◌, ℕ, Bool, List, IfOk, IfSome, OnOk, drop, length, take};
 ghost use Rattle.std.specs.List.{list_any};
-ghost use Rattle.bz_rule.specs.Rules.{has_name, is_rule_of_kind};
 ghost use Rattle.bz_rule.specs.Index.{IsIndexOf, marked_places};
-ghost use Rattle.bz_command.specs.Effect.{is_rule, item_line, lines_after_item, meant, on_line, rule_arguments};
-ghost use Rattle.bz_command.specs.private.Steps.{lines_after_items};
+ghost use Rattle.bz_command.specs.Effect.{is_rule, item_line, lines_after_item, meant, rule_arguments};
+ghost use Rattle.bz_command.specs.private.Steps.{each_meant, is_meant_at, lines_after_items};
 
 use bz_items::Memory;
 use bz_label::Which;
@@ -74,53 +73,34 @@ fn push_marked(mark: bool, at: usize, places: &mut Vec<usize>) -> Result<(), Mem
     Ok(())
 }
 
-/// The places of the rules.
-fn all_rules(alloc: Global, items: &[Item]) -> Result<Vec<usize>, Memory>
-    ensures { IfOk result (λ places. places.items ≡ marked_places 0 (map is_rule items.now)) }
+/// Whether a target means an item that begins on this line, by the item alone.
+fn is_meant_at(which: &Which, begins: Option<u32>, item: &Item) -> bool
+    ensures { result ≡ is_meant_at which.now begins item.now }
 {
-    let mut places = Vec::new(alloc);
-    for (at, item) in items.iter().enumerate() {
-        push_marked(is_rule(item), at, &mut places)?;
+    match which {
+        Which::All => is_rule(item),
+        Which::Kind(kind) => is_rule_of_kind(kind.as_slice(), item),
+        Which::Line(line) => begins == Some(*line) && is_rule(item),
+        Which::Package => is_rule_of_kind(b"package", item),
+        Which::Name(name) => has_name(name.as_slice(), item),
     }
-    Ok(places)
 }
 
-/// The places of the rules of this kind.
-fn all_of_kind(alloc: Global, kind: &[u8], items: &[Item]) -> Result<Vec<usize>, Memory>
-    ensures { IfOk result (λ places. places.items ≡ marked_places 0 (map (is_rule_of_kind kind.now) items.now)) }
-{
-    let mut places = Vec::new(alloc);
-    for (at, item) in items.iter().enumerate() {
-        push_marked(is_rule_of_kind(kind, item), at, &mut places)?;
-    }
-    Ok(places)
-}
-
-/// The places of the rules of this name.
-fn all_of_name(alloc: Global, name: &[u8], items: &[Item]) -> Result<Vec<usize>, Memory>
-    ensures { IfOk result (λ places. places.items ≡ marked_places 0 (map (has_name name.now) items.now)) }
-{
-    let mut places = Vec::new(alloc);
-    for (at, item) in items.iter().enumerate() {
-        push_marked(has_name(name, item), at, &mut places)?;
-    }
-    Ok(places)
-}
-
-/// The places of the rules on this line.
-fn all_on_line(
+/// The places of the items that a target means, each by itself.
+#[tactic(auto, using(crate::proofs::TargetMarks::next_meant, crate::proofs::TargetMarks::none_meant))]
+fn each_meant(
     alloc: Global,
-    line: u32,
+    which: &Which,
     lines: &[u32],
     items: &[Item],
 ) -> Result<Vec<usize>, Memory>
-    ensures { IfOk result (λ places. places.items ≡ marked_places 0 (on_line line lines.now items.now)) }
+    ensures { IfOk result (λ places. places.items ≡ marked_places 0 (each_meant which.now lines.now items.now)) }
 {
     let mut places = Vec::new(alloc);
     let mut left = lines;
     for (at, item) in items.iter().enumerate() {
         let (begins, following) = line_at(left, item);
-        push_marked(begins == Some(line) && is_rule(item), at, &mut places)?;
+        push_marked(is_meant_at(which, begins, item), at, &mut places)?;
         left = following;
     }
     Ok(places)
@@ -138,17 +118,15 @@ pub(crate) fn meant(
     ensures { IfOk result (λ places. places.items ≡ marked_places 0 (meant which.now lines.now items.now)) }
 {
     match which {
-        Which::All => all_rules(alloc, items),
-        Which::Kind(kind) => all_of_kind(alloc, kind.as_slice(), items),
-        Which::Line(line) => all_on_line(alloc, *line, lines, items),
+        Which::All | Which::Kind(_) | Which::Line(_) => each_meant(alloc, which, lines, items),
         Which::Package => {
-            let mut places = all_of_kind(alloc, b"package", items)?;
+            let mut places = each_meant(alloc, which, lines, items)?;
             places.truncate(1);
             Ok(places)
         }
         Which::Name(name) => match names {
             Some(index) => Vec::from_slice(alloc, index.places(name.as_slice())),
-            None => all_of_name(alloc, name.as_slice(), items),
+            None => each_meant(alloc, which, lines, items),
         },
     }
 }

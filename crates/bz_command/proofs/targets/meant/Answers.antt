@@ -16,5 +16,5 @@ returns-in-Some c =
     (λ places h.
     h
     ∙ (c.places.ensures c.args.items.now indexed
-    ∙ (ap (λ (name : Bytes). places_from 0 name c.args.items.now) c.as_slice-in-Some.ensures ∙ index_meant c.args.which.now c.in-Name.name c.args.lines.now c.args.items.now c.in-Name.is)))
+    ∙ (ap (λ (name : Bytes). places_from 0 name c.args.items.now) c.as_slice.ensures ∙ index_meant c.args.which.now c.in-Name.name c.args.lines.now c.args.items.now c.in-Name.is)))
     c.from_slice.ensures.items
