@@ -16,7 +16,7 @@ use Rattle.bz_command.specs.declared.ruling.CallPart.TheVariants.{Arguments as I
 use Rattle.bz_command.specs.private.Looks.{with_list_in, before_in_call, before_in_row, before_in}
 use Rattle.bz_command.specs.Effect.{is_rule, with_arguments, made_of, on_rule, on_arguments}
 use Rattle.bz_attribute.specs.Attributes.{Arguments}
-use Rattle.bz_attribute.proofs.FormsAgain.{made, parts_twice, items_twice, parts_kind, parts_filled, row_changed}
+use Rattle.bz_attribute.proofs.FormsAgain.{made, items_twice, row_changed, row_twice}
 
 -- ---- a list put into a place twice
 
@@ -28,20 +28,15 @@ row_apart : (kind : Kind) (change : List Expr → List Expr) (x : Expr) → has_
 row_apart kind change x h = ap (λ b. if b then with_parts (change (parts_of x)) x else x) h
 
 -- a row changed twice
-row_twice : (kind : Kind) (f g : List Expr → List Expr) → ((row : List Expr) → g (f row) ≡ g row) → (x : Expr) → on_row kind g (on_row kind f x) ≡ on_row kind g x
-row_twice kind f g same x = elim (cases_Bool (has_kind kind x)) [
-  | inl h ↦
-      let once : List Expr = f (parts_of x) in
-      ap (on_row kind g) (row_changed kind f x h)
-      ∙ (row_changed kind g (with_parts once x) (parts_kind kind once x ∙ h)
-      ∙ (ap (λ z. with_parts (g z) (with_parts once x)) (parts_filled kind once x h)
-      ∙ (parts_twice (g once) once x ∙ (ap (λ z. with_parts z x) (same (parts_of x)) ∙ sym (row_changed kind g x h)))))
+row_again : (kind : Kind) (f g : List Expr → List Expr) → ((row : List Expr) → g (f row) ≡ g row) → (x : Expr) → on_row kind g (on_row kind f x) ≡ on_row kind g x
+row_again kind f g same x = elim (cases_Bool (has_kind kind x)) [
+  | inl h ↦ row_twice kind g f x h ∙ (ap (λ z. with_parts z x) (same (parts_of x)) ∙ sym (row_changed kind g x h))
   | inr h ↦ ap (on_row kind g) (row_apart kind f x h)
 ]
 
 arguments_twice : (ys xs : List Expr) (item : Item) → with_list_in InBrackets ys (with_list_in InBrackets xs item) ≡ with_arguments ys item
 arguments_twice ys xs (i.Block lines) = refl
-arguments_twice ys xs (i.Stmt x) = ap i.Stmt (row_twice k.Bare (on_first (with_items xs)) (on_first (with_items ys)) (first_twice ys xs) x)
+arguments_twice ys xs (i.Stmt x) = ap i.Stmt (row_again k.Bare (on_first (with_items xs)) (on_first (with_items ys)) (first_twice ys xs) x)
 
 -- ---- what is in the brackets of a rule are its arguments
 

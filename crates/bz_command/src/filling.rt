@@ -49,13 +49,8 @@ pub fn changed_copy(work: Work<'_, '_>, item: &Item) -> Result<Item, Refusal>
 {
     let command = work.command;
     let mut new = item.copy()?;
-    match on_one(work, &command.operation, &mut new) {
-        Ok(()) => Ok(new),
-        Err(refusal) => {
-            drop(new);
-            Err(refusal)
-        }
-    }
+    on_one(work, &command.operation, &mut new)?;
+    Ok(new)
 }
 
 /// How many bytes a word takes.

@@ -78,9 +78,8 @@ fn push_value(alloc: Global, value: &Expr, out: &mut Vec<u8>) -> Result<(), Memo
         return push_strings(out, items);
     }
     let text = expr_text(alloc, value)?;
-    let appended = out.extend_from_slice(text.as_slice());
-    drop(text);
-    Ok(appended?)
+    out.extend_from_slice(text.as_slice())?;
+    Ok(())
 }
 
 /// Appends the text of an item without its last newline.
@@ -90,9 +89,8 @@ fn push_item(alloc: Global, item: &Item, out: &mut Vec<u8>) -> Result<(), Memory
     let text = item_text(alloc, item)?;
     let bytes = text.as_slice();
     let end = bytes.len().saturating_sub(1);
-    let appended = out.extend_from_slice(&bytes[..end]);
-    drop(text);
-    Ok(appended?)
+    out.extend_from_slice(&bytes[..end])?;
+    Ok(())
 }
 
 /// A rule that is printed: the line on which it begins, where it is on one, its item, and its kind as a text without blanks.
@@ -221,9 +219,7 @@ fn push(work: Work<'_, '_>, at: Option<u32>, item: &Item, out: &mut Vec<u8>) -> 
             };
             let own = x.comments();
             let text = print_comments(alloc, work.current, host, own, arguments_of(item))?;
-            let appended = out.extend_from_slice(text.as_slice());
-            drop(text);
-            appended?;
+            out.extend_from_slice(text.as_slice())?;
         }
         Operation::Print { fields } => push_rule(alloc, at, item, fields.as_slice(), out)?,
         Operation::Comment(CommentOperation::Add { .. } | CommentOperation::Remove { .. })

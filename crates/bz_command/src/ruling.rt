@@ -12,7 +12,7 @@ ghost use Rattle.bz_grammar.specs.Places.{Ascend};
 ghost use Rattle.bz_attribute.specs.Made.{function_of};
 ghost use Rattle.bz_comment.specs.Changes.{changed_by};
 ghost use Rattle.bz_command.specs.Effect.{is_rule, loads_changed, looks_at_rules, on_arguments, on_meant, on_rules, on_each, on_statement, new_rule_place, source, source_of, unmarked, with_function};
-ghost use Rattle.bz_command.specs.private.Looks.{arguments_by, before_in, before_in_call, made_by, marks_by, one_made_by, places_by, with_list, with_list_in};
+ghost use Rattle.bz_command.specs.private.Looks.{arguments_by, before_in, made_by, marks_by, one_made_by, places_by, with_list_in};
 ghost use Rattle.bz_command.specs.private.Growing.{IsGrown};
 
 use crate::targets::{arguments_of, is_rule, take_place};
@@ -89,20 +89,7 @@ enum CallPart {
     Arguments,
 }
 
-/// Exchanges a list of a call with this one. A token has none, and the list stays.
-fn exchange_in_call(part: CallPart, list: &mut Items<Expr>, x: &mut Expr)
-    ensures here { x.new ≡ with_list part list.old x.old }
-    ensures there { list.new ≡ before_in_call part list.old x.old }
-{
-    if let Expr::Form(form) = x {
-        match part {
-            CallPart::Function => mem::swap(list, &mut form.parts),
-            CallPart::Arguments => mem::swap(list, &mut form.seq.items),
-        }
-    }
-}
-
-/// The same in the call that an item is.
+/// Exchanges a list of the call that an item is with this one. What is none has no list, and this one stays.
 fn exchange(part: CallPart, list: &mut Items<Expr>, item: &mut Item)
     ensures here { item.new ≡ with_list_in part list.old item.old }
     ensures there { list.new ≡ before_in part list.old item.old }
@@ -110,7 +97,12 @@ fn exchange(part: CallPart, list: &mut Items<Expr>, item: &mut Item)
     if let Item::Stmt(Expr::Form(form)) = item {
         if form.kind == Kind::Bare {
             if let [call, ..] = form.parts.as_mut_slice() {
-                exchange_in_call(part, list, call);
+                if let Expr::Form(call) = call {
+                    match part {
+                        CallPart::Function => mem::swap(list, &mut call.parts),
+                        CallPart::Arguments => mem::swap(list, &mut call.seq.items),
+                    }
+                }
             }
         }
     }
@@ -244,13 +236,8 @@ fn change_item(work: Work<'_, '_>, item: &mut Item) -> Result<(bool, bool), Refu
 {
     let command = work.command;
     let before = item.copy()?;
-    let answer = match on_one(work, &command.operation, item) {
-        Ok(()) => Ok(compared(item, &before)),
-        Err(refusal) => Err(refusal),
-    };
-    // By a call: by the end of its scope, each form of the item would be a path of this proof.
-    drop(before);
-    answer
+    on_one(work, &command.operation, item)?;
+    Ok(compared(item, &before))
 }
 
 /// A window more, unless the item at a place is the same.
@@ -367,10 +354,7 @@ fn on_each(work: Work<'_, '_>, places: &[usize], items: Items<Item>) -> Result<C
         found: found.as_ref(),
         ..work
     };
-    let changed = on_found(work, places, items);
-    // By a call: by the end of its scope, each form of the value would be a path of this proof.
-    drop(found);
-    changed
+    on_found(work, places, items)
 }
 
 /// Appends an item; where it is marked there is a window more, of one item that is there no more.

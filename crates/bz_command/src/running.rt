@@ -119,38 +119,6 @@ pub fn run_in(
     }
 }
 
-/// The same, and whether the file is another one then.
-fn is_changed(work: Work<'_, '_>, places: &[usize], file: &mut File) -> Result<bool, Refusal>
-    requires { IsChange work file.old places.now }
-    ensures ok { OnOk result (effect_by work.entry file.old ≡ Ok file.new) }
-    ensures same { IfOk result (λ changed. (changed ≡ false) ↔ (file.new ≡ file.old)) }
-    ensures err { IfErr result (λ refusal. (effect_by work.entry file.old ≡ Err refusal) ⊎ (refusal ≡ Refusal.Memory)) }
-{
-    let ran = change(work, places, file)?;
-    Ok(!ran.windows.is_empty())
-}
-
-/// What a command that prints nothing makes of a copy of a file: `None` where it is the same.
-fn change_copy(work: Work<'_, '_>, places: &[usize], copy: File) -> Result<Option<File>, Refusal>
-    requires { IsChange work copy places.now }
-    ensures ok { IfOk result (λ made. effect_by work.entry copy ≡ Ok (unwrap_or made copy)) }
-    ensures unchanged { IfOk result (λ made. (made ≡ None) ↔ (effect_by work.entry copy ≡ Ok copy)) }
-    ensures err { IfErr result (λ refusal. (effect_by work.entry copy ≡ Err refusal) ⊎ (refusal ≡ Refusal.Memory)) }
-{
-    let mut file = copy;
-    match is_changed(work, places, &mut file) {
-        Ok(true) => Ok(Some(file)),
-        Ok(false) => {
-            take_apart(file);
-            Ok(None)
-        }
-        Err(refusal) => {
-            take_apart(file);
-            Err(refusal)
-        }
-    }
-}
-
 /// The effect of a command on the rules that the target means, on a copy of the file where it may change.
 /// `current` is the path of the file's package, `lines` the lines on which its statements begin, from 1. The outcome holds no
 /// file exactly where the effect is the same value, and what is printed of the rules where the command prints.
@@ -198,7 +166,21 @@ pub fn run_named(
         }
         Look::Changes(places) => places,
     };
-    let file = change_copy(work, places.as_slice(), file.copy()?)?;
-    let printed = Text::from_vec(Vec::new(alloc));
-    Ok(Outcome { file, printed })
+    let mut new = file.copy()?;
+    let Ran {
+        windows,
+        same_names: _,
+        printed,
+    } = change(work, places.as_slice(), &mut new)?;
+    if windows.is_empty() {
+        take_apart(new);
+        return Ok(Outcome {
+            file: None,
+            printed,
+        });
+    }
+    Ok(Outcome {
+        file: Some(new),
+        printed,
+    })
 }
