@@ -39,10 +39,8 @@ use Rattle.bz_load.proofs.LawComments.{amount_answered, new_load_same, put_total
 use Rattle.bz_comment.specs.Hosts.{with_comment, comment}
 use Rattle.bz_comment.proofs.LawBack.{own_grows, comment_grows}
 use Rattle.bz_command.specs.Laws.{keeps_comments, CommentsStay}
-use Rattle.bz_command.specs.declared.ruling.CallPart.TheVariants.{Arguments as InBrackets}
-use Rattle.bz_command.specs.private.Looks.{before_in_call, before_in_row, before_in}
 use Rattle.bz_command.proofs.ProperEffects.{effect_by}
-use Rattle.bz_command.proofs.StatementRules.{Holds, in_item}
+use Rattle.bz_command.proofs.StatementRules.{Holds, before_in, before_in_call, before_in_row, in_item}
 use Rattle.bz_attribute.specs.Lists.{has_lists, items_in, is_no_list, with_more, body_of, is_item}
 use Rattle.bz_attribute.specs.Made.{list_of, string_text, plus, argument_of, rule_made}
 use Rattle.bz_attribute.proofs.AttributesAgain.{of_found}
@@ -132,18 +130,18 @@ module _ (number : Bytes → ℕ) where
   size = item_amount number
 
   -- what a call, a row that begins with one and an item weigh with another list, by the one that it had
-  call_exact : (list : List Expr) (y : Expr) → whole (with_items list y) + total whole (before_in_call InBrackets list y) ≡ whole y + total whole list
+  call_exact : (list : List Expr) (y : Expr) → whole (with_items list y) + total whole (before_in_call list y) ≡ whole y + total whole list
   call_exact list (Token t) = refl
   call_exact list (Form' own s parts s' items end split open_break comments) =
       let before = amount_answered number (Form' own s parts s' items end split open_break comments) in
       let after = form_amount number (made own (items-the_row-Expr _ parts) list end split open_break comments) in
       omega (arith, before, after)
 
-  row_exact : (list ps : List Expr) → total whole (on_first (with_items list) ps) + total whole (before_in_row InBrackets list ps) ≡ total whole ps + total whole list
+  row_exact : (list ps : List Expr) → total whole (on_first (with_items list) ps) + total whole (before_in_row list ps) ≡ total whole ps + total whole list
   row_exact list [] = refl
   row_exact list (y ∷ ps) = let call = call_exact list y in omega (arith, call)
 
-  item_exact : (list : List Expr) (item : Item) → size (with_arguments list item) + total whole (before_in InBrackets list item) ≡ size item + total whole list
+  item_exact : (list : List Expr) (item : Item) → size (with_arguments list item) + total whole (before_in list item) ≡ size item + total whole list
   item_exact list (i.Block lines) = refl
   item_exact list (i.Stmt (Token t)) = refl
   item_exact list (i.Stmt (Form' k.Bare s parts s' items end split open_break comments)) =
@@ -157,7 +155,7 @@ module _ (number : Bytes → ℕ) where
   rule_exact : (item : Item) (rule : RuleRead) (new : List Expr) → rule_of item ≡ Some rule → size (with_arguments new item) + total whole rule.arguments ≡ size item + total whole new
   rule_exact item rule new e =
       subst (λ (ys : List Expr). size (with_arguments new item) + total whole ys ≡ size item + total whole new)
-      (subst (Holds (before_in InBrackets new item)) e (in_item new item)) (item_exact new item)
+      (subst (Holds (before_in new item)) e (in_item new item)) (item_exact new item)
 
   -- the arguments that are put in are in the item then
   pub rule_holds : (item : Item) (rule : RuleRead) (new : List Expr) → rule_of item ≡ Some rule → total whole new ≤ size (with_arguments new item)

@@ -59,20 +59,14 @@ fn word_size(word: &Text) -> usize {
 }
 
 fn words_size(words: &[Text]) -> usize {
-    let mut size: usize = 0;
-    for word in words {
-        size = size.saturating_add(word_size(word));
-    }
-    size
+    words.iter().fold(0, |size: usize, word| size.saturating_add(word_size(word)))
 }
 
 fn entries_size(entries: &[Entry]) -> usize {
-    let mut size: usize = 0;
-    for entry in entries {
-        size = size.saturating_add(word_size(&entry.key));
-        size = size.saturating_add(word_size(&entry.value));
-    }
-    size
+    entries.iter().fold(0, |size: usize, entry| {
+        let size = size.saturating_add(word_size(&entry.key));
+        size.saturating_add(word_size(&entry.value))
+    })
 }
 
 /// How many bytes a value takes, where that is not past the limit of a text; no value takes none.

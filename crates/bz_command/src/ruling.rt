@@ -12,7 +12,7 @@ ghost use Rattle.bz_grammar.specs.Places.{Ascend};
 ghost use Rattle.bz_attribute.specs.Made.{function_of};
 ghost use Rattle.bz_comment.specs.Changes.{changed_by};
 ghost use Rattle.bz_command.specs.Effect.{is_rule, loads_changed, looks_at_rules, on_arguments, on_meant, on_rules, on_each, on_statement, new_rule_place, source, source_of, unmarked, with_function};
-ghost use Rattle.bz_command.specs.private.Looks.{arguments_by, before_in, made_by, marks_by, one_made_by, places_by, with_list_in};
+ghost use Rattle.bz_command.specs.private.Looks.{arguments_by, made_by, marks_by, one_made_by, places_by};
 ghost use Rattle.bz_command.specs.private.Growing.{IsGrown};
 
 use crate::targets::{arguments_of, is_rule, take_place};
@@ -24,7 +24,6 @@ use bz_command_syntax::{
     RulePlace,
 };
 use bz_comment::{Change, change_comments, change_own};
-use bz_grammar::Kind;
 use bz_items::{Items, Memory, Text};
 use bz_label::Target;
 use bz_list::change_values;
@@ -32,7 +31,6 @@ use bz_load::{fix, new_load};
 use bz_rule::{attribute, has_name, held_name};
 use bz_value::{Expr, Item, Refusal, Window};
 use std::alloc::Global;
-use std::mem;
 
 /// A command that is run on a file.
 #[derive(Clone, Copy)]
@@ -80,34 +78,6 @@ pub struct Changed {
     pub same_names: bool,
 }
 
-/// A list of the call that a rule is.
-#[derive(Clone, Copy)]
-enum CallPart {
-    /// The function that is called, alone.
-    Function,
-    /// The arguments.
-    Arguments,
-}
-
-/// Exchanges a list of the call that an item is with this one. What is none has no list, and this one stays.
-fn exchange(part: CallPart, list: &mut Items<Expr>, item: &mut Item)
-    ensures here { item.new ≡ with_list_in part list.old item.old }
-    ensures there { list.new ≡ before_in part list.old item.old }
-{
-    if let Item::Stmt(Expr::Form(form)) = item {
-        if form.kind == Kind::Bare {
-            if let [call, ..] = form.parts.as_mut_slice() {
-                if let Expr::Form(call) = call {
-                    match part {
-                        CallPart::Function => mem::swap(list, &mut call.parts),
-                        CallPart::Arguments => mem::swap(list, &mut call.seq.items),
-                    }
-                }
-            }
-        }
-    }
-}
-
 /// What a command makes of the arguments of a rule that it is meant for.
 fn change(work: Work<'_, '_>, operation: &Operation, list: &mut Items<Expr>) -> Result<(), Refusal>
     ensures ok { OnOk result (arguments_by operation.now work.entry list.old ≡ Ok list.new) }
@@ -134,7 +104,6 @@ fn change(work: Work<'_, '_>, operation: &Operation, list: &mut Items<Expr>) -> 
 }
 
 /// What a command makes of a rule by changing its arguments; what is no rule stays.
-#[tactic(auto, using(crate::proofs::StatementRules::rule_changed))]
 fn change_rule(work: Work<'_, '_>, operation: &Operation, item: &mut Item) -> Result<(), Refusal>
     ensures ok { OnOk result (on_arguments (arguments_by operation.now work.entry) item.old ≡ Ok item.new) }
     ensures err { IfErr result (λ refusal. (on_arguments (arguments_by operation.now work.entry) item.old ≡ Err refusal) ⊎ (refusal ≡ Refusal.Memory)) }
@@ -142,10 +111,13 @@ fn change_rule(work: Work<'_, '_>, operation: &Operation, item: &mut Item) -> Re
     if !is_rule(item) {
         return Ok(());
     }
-    let mut arguments = Items::new(work.alloc);
-    exchange(CallPart::Arguments, &mut arguments, item);
-    change(work, operation, &mut arguments)?;
-    exchange(CallPart::Arguments, &mut arguments, item);
+    if let Item::Stmt(Expr::Form(form)) = item {
+        if let [call, ..] = form.parts.as_mut_slice() {
+            if let Expr::Form(call) = call {
+                change(work, operation, &mut call.seq.items)?;
+            }
+        }
+    }
     Ok(())
 }
 
@@ -159,7 +131,13 @@ fn set_kind(alloc: Global, kind: &Text, item: &mut Item) -> Result<(), Refusal>
     }
     let mut parts = Items::new(alloc);
     parts.push(function_of(alloc, kind.as_slice())?)?;
-    exchange(CallPart::Function, &mut parts, item);
+    if let Item::Stmt(Expr::Form(form)) = item {
+        if let [call, ..] = form.parts.as_mut_slice() {
+            if let Expr::Form(call) = call {
+                call.parts = parts;
+            }
+        }
+    }
     Ok(())
 }
 
@@ -375,11 +353,7 @@ fn push_unmarked(
         drop(item);
         return put_window(kept.len(), 1, 0, growing);
     }
-    if let Err(fault) = kept.reserve(1) {
-        drop(item);
-        return Err(fault);
-    }
-    kept.push_reserved(item);
+    kept.push(item)?;
     Ok(())
 }
 

@@ -1,13 +1,7 @@
--- What the code does with a rule that a command is meant for: the lists of its call, exchanged for others; and what is known of a
--- command before it changes anything.
-use Rattle.std.specs.Prelude.{ℕ, IsTrue, List, [], ◌∷◌, if◌then◌else◌, ◌≡◌, Bool, true, false, Result, Ok, Option}
-use Rattle.bz_grammar.specs.declared.kind.Kind.TheVariants as k
-use Rattle.bz_value.specs.declared.value.Expr.{Expr, Token, Form', items-the_row-Expr}
+-- What is known of a command before it changes anything.
+use Rattle.std.specs.Prelude.{ℕ, IsTrue, List, [], ◌≡◌, Bool, true, false, Result, Ok, Option}
+use Rattle.bz_value.specs.declared.value.Expr.{Expr}
 use Rattle.bz_value.specs.declared.value.Item.{Item}
-use Rattle.bz_value.specs.declared.value.Item.TheVariants as i
-use Rattle.bz_rule.specs.Values.{has_kind, parts_of, with_parts, with_items, on_row, on_first}
-use Rattle.bz_command.specs.declared.ruling.CallPart.{CallPart}
-use Rattle.bz_command.specs.declared.ruling.CallPart.TheVariants as p
 use Rattle.std.specs.Option.{option_copied}
 use Rattle.bz_value.specs.declared.refusal.Refusal.{Refusal}
 use Rattle.bz_items.specs.Characters.{Bytes}
@@ -21,31 +15,6 @@ use Rattle.bz_command.specs.Effect.{NewItem, arguments_of, effect, looks_at_rule
 use Rattle.bz_rule.specs.Index.{marked_places}
 use Rattle.bz_command.specs.declared.running.Look.{Look}
 use Rattle.bz_command.specs.declared.running.Look.TheVariants as l
-
--- an expression with another list in this place, and a statement with another list in this place of its call
-abbrev pub with_list : CallPart → List Expr → Expr → Expr
-with_list p.Function list x = with_parts list x
-with_list p.Arguments list x = with_items list x
-
-abbrev pub with_list_in : CallPart → List Expr → Item → Item
-with_list_in part list (i.Block lines) = i.Block lines
-with_list_in part list (i.Stmt x) = i.Stmt (on_row k.Bare (on_first (with_list part list)) x)
-
--- what was in the place before; where there is no such place, the new list itself
-abbrev pub before_in_call : CallPart → List Expr → Expr → List Expr
-before_in_call part list (Token t) = list
-before_in_call p.Function list (Form' own s parts s' items end split open_break comments) = items-the_row-Expr _ parts
-before_in_call p.Arguments list (Form' own s parts s' items end split open_break comments) = items-the_row-Expr _ items
-
-abbrev pub before_in_row : CallPart → List Expr → List Expr → List Expr
-before_in_row part list [] = list
-before_in_row part list (x ∷ xs) = before_in_call part list x
-
-abbrev pub before_in : CallPart → List Expr → Item → List Expr
-before_in part list (i.Block lines) = list
-before_in part list (i.Stmt x) = if has_kind k.Bare x then before_in_row part list (parts_of x) else list
-
--- ---- what is known of a command before it changes anything
 
 -- what is made of the arguments of a rule, and of a rule
 abbrev pub arguments_by : Operation → Work → List Expr → Arguments
