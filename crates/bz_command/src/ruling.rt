@@ -13,7 +13,7 @@ ghost use Rattle.bz_attribute.specs.Made.{function_of};
 ghost use Rattle.bz_comment.specs.Changes.{changed_by};
 ghost use Rattle.bz_command.specs.Effect.{is_rule, loads_changed, looks_at_rules, on_arguments, on_meant, on_rules, on_each, on_statement, new_rule_place, source, source_of, unmarked, with_function};
 ghost use Rattle.bz_command.specs.private.Looks.{arguments_by, made_by, marks_by, one_made_by, places_by};
-ghost use Rattle.bz_command.specs.private.Growing.{IsGrown};
+ghost use Rattle.bz_command.specs.private.Growing.{IsCompared, IsGrown};
 
 use crate::targets::{arguments_of, is_rule, take_place};
 use crate::windows::{Growing, put_window, window_between, windows_of};
@@ -304,9 +304,7 @@ fn on_found(
 ) -> Result<Changed, Refusal>
     requires { places.now ≡ places_by work items }
     ensures ok { IfOk result (λ changed. on_meant (made_by work.entry.command.now work.entry) (marks_by work.entry items) items ≡ Ok changed.items) }
-    ensures windows { IfOk result (λ changed. AreOver changed.windows items changed.items) }
-    ensures same { IfOk result (λ changed. (changed.windows ≡ []) ↔ (changed.items ≡ items)) }
-    ensures names { IfOk result (λ changed. IsTrue changed.same_names → HaveSameNames items changed.items) }
+    ensures compared { IfOk result (IsCompared items) }
     ensures err { IfErr result (λ refusal. (on_meant (made_by work.entry.command.now work.entry) (marks_by work.entry items) items ≡ Err refusal) ⊎ (refusal ≡ Refusal.Memory)) }
 {
     let (windows, same_names) = on_meant(work, places, items.as_mut_slice())?;
@@ -321,9 +319,7 @@ fn on_found(
 fn on_each(work: Work<'_, '_>, places: &[usize], items: Items<Item>) -> Result<Changed, Refusal>
     requires { places.now ≡ places_by work items }
     ensures ok { IfOk result (λ changed. on_each work.entry.command.now work.entry.current.now (marks_by work.entry items) items ≡ Ok changed.items) }
-    ensures windows { IfOk result (λ changed. AreOver changed.windows items changed.items) }
-    ensures same { IfOk result (λ changed. (changed.windows ≡ []) ↔ (changed.items ≡ items)) }
-    ensures names { IfOk result (λ changed. IsTrue changed.same_names → HaveSameNames items changed.items) }
+    ensures compared { IfOk result (IsCompared items) }
     ensures err { IfErr result (λ refusal. (on_each work.entry.command.now work.entry.current.now (marks_by work.entry items) items ≡ Err refusal) ⊎ (refusal ≡ Refusal.Memory)) }
 {
     let command = work.command;
@@ -361,9 +357,7 @@ fn push_unmarked(
 fn delete(work: Work<'_, '_>, places: &[usize], items: Items<Item>) -> Result<Changed, Memory>
     requires { places.now ≡ places_by work items }
     ensures items { IfOk result (λ changed. changed.items ≡ unmarked (marks_by work.entry items) items) }
-    ensures windows { IfOk result (λ changed. AreOver changed.windows items changed.items) }
-    ensures same { IfOk result (λ changed. (changed.windows ≡ []) ↔ (changed.items ≡ items)) }
-    ensures names { IfOk result (λ changed. changed.same_names ≡ false) }
+    ensures compared { IfOk result (IsCompared items) }
 {
     let _count = items.len();
     let mut kept = Vec::new(work.alloc);
@@ -417,9 +411,7 @@ fn is_taken(name: &[u8], items: &[Item]) -> bool
 fn inserted(alloc: Global, at: usize, new: Item, items: Items<Item>) -> Result<Changed, Memory>
     requires { at ≤ length items }
     ensures items { IfOk result (λ changed. changed.items ≡ insert items at new) }
-    ensures windows { IfOk result (λ changed. AreOver changed.windows items changed.items) }
-    ensures same { IfOk result (λ changed. (changed.windows ≡ []) ↔ (changed.items ≡ items)) }
-    ensures names { IfOk result (λ changed. changed.same_names ≡ false) }
+    ensures compared { IfOk result (IsCompared items) }
 {
     let mut all = items.into_vec();
     all.insert(at, new)?;
@@ -438,9 +430,7 @@ fn inserted(alloc: Global, at: usize, new: Item, items: Items<Item>) -> Result<C
 /// What an operation on the symbols that the file loads makes of its items.
 fn on_loads(alloc: Global, operation: &LoadOperation, items: Items<Item>) -> Result<Changed, Memory>
     ensures items { IfOk result (λ changed. changed.items ≡ loads_changed operation.now items) }
-    ensures windows { IfOk result (λ changed. AreOver changed.windows items changed.items) }
-    ensures same { IfOk result (λ changed. (changed.windows ≡ []) ↔ (changed.items ≡ items)) }
-    ensures names { IfOk result (λ changed. changed.same_names ≡ false) }
+    ensures compared { IfOk result (IsCompared items) }
 {
     match operation {
         LoadOperation::New { path, symbols } => {
@@ -475,9 +465,7 @@ pub fn on_rules(
 ) -> Result<Changed, Refusal>
     requires { IsTrue (looks_at_rules work.command.now) → places.now ≡ places_by work items }
     ensures ok { IfOk result (λ changed. on_rules work.entry.command.now work.entry.current.now (marks_by work.entry items) items ≡ Ok changed.items) }
-    ensures windows { IfOk result (λ changed. AreOver changed.windows items changed.items) }
-    ensures same { IfOk result (λ changed. (changed.windows ≡ []) ↔ (changed.items ≡ items)) }
-    ensures names { IfOk result (λ changed. IsTrue changed.same_names → HaveSameNames items changed.items) }
+    ensures compared { IfOk result (IsCompared items) }
     ensures err { IfErr result (λ refusal. (on_rules work.entry.command.now work.entry.current.now (marks_by work.entry items) items ≡ Err refusal) ⊎ (refusal ≡ Refusal.Memory)) }
 {
     let (alloc, command) = (work.alloc, work.command);

@@ -1,8 +1,10 @@
 -- Windows of what changed so far, while more comes.
-use Rattle.std.specs.Prelude.{◌≡◌, ◌+◌, ℕ, List, [], ◌∷◌}
+use Rattle.std.specs.Prelude.{◌≡◌, ◌↔◌, ◌+◌, ℕ, IsTrue, List, [], ◌∷◌}
 use Rattle.bz_value.specs.declared.value.Item.{Item}
 use Rattle.bz_value.specs.declared.windows.Window.{Window}
 use Rattle.bz_value.specs.Windows.{AreOver}
+use Rattle.bz_rule.specs.Index.{HaveSameNames}
+use Rattle.bz_command.specs.declared.ruling.Changed.{Changed}
 use Rattle.bz_command.specs.declared.windows.Growing.{Growing}
 
 -- how many of the items that are there now end with the last window
@@ -14,3 +16,9 @@ past_windows (w ∷ ws) = w.from + w.come + past_windows ws
 pub record IsGrown (growing : Growing) (before after : List Item) : Type 0 where
   pub over : AreOver growing.windows before after
   pub past : growing.past ≡ past_windows growing.windows
+
+-- where the items that a command makes of others differ from these, and whether their names are known to be the same
+pub record IsCompared (before : List Item) (changed : Changed) : Type 0 where
+  pub windows : AreOver changed.windows before changed.items
+  pub same : (changed.windows ≡ []) ↔ (changed.items ≡ before)
+  pub names : IsTrue changed.same_names → HaveSameNames before changed.items

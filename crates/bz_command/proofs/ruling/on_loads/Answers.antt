@@ -1,4 +1,4 @@
-use Rattle.std.proofs.Common.{◌∙◌, ap, ap₂, sym}
+use Rattle.std.proofs.Common.{◌∙◌, ap, ap₂, sym, true≢false}
 use Rattle.bz_command_syntax.specs.declared.command.LoadOperation.{LoadOperation}
 use Rattle.bz_load.specs.NewLoad.{new_load}
 use Rattle.bz_command.specs.Effect.{loads_changed}
@@ -9,5 +9,10 @@ returns-in_ok-windows_of-in-New-clause-items c =
     c.in_ok-made-in-New.ensures.items
     ∙ (ap₂ (λ path symbols. new_load path symbols c.args.items) c.as_slice.ensures c.as_slice-in-New.ensures ∙ ap (λ (operation : LoadOperation). loads_changed operation c.args.items) (sym c.in-New.is))
 
-pub returns-in_ok-windows_of-in-New-clause-same : goal.returns-in_ok-windows_of-in-New-clause-same
-returns-in_ok-windows_of-in-New-clause-same c = c.in_ok-windows_of-in-New.ensures.same c.args.items c.in_ok-made-in-New.made.items c.in_ok-made-in-New.ensures.same
+pub returns-in_ok-windows_of-in-New-clause-compared : goal.returns-in_ok-windows_of-in-New-clause-compared
+returns-in_ok-windows_of-in-New-clause-compared c =
+    let made = c.in_ok-made-in-New.ensures in record {
+      windows = c.in_ok-windows_of-in-New.ensures.over c.args.items c.in_ok-made-in-New.made.items made.same made.spliced;
+      same = c.in_ok-windows_of-in-New.ensures.same c.args.items c.in_ok-made-in-New.made.items made.same;
+      names = λ none. absurd (true≢false (sym none));
+    }
