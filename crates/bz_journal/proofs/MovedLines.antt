@@ -1,22 +1,20 @@
 -- The lines on which statements begin, where one part of a file takes the place of another.
-use Rattle.std.proofs.Common.{◌≡◌, ◌<◌, ◌≤◌, ◌+◌, ◌∙◌, ℕ, Bool, Bor, true, false, List, [], ◌∷◌, ◌++◌, Option, None, Some, if◌then◌else◌, is_some, length, map, take, drop, get_or, slice_get, refl, sym, ap, subst, arith, append_assoc}
-use Rattle.std.specs.List.{flat_map}
-use Rattle.std.specs.Option.{option_copied}
-use Rattle.std.specs.Prelude.{IfSome}
+use Rattle.std.proofs.Common.{◌≡◌, ◌<◌, ◌≤◌, ◌+◌, ◌∙◌, ℕ, suc, Bool, true, false, List, [], ◌∷◌, ◌++◌, None, Some, if◌then◌else◌, length, map, take, drop, get_or, slice_get, refl, sym, ap, subst, arith, append_assoc}
+use Rattle.std.specs.List.{AllByRecursion, flat_map}
 use Rattle.std.proofs.Math.Seq.{drop-append_seam, take-append_seam}
-use Rattle.std.proofs.lemmas.Bool.{false≢true}
 use Rattle.std.proofs.lemmas.Grind.{flat_map-append}
-use Rattle.std.proofs.lemmas.List.{append-nil, drop_all, drop_more, length-append, length-map, length-take-le, map-append, take-append-drop, take_more}
+use Rattle.std.proofs.lemmas.List.{append-nil, drop_more, length-map, length-take-le, map-append, take-append-drop, take_more}
 use Rattle.bz_lex.specs.declared.leaf.Leaf.{Leaf}
 use Rattle.bz_journal.specs.Clauses.{AreThere, IsLike, IsLineOfOne, Node, fronts, fronts_in, is_node, lines_of, moved, moved_from, newlines, node_parts}
 use Rattle.bz_journal.specs.Clauses.{spell_node, spell_part, with_windows}
+use Rattle.bz_journal.specs.private.Making.{HasOne}
 use Rattle.bz_journal.specs.Words.{Part, PartWindow, first_gap, leaves_part}
 use Rattle.bz_grammar.specs.declared.tree.Part.TheVariants as p
 use Rattle.bz_grammar.specs.Statements.{gap_of, line_following}
 use Rattle.bz_grammar.proofs.AllLines.{lines_among, lines_in}
 use Rattle.bz_grammar.proofs.Nested.{items_of_row}
 use Rattle.bz_grammar.proofs.Spells.{spell_Node}
-use Rattle.bz_grammar.proofs.Statements.{newlines_append, text_more, text_to}
+use Rattle.bz_grammar.proofs.Statements.{newlines_append}
 use Rattle.bz_edit.specs.Windows.{window_parts}
 
 pub spelled : (n : Node) → spell_part (p.Node n) ≡ spell_node n
@@ -50,24 +48,13 @@ pub opening : (x : Part) (xs : List Part) (first : Leaf) (front : List ℕ) → 
     → fronts_in front (node_parts x) ≡ (front ++ first.gap) ∷ []
 opening x xs first front one is = one.begun front ∙ ap (λ (gap : List ℕ). (front ++ gap) ∷ []) (first_is _ first is)
 
--- the first parts have one statement each
-abbrev pub OneEach : List Part → ℕ → Type 0
-OneEach xs i = (front : List ℕ) → length (fronts front xs) ≡ i + length (fronts (text_to front xs i) (drop i xs))
-
-pub found_more : (xs : List Part) (i : ℕ) (d : Part) (found : Option (Bor (List Part))) → i < length xs → d ≡ get_or xs i d → is_some found ≡ true
-    → IfSome (option_copied found) (λ parts. IsLineOfOne d parts) → OneEach xs i → OneEach xs (i + 1)
-found_more xs i d None within is some one so_far = absurd (false≢true some)
-found_more xs i d (Some found) within is some one so_far = λ front.
-    let here : List ℕ = text_to front xs i in
-    let rest : List Part = drop (i + 1) xs in
-    let gap : List ℕ = first_gap (flat_map leaves_part (take 1 found.now)) in
-    let next : drop i xs ≡ d ∷ rest = drop_more xs i d within ∙ ap (λ (y : Part). y ∷ rest) (sym is) in
-    let begun : fronts here (drop i xs) ≡ (here ++ gap) ∷ fronts (text_to front xs (i + 1)) rest =
-    ap (fronts here) next ∙ ap (λ (ts : List (List ℕ)). ts ++ fronts (here ++ spell_part d) rest) (one.begun here) ∙ ap (λ (t : List ℕ). (here ++ gap) ∷ fronts t rest) (text_more front xs i d within is) in
-    omega (arith, so_far front, ap length begun)
-
-pub all_one : (xs : List Part) (i : ℕ) → length xs ≤ i → i ≤ length xs → OneEach xs i → (front : List ℕ) → length (fronts front xs) ≡ length xs
-all_one xs i past within each = λ front. omega (arith, each front, ap (λ (ys : List Part). length (fronts (text_to front xs i) ys)) (drop_all i xs past), past, within)
+-- parts that have one statement each
+pub all_one : (xs : List Part) → AllByRecursion HasOne xs → (front : List ℕ) → length (fronts front xs) ≡ length xs
+unfolding HasOne
+all_one [] each front = refl
+all_one (x ∷ xs) ((held, one), each) front =
+    let rest : List ℕ = front ++ spell_part x in
+    ap (λ (ts : List (List ℕ)). length (ts ++ fronts rest xs)) (one.begun front) ∙ ap suc (all_one xs each rest)
 
 -- ---- after a text with fewer or more newlines
 
@@ -107,18 +94,14 @@ parted here (x ∷ xs) ys =
     ∙ sym (append_assoc (fronts_in here (node_parts x)) (fronts next xs) (fronts (here ++ flat_map spell_part (x ∷ xs)) ys))
 
 -- these lines are those with the ones from a place on moved
-pub record AreShifted (from gone come : ℕ) (old new : List ℕ) : Type 0 where
-  pub within : from ≤ length old
-  pub are : new ≡ moved_from from gone come old
+abbrev pub AreShifted : ℕ → ℕ → ℕ → List ℕ → List ℕ → Type 0
+AreShifted from gone come old new = new ≡ moved_from from gone come old
 
 moved_there : (a b now next : List ℕ) (n gone come : ℕ) → length a ≡ n → now ≡ a ++ b → next ≡ a ++ map (moved gone come) b → AreShifted n gone come now next
 moved_there a b now next n gone come size is after =
     let front : take n now ≡ a = ap (λ (k : ℕ). take k now) (sym size) ∙ ap (take (length a)) is ∙ take-append_seam a b in
     let rest : drop n now ≡ b = ap (λ (k : ℕ). drop k now) (sym size) ∙ ap (drop (length a)) is ∙ drop-append_seam a b in
-    record {
-      within = omega (arith, size, ap length is, length-append a b);
-      are = after ∙ sym (ap (λ (xs : List ℕ). xs ++ map (moved gone come) (drop n now)) front ∙ ap (λ (xs : List ℕ). a ++ map (moved gone come) xs) rest);
-    }
+    after ∙ sym (ap (λ (xs : List ℕ). xs ++ map (moved gone come) (drop n now)) front ∙ ap (λ (xs : List ℕ). a ++ map (moved gone come) xs) rest)
 
 module _ (t q : List Part) (old new : Part) (n gone come : ℕ) (like : IsLike old new gone come) (each : length (fronts [] (t ++ old ∷ [])) ≡ n) where
   abbrev Text : Part → List ℕ

@@ -40,6 +40,12 @@ module _ (ws : List PartWindow) (parts : List Part) (i old new : ℕ) (w : PartW
   between : length (take w.from (drop old parts)) ≡ w.from
   between = length-take-le w.from (drop old parts) (omega (arith, there_now.0))
 
+  -- what is between two windows, where it is the same from two places on
+  pub stays_between : (count : ℕ) → count ≡ w.from → take (length (take count (drop old parts))) (drop new parts) ≡ take count (drop old parts) → take w.from (drop new parts) ≡ take w.from (drop old parts)
+  stays_between count is_from same =
+      ap (λ (n : ℕ). take n (drop new parts)) (sym between)
+      ∙ subst (λ (n : ℕ). take (length (take n (drop old parts))) (drop new parts) ≡ take n (drop old parts)) is_from same
+
   abbrev following : List Part
   following = window_parts (drop (i + 1) ws) (drop (w.from + w.gone) (drop old parts))
 

@@ -1,9 +1,13 @@
 -- What keeping an action leaves, by its ways out.
-use Rattle.std.proofs.Common.{◌≡◌, ◌≢◌, ◌⊎◌, ◌∙◌, inl, inr, List, [], Result, Some, Ok, Err, refl, sym, ap, arith}
-use Rattle.std.specs.Prelude.{IfOk, IfErr, IsErrOf}
+use Rattle.std.proofs.Common.{◌≡◌, ◌≢◌, ◌⊎◌, ◌∙◌, inl, inr, ℕ, List, [], Option, Result, None, Some, Ok, Err, refl, sym, ap, arith}
+use Rattle.std.specs.Prelude.{IfSome, IsErrOf, Vec}
+use Rattle.std.specs.Option.{option_flatten, option_map}
+use Rattle.std.specs.Result.{IsErrAnd, MatchResult, result_ok}
+use Rattle.std.specs.declared.alloc.Global.{Global}
+use Rattle.std.proofs.lemmas.Result.{err_from_is_err_and}
 use Rattle.std.specs.FinMap.{get}
 use Rattle.std.proofs.lemmas.Bool.{false≢true}
-use Rattle.bz_journal.specs.Clauses.{Action, Answer, Bytes, Edit, HasActed, History, IsSavedSession, KeepsFile, KeepsPair, PairFault, Refusal, Reply}
+use Rattle.bz_journal.specs.Clauses.{Action, Answer, Bytes, Edit, HasActed, History, IsSavedSession, IsWrittenSince, KeepsFile, KeepsPair, PairFault, Refusal, Reply}
 use Rattle.bz_journal.specs.Clauses.{SessionState, present, saved, session_history}
 use Rattle.bz_journal.specs.Words.{Folder, Resumes, journal_name, journal_text}
 use Rattle.bz_files.specs.declared.files.Files.{Ghosts as FilesOf}
@@ -14,6 +18,7 @@ use Rattle.bz_resume.specs.declared.pair_fault.PairFault.TheVariants as p
 use Rattle.bz_journal.specs.declared.keeping.KeepFault.{KeepFault}
 use Rattle.bz_journal.specs.declared.keeping.KeepFault.TheVariants.{Pair, Refused}
 use Rattle.bz_journal.specs.Keeping.{IsWriteOrOpen}
+use Rattle.bz_journal.specs.declared.keeping.Written.{Written}
 use Rattle.bz_journal.proofs.Following.{Goes, goes}
 
 abbrev Both : PairFault → Type 0
@@ -147,9 +152,18 @@ module _ {F : Type 0} (files : FilesOf F) (file : Bytes) (h after : History) (st
 
 -- of texts that nothing was done to
 pub file_unkept : {F : Type 0} (files : FilesOf F) (file : Bytes) (h : History) (held : F) → ((now : Folder) → files.since held (files.moment held) now → now ≡ files.folder held)
-    → (answer : Answer) (result : Result Reply KeepFault) → IfOk answer (λ reply. result ≡ Ok reply) → IfErr answer (λ refusal. result ≡ Err (Refused refusal)) → KeepsFile files file h h result held held
-file_unkept files file h held only (Ok reply) result is err = rw is (file_still files file h h [] held only reply refl).0
-file_unkept files file h held only (Err refusal) result ok is = rw is (file_left files file h h [] held only (Refused refusal) (not_changed refusal) (λ none. none)).0
+    → (answer : Answer) (result : Result Reply KeepFault) → MatchResult answer (λ reply. result ≡ Ok reply) (λ refusal. IsErrAnd result (λ fault. fault ≡ Refused refusal)) → KeepsFile files file h h result held held
+file_unkept files file h held only (Ok reply) result is = rw is (file_still files file h h [] held only reply refl).0
+file_unkept files file h held only (Err refusal) result is =
+    let (fault, err, own) = err_from_is_err_and result is in
+    rw (err, own) (file_left files file h h [] held only (Refused refusal) (not_changed refusal) (λ none. none)).0
+
+-- the text that was written is the present one
+pub text_kept : {E : Type 0} (t : SessionState) (from : ℕ) (written : Result (Option Written) E) (text : Option (Vec ℕ Global)) → IsWrittenSince t from written
+    → text ≡ option_map (λ (w : Written). w.text) (option_flatten (result_ok written)) → IfSome text (λ own. own.items ≡ present (session_history t))
+text_kept t from (Ok None) text since is = rw is tt
+text_kept t from (Ok (Some w)) text since is = rw is since.1.text
+text_kept t from (Err e) text since is = rw is tt
 
 -- ---- the same of a session, by what was done to it
 

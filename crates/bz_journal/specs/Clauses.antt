@@ -8,7 +8,7 @@ pub use Rattle.bz_journal.specs.History.{Acts, Answer, History, IsKept, MakesOrW
 pub use Rattle.bz_journal.specs.Keeping.{HasActed, IsWrittenSince, Keeps, KeepsFile, KeepsPair}
 pub use Rattle.bz_journal.specs.Lasting.{AlikeActs, AlikeGoesOn, GoesOn, IsAgain, IsKnownSession, IsResumedSession, IsSavedSession, StoppedIsResumed, saved}
 pub use Rattle.bz_journal.specs.private.Kept.{HoldsState}
-pub use Rattle.bz_journal.specs.private.Making.{AreLinesOf, HaveListedNames, HaveListedNamesIn, HasListedName, IsLike, IsLineOfOne, MakesLines, moved, moved_from}
+pub use Rattle.bz_journal.specs.private.Making.{AreLinesOf, HaveListedNames, HaveListedNamesIn, HasListedName, HasOne, IsLike, IsLineOfOne, MakesLines, moved, moved_from}
 pub use Rattle.bz_journal.specs.Listing.{lines_of_texts, listing, noted, text_line}
 pub use Rattle.bz_journal.specs.Meaning.{Means, gives, refuses, printed_answer, written}
 pub use Rattle.bz_journal.specs.Shown.{HoldsSteps, OpensText, session_history}

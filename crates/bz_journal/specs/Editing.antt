@@ -1,5 +1,5 @@
 -- The value beside a session, and the trees that a command leaves.
-use Rattle.std.specs.Prelude.{◌≡◌, ◌<◌, true, List, Option, length, map, take, Ok, IfSome}
+use Rattle.std.specs.Prelude.{◌≡◌, ◌<◌, List, Option, length, map, take, Ok, IfSome}
 use Rattle.bz_journal.specs.Words.{Bytes, IsIndexOf, IsProper, IsWritten, Item, Node, Reads, layout, lines_of, sha256, spell_node, tidied, view_of}
 use Rattle.bz_journal.specs.declared.action.Reply.{Reply}
 use Rattle.bz_journal.specs.declared.answering.Lookups.{Lookups}
@@ -17,8 +17,7 @@ pub record AreLookupsOf (lookups : Lookups) (tree : Node) : Type 0 where
 pub record IsSeenIn (tree : Node) (seen : Seen) : Type 0 where
   pub value : IfSome seen.value (λ items. items ≡ view_of tree)
   pub looked : AreLookupsOf seen.lookups tree
-  pub written : seen.written ≡ true → IsWritten (view_of tree) tree
-  pub length_is : seen.written ≡ true → seen.length ≡ length (spell_node tree)
+  pub written : IfSome seen.written (λ len. IsWritten (view_of tree) tree × (len ≡ length (spell_node tree)))
 
 -- these are the digests of the first texts
 abbrev pub AreFirstDigests : List Bytes → List Bytes → Type 0

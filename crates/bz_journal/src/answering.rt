@@ -14,7 +14,6 @@ use bz_items::{Items, Memory};
 use bz_label::{Target, Which};
 use bz_rule::Names;
 use bz_value::{File, Refusal};
-use std::alloc::Global;
 
 /// What is looked up in a text that stays, each made when a command needs it.
 pub(crate) struct Lookups {
@@ -55,7 +54,6 @@ impl Lookups {
 /// Looks up the lines on which the statements of a tree begin, where a command or its target looks at them and they aren't there yet. The
 /// error: memory was refused.
 pub(crate) fn look_up_lines(
-    alloc: Global,
     command: &Command,
     target: &Target,
     lookups: &mut Lookups,
@@ -69,7 +67,7 @@ pub(crate) fn look_up_lines(
     if lookups.lines.is_some() || !looks_at_lines(command, target) {
         return Ok(());
     }
-    lookups.lines = Some(Items::from_vec(tree.lines(alloc)?));
+    lookups.lines = Some(Items::from_vec(tree.lines(tree.root.parts.alloc())?));
     Ok(())
 }
 
@@ -81,7 +79,6 @@ pub(crate) fn is_by_name(target: &Target) -> bool {
 /// Looks up what a command and its target need of a tree and its value, and isn't there yet: the index of names where it is said that this is
 /// of use again. The error: memory was refused.
 pub(crate) fn look_up(
-    alloc: Global,
     command: &Command,
     target: &Target,
     again: bool,
@@ -94,41 +91,12 @@ pub(crate) fn look_up(
     ensures looked { AreLookupsOf lookups.new tree.now }
     ensures alike { OnOk result (GivesAlike command.now target.now (lines_begun lookups.new) (lines_of tree.now)) }
 {
-    look_up_lines(alloc, command, target, lookups, tree)?;
+    look_up_lines(command, target, lookups, tree)?;
     if !again || !is_by_name(target) || lookups.names.is_some() {
         return Ok(());
     }
-    lookups.names = Some(Names::of(alloc, file.items.as_slice())?);
+    lookups.names = Some(Names::of(file.items.alloc(), file.items.as_slice())?);
     Ok(())
-}
-
-/// What a command answers of the value of the present text, by what was looked up; none where it would change that.
-fn answer_of(
-    course: &Course,
-    command: &Command,
-    target: &Target,
-    lookups: &Lookups,
-    file: &File,
-) -> Option<Result<Reply, Refusal>>
-    requires value { file.now ≡ view_of course.now.tree }
-    requires lookups { AreLookupsOf lookups.now course.now.tree }
-    requires alike { GivesAlike command.now target.now (lines_begun lookups.now) (lines_of course.now.tree) }
-    ensures { IfSome result (λ answer. (note : Bytes) → HasMade (Do command.now target.now) note course.now answer course.now) }
-{
-    let here = course.present();
-    reads_back(here);
-    let current = course.package.as_bytes();
-    let lines = lookups.begins();
-    let names = lookups.names.as_ref();
-    match run_named(course.alloc(), command, target, current, lines, names, file) {
-        Ok(outcome) => {
-            if outcome.file.is_some() {
-                return None;
-            }
-            Some(Ok(unchanged(printed_answer(command, outcome.printed))))
-        }
-        Err(refusal) => Some(Err(refusal)),
-    }
 }
 
 /// What a command that prints answers by the value of the present text, which is kept with what is looked up; none where it would change the
@@ -143,20 +111,33 @@ pub(crate) fn answer(
     ensures made { IfSome result (λ answer. (note : Bytes) → HasMade (Do command.now target.now) note course.now answer course.now) }
     ensures seen { IsSeenIn course.now.tree seen.new }
 {
-    let is_kept = seen.written || seen.printed_last;
+    let is_kept = seen.written.is_some() || seen.printed_last;
     seen.printed_last = command.prints();
     if !seen.printed_last || !is_kept {
         return None;
     }
-    let alloc = course.alloc();
     let here = course.present();
-    let Ok(file) = value_of(alloc, seen.value.take(), here) else {
+    reads_back(here);
+    let Ok(file) = value_of(seen.value.take(), here) else {
         return Some(Err(Refusal::Memory));
     };
-    let Ok(()) = look_up(alloc, command, target, true, &mut seen.lookups, here, &file) else {
+    let Ok(()) = look_up(command, target, true, &mut seen.lookups, here, &file) else {
         return Some(Err(Refusal::Memory));
     };
-    let answer = answer_of(course, command, target, &seen.lookups, &file);
+    let alloc = course.alloc();
+    let current = course.package.as_bytes();
+    let lookups = &seen.lookups;
+    let lines = lookups.begins();
+    let names = lookups.names.as_ref();
+    let ran = run_named(alloc, command, target, current, lines, names, &file);
     seen.value = Some(file);
-    answer
+    match ran {
+        Ok(outcome) => {
+            if outcome.file.is_some() {
+                return None;
+            }
+            Some(Ok(unchanged(printed_answer(command, outcome.printed))))
+        }
+        Err(refusal) => Some(Err(refusal)),
+    }
 }

@@ -129,7 +129,8 @@ impl Course {
 
     /// How many steps there are between the first text and the last.
     pub(crate) fn steps(&self) -> u32
-        ensures { result + 1 ≡ length (session_history self.now).texts }
+        ensures steps { result ≡ length self.now.steps }
+        ensures texts { result + 1 ≡ length (session_history self.now).texts }
     {
         self.holds();
         self.steps.len() as u32
@@ -155,15 +156,6 @@ impl Course {
     {
         self.holds();
         (self.tree, self.package)
-    }
-
-    /// How many steps there are between the present text and the last.
-    pub(crate) fn steps_ahead(&self) -> u32
-        ensures steps { self.now.cursor + result ≡ length self.now.steps }
-        ensures texts { (session_history self.now).cursor + result + 1 ≡ length (session_history self.now).texts }
-    {
-        self.holds();
-        self.steps.len() as u32 - self.cursor
     }
 
     /// Goes back by n steps.
@@ -195,7 +187,7 @@ impl Course {
         ensures small { IsSmall (session_trail self.old) → IsSmall (session_trail self.new) }
     {
         texts_kept();
-        let _ahead = self.steps_ahead();
+        let _steps = self.steps();
         let cursor = self.cursor;
         self.kept = KeptLines::new(self.alloc()); // the steps turn back
         let steps = self.steps.as_mut_slice();

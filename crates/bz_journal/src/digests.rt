@@ -1,28 +1,13 @@
 //! The SHA-256 of the texts of a course: of the first ones, as they were taken, or of all, taken of a copy that goes through them.
 ghost use Rattle.std.specs.Prelude.{◌≡◌, IfOk, IfSome, OnOk, map};
-ghost use Rattle.bz_journal.specs.Clauses.{AreFirstDigests, IsSavedSession, IsTrail, listing, present, saved, session_history, sha256, texts_of, trail_at};
+ghost use Rattle.bz_journal.specs.Clauses.{AreFirstDigests, IsSavedSession, listing, present, saved, session_history, sha256};
 
 use crate::course::Course;
 use crate::digest::digest_of;
 use bz_edit::laws::texts_kept;
-use bz_edit::{Step, copy_steps, go_back, go_forward};
-use bz_grammar::Tree;
+use bz_edit::{copy_steps, go_back, go_forward};
 use bz_items::{Memory, Text};
-use sha2::{Digest, Sha256};
 use std::alloc::Global;
-
-/// Takes the digest of the present text, which is this, where those before it are known and it isn't yet, as far as memory allows.
-pub(crate) fn learn(digests: &mut Vec<[u8; 32]>, course: &Course, text: &[u8])
-    requires first { AreFirstDigests digests.old.items (session_history course.now).texts }
-    requires text { text.now ≡ present (session_history course.now) }
-    ensures { AreFirstDigests digests.new.items (session_history course.now).texts }
-{
-    let _tree = course.present();
-    let cursor = course.cursor() as usize;
-    if digests.len() == cursor && digests.reserve(1).is_ok() {
-        digests.push(Sha256::digest(text)).unwrap();
-    }
-}
 
 /// The digest of each text, where all are there.
 fn known<'a>(digests: &'a [[u8; 32]], course: &Course) -> Option<&'a [[u8; 32]]>
@@ -30,11 +15,7 @@ fn known<'a>(digests: &'a [[u8; 32]], course: &Course) -> Option<&'a [[u8; 32]]>
     ensures { IfSome result (λ list. list.now ≡ map sha256 (session_history course.now).texts) }
 {
     let count = course.steps() as usize + 1;
-    if digests.len() == count {
-        Some(digests)
-    } else {
-        None
-    }
+    (digests.len() == count).then_some(digests)
 }
 
 /// The texts of a course, one line each, by the digests that are there. The error: a growth was refused.
@@ -73,31 +54,23 @@ pub(crate) fn journal_by(
     }
 }
 
-/// The digests of all texts, from the tree of the first one on, which goes to the last. The error: a growth was refused.
-fn hashed_from(alloc: Global, tree: &mut Tree, steps: &mut [Step]) -> Result<Vec<[u8; 32]>, Memory>
-    requires { IsTrail (trail_at tree.old steps.old 0) }
-    ensures { IfOk result (λ digests. digests.items ≡ map sha256 (texts_of (trail_at tree.old steps.old 0))) }
-{
-    texts_kept();
-    let mut digests = Vec::from_slice(alloc, &[digest_of(tree)])?;
-    for at in 0..steps.len() {
-        go_forward(tree, steps, at, 1)?;
-        digests.push(digest_of(tree))?;
-    }
-    Ok(digests)
-}
-
 impl Course {
-    /// The digests of all texts, taken of a copy that goes through them. The error: memory was refused.
+    /// The digests of all texts, taken of a copy that goes through them from the first one on. The error: memory was refused.
     pub(crate) fn hashed(&self) -> Result<Vec<[u8; 32]>, Memory>
         ensures { IfOk result (λ digests. digests.items ≡ map sha256 (session_history self.now).texts) }
     {
+        texts_kept();
         let alloc = self.alloc();
         let mut tree = self.tree.copy()?;
         let mut steps = copy_steps(alloc, self.steps.as_slice())?.into_vec();
         let steps = steps.as_mut_slice();
         let cursor = self.cursor as usize;
         go_back(&mut tree, steps, cursor, cursor)?;
-        hashed_from(alloc, &mut tree, steps)
+        let mut digests = Vec::from_slice(alloc, &[digest_of(&tree)])?;
+        for at in 0..steps.len() {
+            go_forward(&mut tree, steps, at, 1)?;
+            digests.push(digest_of(&tree))?;
+        }
+        Ok(digests)
     }
 }

@@ -18,7 +18,6 @@ use bz_items::{Items, Text};
 use bz_label::Target;
 use bz_rule::take_apart;
 use bz_value::{File, Refusal, Window};
-use std::alloc::Global;
 
 /// The fewest items of a value that is kept from the first command on. One of fewer is made anew in less than a millisecond.
 const FEWEST: usize = 500;
@@ -33,10 +32,8 @@ pub(crate) struct Seen {
     pub(crate) value: Option<File>,
     /// What was looked up in the present text.
     pub(crate) lookups: Lookups,
-    /// Whether the present text is known to be the layout of a tidy value.
-    pub(crate) written: bool,
-    /// How many bytes the present text has, where it is known to be that.
-    pub(crate) length: usize,
+    /// How many bytes the present text has, where it is known to be the layout of a tidy value.
+    pub(crate) written: Option<usize>,
     /// Whether the last command printed something, so that the value is worth keeping for the next one that prints.
     pub(crate) printed_last: bool,
     /// Whether the last command was for a rule by its name and left all names, so that an index of them is worth making for the next one.
@@ -53,8 +50,7 @@ impl Seen {
         Seen {
             value: None,
             lookups: Lookups::none(),
-            written: false,
-            length: 0,
+            written: None,
             printed_last: false,
             names_last: false,
             done: 0,
@@ -83,6 +79,21 @@ impl Seen {
         {
             self.value = None;
             self.lookups = Lookups::none();
+        }
+    }
+
+    /// The lines of a value that a command made of that of a tree, and which is another one in these windows. Errors: `TooLarge`, `TooDeep`; `Memory`.
+    fn made_of(&mut self, windows: Items<Window>, file: File, tree: &Tree) -> Result<Made, Refusal>
+        requires build { IsBuild tree.now }
+        requires seen { IsSeenIn tree.now self.old }
+        requires over { AreOver windows (view_of tree.now) file }
+        ensures made { MakesLines file tree.now result }
+        ensures seen { IsSeenIn tree.now self.new }
+        ensures value { self.new.value ≡ self.old.value }
+    {
+        match self.written {
+            Some(len) => made_by_windows(windows, file, tree, len, self.lookups.names.take()),
+            None => made_by_text(file, tree, tree.len()),
         }
     }
 }
@@ -120,8 +131,7 @@ fn take_up(
         Ok(reply) => {
             reads_back(course.present());
             seen.lookups = Lookups { names, lines };
-            seen.written = true;
-            seen.length = length;
+            seen.written = Some(length);
             seen.value = value;
             Ok(reply)
         }
@@ -129,29 +139,6 @@ fn take_up(
             drop(value);
             Err(refusal)
         }
-    }
-}
-
-/// The lines of a value that a command made of that of a tree, and which is another one in these windows. Errors: `TooLarge`, `TooDeep`; `Memory`.
-fn made_of(
-    alloc: Global,
-    seen: &mut Seen,
-    windows: Items<Window>,
-    file: File,
-    tree: &Tree,
-) -> Result<Made, Refusal>
-    requires build { IsBuild tree.now }
-    requires seen { IsSeenIn tree.now seen.old }
-    requires over { AreOver windows (view_of tree.now) file }
-    ensures made { MakesLines file tree.now result }
-    ensures seen { IsSeenIn tree.now seen.new }
-    ensures value { seen.new.value ≡ seen.old.value }
-{
-    if seen.written {
-        let names = seen.lookups.names.take();
-        made_by_windows(alloc, windows, file, tree, seen.length, names)
-    } else {
-        made_by_text(alloc, file, tree, tree.len())
     }
 }
 
@@ -173,18 +160,17 @@ fn edit(
     let here = course.present();
     reads_back(here);
     let again = seen.names_last;
-    let mut file = value_of(alloc, seen.value.take(), here)?;
+    let mut file = value_of(seen.value.take(), here)?;
     let lookups = &mut seen.lookups;
-    let Ok(()) = look_up(alloc, command, target, again, lookups, here, &file) else {
+    let Ok(()) = look_up(command, target, again, lookups, here, &file) else {
         take_apart(file);
         return Err(Refusal::Memory);
     };
     let current = course.package.as_bytes();
     // a look at the whole of it where its length isn't known
-    let len = if seen.written {
-        seen.length
-    } else {
-        here.len()
+    let len = match seen.written {
+        Some(len) => len,
+        None => here.len(),
     };
     let lookups = &seen.lookups;
     match run_beside(alloc, command, target, current, lookups, len, &mut file) {
@@ -193,10 +179,10 @@ fn edit(
             let printed = printed_answer(command, ran.printed);
             if ran.windows.is_empty() {
                 // that of another text is kept from the second command that prints on
-                seen.value = seen.written.then_some(file);
+                seen.value = seen.written.is_some().then_some(file);
                 return Ok(unchanged(printed));
             }
-            let made = made_of(alloc, seen, ran.windows, file, here);
+            let made = seen.made_of(ran.windows, file, here);
             take_up(course, seen, made, printed, note)
         }
         Err(refusal) => {
@@ -215,12 +201,10 @@ fn format(course: &mut Course, seen: &mut Seen, note: &str) -> Result<Reply, Ref
     ensures seen { IsSeenIn course.new.tree seen.new }
 {
     formatted_once();
-    let alloc = course.alloc();
     let here = course.present();
     reads_back(here);
-    let len = here.len();
-    let file = value_of(alloc, seen.value.take(), here)?;
-    let made = made_by_text(alloc, file, here, len);
+    let file = value_of(seen.value.take(), here)?;
+    let made = made_by_text(file, here, here.len());
     take_up(course, seen, made, None, note)
 }
 
@@ -236,7 +220,8 @@ pub(crate) fn act(
     ensures seen { IsSeenIn course.new.tree seen.new }
 {
     let _before = course.present();
-    if let Some(answer) = at_once(action, note, course.cursor(), course.steps_ahead()) {
+    let cursor = course.cursor();
+    if let Some(answer) = at_once(action, note, cursor, course.steps() - cursor) {
         return answer;
     }
     match *action {

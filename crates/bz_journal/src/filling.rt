@@ -35,10 +35,8 @@ fn length_alone(alloc: Global, counts: bool, item: Item) -> Result<usize, Refusa
     ensures size { IfOk result (λ size. size ≤ alone_length item) }
     ensures err { IfErr result (λ refusal. refusal ≡ Refusal.Memory) }
 {
-    let mut items = Vec::new(alloc);
-    items.reserve(1)?;
-    items.push_reserved(item);
-    let items = Items::from_vec(items);
+    let mut items = Items::new(alloc);
+    items.push(item)?;
     let file = File { items };
     if !counts {
         take_apart(file);
@@ -106,8 +104,5 @@ pub(crate) fn overfills(work: Work<'_, '_>, len: usize, file: &File) -> Result<b
     let Some(marks) = marks_if_large(work, file, len)? else {
         return Ok(false);
     };
-    match are_past(work, marks.as_slice(), file.items.as_slice()) {
-        Ok(past) => Ok(past),
-        Err(refusal) => Err(refusal),
-    }
+    are_past(work, marks.as_slice(), file.items.as_slice())
 }

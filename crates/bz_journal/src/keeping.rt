@@ -1,14 +1,15 @@
 //! Actions whose history outlives the run: a file and its journal, kept.
-ghost use Rattle.std.specs.Prelude.{◌≡◌, ◌<◌, ℕ, IfErr, IfOk, IfSome, Err, Ok, length};
+ghost use Rattle.std.specs.Prelude.{◌≡◌, IfOk, IfSome};
 ghost use Rattle.bz_journal.specs.Clauses.{Action, AreFirstDigests, Bytes, HasActed, IsWrittenSince, KeepsPair, SessionState, present, session_history};
 
 use crate::action::Reply;
 use crate::course::{Course, text_of};
-use crate::digests::{journal_by, learn};
+use crate::digests::journal_by;
 use bz_files::Files;
 use bz_items::Memory;
 use bz_resume::{PairFault, keep};
 use bz_value::Refusal;
+use sha2::{Digest, Sha256};
 use std::alloc::Global;
 
 /// Why an action was not kept.
@@ -27,17 +28,6 @@ pub(crate) struct Written {
     pub(crate) text: Vec<u8>,
 }
 
-/// What is answered of an action that nothing was done for.
-pub(crate) fn unkept(answer: Result<Reply, Refusal>) -> Result<Reply, KeepFault>
-    ensures ok { IfOk answer (λ reply. result ≡ Ok reply) }
-    ensures err { IfErr answer (λ refusal. result ≡ Err (KeepFault.Refused refusal)) }
-{
-    match answer {
-        Ok(reply) => Ok(reply),
-        Err(refusal) => Err(KeepFault::Refused(refusal)),
-    }
-}
-
 /// The present text of a course: the one that is at hand, or else that of the tree. The error: a growth was refused.
 pub(crate) fn own_text(course: &Course, text: Option<Vec<u8>>) -> Result<Vec<u8>, Memory>
     requires { IfSome text (λ own. own.items ≡ present (session_history course.now)) }
@@ -49,7 +39,7 @@ pub(crate) fn own_text(course: &Course, text: Option<Vec<u8>>) -> Result<Vec<u8>
     }
 }
 
-/// The same; its digest is then known where those of the texts before it are.
+/// The same; its digest is then known where those of the texts before it are, as far as memory allows.
 pub(crate) fn known_text(
     course: &Course,
     digests: &mut Vec<[u8; 32]>,
@@ -61,7 +51,12 @@ pub(crate) fn known_text(
     ensures text { IfOk result (λ own. own.items ≡ present (session_history course.now)) }
 {
     let text = own_text(course, text)?;
-    learn(digests, course, text.as_slice());
+    let _tree = course.present();
+    let cursor = course.cursor() as usize;
+    if digests.len() != cursor || digests.reserve(1).is_err() {
+        return Ok(text);
+    }
+    digests.push(Sha256::digest(text.as_slice())).unwrap();
     Ok(text)
 }
 
@@ -82,16 +77,6 @@ pub(crate) fn written_since(
     let text = known_text(course, digests, None)?;
     let journal = journal_by(course, digests.as_slice(), text.as_slice())?;
     Ok(Some(Written { journal, text }))
-}
-
-/// The text that was written, which the file is to hold at the next action.
-pub(crate) fn text_written(written: Result<Option<Written>, Memory>) -> Option<Vec<u8>>
-    ensures { (s : SessionState) (from : ℕ) → IsWrittenSince s from written → IfSome result (λ text. text.items ≡ present (session_history s)) }
-{
-    match written {
-        Ok(Some(written)) => Some(written.text),
-        Ok(None) | Err(_) => None,
-    }
 }
 
 /// Keeps an answer: where something is to be written, replaces the journal and then the file, which is still to hold the text `before`.

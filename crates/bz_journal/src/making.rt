@@ -11,7 +11,6 @@ use bz_layout::{SetFault, layout_is_accepted, text_of_file, text_windows};
 use bz_passes::{tidy, tidy_windows};
 use bz_rule::{Names, take_apart};
 use bz_value::{File, Refusal, Window};
-use std::alloc::Global;
 
 /// The lines of a tidy value that are other ones than in a tree.
 #[derive(Drop)]
@@ -41,7 +40,6 @@ fn refusal_of(fault: SetFault) -> Refusal
 /// The lines of a tidy value in these windows, in which alone it is another one than that of a tree, and how many bytes its layout has. The tree is
 /// the layout of a tidy value, and has `len` bytes. Errors: those of a layout.
 fn lines_of_windows(
-    alloc: Global,
     windows: &[Window],
     file: &File,
     tree: &Tree,
@@ -58,7 +56,7 @@ fn lines_of_windows(
 {
     layout_is_accepted();
     reads_back(tree);
-    let _items = &file.items;
+    let alloc = file.items.alloc();
     let laid = text_windows(alloc, file, windows, tree, len)?;
     let length = laid.length;
     let lines = read_windows(alloc, tree, laid.windows)?;
@@ -69,7 +67,6 @@ fn lines_of_windows(
 /// layout of a tidy value, and has `len` bytes; there may be an index of the names in that value. Errors: `TooLarge`, `TooDeep`; `Memory`: a growth
 /// was refused.
 pub(crate) fn made_by_windows(
-    alloc: Global,
     mut windows: Items<Window>,
     mut file: File,
     tree: &Tree,
@@ -83,13 +80,13 @@ pub(crate) fn made_by_windows(
     requires len { len ≡ length (spell_node tree.now) }
     ensures { MakesLines file tree.now result }
 {
-    let _items = &file.items;
+    let alloc = file.items.alloc();
     if tidy_windows(alloc, &mut file, &mut windows).is_err() {
         take_apart(file);
         return Err(Refusal::Memory);
     }
     let names = outlives(names, windows.as_slice(), file.items.as_slice());
-    match lines_of_windows(alloc, windows.as_slice(), &file, tree, len) {
+    match lines_of_windows(windows.as_slice(), &file, tree, len) {
         Ok((windows, length)) => Ok(Made {
             windows,
             value: Some(file),
@@ -116,16 +113,11 @@ fn kept_beside(file: File, tree: &Tree, text: &[u8]) -> Option<File>
 
 /// The lines of a value by the text of its layout, which has about `about` bytes, whatever the value and the tree have to do with each other.
 /// Errors: `TooLarge`, `TooDeep`; `Memory`: a growth was refused.
-pub(crate) fn made_by_text(
-    alloc: Global,
-    file: File,
-    tree: &Tree,
-    about: usize,
-) -> Result<Made, Refusal>
+pub(crate) fn made_by_text(file: File, tree: &Tree, about: usize) -> Result<Made, Refusal>
     requires { IsBuild tree.now }
     ensures { MakesLines file tree.now result }
 {
-    let _items = &file.items;
+    let alloc = file.items.alloc();
     let tidy = tidy(alloc, file)?;
     let text = match text_of_file(alloc, &tidy, about) {
         Ok(text) => text,
@@ -135,16 +127,14 @@ pub(crate) fn made_by_text(
         }
     };
     let value = kept_beside(tidy, tree, text.as_slice());
-    match read_text(alloc, tree, text.as_slice()) {
-        Ok(windows) => Ok(Made {
-            windows,
-            value,
-            names: None,
-            length: text.len(),
-        }),
-        Err(_) => {
-            drop(value);
-            Err(Refusal::Memory)
-        }
-    }
+    let Ok(windows) = read_text(alloc, tree, text.as_slice()) else {
+        drop(value);
+        return Err(Refusal::Memory);
+    };
+    Ok(Made {
+        windows,
+        value,
+        names: None,
+        length: text.len(),
+    })
 }

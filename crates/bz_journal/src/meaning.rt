@@ -23,14 +23,14 @@ pub(crate) fn printed_answer(command: &Command, printed: Text) -> Option<Text>
 }
 
 /// The value of a tree: the one that is kept, or one that is made. The error: memory was refused.
-pub(crate) fn value_of(alloc: Global, kept: Option<File>, tree: &Tree) -> Result<File, Memory>
+pub(crate) fn value_of(kept: Option<File>, tree: &Tree) -> Result<File, Memory>
     requires build { IsBuild tree.now }
     requires kept { IfSome kept (λ items. items ≡ view_of tree.now) }
     ensures { IfOk result (λ file. file ≡ view_of tree.now) }
 {
     match kept {
         Some(file) => Ok(file),
-        None => view(alloc, tree),
+        None => view(tree.root.parts.alloc(), tree),
     }
 }
 
@@ -72,7 +72,7 @@ pub(crate) fn meant(
 {
     reads_back(&tree);
     let mut lookups = Lookups::none();
-    look_up_lines(alloc, command, target, &mut lookups, &tree)?;
+    look_up_lines(command, target, &mut lookups, &tree)?;
     let mut file = into_view(alloc, tree)?;
     match run_beside(alloc, command, target, current, &lookups, len, &mut file) {
         Ok(ran) => {
@@ -81,10 +81,7 @@ pub(crate) fn meant(
                 take_apart(file);
                 return Ok((None, printed));
             }
-            match written_text(alloc, file, len) {
-                Ok(text) => Ok((Some(text), printed)),
-                Err(refusal) => Err(refusal),
-            }
+            Ok((Some(written_text(alloc, file, len)?), printed))
         }
         Err(refusal) => {
             take_apart(file);

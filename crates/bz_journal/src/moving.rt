@@ -1,7 +1,8 @@
 //! The lines on which the statements of a file begin, where one of its parts is exchanged: those after it move.
-ghost use Rattle.std.specs.Prelude.{◌≡◌, ◌≤◌, ◌++◌, ◌∷◌, [], List, ℕ, IfSome, IsTrue, length, map};
+ghost use Rattle.std.specs.Prelude.{◌≡◌, ◌++◌, ◌∷◌, [], List, ℕ, IfSome, IsTrue};
+ghost use Rattle.std.specs.List.{AllByRecursion};
 ghost use Rattle.std.specs.Option.{option_copied};
-ghost use Rattle.bz_journal.specs.Clauses.{AreThere, IsLike, IsLineOfOne, fronts, fronts_in, is_node, lines_of, moved, moved_from, newlines, node_parts, spell_part, with_windows};
+ghost use Rattle.bz_journal.specs.Clauses.{AreThere, HasOne, IsLike, IsLineOfOne, fronts_in, is_node, lines_of, moved, moved_from, newlines, node_parts, spell_part, with_windows};
 
 use bz_edit::PartWindow;
 use bz_grammar::{LENGTH_LIMIT, Part, Tree, first_of};
@@ -42,16 +43,19 @@ fn line_of_one(part: &Part) -> Option<&[Part]>
     Some(parts)
 }
 
+/// Whether a part of a file is such a line.
+#[tactic(auto, unfolding(crate::specs::private::Making::HasOne))]
+fn holds_one(part: &Part) -> bool
+    ensures { IsTrue result → HasOne part.now }
+{
+    line_of_one(part).is_some()
+}
+
 /// Whether each of these parts of a file is such a line.
 fn hold_one_each(parts: &[Part]) -> bool
-    ensures { IsTrue result → (front : List ℕ) → length (fronts front parts.now) ≡ length parts.now }
+    ensures { IsTrue result → AllByRecursion HasOne parts.now }
 {
-    for part in parts {
-        if line_of_one(part).is_none() {
-            return false;
-        }
-    }
-    true
+    parts.iter().all(holds_one)
 }
 
 /// The gap in front of the statement of such a line; none of any other part.
@@ -82,26 +86,14 @@ fn moved(line: u32, gone: u32, come: u32) -> Option<u32>
     line.checked_add(come)?.checked_sub(gone)
 }
 
-/// Moves all lines. False where one would be past what a line may be; some are moved then.
-fn move_all(lines: &mut [u32], gone: u32, come: u32) -> bool
-    ensures { IsTrue result → lines.new ≡ map (moved gone come) lines.old }
+/// Moves the lines from a place on. None where one would be past what a line may be; some are moved then.
+fn move_from(lines: &mut [u32], from: usize, gone: u32, come: u32) -> Option<()>
+    ensures { IfSome result (λ _. lines.new ≡ moved_from from gone come lines.old) }
 {
-    for line in lines.iter_mut() {
-        let Some(next) = moved(*line, gone, come) else {
-            return false;
-        };
-        *line = next;
+    for at in from..lines.len() {
+        lines[at] = moved(lines[at], gone, come)?;
     }
-    true
-}
-
-/// Moves the lines from a place on. False where one would be past what a line may be; some are moved then.
-fn move_from(lines: &mut [u32], from: usize, gone: u32, come: u32) -> bool
-    requires { from ≤ length lines.old }
-    ensures { IsTrue result → lines.new ≡ moved_from from gone come lines.old }
-{
-    let later = &mut lines[from..];
-    move_all(later, gone, come)
+    Some(())
 }
 
 /// The lines on which the statements of the tree with these windows begin, by those of the present one; none where they are to be counted anew.
@@ -131,8 +123,6 @@ pub(crate) fn begins_after(
         return None;
     }
     let (gone, come) = alike(&parts[place], line)?;
-    if !move_from(begins.as_mut_slice(), from, gone, come) {
-        return None;
-    }
+    move_from(begins.as_mut_slice(), from, gone, come)?;
     Some(begins)
 }

@@ -40,11 +40,8 @@ fn all_listed(index: &Names, windows: &[Window], items: &[Item]) -> bool
         if window.gone != count || window.from > left.len() || count > left.len() - window.from {
             return false;
         }
-        if !are_listed(
-            index,
-            at + window.from,
-            &left[window.from..window.from + count],
-        ) {
+        let come = &left[window.from..window.from + count];
+        if !are_listed(index, at + window.from, come) {
             return false;
         }
         at += window.from + count;

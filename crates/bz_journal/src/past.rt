@@ -9,9 +9,7 @@ use crate::alone::{Alone, of_first, taken_up};
 use crate::course::{Course, MOST_NOTE, begin};
 use crate::digests::listed_by;
 use crate::doing::{Seen, act};
-use crate::keeping::{
-    KeepFault, known_text, own_text, persist, text_written, unkept, written_since,
-};
+use crate::keeping::{KeepFault, known_text, own_text, persist, written_since};
 use crate::meaning::meant;
 use crate::session::Session;
 use bz_command_syntax::Command;
@@ -208,14 +206,14 @@ impl Past {
         self.make_course();
         let course = match &mut self.form {
             Form::Course(course) => course,
-            Form::Alone(texts) => return unkept(texts.wanting(action, note)),
+            Form::Alone(texts) => return texts.wanting(action, note).map_err(KeepFault::Refused),
         };
         let standing = known_text(course, &mut self.digests, self.text.take());
         let from = course.cursor();
         let answer = act_in(course, &mut self.digests, &mut self.seen, action, note);
         let written = written_since(course, &mut self.digests, from);
         let kept = persist(course.alloc(), answer, standing, &written, file, files);
-        self.text = text_written(written);
+        self.text = written.ok().flatten().map(|written| written.text);
         kept
     }
 

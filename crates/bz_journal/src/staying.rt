@@ -1,5 +1,5 @@
 //! Whether a tree stays the same one with other parts in it.
-ghost use Rattle.std.specs.Prelude.{◌≡◌, ◌↔◌, ◌≤◌, ◌+◌, IsTrue, drop, length, take};
+ghost use Rattle.std.specs.Prelude.{◌≡◌, ◌↔◌, ◌≤◌, IsTrue, drop, length, take};
 ghost use Rattle.bz_edit.specs.Windows.{AreThere, window_parts};
 
 use bz_edit::PartWindow;
@@ -22,18 +22,6 @@ fn has_there(parts: &[Part], at: usize, others: &[Part]) -> bool
     true
 }
 
-/// Whether the parts have the same from two places on, as many as `count` says.
-fn repeat(parts: &[Part], at: usize, other: usize, count: usize) -> bool
-    requires first { at ≤ length parts.now }
-    requires second { other + count ≤ length parts.now }
-    ensures { IsTrue result ↔ (take count (drop at parts.now) ≡ take count (drop other parts.now)) }
-{
-    if at == other {
-        return true;
-    }
-    has_there(parts, at, &parts[other..other + count])
-}
-
 /// Whether parts stay the same with these windows. Where as many parts came as went only those of the windows are looked at.
 pub(crate) fn stay(windows: &[PartWindow], parts: &[Part]) -> bool
     requires { AreThere windows.now parts.now }
@@ -42,7 +30,8 @@ pub(crate) fn stay(windows: &[PartWindow], parts: &[Part]) -> bool
     let mut old = 0;
     let mut new = 0;
     for window in windows {
-        if !repeat(parts, new, old, window.from) {
+        let between = &parts[old..old + window.from];
+        if new != old && !has_there(parts, new, between) {
             return false;
         }
         new += window.from;

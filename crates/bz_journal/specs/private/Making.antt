@@ -59,6 +59,10 @@ pub record IsLineOfOne (part : Part) (parts : List Part) : Type 0 where
   pub count : length parts ≡ 2
   pub begun : (front : List ℕ) → fronts_in front (node_parts part) ≡ (front ++ first_gap (flat_map leaves_part (take 1 parts))) ∷ []
 
+-- there are such parts
+unfoldable pub HasOne : Part → Type 0
+HasOne part = (parts : List Part) × IsLineOfOne part parts
+
 -- The statements of both parts begin on the same lines, where the parts do, and this many newlines are in the one and in the other.
 pub record IsLike (old new : Part) (gone come : ℕ) : Type 0 where
   pub begun : (front : List ℕ) → fronts_in front (node_parts new) ≡ fronts_in front (node_parts old)

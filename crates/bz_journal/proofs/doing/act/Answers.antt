@@ -1,4 +1,4 @@
-use Rattle.std.proofs.Common.{ap, subst, sym}
+use Rattle.std.proofs.Common.{◌-◌, ap, arith, subst, sym}
 use Rattle.bz_journal.specs.Clauses.{Action, Do, HasActed, Redo, Undo, action_in}
 use Rattle.bz_journal.proofs.Acting.{has_gone}
 use Rattle.bz_journal.proofs.AtOnce.{acted_at_once}
@@ -6,8 +6,10 @@ use Rattle.bz_journal.proofs.doing.act.Goals as goal
 
 pub returns-in-Some-clause-acted : goal.returns-in-Some-clause-acted
 returns-in-Some-clause-acted c =
-    acted_at_once (action_in c.args.action.now) c.args.note.now c.args.course.now c.cursor.result c.steps_ahead.result c.in-Some.answer c.present-before.ensures.within
-    c.cursor.ensures c.steps_ahead.ensures.steps c.steps_ahead.ensures.texts c.in-Some.ensures
+    acted_at_once (action_in c.args.action.now) c.args.note.now c.args.course.now c.cursor-cursor.result (c.steps.result - c.cursor-cursor.result) c.in-Some.answer
+    c.present-before.ensures.within c.cursor-cursor.ensures
+    (omega (arith, c.cursor-cursor.ensures, c.steps.ensures.steps, c.steps.ensures.texts, c.present-before.ensures.within))
+    (omega (arith, c.cursor-cursor.ensures, c.steps.ensures.texts, c.present-before.ensures.within)) c.in-Some.ensures
 
 pub returns-in-Some-answer-clause-acted : goal.returns-in-Some-answer-clause-acted
 returns-in-Some-answer-clause-acted c =

@@ -46,6 +46,8 @@ returns-in-Ok-take_up-clause-seen c =
         named = subst (λ (xs : List Item). IfSome c.in-Ok.made.names (λ index. IsIndexOf index xs)) seen made.named;
         begun = subst (λ (n : Node). IfSome c.begins_after-lines.result (λ own. own ≡ lines_of n)) moved c.begins_after-lines.ensures;
       };
-      written = λ _. subst (λ (n : Node). IsWritten (view_of n) n) c.present.ensures.tree (subst (λ (xs : List Item). IsWritten xs here) (sym laid.1) laid.0);
-      length_is = λ _. made.length_is ∙ sym (ap length laid.2) ∙ ap (λ (n : Node). length (spell_node n)) c.present.ensures.tree;
+      written = (
+        subst (λ (n : Node). IsWritten (view_of n) n) c.present.ensures.tree (subst (λ (xs : List Item). IsWritten xs here) (sym laid.1) laid.0),
+        made.length_is ∙ sym (ap length laid.2) ∙ ap (λ (n : Node). length (spell_node n)) c.present.ensures.tree,
+      );
     }

@@ -7,5 +7,5 @@ use Rattle.bz_journal.proofs.filling.length_alone.Goals as goal
 
 pub invariant_of-file : goal.invariant_of-file
 invariant_of-file c =
-    let one : c.from_vec-items.result ≡ c.args.item ∷ [] = grind (arith, common_steps) in
+    let one : c.push.new.self ≡ c.args.item ∷ [] = grind (arith, common_steps) in
     subst (λ (items : List Item). IsProper items) (sym one) (All-from_recursion IsProperItem (c.args.item ∷ []) (c.requires, tt))

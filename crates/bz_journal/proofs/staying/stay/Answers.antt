@@ -1,22 +1,31 @@
-use Rattle.std.proofs.Common.{◌≡◌, ◌+◌, ◌∙◌, List, drop, length, subst, sym, take}
+use Rattle.std.proofs.Common.{◌≡◌, ◌+◌, ◌-◌, ◌∙◌, arith, ℕ, List, ap, drop, length, subst, sym, take}
 use Rattle.std.proofs.lemmas.Bool.{eq-eqb, eqb-true, false≢true}
 use Rattle.bz_grammar.specs.declared.tree.Part.{Part}
-use Rattle.bz_journal.proofs.PassedWindows.{all_passed, parts_differ, passed_next}
+use Rattle.bz_journal.proofs.PassedWindows.{all_passed, parts_differ, passed_next, stays_between}
 use Rattle.bz_journal.proofs.staying.stay.Goals as goal
+use Rattle.bz_journal.proofs.staying.stay.Goals.{else-new-old-via-then-new-old+else-not-has_there, else-new-old-via-else-new-old}
 
-pub returns-then-not-has_there : goal.returns-then-not-has_there
-returns-then-not-has_there c = (
+pub returns-then-not-has_there-2 : goal.returns-then-not-has_there-2
+returns-then-not-has_there-2 c = (
   λ none. absurd (false≢true none),
   λ stays. absurd (parts_differ c.args.windows.now c.args.parts.now c.loop-window.window-index c.loop-window.old c.loop-window.new c.window-item.result c.loop-window-test.true c.window-item.is c.loop-window.invariant
-      (λ same. false≢true (sym c.if-not-has_there.true
-      ∙ c.has_there.ensures.1 (subst (λ (xs : List Part). take (length xs) (drop (c.loop-window.new + c.window-item.result.from) c.args.parts.now) ≡ xs) (sym c.as_slice.ensures) same))) stays),
+      (λ same. false≢true (sym c.if-not-has_there-2.true
+      ∙ c.has_there-in-loop-window.ensures.1 (subst (λ (xs : List Part). take (length xs) (drop (c.loop-window.new + c.window-item.result.from) c.args.parts.now) ≡ xs) (sym c.as_slice.ensures) same))) stays),
 )
 
 pub loop-window-preserved : goal.loop-window-preserved
-loop-window-preserved c = rw c.len-new.ensures
+loop-window-preserved c =
+    let from = c.window-item.result.from in
+    let between : take from (drop c.loop-window.new c.args.parts.now) ≡ take from (drop c.loop-window.old c.args.parts.now) = elim c.else-new-old.branch [
+      | else-new-old-via-then-new-old+else-not-has_there w ↦
+          stays_between c.args.windows.now c.args.parts.now c.loop-window.window-index c.loop-window.old c.loop-window.new c.window-item.result c.loop-window-test.true c.window-item.is c.loop-window.invariant
+          (c.loop-window.old + from - c.loop-window.old) (omega arith) (w.has_there.ensures.0 w.if-not-has_there.false)
+      | else-new-old-via-else-new-old w ↦ ap (λ (n : ℕ). take from (drop n c.args.parts.now)) w.if-new-old.false
+    ] in
+    rw c.len-new.ensures
     (passed_next c.args.windows.now c.args.parts.now c.loop-window.window-index c.loop-window.old c.loop-window.new c.window-item.result c.loop-window-test.true c.window-item.is c.loop-window.invariant
-    (c.repeat.ensures.0 c.if-not-repeat.false)
-    (subst (λ (xs : List Part). take (length xs) (drop (c.loop-window.new + c.window-item.result.from) c.args.parts.now) ≡ xs) c.as_slice.ensures (c.has_there.ensures.0 c.if-not-has_there.false)))
+    between
+    (subst (λ (xs : List Part). take (length xs) (drop (c.loop-window.new + from) c.args.parts.now) ≡ xs) c.as_slice.ensures (c.has_there-in-loop-window.ensures.0 c.if-not-has_there-2.false)))
 
 pub returns : goal.returns
 returns c =

@@ -1,23 +1,27 @@
-use Rattle.std.proofs.Common.{ℕ, subst, sym}
+use Rattle.std.proofs.Common.{◌≡◌, ℕ, rules, subst, sym}
+use Rattle.std.specs.Option.{option_flatten, option_map}
+use Rattle.std.specs.Result.{result_ok}
 use Rattle.bz_journal.specs.Clauses.{Action, History, IsSeenIn, IsWrittenSince, Keeps, KeepsFile, KeepsPair, SessionState, action_in, session_history}
 use Rattle.bz_journal.specs.Forms.{past_history}
+use Rattle.bz_journal.specs.declared.keeping.Written.{Written}
 use Rattle.bz_journal.specs.declared.past.Form.{Form}
 use Rattle.bz_journal.proofs.InForm.{made_as, same_history}
-use Rattle.bz_journal.proofs.Persisting.{file_unkept}
+use Rattle.bz_journal.proofs.Persisting.{file_unkept, text_kept}
 use Rattle.bz_journal.proofs.past.Past.keep_noted.Goals as goal
 
 pub returns-in-Alone-clause-pair : goal.returns-in-Alone-clause-pair
 returns-in-Alone-clause-pair g c =
-    subst (λ (form : Form). KeepsFile g.F.Files c.args.file.now (past_history form) c.in-Alone.texts c.unkept.result c.args.files.now c.args.files.now)
+    subst (λ (form : Form). KeepsFile g.F.Files c.args.file.now (past_history form) c.in-Alone.texts c.map_err.result c.args.files.now c.args.files.now)
     (sym (made_as c.args.self.now _ _ _ c.make_course.ensures c.self.view_is c.in-Alone.is))
-    (file_unkept g.F.Files c.args.file.now c.in-Alone.texts c.args.files.now (g.met.F.Files.only_now c.args.files.now) c.wanting.result c.unkept.result c.unkept.ensures.ok c.unkept.ensures.err)
+    (file_unkept g.F.Files c.args.file.now c.in-Alone.texts c.args.files.now (g.met.F.Files.only_now c.args.files.now) c.wanting.result c.map_err.result c.map_err.ensures.cases)
 
 pub invariant_of-self-2 : goal.invariant_of-self-2
-invariant_of-self-2 g c = (
-  subst (λ (s : SessionState). IsSeenIn s.tree c.act_in-answer.new.seen) (sym c.written_since-written.ensures.stays) c.act_in-answer.ensures.seen,
-  c.written_since-written.ensures.first,
-  c.text_written.ensures c.written_since-written.new.course c.cursor-from.result c.written_since-written.ensures.written,
-)
+invariant_of-self-2 g c =
+    let text : c.map.result ≡ option_map (λ (w : Written). w.text) (option_flatten (result_ok c.written_since-written.result)) = search rules in (
+      subst (λ (s : SessionState). IsSeenIn s.tree c.act_in-answer.new.seen) (sym c.written_since-written.ensures.stays) c.act_in-answer.ensures.seen,
+      c.written_since-written.ensures.first,
+      text_kept c.written_since-written.new.course c.cursor-from.result c.written_since-written.result c.map.result c.written_since-written.ensures.written text,
+    )
 
 pub returns-clause-pair : goal.returns-clause-pair
 returns-clause-pair g c =

@@ -1,12 +1,12 @@
 use Rattle.std.proofs.Common.{◌≡◌, ◌+◌, length, map, take}
 use Rattle.bz_journal.specs.Clauses.{IsTrail, sha256, texts_of, trail_at}
-use Rattle.bz_journal.proofs.digests.hashed_from.Given as goal
+use Rattle.bz_journal.proofs.course.Course.hashed.Given as goal
 
 -- the tree is that of the text with this number, the texts stay, and the digests are those up to it
 abbrev pub invariant-loop-at : goal.invariant-loop-at
 invariant-loop-at l = record {
   trail : IsTrail (trail_at l.tree l.steps l.at);
-  texts : texts_of (trail_at l.tree l.steps l.at) ≡ texts_of (trail_at l.fn.tree l.fn.steps 0);
-  counted : length l.steps ≡ length l.fn.steps;
-  digests : l.digests.items ≡ map sha256 (take (l.at + 1) (texts_of (trail_at l.fn.tree l.fn.steps 0)));
+  texts : texts_of (trail_at l.tree l.steps l.at) ≡ texts_of (trail_at l.initial.tree l.initial.steps 0);
+  counted : length l.steps ≡ length l.initial.steps;
+  digests : l.digests.items ≡ map sha256 (take (l.at + 1) (texts_of (trail_at l.initial.tree l.initial.steps 0)));
 }
