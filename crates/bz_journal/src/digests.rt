@@ -47,10 +47,7 @@ pub(crate) fn journal_by(
 {
     match known(digests, course) {
         Some(digests) => course.journal(digests, text),
-        None => {
-            let hashed = course.hashed()?;
-            course.journal(hashed.as_slice(), text)
-        }
+        None => course.journal(course.hashed()?.as_slice(), text),
     }
 }
 

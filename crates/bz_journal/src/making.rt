@@ -100,17 +100,6 @@ pub(crate) fn made_by_windows(
     }
 }
 
-/// A value whose text is this; none where most of that is to be read, since the tree of it is not to be beside the value.
-fn kept_beside(file: File, tree: &Tree, text: &[u8]) -> Option<File>
-    ensures { IfSome result (λ own. own ≡ file) }
-{
-    if is_mostly_other(tree, text) {
-        take_apart(file);
-        return None;
-    }
-    Some(file)
-}
-
 /// The lines of a value by the text of its layout, which has about `about` bytes, whatever the value and the tree have to do with each other.
 /// Errors: `TooLarge`, `TooDeep`; `Memory`: a growth was refused.
 pub(crate) fn made_by_text(file: File, tree: &Tree, about: usize) -> Result<Made, Refusal>
@@ -126,7 +115,13 @@ pub(crate) fn made_by_text(file: File, tree: &Tree, about: usize) -> Result<Made
             return Err(refusal_of(fault));
         }
     };
-    let value = kept_beside(tidy, tree, text.as_slice());
+    // where most of the text is to be read, the tree of it is not to be beside the value
+    let value = if is_mostly_other(tree, text.as_slice()) {
+        take_apart(tidy);
+        None
+    } else {
+        Some(tidy)
+    };
     let Ok(windows) = read_text(alloc, tree, text.as_slice()) else {
         drop(value);
         return Err(Refusal::Memory);
