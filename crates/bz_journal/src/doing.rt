@@ -156,7 +156,6 @@ fn edit(
     ensures made { HasMade (Do command.now target.now) note.now course.old result course.new }
     ensures seen { IsSeenIn course.new.tree seen.new }
 {
-    let alloc = course.alloc();
     let here = course.present();
     reads_back(here);
     let again = seen.names_last;
@@ -173,7 +172,7 @@ fn edit(
         None => here.len(),
     };
     let lookups = &seen.lookups;
-    match run_beside(alloc, command, target, current, lookups, len, &mut file) {
+    match run_beside(command, target, current, lookups, len, &mut file) {
         Ok(ran) => {
             seen.names_last = ran.same_names && is_by_name(target);
             let printed = printed_answer(command, ran.printed);

@@ -37,7 +37,6 @@ pub(crate) fn value_of(kept: Option<File>, tree: &Tree) -> Result<File, Memory>
 /// Runs a command on a value, in place, by what was looked up; the value is that of a text of about `len` bytes. Errors: those of the command;
 /// `TooLarge` where what it makes is seen to be past the limit before it is made.
 pub(crate) fn run_beside(
-    alloc: Global,
     command: &Command,
     target: &Target,
     current: &[u8],
@@ -48,6 +47,7 @@ pub(crate) fn run_beside(
     requires { IfSome lookups.now.names (λ index. IsIndexOf index file.old) }
     ensures { RunsIn (effect command.now target.now current.now (lines_begun lookups.now) file.old) (printed command.now target.now current.now (lines_begun lookups.now) file.old) file.old result file.new }
 {
+    let alloc = file.items.alloc();
     let lines = lookups.begins();
     if overfills(Work::new(alloc, command, target, current, lines), len, file)? {
         return Err(Refusal::TooLarge);
@@ -74,7 +74,7 @@ pub(crate) fn meant(
     let mut lookups = Lookups::none();
     look_up_lines(command, target, &mut lookups, &tree)?;
     let mut file = into_view(alloc, tree)?;
-    match run_beside(alloc, command, target, current, &lookups, len, &mut file) {
+    match run_beside(command, target, current, &lookups, len, &mut file) {
         Ok(ran) => {
             let printed = printed_answer(command, ran.printed);
             if ran.windows.is_empty() {
