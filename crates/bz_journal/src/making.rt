@@ -100,6 +100,10 @@ pub(crate) fn made_by_windows(
     }
 }
 
+/// How many bytes a text has at least that is compared with the tree before it is read, since the value is given up where most of it is
+/// another one. The comparison takes a tenth of what a command on a shorter one does, and the value of that is not much.
+const LONG: usize = 2 << 20;
+
 /// The lines of a value by the text of its layout, which has about `about` bytes, whatever the value and the tree have to do with each other.
 /// Errors: `TooLarge`, `TooDeep`; `Memory`: a growth was refused.
 pub(crate) fn made_by_text(file: File, tree: &Tree, about: usize) -> Result<Made, Refusal>
@@ -115,8 +119,8 @@ pub(crate) fn made_by_text(file: File, tree: &Tree, about: usize) -> Result<Made
             return Err(refusal_of(fault));
         }
     };
-    // where most of the text is to be read, the tree of it is not to be beside the value
-    let value = if is_mostly_other(tree, text.as_slice()) {
+    // where most of a long text is to be read, the tree of it is not to be beside the value
+    let value = if text.len() >= LONG && is_mostly_other(tree, text.as_slice()) {
         take_apart(tidy);
         None
     } else {
