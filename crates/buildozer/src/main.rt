@@ -3,7 +3,7 @@
 
 use bz_buildozer::buildozer;
 use bz_files::DiskFiles;
-use bz_streams::{Device, Sink, process_words, report_named};
+use bz_streams::{Device, process_words, report_named};
 use std::alloc::AllocError;
 use std::process::ExitCode;
 
@@ -12,22 +12,17 @@ const USAGE: u8 = 1;
 
 const FAILED: u8 = 2;
 
-// The status of a run over the input, the outputs and the files of the process.
-fn run_words<E: Sink>(rt: &HostRuntime, words: &[String], err: &mut E) -> u8 {
-    let alloc = rt.alloc();
-    let mut input = Device::new(rt.stdin());
-    let mut out = Device::new(rt.stdout());
-    let mut files = DiskFiles::new(alloc, rt);
-    buildozer(alloc, words, &mut input, &mut out, err, &mut files).status
-}
-
-// The same over the words of the process. The error: memory was refused.
+// The status of a run over the words, the input, the outputs and the files of the process. The error: memory was refused.
 fn run(rt: &HostRuntime) -> Result<u8, AllocError> {
     let mut err = Device::new(rt.stderr());
     let Some(words) = process_words(rt, "buildozer", &mut err)? else {
         return Ok(USAGE);
     };
-    Ok(run_words(rt, &words, &mut err))
+    let alloc = rt.alloc();
+    let mut input = Device::new(rt.stdin());
+    let mut out = Device::new(rt.stdout());
+    let mut files = DiskFiles::new(alloc, rt);
+    Ok(buildozer(alloc, &words, &mut input, &mut out, &mut err, &mut files).status)
 }
 
 fn main(rt: HostRuntime) -> ExitCode {
