@@ -1,5 +1,5 @@
 -- What the windows that are made say of the layout.
-use Rattle.std.proofs.Common.{ℕ, suc, min, ◌^◌, ◌≡◌, ◌<◌, ◌≤◌, ◌-◌, List, [], ◌+◌, length, sym, ap, ◌∙◌, subst, arith, flat_map}
+use Rattle.std.proofs.Common.{ℕ, suc, Bool, min, ◌^◌, ◌≡◌, ◌<◌, ◌≤◌, ◌-◌, List, [], ◌+◌, length, sym, ap, ◌∙◌, subst, arith, flat_map}
 use Rattle.std.specs.Prelude.{Option, None, Some, MatchOption, Result, Ok, Err, IfOk}
 use Rattle.bz_edit.specs.Windows.{AreThere, window_parts, with_windows}
 use Rattle.bz_edit.specs.declared.part_windows.PartWindow.{PartWindow}
@@ -12,7 +12,7 @@ use Rattle.bz_layout.specs.Written.{layout}
 use Rattle.bz_layout.specs.declared.writer.TextWindow.{TextWindow}
 use Rattle.bz_layout.specs.declared.writer.Writer.{Writer}
 use Rattle.bz_layout.specs.private.Reached.{IsPut, gone_length, text_count}
-use Rattle.bz_layout.specs.private.Windows.{line_count_in, AreLinesOver}
+use Rattle.bz_layout.specs.private.Windows.{line_count_in, AreCounted}
 use Rattle.bz_layout.proofs.Reaching.{size_put, gone_most}
 use Rattle.bz_layout.proofs.Spelled.{laid_out_spelled}
 use Rattle.bz_layout.proofs.Windows.{length_lines}
@@ -47,9 +47,9 @@ whole_length tree items parts ts found w old gone less n h short same made lost 
     omega (arith, all, new, most, p.windows.count, p.windows.few, short, is, own, left, sum)
 
 -- what is made of the items of the file and the parts of the tree, over windows that count lines
-pub of_tree : {E : Type 0} (tree : Node) (file items : List Item) (parts : List Part) (windows counted : List Window) (lines : ℕ) (made : Result (Option Writer) E) → items ≡ file → parts ≡ tree.parts → IsProper file → lines ≡ length parts - 1 →
-    ((before : List Item) → line_count_in before ≡ lines → AreOver windows before items → AreLinesOver counted before items) →
-    IfOk made (λ found. (before : List Item) → lines_from [] before ≡ parts → IsProper items → AreLinesOver counted before items →
+pub of_tree : {E : Type 0} {said : Bool} (tree : Node) (file items : List Item) (parts : List Part) (windows counted : List Window) (lines : ℕ) (made : Result (Option Writer) E) → items ≡ file → parts ≡ tree.parts → IsProper file → lines ≡ length parts - 1 →
+    ((before : List Item) → line_count_in before ≡ lines → AreOver windows before items → AreCounted said counted before items) →
+    IfOk made (λ found. (before : List Item) → lines_from [] before ≡ parts → IsProper items → AreCounted said counted before items →
     MatchOption found (limit < length (layout items)) (λ w. IsPut parts (lines_from [] items) w.made w.bytes w.done)) →
     IfOk made (λ found. (before : List Item) → IsLayoutOf before tree → AreOver windows before file → MatchOption found (limit < length (layout file)) (λ w. IsPut tree.parts (lines_from [] file) w.made w.bytes w.done))
 of_tree tree file items parts windows counted lines (Err error) e f proper is over h = tt

@@ -1,6 +1,6 @@
 -- Windows of items: how many lines give way to them, and how deep the layout is.
 use Rattle.std.proofs.Common.{ℕ, zero, suc, ◌≡◌, ◌<◌, ◌≤◌, ◌-◌, List, [], ◌∷◌, ◌++◌, ◌+◌, length, get_or, take, drop, refl, sym, ap, ◌∙◌, subst, arith, length-drop, max, false, true, true≢false}
-use Rattle.std.proofs.lemmas.List.{drop-drop, drop_more}
+use Rattle.std.proofs.lemmas.List.{drop-drop, drop_more, drop-take, length-take-le}
 use Rattle.std.proofs.Math.Dec.{eqb}
 use Rattle.std.proofs.lemmas.Bool.{eqb-true}
 use Rattle.std.specs.Option.{option_eq}
@@ -10,7 +10,7 @@ use Rattle.bz_value.specs.declared.value.Item.{Item}
 use Rattle.bz_value.specs.declared.value.Item.TheVariants as i
 use Rattle.bz_value.specs.declared.windows.Window.{Window}
 use Rattle.bz_value.specs.Windows.{AreOver, AreWithin}
-use Rattle.bz_layout.specs.private.Windows.{line_count_in, come_items, old_lines, come_end, AreLinesOver}
+use Rattle.bz_layout.specs.private.Windows.{line_count_in, come_items, old_count, old_lines, come_end, AreCounted, AreLinesOver, HaveLines}
 use Rattle.bz_layout.proofs.Windows.{cut_window}
 use Rattle.bz_layout.specs.Depths.{depth_items}
 use Rattle.bz_layout.specs.LaidOut.{laid_out}
@@ -53,6 +53,49 @@ all_lines (w ∷ ws) xs ys e h =
     let most = count_most w.gone (drop w.from xs) in
     let rest = lines_most ws (drop (w.from + w.gone) xs) (drop (w.from + w.come) ys) h.3 in
     (w.gone, h.0, h.1, h.2, omega (arith, front, all, most, rest, e), all_lines ws (drop (w.from + w.gone) xs) (drop (w.from + w.come) ys) (omega (arith, front, all, most, rest, e)) h.3)
+
+-- where each item that was there has a line, so do those of a part of them, and each window counts lines
+line_most : (xs : List Item) → line_count_in xs ≤ length xs
+line_most [] = omega arith
+line_most (i.Block texts ∷ xs) = let rest : line_count_in xs ≤ length xs = line_most xs in omega (arith, rest)
+line_most (i.Stmt x ∷ xs) = let rest : line_count_in xs ≤ length xs = line_most xs in omega (arith, rest)
+
+pub each_cut : (n : ℕ) (xs : List Item) → line_count_in xs ≡ length xs → (line_count_in (take n xs) ≡ length (take n xs)) × (line_count_in (drop n xs) ≡ length (drop n xs))
+each_cut zero xs e = (refl, e)
+each_cut (suc n) [] e = (refl, refl)
+each_cut (suc n) (i.Block texts ∷ xs) e = absurd (omega (arith, e, line_most xs))
+each_cut (suc n) (i.Stmt x ∷ xs) e = let rest = each_cut n xs (omega (arith, e)) in (ap suc rest.0, rest.1)
+
+pub each_between : (said : Bool) (count at : ℕ) (before items : List Item) → at < count → take count before ≡ take count items → HaveLines said before → HaveLines said (take (count - at) (drop at items))
+each_between said count at before items h same each = λ is.
+    let both : at + (count - at) ≡ count = omega (arith, h) in
+    subst (λ ys. line_count_in ys ≡ length ys) (ap (drop at) same ∙ (ap (λ n. drop at (take n items)) (sym both) ∙ drop-take at (count - at) items)) (each_cut at (take count before) (each_cut count before (each is)).0).1
+
+each_over : (ws : List Window) (xs ys : List Item) → line_count_in xs ≡ length xs → AreOver ws xs ys → AreLinesOver ws xs ys
+each_over [] xs ys e h = h
+each_over (w ∷ ws) xs ys e h =
+    let here : length (take w.gone (drop w.from xs)) ≡ w.gone = length-take-le w.gone (drop w.from xs) (omega (arith, h.0, length-drop w.from xs)) in
+    (w.gone, h.0, h.1, h.2, (each_cut w.gone (drop w.from xs) (each_cut w.from xs e).1).0 ∙ here, each_over ws (drop (w.from + w.gone) xs) (drop (w.from + w.come) ys) (each_cut (w.from + w.gone) xs e).1 h.3)
+
+-- how many items there were
+old_size : (ws : List Window) (xs ys : List Item) (k : ℕ) → AreOver ws xs ys → old_count ws (k + length ys) ≡ k + length xs
+old_size [] xs ys k h = ap (λ zs. k + length zs) (sym h)
+old_size (w ∷ ws) xs ys k h =
+    let past : List Item = drop (w.from + w.come) ys in
+    let next : k + length ys - w.come + w.gone ≡ (k + (w.from + w.gone)) + length past = omega (arith, h.1, length-drop (w.from + w.come) ys) in
+    ap (old_count ws) next ∙ (old_size ws (drop (w.from + w.gone) xs) past (k + (w.from + w.gone)) h.3 ∙ omega (arith, h.0, length-drop (w.from + w.gone) xs))
+
+-- as many lines as items
+pub all_counted : (ws : List Window) (xs ys : List Item) (lines : ℕ) → line_count_in xs ≡ lines → lines ≡ old_count ws (length ys) → AreOver ws xs ys → AreCounted true ws xs ys
+all_counted ws xs ys lines many is h =
+    let all : length ys ≡ 0 + length ys = omega arith in
+    let size : 0 + length xs ≡ length xs = omega arith in
+    let each : line_count_in xs ≡ length xs = many ∙ (is ∙ (ap (old_count ws) all ∙ (old_size ws xs ys 0 h ∙ size))) in
+    (each_over ws xs ys each h, λ _. each)
+
+-- where that isn't said, nothing is
+pub not_said : (before : List Item) → HaveLines false before
+not_said before = λ said. absurd (true≢false (sym said))
 
 -- a count that is this one
 pub same_count : (found : Option ℕ) (n m : ℕ) → option_eq eqb found (Some n) ≡ true → IfSome found (λ k. k ≡ m) → n ≡ m

@@ -1,5 +1,5 @@
 -- What each item does to the windows that are made: those that and those that stay.
-use Rattle.std.proofs.Common.{ℕ, zero, suc, true, false, ◌≡◌, ◌<◌, ◌≤◌, ◌-◌, List, [], ◌∷◌, ◌++◌, ◌+◌, length, get_or, take, drop, refl, sym, ap, ◌∙◌, subst, arith, flat_map, append-nil, length-append, length-drop}
+use Rattle.std.proofs.Common.{ℕ, zero, suc, Bool, true, false, ◌≡◌, ◌<◌, ◌≤◌, ◌-◌, List, [], ◌∷◌, ◌++◌, ◌+◌, length, get_or, take, drop, refl, sym, ap, ◌∙◌, subst, arith, flat_map, append-nil, length-append, length-drop}
 use Rattle.std.proofs.lemmas.List.{drop_more, drop_all, drop-drop, drop-take, drop_at, get_or-take}
 use Rattle.std.specs.Prelude.{slice_get}
 use Rattle.std.specs.List.{AllByRecursion}
@@ -26,8 +26,9 @@ use Rattle.bz_layout.specs.Written.{comment_lines}
 use Rattle.bz_layout.specs.declared.writer.OpenWindow.{OpenWindow}
 use Rattle.bz_layout.specs.declared.writer.Writer.{Writer}
 use Rattle.bz_layout.specs.private.Reached.{Reached, AreReached, IsAt, HasGap, HasNext, Passes, own_text}
-use Rattle.bz_layout.specs.private.Windows.{line_count_in, statement_gap, AreLinesOver}
+use Rattle.bz_layout.specs.private.Windows.{line_count_in, statement_gap, AreCounted, AreLinesOver}
 use Rattle.bz_value.specs.declared.windows.Window.{Window}
+use Rattle.bz_layout.proofs.LineWindows.{each_cut}
 use Rattle.bz_layout.proofs.LegalParts.{Begin, begin_with, laid_out_good}
 use Rattle.bz_layout.proofs.Pushing.{pushed_none}
 use Rattle.bz_layout.proofs.Reaching.{put_line, take_lines, skip_lines, opened, reach_as}
@@ -211,35 +212,35 @@ module _ {parts all : List Part} where
 -- ---- windows
 
 -- what is left of all windows
-abbrev pub IsOver : List Part → List Part → List Window → Writer → List Item → Type 0
-IsOver parts all ws w items = (before : List Item) × AreLinesOver ws before items × AreReached parts all w before items
+abbrev pub IsOver : Bool → List Part → List Part → List Window → Writer → List Item → Type 0
+IsOver said parts all ws w items = (before : List Item) × AreCounted said ws before items × AreReached parts all w before items
 
-module _ {parts all : List Part} where
+module _ {said : Bool} {parts all : List Part} where
   -- a turn of the loop over them
-  pub over_turn : (w v u : Writer) (ws : List Window) (x : Window) (items past : List Item) (part : ℕ) → past ≡ drop (x.from + x.come) items → IsOver parts all (x ∷ ws) w items →
-      Passes parts x.from x.from items w v → (v.part + x.gone ≤ length parts → part ≡ v.part + x.gone) →
+  pub over_turn : (w v u : Writer) (ws : List Window) (x : Window) (items past : List Item) (part : ℕ) → past ≡ drop (x.from + x.come) items → IsOver said parts all (x ∷ ws) w items →
+      Passes said parts x.from x.from items w v → (v.part + x.gone ≤ length parts → part ≡ v.part + x.gone) →
       ((before : List Item) → AreReached parts all (record v { window = record (v.window) { is_open = true }; part = part }) before (drop x.from items) → AreReached parts all u before (drop (x.from + x.come) items)) →
-      IsOver parts all ws u past
-  over_turn w v u ws x items past part is_past (xs, (gone, old, new, same, count, rest), r) step gone_past put =
-      let taken = took v (drop x.from xs) (drop x.from items) gone x.gone part (omega (arith, length-drop x.from xs, old)) count gone_past (step all xs (omega (arith, old)) (sym same) r) in (
+      IsOver said parts all ws u past
+  over_turn w v u ws x items past part is_past (xs, ((gone, old, new, same, count, rest), each), r) step gone_past put =
+      let taken = took v (drop x.from xs) (drop x.from items) gone x.gone part (omega (arith, length-drop x.from xs, old)) count gone_past (step all xs (omega (arith, old)) (sym same) each r) in (
         drop gone (drop x.from xs),
-        subst (λ zs. AreLinesOver ws zs past) (sym (drop-drop gone x.from xs)) (subst (AreLinesOver ws (drop (x.from + gone) xs)) (sym is_past) rest),
+        (subst (λ zs. AreLinesOver ws zs past) (sym (drop-drop gone x.from xs)) (subst (AreLinesOver ws (drop (x.from + gone) xs)) (sym is_past) rest), λ is. (each_cut gone (drop x.from xs) (each_cut x.from xs (each is)).1).1),
         subst (AreReached parts all u (drop gone (drop x.from xs))) (sym is_past) (put (drop gone (drop x.from xs)) taken),
       )
 
-  pub over_next : (w : Writer) (ws : List Window) (k : ℕ) (d : Window) (items : List Item) → k < length ws → IsOver parts all (drop k ws) w items → IsOver parts all (get_or ws k d ∷ drop (k + 1) ws) w items
-  over_next w ws k d items h over = subst (λ vs. IsOver parts all vs w items) (drop_more ws k d h) over
+  pub over_next : (w : Writer) (ws : List Window) (k : ℕ) (d : Window) (items : List Item) → k < length ws → IsOver said parts all (drop k ws) w items → IsOver said parts all (get_or ws k d ∷ drop (k + 1) ws) w items
+  over_next w ws k d items h over = subst (λ vs. IsOver said parts all vs w items) (drop_more ws k d h) over
 
-  pub over_none : (w : Writer) (ws : List Window) (k : ℕ) (items : List Item) → length ws ≤ k → IsOver parts all (drop k ws) w items → IsOver parts all [] w items
-  over_none w ws k items h over = subst (λ vs. IsOver parts all vs w items) (drop_all k ws h) over
+  pub over_none : (w : Writer) (ws : List Window) (k : ℕ) (items : List Item) → length ws ≤ k → IsOver said parts all (drop k ws) w items → IsOver said parts all [] w items
+  over_none w ws k items h over = subst (λ vs. IsOver said parts all vs w items) (drop_all k ws h) over
 
   -- no window is left: what is left of both is the same
-  pub over_last : (w v : Writer) (ws : List Window) (k : ℕ) (items : List Item) → length ws ≤ k → IsOver parts all (drop k ws) w items → Passes parts (length items) (length items) items w v → AreReached parts all v [] []
+  pub over_last : (w v : Writer) (ws : List Window) (k : ℕ) (items : List Item) → length ws ≤ k → IsOver said parts all (drop k ws) w items → Passes said parts (length items) (length items) items w v → AreReached parts all v [] []
   over_last w v ws k items h over step =
       let here = over_none w ws k items h over in
-      let many : length here.0 ≡ length items = ap length here.1 in
+      let many : length here.0 ≡ length items = ap length here.1.0 in
       subst (λ zs. AreReached parts all v [] zs) (drop_all (length items) items (omega arith))
-      (subst (λ zs. AreReached parts all v zs (drop (length items) items)) (drop_all (length items) here.0 (omega (arith, many))) (step all here.0 (omega (arith, many)) (ap (take (length items)) here.1) here.2))
+      (subst (λ zs. AreReached parts all v zs (drop (length items) items)) (drop_all (length items) here.0 (omega (arith, many))) (step all here.0 (omega (arith, many)) (ap (take (length items)) here.1.0) here.1.1 here.2))
 
 -- ---- the beginning
 

@@ -12,7 +12,7 @@ ghost use Rattle.bz_value.specs.Windows.{AreOver, AreWithin};
 ghost use Rattle.bz_value.specs.declared.value.Item.{Item};
 
 use crate::depth::are_windows_within;
-use crate::line_windows::{all_as_one, old_lines};
+use crate::line_windows::{all_as_one, old_count, old_lines};
 use crate::setting::SetFault;
 use crate::writer::{TextWindow, Writer, cut_parts, go_over};
 use bz_grammar::{DEPTH_LIMIT, LENGTH_LIMIT, Part, Tree, length_with};
@@ -59,11 +59,15 @@ fn written(
     let items = file.items.as_slice();
     let parts = tree.root.parts.as_slice();
     let lines = parts.len().saturating_sub(1);
+    // As many lines as items: none of these was a comment block.
+    if old_count(windows, items.len()) == Some(lines) {
+        return go_over(alloc, parts, items, windows, true);
+    }
     if old_lines(items, windows) == Some(lines) {
-        return go_over(alloc, parts, items, windows);
+        return go_over(alloc, parts, items, windows, false);
     }
     let one = all_as_one(items, windows, lines);
-    go_over(alloc, parts, items, &[one])
+    go_over(alloc, parts, items, &[one], false)
 }
 
 /// Where the layout's text is another than the one that a tree spells, if that is the layout of items of which these came in the place of others: what is

@@ -29,6 +29,28 @@ pub fn split_window<'a>(items: &'a [Item], window: &Window) -> (&'a [Item], &'a 
     (stay, come, past)
 }
 
+/// How many lines the items have; where it is said that each is one, they are not looked at.
+pub fn lines_in(each_is_line: bool, items: &[Item]) -> usize
+    ensures { counts.HaveLines each_is_line items.now → result ≡ counts.line_count_in items.now }
+{
+    if each_is_line {
+        items.len()
+    } else {
+        count_lines(items)
+    }
+}
+
+/// How many items there were where there are this many now; none where no list has as many.
+pub fn old_count(windows: &[Window], items: usize) -> Option<usize>
+    ensures { IfSome result (λ count. count ≡ counts.old_count windows.now items) }
+{
+    let mut count = items;
+    for window in windows {
+        count = count.checked_sub(window.come)?.checked_add(window.gone)?;
+    }
+    Some(count)
+}
+
 /// How many lines there were, if each item that was taken out had one; none where no list has as many.
 #[tactic(auto, using(crate::proofs::LineWindows::within_next))]
 pub fn old_lines(items: &[Item], windows: &[Window]) -> Option<usize>

@@ -7,14 +7,14 @@ ghost use Rattle.bz_layout.specs.Drafts.{pushed};
 ghost use Rattle.bz_layout.specs.LaidOut.{left_gap, before_next, lines_from};
 ghost use Rattle.bz_layout.specs.Written as written;
 ghost use Rattle.bz_layout.specs.private.Reached.{AreReached, HasGap, HasNext, IsAt, IsPut, Passes, own_text};
-ghost use Rattle.bz_layout.specs.private.Windows.{AreLinesOver};
+ghost use Rattle.bz_layout.specs.private.Windows.{AreCounted, HaveLines};
 ghost use Rattle.bz_value.specs.Proper.{IsProper};
 ghost use Rattle.bz_value.specs.Windows.{AreWithin};
 ghost use Rattle.bz_value.specs.declared.value.Item.{Item};
 
 use crate::draft::Draft;
 use crate::gaps::{leave_gap, pass_over, push_comments};
-use crate::line_windows::{count_lines, split_window};
+use crate::line_windows::{count_lines, lines_in, split_window};
 use crate::texts::push_statement;
 use bz_grammar::{LENGTH_LIMIT, Part, first_of};
 use bz_items::{Items, Memory, Text};
@@ -173,17 +173,18 @@ fn close(writer: &mut Writer) -> Result<bool, Memory>
 }
 
 /// Passes over the first of the items, which stay: their lines are put again up to the first that stays as well, which ends the open
-/// window. No: the texts are longer than a text may be.
+/// window. Where it is said that each item of the tree is a line, none is counted. No: the texts are longer than a text may be.
 fn advance(
     writer: &mut Writer,
     parts: &[Part],
     items: &[Item],
     count: usize,
+    each_is_line: bool,
 ) -> Result<bool, Memory>
     requires { count ≤ length items.now }
-    ensures fits { IfOk result (λ fits. IsTrue fits → Passes parts.now count count items.now writer.old writer.new) }
+    ensures fits { IfOk result (λ fits. IsTrue fits → Passes each_is_line parts.now count count items.now writer.old writer.new) }
     ensures long { IfOk result (λ fits. fits ≡ false → (all : List Part) (before : List Item) → count ≤ length before → take count before ≡ take count items.now
-        → AreReached parts.now all writer.old before items.now → limit < length (flat_map spell_part all)) }
+        → HaveLines each_is_line before → AreReached parts.now all writer.old before items.now → limit < length (flat_map spell_part all)) }
 {
     let alloc = writer.made.alloc();
     for at in 0..count {
@@ -193,7 +194,11 @@ fn advance(
             if !close(writer)? {
                 return Ok(false);
             }
-            writer.part = place_past(parts, writer.part, count_lines(&items[at..count]));
+            writer.part = place_past(
+                parts,
+                writer.part,
+                lines_in(each_is_line, &items[at..count]),
+            );
             writer.base = writer.part;
             pass_over(&mut writer.window.gap, &items[at..], count - at)?;
             return Ok(true);
@@ -220,20 +225,22 @@ fn put_end(writer: &mut Writer, parts: &[Part]) -> Result<(), Memory>
 }
 
 /// The windows of the text, where those of items count the lines that gave way; none where the texts are longer than a text may be.
+/// Where it is said that each item of the tree is a line, those that stay are not counted.
 pub fn go_over(
     alloc: Global,
     parts: &[Part],
     items: &[Item],
     windows: &[Window],
+    each_is_line: bool,
 ) -> Result<Option<Writer>, Memory>
     requires { AreWithin windows.now items.now }
-    ensures { IfOk result (λ made. (before : List Item) → lines_from [] before ≡ parts.now → IsProper items.now → AreLinesOver windows.now before items.now
+    ensures { IfOk result (λ made. (before : List Item) → lines_from [] before ≡ parts.now → IsProper items.now → AreCounted each_is_line windows.now before items.now
         → MatchOption made (limit < length (written.layout items.now)) (λ writer. IsPut parts.now (lines_from [] items.now) writer.made writer.bytes writer.done)) }
 {
     let mut writer = new_writer(alloc);
     let mut rest = items;
     for window in windows {
-        if !advance(&mut writer, parts, rest, window.from)? {
+        if !advance(&mut writer, parts, rest, window.from, each_is_line)? {
             return Ok(None);
         }
         writer.window.is_open = true;
@@ -241,7 +248,7 @@ pub fn go_over(
         put_items(&mut writer, rest, window)?;
         rest = split_window(rest, window).2;
     }
-    if !advance(&mut writer, parts, rest, rest.len())? {
+    if !advance(&mut writer, parts, rest, rest.len(), each_is_line)? {
         return Ok(None);
     }
     put_end(&mut writer, parts)?;

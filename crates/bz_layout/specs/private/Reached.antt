@@ -12,6 +12,7 @@ use Rattle.bz_layout.specs.Windows.{AreTextsOf}
 use Rattle.bz_layout.specs.Written.{comment_lines, item_text}
 use Rattle.bz_layout.specs.declared.writer.TextWindow.{TextWindow}
 use Rattle.bz_layout.specs.declared.writer.Writer.{Writer}
+use Rattle.bz_layout.specs.private.Windows.{HaveLines}
 use Rattle.bz_lex.specs.declared.leaf.Leaf.{Leaf}
 use Rattle.bz_value.specs.Proper.{IsProperItem, comments_of}
 use Rattle.bz_value.specs.declared.value.Item.{Item}
@@ -82,10 +83,11 @@ pub record AreReached (parts all : List Part) (w : Writer) (before items : List 
   pub proper : AllByRecursion IsProperItem items
   pub lines : IsAt parts all w (lines_from above before) (lines_from w.window.gap.items items)
 
--- the writer passes over this many of the items, which stay as they are among those of the tree, of which `count` do
-abbrev pub Passes : List Part → ℕ → ℕ → List Item → Writer → Writer → Type 0
-Passes parts count at items old new =
-    (all : List Part) (before : List Item) → count ≤ length before → take count before ≡ take count items → AreReached parts all old before items
+-- the writer passes over this many of the items, which stay as they are among those of the tree, of which `count` do, and each has a line, if
+-- that is said
+abbrev pub Passes : Bool → List Part → ℕ → ℕ → List Item → Writer → Writer → Type 0
+Passes said parts count at items old new =
+    (all : List Part) (before : List Item) → count ≤ length before → take count before ≡ take count items → HaveLines said before → AreReached parts all old before items
     → AreReached parts all new (drop at before) (drop at items)
 
 -- all windows are made: with the lines that they spell in their places the parts are what they are to be

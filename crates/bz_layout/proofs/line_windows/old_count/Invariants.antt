@@ -1,0 +1,6 @@
+use Rattle.std.proofs.Common.{◌≡◌, drop}
+use Rattle.bz_layout.specs.private.Windows.{old_count}
+use Rattle.bz_layout.proofs.line_windows.old_count.Given as goal
+
+abbrev pub invariant-loop-window : goal.invariant-loop-window
+invariant-loop-window l = old_count (drop l.window-index l.windows) l.count ≡ old_count l.windows l.items
