@@ -3,6 +3,7 @@ use Rattle.std.proofs.Common.{ℕ, zero, suc, Bool, true, false, ◌≡◌, ◌<
 use Rattle.std.proofs.lemmas.List.{drop_more, take-append-drop, drop-drop}
 use Rattle.std.proofs.lemmas.List.Recursion.{is_count_by}
 use Rattle.bz_grammar.specs.declared.tree.Part.{Part}
+use Rattle.bz_value.specs.declared.value.Expr.{Expr}
 use Rattle.bz_value.specs.declared.value.Item.{Item}
 use Rattle.bz_value.specs.declared.value.Item.TheVariants as i
 use Rattle.bz_items.specs.Characters.{Bytes}
@@ -83,6 +84,17 @@ pub counted : (xs : List Item) → count_by makes_line xs ≡ line_count_in xs
 counted xs = sym (is_count_by line_count_in makes_line refl counted_first xs)
 
 -- ---- the gap before a place
+
+-- a statement leaves nothing of the gap before it
+pub gap_from : (gap other : Bytes) (at count : ℕ) (xs rest : List Item) (x : Expr) → at < count → drop at xs ≡ i.Stmt x ∷ rest → statement_gap gap (count - at) (drop at xs) ≡ statement_gap other count xs
+gap_from gap other at zero xs rest x h e = absurd (omega (arith, h))
+gap_from gap other zero (suc n) xs rest x h e =
+    let all : suc n - zero ≡ suc n = omega arith in
+    ap (λ m. statement_gap gap m xs) all ∙ (ap (statement_gap gap (suc n)) e ∙ sym (ap (statement_gap other (suc n)) e))
+gap_from gap other (suc k) (suc n) [] rest x h e = absurd cc
+gap_from gap other (suc k) (suc n) (y ∷ ys) rest x h e =
+    let fewer : suc n - suc k ≡ n - k = omega arith in
+    ap (λ m. statement_gap gap m (drop k ys)) fewer ∙ gap_from gap (left_gap other y ++ before_next y ys) k n ys rest x (omega (arith, h)) e
 
 pub gap_next : (gap : Bytes) (from : ℕ) (xs : List Item) (k : ℕ) (d : Item) → k < from → k < length xs →
     statement_gap gap (from - k) (drop k xs) ≡ statement_gap (left_gap gap (get_or xs k d) ++ before_next (get_or xs k d) (drop (k + 1) xs)) (from - (k + 1)) (drop (k + 1) xs)

@@ -1,5 +1,6 @@
 //! Gaps: margins and comments, and the gap that items leave to what follows.
-ghost use Rattle.std.specs.Prelude.{◌≡◌, ◌++◌, ◌+◌, ◌≤◌, length, OnOk, IfOk};
+ghost use Rattle.std.specs.Prelude.{◌≡◌, ◌++◌, ◌+◌, ◌-◌, ◌≤◌, drop, length, OnOk, IfOk};
+ghost use Rattle.bz_items.specs.Characters.{Bytes};
 ghost use Rattle.bz_layout.specs.LaidOut.{before_next, left_gap};
 ghost use Rattle.bz_layout.specs.Written.{comment_lines};
 ghost use Rattle.bz_layout.specs.private.Windows.{statement_gap};
@@ -38,13 +39,30 @@ pub fn leave_gap(gap: &mut Vec<u8>, item: &Item, others: &[Item]) -> Result<(), 
     gap.extend_from_slice(blank_before(Some(item), others))
 }
 
+/// From which of the first items on they decide what gap is after them: a statement leaves nothing of the one before it.
+fn last_statement(items: &[Item], count: usize) -> usize
+    requires { count ≤ length items.now }
+    ensures within { result ≤ count }
+    ensures gap { (gap : Bytes) → statement_gap gap (count - result) (drop result items.now) ≡ statement_gap gap count items.now }
+{
+    let mut place = count;
+    while place > 0 {
+        place -= 1;
+        if let Item::Stmt(_) = &items[place] {
+            return place;
+        }
+    }
+    0
+}
+
 /// Makes of the gap before the first of the items the one before what follows this many. The error: a growth was refused.
 #[tactic(auto, using(crate::proofs::Windows::gap_next, crate::proofs::Writing::rest_here))]
 pub fn pass_over(gap: &mut Vec<u8>, items: &[Item], count: usize) -> Result<(), Memory>
     requires { count ≤ length items.now }
     ensures { OnOk result (gap.new.items ≡ statement_gap gap.old.items count items.now) }
 {
-    for at in 0..count {
+    let from = last_statement(items, count);
+    for at in from..count {
         leave_gap(gap, &items[at], &items[at + 1..])?;
     }
     Ok(())
