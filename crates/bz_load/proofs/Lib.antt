@@ -1,6 +1,7 @@
 pub mod KnownSteps
 pub mod LawAgain
 pub mod LawComments
+pub mod PathSteps
 pub mod PlaceSteps
 pub mod ProperLoads
 pub mod PutSteps

@@ -1,5 +1,5 @@
 //! Symbols that are loaded too: those that aren't loaded so yet, put into a load.
-ghost use Rattle.std.specs.Prelude.{◌≡◌, ◌↔◌, ◌||◌, ◌++◌, ◌∷◌, [], map, not, IfOk, IsTrue, OnOk};
+ghost use Rattle.std.specs.Prelude.{◌≡◌, ◌↔◌, ◌||◌, ◌++◌, ◌∷◌, [], map, not, IfOk, IfSome, IsTrue, OnOk};
 ghost use Rattle.std.specs.List.{list_any, position};
 ghost use Rattle.bz_token.specs.declared.class.Class.TheVariants as c;
 ghost use Rattle.bz_value.specs.Windows.{IsSpliced};
@@ -8,8 +8,10 @@ ghost use Rattle.bz_command_syntax.specs.Quoted.{quoted_of};
 ghost use Rattle.bz_attribute.specs.Made.{token};
 ghost use Rattle.bz_load.specs.Loads.{is_load_from as is_from, is_loaded, is_symbol, loads_symbol};
 ghost use Rattle.bz_load.specs.NewLoad.{load_made, new_load, new_symbols, symbol_made, with_symbols};
+ghost use Rattle.bz_load.specs.Paths.{AreListed};
 ghost use Rattle.bz_load.specs.private.Known.{knows, symbol_of_key};
 
+use crate::paths::LoadedPaths;
 use crate::readings::{Loaded, count_of_blocks, load_from, place_after_loads, symbol_in};
 use bz_attribute::{append_to, new_token, node, sequence, token};
 use bz_command_syntax::{Symbol, quoted};
@@ -153,10 +155,16 @@ pub struct WithLoad {
     pub gone: usize,
 }
 
-/// Where the first load from the path is.
-fn place_of_load(path: &[u8], items: &[Item]) -> Option<usize>
+/// Where the first load from the path is. Among paths that are those of the items it is looked up first.
+fn place_of_load(path: &[u8], paths: Option<&LoadedPaths>, items: &[Item]) -> Option<usize>
+    requires { IfSome paths (λ loaded. AreListed loaded.now items.now) }
     ensures { result ≡ position (is_from path.now) items.now }
 {
+    if let Some(loaded) = paths {
+        if !loaded.has(path) {
+            return None;
+        }
+    }
     items
         .iter()
         .position(|item| load_from(path, item).is_some())
@@ -173,19 +181,22 @@ fn append_to_item(more: &mut Vec<Expr>, item: &mut Item) -> Result<(), Memory>
 
 /// The items, in which the symbols are loaded from the path then: those that aren't loaded so yet, each once, go to the end of
 /// its first load; without such a load a new one goes after the last load, or after the leading comment blocks. All other
-/// items stay and are moved. The error: memory was refused; the items are then lost.
+/// items stay and are moved. There may be the paths from which they load: from any other one no load is sought. The error:
+/// memory was refused; the items are then lost.
 #[tactic(auto, using(crate::proofs::PutSteps::there_within, crate::proofs::PutSteps::put_there, crate::proofs::PutSteps::over_there, crate::proofs::PutSteps::put_new, crate::proofs::PutSteps::other_new))]
 pub fn new_load(
     alloc: Global,
     path: &[u8],
     symbols: &[Symbol],
+    paths: Option<&LoadedPaths>,
     mut items: Items<Item>,
 ) -> Result<WithLoad, Memory>
+    requires { IfSome paths (λ loaded. AreListed loaded.now items) }
     ensures items { IfOk result (λ made. made.items ≡ new_load path.now symbols.now items) }
     ensures same { IfOk result (λ made. IsTrue made.same ↔ (made.items ≡ items)) }
     ensures spliced { IfOk result (λ made. IsSpliced made.at made.gone 1 items made.items) }
 {
-    let place = place_of_load(path, items.as_slice());
+    let place = place_of_load(path, paths, items.as_slice());
     let mut more = new_symbols(alloc, path, symbols, place, items.as_slice())?;
     let Some(at) = place else {
         let load = load_of(alloc, path, &mut more)?;

@@ -4,6 +4,7 @@
 mod adding;
 mod fixing;
 mod laws;
+mod paths;
 mod readings;
 
 pub use adding::{WithLoad, new_load};
@@ -12,3 +13,4 @@ pub use laws::{
     comments_stay, dropping_again, fixing_again, loading_again, loads_stay_proper, moving_again,
     worked_loads,
 };
+pub use paths::LoadedPaths;

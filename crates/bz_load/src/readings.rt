@@ -1,6 +1,7 @@
 //! Loads and what they load, read off values, and places among the items of a file.
 ghost use Rattle.std.specs.Prelude.{◌≡◌, ◌≤◌, IfSome, is_some, length};
-ghost use Rattle.std.specs.Option.{option_map};
+ghost use Rattle.std.specs.Option.{option_copied, option_map};
+ghost use Rattle.bz_items.specs.Characters.{Bytes};
 ghost use Rattle.bz_rule.specs.Rules.{is_text};
 ghost use Rattle.bz_attribute.specs.Lists.{body_of};
 ghost use Rattle.bz_load.specs.private.Known.{symbol_of_key};
@@ -38,6 +39,19 @@ pub(crate) fn load_from<'a>(path: &[u8], item: &'a Item) -> Option<&'a [Expr]>
     match item {
         Item::Stmt(x) if has_kind(Kind::Load, x) => match items_of(x) {
             [first, symbols @ ..] if is_string_of(path, first) => Some(symbols),
+            _ => None,
+        },
+        _ => None,
+    }
+}
+
+/// The path of a load, where that is a plain string.
+pub(crate) fn path_of(item: &Item) -> Option<&[u8]>
+    ensures { (path : Bytes) → is_text path (option_copied result) ≡ is_load_from path item.now }
+{
+    match item {
+        Item::Stmt(x) if has_kind(Kind::Load, x) => match items_of(x) {
+            [first, ..] => body_of(first),
             _ => None,
         },
         _ => None,

@@ -1,12 +1,14 @@
--- What the code keeps in sets: the symbols that are loaded already, and the names that are used, each as what is looked up in it.
-use Rattle.std.specs.Prelude.{ℕ, Bool, List, Vec, bytes_eq}
+-- What the code keeps in sets: the symbols that are loaded already, the names that are used and paths, each as what is looked up in it.
+use Rattle.std.specs.Prelude.{ℕ, Bool, false, ◌||◌, List, [], ◌∷◌, Vec, bytes_eq, drop, take}
 use Rattle.std.specs.List.{list_any}
 use Rattle.std.specs.BTreeSet.{BTreeSet}
 use Rattle.std.specs.declared.alloc.Global.{Global}
 use Rattle.bz_items.specs.Characters.{Bytes}
 use Rattle.bz_command_syntax.specs.declared.command.Symbol.{Symbol}
 use Rattle.bz_attribute.specs.Sets.{texts_of}
-use Rattle.bz_load.specs.Loads.{is_symbol}
+use Rattle.bz_load.specs.Loads.{is_load_from, is_symbol}
+use Rattle.bz_value.specs.declared.value.Item.{Item}
+use Rattle.bz_value.specs.declared.windows.Window.{Window}
 use Rattle.bz_load.specs.declared.readings.Loaded.{Loaded}
 
 -- a key of the set, as the symbol that it represents
@@ -18,3 +20,8 @@ knows keys symbol = list_any (λ key. is_symbol symbol (symbol_of_key key)) keys
 
 abbrev pub knows_name : BTreeSet (Vec ℕ Global) → Bytes → Bool
 knows_name names text = list_any (bytes_eq text) (texts_of names)
+
+-- whether what came in windows loads from the path
+abbrev pub come_from : Bytes → List Window → List Item → Bool
+come_from path [] items = false
+come_from path (w ∷ ws) items = list_any (is_load_from path) (take w.come (drop w.from items)) || come_from path ws (drop w.come (drop w.from items))
