@@ -50,14 +50,6 @@ module _ {F : Type 0} (files : FilesOf F) where
       (λ now is. subst (P (files.folder a)) (sym is) (reached one.done))
       (λ is. on_ok_all r (Q (files.folder a) (files.folder c)) (subst (Q (files.folder a)) (sym is) one.done)) one two
 
-  -- a call that failed, by what its moments are
-  pub failed_as : (a b : F) (P0 Q0 P Q : Step) → ((now : Folder) → P0 (files.folder a) now → P (files.folder a) now) → Q (files.folder a) (files.folder b)
-      → Do P0 Q0 a b → Do P Q a b
-  failed_as a b P0 Q0 P Q weaker done one = record {
-    time = weakened (files.moment a) (files.moment b) (files.since a) (files.since b) (P0 (files.folder a)) (P (files.folder a)) weaker one.time;
-    done = done;
-  }
-
   -- ---- what is counted: by the last of several calls, of which no other failed, or by one that failed before others that count nothing
 
   pub counted_on : {T : Type 0} (r : Result T FileFault) (a b c : F) → files.faults b ≡ files.faults a → files.honest b ≡ files.honest a
@@ -78,6 +70,18 @@ module _ {F : Type 0} (files : FilesOf F) where
     kept = λ ok. absurd (false≢true ok);
     count = subst (λ n. files.faults a ≤ n) (sym same) first.count;
     honest = honest ∙ first.honest;
+  }
+
+  -- files that are put after a call that leaves the folder as it is
+  pub put_after : (P1 P Q : Step) (r : Result (Unit {0}) FileFault) (a b c : F) → ((now : Folder) → now ≡ files.folder a → P (files.folder a) now)
+      → (files.honest a ≡ true → (now : Folder) → P1 (files.folder a) now → P (files.folder a) now) → (files.honest a ≡ true → Do IsUntouched IsUntouched a b)
+      → (files.honest a ≡ true → files.waiting b ≡ files.waiting a) → files.faults b ≡ files.faults a → files.honest b ≡ files.honest a
+      → PutsFiles files P1 Q r b c → PutsFiles files P Q r a c
+  put_after P1 P Q r a b c start weaker looks waits faults honest acts = record {
+    goes = λ is. after_look a b c P1 (λ was now. OnOk r (Q was now)) P (λ was now. OnOk r (Q was now)) start (weaker is) (λ ok. ok) (looks is)
+        (acts.goes (honest ∙ is));
+    waiting = λ is. acts.waiting (honest ∙ is) ∙ waits is;
+    counted = counted_on r a b c faults honest acts.counted;
   }
 
   -- ---- a new file that was made takes its place, or could not be made
@@ -101,7 +105,11 @@ module _ {F : Type 0} (files : FilesOf F) where
     pub not_made : (fault : FileFault) (a b : F) → (files.honest a ≡ true → Do (SameBeside name) (SameBeside name) a b)
         → (files.honest a ≡ true → files.waiting b ≡ files.waiting a) → Ended {T = Unit {0}} (Err fault) a b → PutsFiles files P Q (Err fault) a b
     not_made fault a b makes unmade counted = record {
-      goes = λ is. failed_as a b (SameBeside name) (SameBeside name) P (λ _ _. Unit {0}) (early (files.folder a)) tt (makes is);
+      goes = λ is. record {
+        time = weakened (files.moment a) (files.moment b) (files.since a) (files.since b) (SameBeside name (files.folder a)) (P (files.folder a))
+            (early (files.folder a)) (makes is).time;
+        done = tt;
+      };
       waiting = unmade;
       counted = counted;
     }
@@ -117,36 +125,26 @@ module _ {F : Type 0} (files : FilesOf F) where
     pub last : (a b : F) (P Q : Step) → P (files.folder a) (files.folder a) → Do P Q a b → P (files.folder a) (files.folder b)
     last a b P Q start goes = each a b P Q start goes (files.folder b) (counts b (files.moment a) goes.time.later)
 
-    -- files that are replaced after a look
-    module _ (file standing : Text) (P Q : Step) (start : (old now : Folder) → now ≡ old → P old now) where
-      pub rewritten : (P1 : Step) (r : Result (Unit {0}) FileFault) (a b c : F) → ((old now : Folder) → get old file ≡ Some standing → P1 old now → P old now)
-          → (files.honest a ≡ true → get (files.folder a) file ≡ Some standing) → (files.honest a ≡ true → Do IsUntouched IsUntouched a b)
+    -- files that are replaced after a look: the new file of one was made, and it takes its place last
+    module _ (name standing : Text) (bytes : List ℕ) (M P Q : Step) (start : (old now : Folder) → now ≡ old → P old now)
+        (weaker : (old now : Folder) → get old name ≡ Some standing → M old now → P old now) (early : (old now : Folder) → SameBeside name old now → M old now) where
+      pub rewritten : (P1 Q1 : Text → List ℕ → Step) (r : Result (Unit {0}) FileFault) (a b c d : F)
+          → ((old mid now : Folder) → SameBeside name old mid → P1 name bytes mid now → M old now)
+          → ((old mid now : Folder) → SameBeside name old mid → Q1 name bytes mid now → Q old now)
+          → (files.honest a ≡ true → get (files.folder a) name ≡ Some standing) → (files.honest a ≡ true → Do IsUntouched IsUntouched a b)
           → (files.honest a ≡ true → files.waiting b ≡ files.waiting a) → files.faults b ≡ files.faults a → files.honest b ≡ files.honest a
-          → PutsFiles files P1 Q r b c → RewritesHeld files file standing P Q r a c
-      rewritten P1 r a b c weaker held looks waiting faults honest acts =
-          let goes : files.honest a ≡ true → Do P (λ was now. OnOk r (Q was now)) a c = λ is.
-          after_look a b c P1 (λ was now. OnOk r (Q was now)) P (λ was now. OnOk r (Q was now)) (start (files.folder a))
-          (λ now. weaker (files.folder a) now (held is)) (λ ok. ok) (looks is) (acts.goes (honest ∙ is)) in
+          → (files.honest b ≡ true → Do (SameBeside name) (SameBeside name) b c) → (files.honest b ≡ true → files.waiting c ≡ files.waiting b ++ (name, bytes) ∷ [])
+          → files.faults c ≡ files.faults b → files.honest c ≡ files.honest b → PutsNewest files P1 Q1 r c d → RewritesHeld files name standing P Q r a d
+      rewritten P1 Q1 r a b c d late done held looks waits steady honest makes made faults stays placed =
+          let acts = put_after M P Q r a b d (start (files.folder a)) (λ is now. weaker (files.folder a) now (held is)) looks waits steady honest
+          (placed_after name bytes M Q early P1 Q1 r b c d late done makes made faults stays placed) in
           record {
-            held = λ is. on_ok_all r (get (files.folder a) file ≡ Some standing) (held is);
-            replaced = λ is. (goes is).done;
+            held = λ is. on_ok_all r (get (files.folder a) name ≡ Some standing) (held is);
+            replaced = λ is. (acts.goes is).done;
             untouched = λ is other. absurd (other (held is));
             apart = λ is other. absurd (other (held is));
-            either = λ is. last a c P (λ was now. OnOk r (Q was now)) (start (files.folder a) (files.folder a) refl) (goes is);
-            time = λ is. (goes is).time;
-            waiting = λ is. acts.waiting (honest ∙ is) ∙ waiting is;
-            counted = counted_on r a b c faults honest acts.counted;
+            either = λ is. last a d P (λ was now. OnOk r (Q was now)) (start (files.folder a) (files.folder a) refl) (acts.goes is);
+            time = λ is. (acts.goes is).time;
+            waiting = acts.waiting;
+            counted = acts.counted;
           }
-
-      pub not_rewritten : {T : Type 0} (fault : FileFault) (a b : F) → (files.honest a ≡ true → Do IsUntouched IsUntouched a b)
-          → (files.honest a ≡ true → files.waiting b ≡ files.waiting a) → Ended {T = T} (Err fault) a b → RewritesHeld files file standing P Q (Err fault) a b
-      not_rewritten fault a b looks waiting counted = record {
-        held = λ _. tt;
-        replaced = λ _. tt;
-        untouched = λ is _. (looks is).done;
-        apart = λ is _. each a b IsUntouched IsUntouched refl (looks is);
-        either = λ is. start (files.folder a) (files.folder b) (looks is).done;
-        time = λ is. (failed_as a b IsUntouched IsUntouched P (λ _ _. Unit {0}) (start (files.folder a)) tt (looks is)).time;
-        waiting = waiting;
-        counted = counted_before fault a b b refl refl counted;
-      }

@@ -3,19 +3,15 @@ use std::fs::File;
 use std::io::ErrorKind;
 use std::{fs, io};
 
-// Not every file system has this call, or lets this file be flushed: then nothing more can be done, and that is no failure.
-fn unless_missing(ended: io::Result<()>) -> io::Result<()> {
+/// How a flush ended. Not every file system has this call, or lets this file be flushed: then nothing more can be done, and that is no
+/// failure.
+pub(crate) fn unless_missing(ended: io::Result<()>) -> io::Result<()> {
     match ended {
         Err(error)
             if error.kind() == ErrorKind::Unsupported || error.kind() == ErrorKind::InvalidInput =>
             { Ok(()) }
         other => other,
     }
-}
-
-/// Flushes the bytes of a file down to the disk.
-pub(crate) fn flush_file(file: &File) -> io::Result<()> {
-    unless_missing(file.sync_all())
 }
 
 // The folder in which a file lies.
@@ -33,8 +29,7 @@ pub(crate) fn flush_folder<R: std::rt::Files<File = File>>(
     name: &str,
 ) -> io::Result<()> {
     match fs::open(system, folder_above(name)) {
-        Ok(folder) => flush_file(&folder),
         Err(error) if error.kind() == ErrorKind::PermissionDenied => Ok(()),
-        Err(error) => unless_missing(Err(error)),
+        opened => unless_missing(opened.and_then(|folder| folder.sync_all())),
     }
 }

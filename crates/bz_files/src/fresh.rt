@@ -2,7 +2,7 @@
 ghost use Rattle.std.specs.Prelude.{◌≡◌, IfOk, string_bytes};
 ghost use Rattle.bz_files.specs.Folder.{new_name};
 
-use crate::flushing::flush_file;
+use crate::flushing::unless_missing;
 use crate::rights::{Rights, rights_at};
 use std::alloc::{AllocError, Global};
 use std::fs::{File, Metadata, OpenOptions, TryLockError};
@@ -71,25 +71,6 @@ fn is_held<R: std::rt::Files<File = File>>(
     Ok(takes_lock(file)? && has_name(system, name, &file.metadata()?)?)
 }
 
-// Creates a file that only its owner may read, and takes its lock. None: something has the name, or had it in between.
-fn create<R: std::rt::Files<File = File>>(system: &R, name: &str) -> io::Result<Option<File>> {
-    let mut how = OpenOptions::new();
-    how.write(true).create_new(true).mode(0o600);
-    let file = match how.open(system, name) {
-        Ok(file) => file,
-        Err(error) if error.kind() == ErrorKind::AlreadyExists => return Ok(None),
-        Err(error) => return Err(error),
-    };
-    match is_held(system, name, &file) {
-        Ok(true) => Ok(Some(file)),
-        Ok(false) => Ok(None),
-        Err(error) => {
-            let _ = remove(system, name, &file);
-            Err(error)
-        }
-    }
-}
-
 // Opens a file for its lock. Some file systems lock only what may be written; and a pipe doesn't wait then.
 fn open_for_lock<R: std::rt::Files<File = File>>(system: &R, name: &str) -> io::Result<File> {
     match OpenOptions::new().read(true).write(true).open(system, name) {
@@ -112,11 +93,23 @@ fn clear<R: std::rt::Files<File = File>>(system: &R, name: &str) -> io::Result<(
     }
 }
 
-// Creates a file of this name. The error: another run holds one of that name, or what is there can't be removed, or it can't be created.
+// Creates a file of this name that only its owner may read, and takes its lock. What has the name, or had it in between, is cleared, and it
+// is tried again. The error: another run holds one of that name, or what is there can't be removed, or it can't be created.
 fn create_anew<R: std::rt::Files<File = File>>(system: &R, name: &str) -> io::Result<File> {
+    let mut how = OpenOptions::new();
+    how.write(true).create_new(true).mode(0o600);
     for _ in 0..TRIES {
-        if let Some(file) = create(system, name)? {
-            return Ok(file);
+        match how.open(system, name) {
+            Ok(file) => match is_held(system, name, &file) {
+                Ok(true) => return Ok(file),
+                Ok(false) => {}
+                Err(error) => {
+                    let _ = remove(system, name, &file);
+                    return Err(error);
+                }
+            },
+            Err(error) if error.kind() == ErrorKind::AlreadyExists => {}
+            Err(error) => return Err(error),
         }
         match clear(system, name) {
             Err(error) if error.kind() != ErrorKind::NotFound => return Err(error),
@@ -136,7 +129,7 @@ fn fill<R: std::rt::Files<File = File>>(
 ) -> io::Result<Metadata> {
     file.write_all(bytes)?;
     rights.within(rights_at(system, name)?).give(file)?;
-    flush_file(file)?;
+    unless_missing(file.sync_all())?;
     file.metadata()
 }
 
@@ -168,16 +161,8 @@ impl Fresh {
     }
 
     /// Takes the place of its file. Right before that its own name is still this file's, and right after it this file has the place: so a folder
-    /// that is exchanged meanwhile is seen. At an error its own name is gone, if it is still there.
-    pub(crate) fn take_place<R: std::rt::Files<File = File>>(self, system: &R) -> io::Result<()> {
-        let placed = self.rename(system);
-        if placed.is_err() {
-            self.remove(system);
-        }
-        placed
-    }
-
-    fn rename<R: std::rt::Files<File = File>>(&self, system: &R) -> io::Result<()> {
+    /// that is exchanged meanwhile is seen.
+    pub(crate) fn take_place<R: std::rt::Files<File = File>>(&self, system: &R) -> io::Result<()> {
         if has_name(system, self.own.as_str(), &self.made)? {
             fs::rename(system, self.own.as_str(), self.name.as_str())?;
             if self.has_place(system) {
@@ -194,7 +179,7 @@ impl Fresh {
     }
 
     /// Removes the file, if it still has its own name.
-    pub(crate) fn remove<R: std::rt::Files<File = File>>(self, system: &R) {
+    pub(crate) fn remove<R: std::rt::Files<File = File>>(&self, system: &R) {
         let _ = remove(system, self.own.as_str(), &self.file);
     }
 }

@@ -2,7 +2,7 @@
 ghost use Rattle.std.specs.Prelude.{◌≡◌, Some, true, OnOk};
 ghost use Rattle.std.specs.FinMap.{get};
 ghost use Rattle.bz_files.specs.Folder.{IsReplaced, IsReplacing};
-ghost use Rattle.bz_files.specs.Pair.{PutsFiles, PutsNewest, AreReplaced, IsChecking, IsKeeping, RewritesHeld};
+ghost use Rattle.bz_files.specs.Pair.{PutsFiles, PutsNewest, AreReplaced, IsChecking, RewritesHeld};
 
 use crate::{FileFault, FileStamp, Files};
 
@@ -29,18 +29,8 @@ fn place<F: Files>(files: &mut F, seen: Seen<'_>) -> Result<(), FileFault>
     }
 }
 
-// Gives a file these bytes, where the one that was looked at, which may be the same, is still as it was seen.
-fn put<F: Files>(files: &mut F, name: &str, bytes: &[u8], seen: Seen<'_>) -> Result<(), FileFault>
-    ensures { PutsFiles F.Files (IsReplacing name.now bytes.now) (IsReplaced name.now bytes.now) result files.old files.new }
-{
-    match files.create(name, bytes, seen.stamp) {
-        Ok(()) => place(files, seen),
-        Err(fault) => Err(fault),
-    }
-}
-
-// Gives the journal of a file its bytes. What had taken its place in that folder before lasts before the journal does, and the journal
-// when this ends.
+// Gives the journal of a file its bytes, where the file is still as it was seen. What had taken its place in that folder before lasts before
+// the journal does, and the journal when this ends.
 fn put_journal<F: Files>(
     files: &mut F,
     journal: &str,
@@ -49,48 +39,10 @@ fn put_journal<F: Files>(
 ) -> Result<(), FileFault>
     ensures { PutsFiles F.Files (IsReplacing journal.now stored.now) (IsReplaced journal.now stored.now) result files.old files.new }
 {
-    if let Err(fault) = files.flush(seen.file) {
-        return Err(fault);
-    }
-    if let Err(fault) = put(files, journal, stored, seen) {
-        return Err(fault);
-    }
+    files.flush(seen.file)?;
+    files.create(journal, stored, seen.stamp)?;
+    place(files, seen)?;
     files.flush(seen.file)
-}
-
-// Has the newest new file take its place when the journal has its bytes.
-fn place_both<F: Files>(
-    files: &mut F,
-    journal: &str,
-    stored: &[u8],
-    seen: Seen<'_>,
-) -> Result<(), FileFault>
-    ensures { PutsNewest F.Files (IsKeeping journal.now stored.now) (AreReplaced journal.now stored.now) result files.old files.new }
-{
-    match put_journal(files, journal, stored, seen) {
-        Ok(()) => place(files, seen),
-        Err(fault) => {
-            files.give_up();
-            Err(fault)
-        }
-    }
-}
-
-// Gives a journal and then its file their bytes, where the file is still as it was seen.
-fn put_both<F: Files>(
-    files: &mut F,
-    journal: &str,
-    stored: &[u8],
-    text: &[u8],
-    seen: Seen<'_>,
-) -> Result<(), FileFault>
-    ensures { PutsFiles F.Files (IsKeeping journal.now stored.now seen.entry.file.now text.now) (AreReplaced journal.now stored.now seen.entry.file.now text.now)
-        result files.old files.new }
-{
-    match files.create(seen.file, text, seen.stamp) {
-        Ok(()) => place_both(files, journal, stored, seen),
-        Err(fault) => Err(fault),
-    }
 }
 
 /// Gives a file that still holds `held` these bytes, whole or not at all: it is looked at before anything is made, and right before it is
@@ -104,13 +56,10 @@ pub fn rewrite<F: Files>(
 ) -> Result<(), FileFault>
     ensures { RewritesHeld F.Files name.now held.now (IsReplacing name.now bytes.now) (IsReplaced name.now bytes.now) result files.old files.new }
 {
-    match files.look(name, held, None) {
-        Ok(stamp) => {
-            let file = name;
-            put(files, name, bytes, Seen { file, held, stamp })
-        }
-        Err(fault) => Err(fault),
-    }
+    let stamp = files.look(name, held, None)?;
+    files.create(name, bytes, stamp)?;
+    let file = name;
+    place(files, Seen { file, held, stamp })
 }
 
 /// Gives a journal the bytes `stored`, and then its file, which still holds `held`, the bytes `text`, each whole or not at
@@ -129,8 +78,14 @@ pub fn rewrite_pair<F: Files>(
     ensures { RewritesHeld F.Files file.now held.now (IsChecking held.now journal.now stored.now file.now text.now)
         (AreReplaced journal.now stored.now file.now text.now) result files.old files.new }
 {
-    match files.look(file, held, None) {
-        Ok(stamp) => put_both(files, journal, stored, text, Seen { file, held, stamp }),
-        Err(fault) => Err(fault),
+    let stamp = files.look(file, held, None)?;
+    files.create(file, text, stamp)?;
+    let seen = Seen { file, held, stamp };
+    match put_journal(files, journal, stored, seen) {
+        Ok(()) => place(files, seen),
+        Err(fault) => {
+            files.give_up();
+            Err(fault)
+        }
     }
 }

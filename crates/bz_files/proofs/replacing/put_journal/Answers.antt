@@ -1,41 +1,57 @@
-use Rattle.std.proofs.Common.{◌∙◌, inl, inr, refl}
+use Rattle.std.proofs.Common.{◌∙◌, inl, inr, refl, Ok, Err}
+use Rattle.std.proofs.lemmas.Result.{err_from_is_err_and}
 use Rattle.bz_files.specs.Folder.{IsReplaced, IsReplacing}
-use Rattle.bz_files.proofs.Acts.{after_look, before_flush, counted_on}
-use Rattle.bz_files.proofs.Keeping.{same_beside}
+use Rattle.bz_files.proofs.Acts.{before_flush, counted_on, not_made, placed_after, put_after}
+use Rattle.bz_files.proofs.Keeping.{replaced_after, replacing, same_beside}
 use Rattle.bz_files.proofs.replacing.put_journal.Goals as goal
 
-pub returns-in-Err-put : goal.returns-in-Err-put
-returns-in-Err-put g c =
-    let f = g.F.Files in
-    let P = IsReplacing c.args.journal.now c.args.stored.now in
-    let old = c.args.files.now in
+pub returns-in_err-create : goal.returns-in_err-create
+returns-in_err-create g c =
+    let journal = c.args.journal.now in
+    let P = IsReplacing journal c.args.stored.now in
+    let Q = IsReplaced journal c.args.stored.now in
+    let fault = c.in_err-create.field-0.0 in
     let flushed = c.flush.ensures in
-    record {
-      goes = λ honest. after_look f old c.flush.new.self c.put.new.files P (λ _ _. Unit {0}) P (λ _ _. Unit {0})
-          (λ now same. inl (same_beside c.args.journal.now (f.folder old) now same)) (λ now is. is) (λ ok. ok) (flushed.stays honest)
-          (c.in-Err-put.ensures.goes (flushed.counted.honest ∙ honest));
-      waiting = λ honest. c.put.ensures.waiting (flushed.counted.honest ∙ honest) ∙ flushed.waiting honest;
-      counted = counted_on f _ old c.flush.new.self c.put.new.files (c.in_default.ensures.counted.kept refl) flushed.counted.honest c.in-Err-put.ensures.counted;
-    }
+    let p = err_from_is_err_and c.from_residual-in_err-create.result c.from_residual-in_err-create.ensures.1 in
+    rw (p.1, p.2) (put_after g.F.Files P P Q (Err fault) c.args.files.now c.flush.new.self c.create.new.self
+    (λ now same. inl (same_beside journal _ now same)) (λ _ now it. it) flushed.stays flushed.waiting (c.in_ok-flush.ensures.counted.kept refl)
+    flushed.counted.honest (not_made g.F.Files journal c.args.stored.now P Q (λ old now same. inl same) fault c.flush.new.self c.create.new.self
+    c.create.ensures.aside c.in_err-create.ensures.unmade c.in_err-create.ensures.counted))
+
+pub returns-in_err-place : goal.returns-in_err-place
+returns-in_err-place g c =
+    let journal = c.args.journal.now in
+    let stored = c.args.stored.now in
+    let P = IsReplacing journal stored in
+    let Q = IsReplaced journal stored in
+    let failed = Err c.in_err-place.field-0.0 in
+    let flushed = c.flush.ensures in
+    let p = err_from_is_err_and c.from_residual-in_err-place.result c.from_residual-in_err-place.ensures.1 in
+    rw (p.1, p.2) (put_after g.F.Files P P Q failed c.args.files.now c.flush.new.self c.place.new.files
+    (λ now same. inl (same_beside journal _ now same)) (λ _ now it. it) flushed.stays flushed.waiting (c.in_ok-flush.ensures.counted.kept refl)
+    flushed.counted.honest (placed_after g.F.Files journal stored P Q (λ old now same. inl same) IsReplacing IsReplaced failed c.flush.new.self
+    c.create.new.self c.place.new.files (replacing journal stored) (replaced_after journal stored) c.create.ensures.aside
+    c.in_ok-create.ensures.made (c.in_ok-create.ensures.counted.kept refl) c.create.ensures.counted.honest c.in_err-place.ensures.acts))
 
 pub returns : goal.returns
 returns g c =
     let f = g.F.Files in
-    let P = IsReplacing c.args.journal.now c.args.stored.now in
-    let Q = IsReplaced c.args.journal.now c.args.stored.now in
+    let journal = c.args.journal.now in
+    let stored = c.args.stored.now in
+    let P = IsReplacing journal stored in
+    let Q = IsReplaced journal stored in
     let old = c.args.files.now in
-    let flushed = c.flush.ensures in
+    let mid = c.place.new.files in
     let last = c.flush-2 in
+    let flushed = c.flush.ensures in
+    let placed = Ok c.in_ok-place.field-0 in
+    let put = put_after f P P Q placed old c.flush.new.self mid (λ now same. inl (same_beside journal _ now same)) (λ _ now it. it) flushed.stays
+    flushed.waiting (c.in_ok-flush.ensures.counted.kept refl) flushed.counted.honest (placed_after f journal stored P Q (λ old now same. inl same)
+    IsReplacing IsReplaced placed c.flush.new.self c.create.new.self mid (replacing journal stored) (replaced_after journal stored)
+    c.create.ensures.aside c.in_ok-create.ensures.made (c.in_ok-create.ensures.counted.kept refl) c.create.ensures.counted.honest
+    c.in_ok-place.ensures.acts) in
     record {
-      goes = λ honest.
-          let once = flushed.counted.honest ∙ honest in
-          before_flush f old c.put.new.files last.new.self P Q last.result (λ done. inr done)
-          (after_look f old c.flush.new.self c.put.new.files P Q P Q (λ now same. inl (same_beside c.args.journal.now (f.folder old) now same)) (λ now is. is) (λ ok. ok)
-          (flushed.stays honest) (c.in_default-put.ensures.goes once)) (last.ensures.stays (c.put.ensures.counted.honest ∙ once));
-      waiting = λ honest.
-          let once = flushed.counted.honest ∙ honest in
-          last.ensures.waiting (c.put.ensures.counted.honest ∙ once) ∙ c.put.ensures.waiting once ∙ flushed.waiting honest;
-      counted = counted_on f last.result old c.put.new.files last.new.self
-          (c.in_default-put.ensures.counted.kept refl ∙ c.in_default.ensures.counted.kept refl) (c.put.ensures.counted.honest ∙ flushed.counted.honest)
-          last.ensures.counted;
+      goes = λ is. before_flush f old mid last.new.self P Q last.result (λ done. inr done) (put.goes is) (last.ensures.stays (put.counted.honest ∙ is));
+      waiting = λ is. last.ensures.waiting (put.counted.honest ∙ is) ∙ put.waiting is;
+      counted = counted_on f last.result old mid last.new.self (put.counted.kept refl) put.counted.honest last.ensures.counted;
     }

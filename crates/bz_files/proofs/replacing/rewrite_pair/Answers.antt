@@ -1,22 +1,70 @@
-use Rattle.std.proofs.Common.{inl, inr, refl}
+use Rattle.std.proofs.Common.{◌∙◌, inl, inr, refl, Err, OnOk}
+use Rattle.std.proofs.lemmas.Result.{on_ok_weaker}
+use Rattle.bz_files.specs.Folder.{SameBeside, IsReplaced, IsReplacing}
 use Rattle.bz_files.specs.Pair.{AreReplaced, IsChecking, IsKeeping}
-use Rattle.bz_files.proofs.Acts.{rewritten, not_rewritten}
+use Rattle.bz_files.proofs.Acts.{after, counted_before, counted_on, last, rewritten}
+use Rattle.bz_files.proofs.Keeping.{beside_file, both, first, given_up, keeping_after, replaced_both, same_beside, second}
 use Rattle.bz_files.proofs.replacing.rewrite_pair.Goals as goal
 
 pub returns-in-Ok : goal.returns-in-Ok
 returns-in-Ok g c =
+    let f = g.F.Files in
     let journal = c.args.journal.now in
     let stored = c.args.stored.now in
     let file = c.args.file.now in
     let held = c.args.held.now in
     let text = c.args.text.now in
-    rewritten g.F.Files g.met.F.Files.only_now g.met.F.Files.counts_now file held (IsChecking held journal stored file text)
-    (AreReplaced journal stored file text) (λ old now same. inl same) (IsKeeping journal stored file text) c.put_both.result c.args.files.now
-    c.look.new.self c.put_both.new.files (λ old now there is. inr (there, is)) c.in-Ok.ensures.held c.look.ensures.stays c.look.ensures.waiting
-    (c.in-Ok.ensures.counted.kept refl) c.look.ensures.counted.honest c.put_both.ensures
+    let old = f.folder c.create.new.self in
+    let mid = f.folder c.put_journal.new.files in
+    let put = c.put_journal.ensures in
+    let placed = c.place.ensures.acts in
+    rewritten f g.met.F.Files.only_now g.met.F.Files.counts_now file held text (IsKeeping journal stored file text)
+    (IsChecking held journal stored file text) (AreReplaced journal stored file text) (λ old now same. inl same) (λ old now there is. inr (there, is))
+    (λ old now same. inl (beside_file journal file old now same)) (IsKeeping journal stored) (AreReplaced journal stored) c.place.result
+    c.args.files.now c.look.new.self c.create.new.self c.place.new.files
+    (λ old mid now same. keeping_after journal stored file text old mid (beside_file journal file old mid same) now)
+    (λ old mid now same. replaced_both journal stored file text old mid (beside_file journal file old mid same) now) c.in_ok-stamp.ensures.held
+    c.look.ensures.stays c.look.ensures.waiting (c.in_ok-stamp.ensures.counted.kept refl) c.look.ensures.counted.honest c.create.ensures.aside
+    c.in_ok-create.ensures.made (c.in_ok-create.ensures.counted.kept refl) c.create.ensures.counted.honest (record {
+      goes = λ honest rest file text is.
+          let done : IsReplaced journal stored old mid = (c.in-Ok.ensures.goes honest).done in
+          after f c.create.new.self c.put_journal.new.files c.place.new.files (IsReplacing journal stored) (IsReplaced journal stored) (IsReplacing file text)
+          (λ was now. OnOk c.place.result (IsReplaced file text was now)) (IsKeeping journal stored file text)
+          (λ was now. OnOk c.place.result (AreReplaced journal stored file text was now)) (first journal stored file text old)
+          (second journal stored file text old mid done) (on_ok_weaker c.place.result (both journal stored file text old mid done (f.folder c.place.new.files)))
+          (c.in-Ok.ensures.goes honest) (placed.goes (put.counted.honest ∙ honest) rest file text (put.waiting honest ∙ is));
+      waiting = λ honest rest file text is. placed.waiting (put.counted.honest ∙ honest) rest file text (put.waiting honest ∙ is);
+      counted = counted_on f c.place.result c.create.new.self c.put_journal.new.files c.place.new.files (c.in-Ok.ensures.counted.kept refl) put.counted.honest
+          placed.counted;
+    })
 
 pub returns-in-Err : goal.returns-in-Err
-returns-in-Err g c = not_rewritten g.F.Files g.met.F.Files.only_now g.met.F.Files.counts_now c.args.file.now c.args.held.now
-    (IsChecking c.args.held.now c.args.journal.now c.args.stored.now c.args.file.now c.args.text.now)
-    (AreReplaced c.args.journal.now c.args.stored.now c.args.file.now c.args.text.now) (λ old now same. inl same) c.in-Err.fault c.args.files.now
-    c.look.new.self c.look.ensures.stays c.look.ensures.waiting c.in-Err.ensures.counted
+returns-in-Err g c =
+    let f = g.F.Files in
+    let journal = c.args.journal.now in
+    let stored = c.args.stored.now in
+    let file = c.args.file.now in
+    let held = c.args.held.now in
+    let text = c.args.text.now in
+    let old = f.folder c.create.new.self in
+    let put = c.put_journal.ensures in
+    let gone = c.give_up in
+    rewritten f g.met.F.Files.only_now g.met.F.Files.counts_now file held text (IsKeeping journal stored file text)
+    (IsChecking held journal stored file text) (AreReplaced journal stored file text) (λ old now same. inl same) (λ old now there is. inr (there, is))
+    (λ old now same. inl (beside_file journal file old now same)) (IsKeeping journal stored) (AreReplaced journal stored) (Err c.in-Err.fault)
+    c.args.files.now c.look.new.self c.create.new.self gone.new.self
+    (λ old mid now same. keeping_after journal stored file text old mid (beside_file journal file old mid same) now)
+    (λ old mid now same. replaced_both journal stored file text old mid (beside_file journal file old mid same) now) c.in_ok-stamp.ensures.held
+    c.look.ensures.stays c.look.ensures.waiting (c.in_ok-stamp.ensures.counted.kept refl) c.look.ensures.counted.honest c.create.ensures.aside
+    c.in_ok-create.ensures.made (c.in_ok-create.ensures.counted.kept refl) c.create.ensures.counted.honest (record {
+      goes = λ honest rest file text is.
+          let moment = last f g.met.F.Files.only_now g.met.F.Files.counts_now c.create.new.self c.put_journal.new.files (IsReplacing journal stored) _
+          (inl (same_beside journal old old refl)) (put.goes honest) in
+          after f c.create.new.self c.put_journal.new.files gone.new.self (IsReplacing journal stored) (λ _ _. Unit {0}) (SameBeside file) (SameBeside file)
+          (IsKeeping journal stored file text) (λ _ _. Unit {0}) (first journal stored file text old)
+          (given_up journal stored file text old (f.folder c.put_journal.new.files) moment) (λ _. tt) (c.in-Err.ensures.goes honest)
+          (gone.ensures.aside (put.counted.honest ∙ honest) rest file text (put.waiting honest ∙ is));
+      waiting = λ honest rest file text is. gone.ensures.waiting (put.counted.honest ∙ honest) rest file text (put.waiting honest ∙ is);
+      counted = counted_before f c.in-Err.fault c.create.new.self c.put_journal.new.files gone.new.self gone.ensures.faults gone.ensures.honest
+          c.in-Err.ensures.counted;
+    })
