@@ -18,11 +18,11 @@ node_pushed o o1 o2 o3 o4 x n is h1 h2 h3 h4 = h4 ∙ ap (λ t. t ++ flat_map pa
     four : (o m a b c : List ℕ) → o ++ m ++ a ++ b ++ c ≡ o ++ (m ++ a ++ b ++ c)
     four o m a b c = simp append_assoc
 
-pub four_pushed : (o a b c d o1 o2 o3 o4 : List ℕ) → o1 ≡ o ++ a → o2 ≡ o1 ++ b → o3 ≡ o2 ++ c → o4 ≡ o3 ++ d → o4 ≡ o ++ (a ++ b ++ c ++ d)
-four_pushed o a b c d o1 o2 o3 o4 h1 h2 h3 h4 = rw (h4, h3, h2, h1) (simp append_assoc)
+-- all lines but the last
+pub lines_pushed : (o j k a q t b s n w m x p d e o1 o2 o3 o4 o5 o6 o7 o8 o9 o10 o11 o12 o13 : List ℕ) → o1 ≡ o ++ j → o2 ≡ o1 ++ k → o3 ≡ o2 ++ a → o4 ≡ o3 ++ (q ++ t) → o5 ≡ o4 ++ b → o6 ≡ o5 ++ (q ++ s) → o7 ≡ o6 ++ n → o8 ≡ o7 ++ w → o9 ≡ o8 ++ m → o10 ≡ o9 ++ x → o11 ≡ o10 ++ p → o12 ≡ o11 ++ d → o13 ≡ o12 ++ e
+    → o13 ≡ o ++ ((j ++ k ++ a ++ q ++ t ++ b ++ q) ++ (s ++ n ++ w ++ m ++ x ++ p) ++ d ++ e)
+lines_pushed o j k a q t b s n w m x p d e o1 o2 o3 o4 o5 o6 o7 o8 o9 o10 o11 o12 o13 h1 h2 h3 h4 h5 h6 h7 h8 h9 h10 h11 h12 h13 =
+    rw (h13, h12, h11, h10, h9, h8, h7, h6, h5, h4, h3, h2, h1) (simp append_assoc)
 
 pub end_pushed : (l a b c l1 l2 l3 : List ℕ) → l1 ≡ l ++ a → l2 ≡ l1 ++ b → l3 ≡ l2 ++ c → l3 ≡ l ++ (a ++ b ++ c)
 end_pushed l a b c l1 l2 l3 h1 h2 h3 = rw (h3, h2, h1) (simp append_assoc)
-
-pub texts_pushed : (o j k a q t b o1 o2 o3 o4 o5 o6 : List ℕ) → o1 ≡ o ++ j → o2 ≡ o1 ++ k → o3 ≡ o2 ++ a → o4 ≡ o3 ++ (q ++ t) → o5 ≡ o4 ++ b → o6 ≡ o5 ++ q → o6 ≡ o ++ (j ++ k ++ a ++ q ++ t ++ b ++ q)
-texts_pushed o j k a q t b o1 o2 o3 o4 o5 o6 h1 h2 h3 h4 h5 h6 = rw (h6, h5, h4, h3, h2, h1) (simp append_assoc)

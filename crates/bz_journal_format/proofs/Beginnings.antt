@@ -1,7 +1,7 @@
 -- The lines of the first digests and steps, those that follow, and those of lists that begin alike.
-use Rattle.std.proofs.Common.{◌≡◌, ◌≤◌, ◌+◌, ◌-◌, ℕ, zero, suc, List, [], ◌∷◌, ◌++◌, length, take, drop, refl, sym, ap, subst, ◌∙◌, arith}
+use Rattle.std.proofs.Common.{◌≡◌, ◌≤◌, ◌+◌, ℕ, zero, suc, List, [], ◌∷◌, ◌++◌, length, take, drop, refl, sym, ap, subst, ◌∙◌, arith}
 use Rattle.std.specs.List.{flat_map}
-use Rattle.std.proofs.lemmas.List.{length-drop, take_all, take-append-drop, take-take}
+use Rattle.std.proofs.lemmas.List.{take_all, take-take}
 use Rattle.std.proofs.lemmas.List.Concat.{flat_map-append}
 use Rattle.bz_edit.specs.declared.edit.Edit.{Edit}
 use Rattle.bz_items.specs.Characters.{Bytes}
@@ -13,19 +13,6 @@ use Rattle.bz_journal_format.specs.declared.content.Version.{Version}
 use Rattle.bz_journal_format.specs.declared.kept.KeptLines.{KeptLines}
 
 -- ---- those that follow
-
-whole : {X : Type 0} (k : ℕ) (xs : List X) → k ≤ length xs → take (length xs - k) (drop k xs) ≡ drop k xs
-whole k xs few = take_all (length xs - k) (drop k xs) (omega (arith, length-drop k xs))
-
-pub rest_length : {X Y : Type 0} (k : ℕ) (xs : List X) (ys : List Y) → length xs ≡ length ys → k ≤ length ys → length (take (length xs - k) (drop k xs)) ≡ length (take (length ys - k) (drop k ys))
-rest_length k xs ys same few =
-    ap length (whole k xs (omega (arith, same, few))) ∙ length-drop k xs ∙ ap (λ n. n - k) same ∙ sym (length-drop k ys) ∙ sym (ap length (whole k ys few))
-
-pub digests_added : (k : ℕ) (digests : List Bytes) (old new : List ℕ) → k ≤ length digests → old ≡ flat_map digest_text (take k digests)
-    → new ≡ old ++ flat_map digest_text (take (length digests - k) (drop k digests)) → new ≡ flat_map digest_text digests
-digests_added k digests old new few first put =
-    put ∙ ap (λ l. l ++ flat_map digest_text (take (length digests - k) (drop k digests))) first ∙ ap (λ l. flat_map digest_text (take k digests) ++ flat_map digest_text l) (whole k digests few)
-    ∙ sym (flat_map-append digest_text (take k digests) (drop k digests)) ∙ ap (flat_map digest_text) (take-append-drop k digests)
 
 no_entries : (notes : List Bytes) → entries_of notes [] ≡ []
 no_entries [] = refl
@@ -39,17 +26,11 @@ entries_joined (suc k) [] es = refl
 entries_joined (suc k) (n ∷ ns) [] = no_entries (drop k ns)
 entries_joined (suc k) (n ∷ ns) (e ∷ es) = ap (λ (l : List RecordedStep). entry_of n e ∷ l) (entries_joined k ns es)
 
-pub steps_added : (v : Version) (k : ℕ) (notes : List Bytes) (steps : List (List Edit)) (old new : List ℕ) → length notes ≡ length steps → k ≤ length steps
-    → old ≡ flat_map (entry_text v) (entries_of (take k notes) (take k steps))
-    → new ≡ old ++ flat_map (entry_text v) (entries_of (take (length notes - k) (drop k notes)) (take (length steps - k) (drop k steps)))
-    → new ≡ flat_map (entry_text v) (entries_of notes steps)
-steps_added v k notes steps old new noted few first put =
-    let front = entries_of (take k notes) (take k steps) in
-    let back = entries_of (drop k notes) (drop k steps) in
-    put ∙ ap (λ l. l ++ flat_map (entry_text v) (entries_of (take (length notes - k) (drop k notes)) (take (length steps - k) (drop k steps)))) first
-    ∙ ap (λ (l : List Bytes). flat_map (entry_text v) front ++ flat_map (entry_text v) (entries_of l (take (length steps - k) (drop k steps)))) (whole k notes (omega (arith, noted, few)))
-    ∙ ap (λ (l : List (List Edit)). flat_map (entry_text v) front ++ flat_map (entry_text v) (entries_of (drop k notes) l)) (whole k steps few)
-    ∙ sym (flat_map-append (entry_text v) front back) ∙ ap (flat_map (entry_text v)) (entries_joined k notes steps)
+pub entries_begun : (v : Version) (k : ℕ) (notes : List Bytes) (steps : List (List Edit)) → flat_map (entry_text v) (entries_of (take k notes) (take k steps))
+    ++ flat_map (entry_text v) (entries_of (drop k notes) (drop k steps)) ≡ flat_map (entry_text v) (entries_of notes steps)
+entries_begun v k notes steps =
+    sym (flat_map-append (entry_text v) (entries_of (take k notes) (take k steps)) (entries_of (drop k notes) (drop k steps)))
+    ∙ ap (flat_map (entry_text v)) (entries_joined k notes steps)
 
 -- ---- which are the first ones
 

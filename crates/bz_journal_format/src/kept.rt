@@ -1,16 +1,12 @@
 //! The lines of digests and steps, which most of a journal is, kept from the bytes of one record for those of the next.
-ghost use Rattle.std.specs.Prelude.{◌≡◌, ◌≤◌, ◌+◌, List, length, take, IfOk, OnOk};
-ghost use Rattle.std.specs.List.{flat_map};
+ghost use Rattle.std.specs.Prelude.{◌≡◌, ◌≤◌, ◌+◌, List, length, IfOk};
 ghost use Rattle.bz_edit.specs.declared.edit.Edit.{Edit};
 ghost use Rattle.bz_items.specs.Characters.{Bytes};
-ghost use Rattle.bz_journal_format.specs.Contents.{entries_of};
 ghost use Rattle.bz_journal_format.specs.FirstLines.{AreAllLines, AreFirstLines};
-ghost use Rattle.bz_journal_format.specs.Texts.{digest_text, entry_text};
 
 use crate::content::{Content, Version};
 use crate::writing::{push_digests, push_entries};
-use bz_edit::Step;
-use bz_items::{Memory, Text};
+use bz_items::Memory;
 use std::alloc::Global;
 
 /// The lines of the first digests and of the first steps of a record, for the bytes of a further one that begins with these.
@@ -22,33 +18,6 @@ pub struct KeptLines {
     /// How many steps these are.
     pub(crate) steps: usize,
     pub(crate) step_lines: Vec<u8>,
-}
-
-/// Appends the lines of the digests after the first ones. The error: a growth was refused.
-fn add_digests(lines: &mut Vec<u8>, first: usize, digests: &[[u8; 32]]) -> Result<(), Memory>
-    requires few { first ≤ length digests.now }
-    requires lines { lines.old.items ≡ flat_map digest_text (take first digests.now) }
-    ensures { OnOk result (lines.new.items ≡ flat_map digest_text digests.now) }
-{
-    push_digests(lines, &digests[first..])?;
-    Ok(())
-}
-
-/// The same of steps.
-fn add_steps(
-    lines: &mut Vec<u8>,
-    version: Version,
-    first: usize,
-    notes: &[Text],
-    steps: &[Step],
-) -> Result<(), Memory>
-    requires noted { length notes.now ≡ length steps.now }
-    requires few { first ≤ length steps.now }
-    requires lines { lines.old.items ≡ flat_map (entry_text version) (entries_of (take first notes.now) (take first steps.now)) }
-    ensures { OnOk result (lines.new.items ≡ flat_map (entry_text version) (entries_of notes.now steps.now)) }
-{
-    push_entries(lines, version, &notes[first..], &steps[first..])?;
-    Ok(())
 }
 
 impl KeptLines {
@@ -90,14 +59,8 @@ impl KeptLines {
             steps,
             mut step_lines,
         } = self;
-        add_digests(&mut digest_lines, digests, content.digests)?;
-        add_steps(
-            &mut step_lines,
-            version,
-            steps,
-            content.notes,
-            content.steps,
-        )?;
+        push_digests(&mut digest_lines, digests, content.digests)?;
+        push_entries(&mut step_lines, version, steps, content)?;
         Ok(KeptLines {
             digests: content.digests.len(),
             digest_lines,

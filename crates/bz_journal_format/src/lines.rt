@@ -1,11 +1,10 @@
 //! Reading the lines of a record.
-ghost use Rattle.std.specs.Prelude.{◌≡◌, ◌-◌, ◌+◌, ◌<◌, ◌≤◌, ◌↔◌, ℕ, IsTrue, Some};
+ghost use Rattle.std.specs.Prelude.{◌≡◌, ◌↔◌, IsTrue};
 ghost use Rattle.bz_journal_format.specs.Outcomes.{Gives};
-ghost use Rattle.bz_journal_format.specs.Readers.{after_mark};
-ghost use Rattle.bz_journal_format.specs.private.Reading.{counted_lines_at, lines_at, record_at, record_made};
+ghost use Rattle.bz_journal_format.specs.private.Reading.{lines_at, record_at};
 ghost use Rattle.bz_journal_format.specs.Texts.{end_line};
 
-use crate::content::{Record, RecordedStep, Version};
+use crate::content::{Record, Version};
 use crate::entries::{read_digests, read_entries};
 use crate::fields::{read_short_text, version_line};
 use crate::limits::STEP_LIMIT;
@@ -15,7 +14,7 @@ use sha2::{Digest, Sha256};
 use std::alloc::Global;
 
 /// All lines but the last.
-#[tactic(auto, unfolding(crate::specs::private::Reading::lines_at))]
+#[tactic(auto, unfolding(crate::specs::private::Reading::lines_at, crate::specs::private::Reading::counted_lines_at))]
 fn read_lines(
     alloc: Global,
     version: Version,
@@ -29,22 +28,7 @@ fn read_lines(
     let (name, rest) = read_short_text(rest)?;
     let rest = read_mark(rest, b"\ntext ")?;
     let (text, rest) = read_counted(rest, b'\n')?;
-    read_counted_lines(alloc, version, depth, name, text, rest)
-}
-
-/// The lines after those of the texts: the numbers, the digests and the steps.
-#[tactic(auto, unfolding(crate::specs::private::Reading::counted_lines_at))]
-fn read_counted_lines<'a>(
-    alloc: Global,
-    version: Version,
-    depth: u32,
-    name: &[u8],
-    text: &[u8],
-    input: &'a [u8],
-) -> Result<(Record, &'a [u8]), Unread>
-    ensures { Gives (λ x. (x.0, x.1.now)) result (counted_lines_at version depth name.now text.now input.now) }
-{
-    let rest = read_mark(input, b"\nsteps ")?;
+    let rest = read_mark(rest, b"\nsteps ")?;
     let (count, rest) = read_number_up_to(rest, STEP_LIMIT, b' ')?;
     let rest = read_mark(rest, b"now ")?;
     let (cursor, rest) = read_number_up_to(rest, count, b' ')?;
@@ -52,30 +36,15 @@ fn read_counted_lines<'a>(
     let (before, rest) = read_number_up_to(rest, count, b'\n')?;
     let (digests, rest) = read_digests(alloc, count + 1, rest)?;
     let (steps, rest) = read_entries(alloc, version, depth, count, rest)?;
-    let record = record_made(alloc, name, text, cursor, before, digests, steps)?;
-    Ok((record, rest))
-}
-
-/// The record with a copy of each text.
-fn record_made(
-    alloc: Global,
-    name: &[u8],
-    text: &[u8],
-    cursor: u32,
-    before: u32,
-    digests: Vec<[u8; 32]>,
-    steps: Vec<RecordedStep>,
-) -> Result<Record, Unread>
-    ensures { Gives (λ r. r) result (Some (record_made name.now text.now cursor before digests.items steps.items)) }
-{
-    Ok(Record {
+    let record = Record {
         package: Text::from_slice(alloc, name)?,
         text: Text::from_slice(alloc, text)?,
         cursor,
         before,
         digests: Items::from_vec(digests),
         steps: Items::from_vec(steps),
-    })
+    };
+    Ok((record, rest))
 }
 
 /// Whether these bytes are the last line after those lines.

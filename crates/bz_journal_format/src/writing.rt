@@ -1,20 +1,18 @@
 //! Writing a record: each function appends what it is named for. Where a growth is refused a part of it may be there; `record_bytes`
 //! writes into a list of its own.
-ghost use Rattle.std.specs.Prelude.{◌≡◌, ◌∷◌, ◌++◌, ◌<◌, ◌≤◌, [], ℕ, codes, decimal, length, take, IfOk, OnOk, OnErr};
+ghost use Rattle.std.specs.Prelude.{◌≡◌, ◌++◌, ◌≤◌, length, take, IfOk, OnOk, OnErr};
 ghost use Rattle.std.specs.List.{flat_map};
-ghost use Rattle.hex.specs.Hex.{encode_lower};
-ghost use Rattle.bz_journal_format.specs.Spellings.{counted_text, numeral};
 ghost use Rattle.bz_journal_format.specs.Contents.{entries_of, entry_of, record_in};
 ghost use Rattle.bz_journal_format.specs.FirstLines.{AreAllLines, AreFirstLines};
-ghost use Rattle.bz_journal_format.specs.Texts.{counts_text, digest_text, edit_text, end_line, entry_text, last_number, leaf_text, lines_text, note_line, part_text, record_text, spaced_number, texts_text};
+ghost use Rattle.bz_journal_format.specs.Texts.{digest_text, edit_text, entry_text, leaf_text, note_line, part_text, record_text, spaced_number};
 
 use crate::content::{Content, Version};
 use crate::fields::version_line;
 use crate::kept::KeptLines;
 use crate::{hex_digits, push_counted, push_number};
-use bz_edit::{Edit, Step};
+use bz_edit::Edit;
 use bz_grammar::{Leaf, Part};
-use bz_items::{Memory, Text};
+use bz_items::Memory;
 use sha2::{Digest, Sha256};
 use std::alloc::Global;
 use std::mem;
@@ -120,93 +118,77 @@ fn push_digest(out: &mut Vec<u8>, digest: &[u8; 32]) -> Result<(), Memory>
     Ok(())
 }
 
-pub(crate) fn push_digests(out: &mut Vec<u8>, digests: &[[u8; 32]]) -> Result<(), Memory>
-    ensures { OnOk result (out.new.items ≡ out.old.items ++ flat_map digest_text digests.now) }
-{
-    'digests: for digest in digests {
-        push_digest(out, digest)?;
-    }
-    Ok(())
-}
-
-pub(crate) fn push_entries(
-    out: &mut Vec<u8>,
-    version: Version,
-    notes: &[Text],
-    steps: &[Step],
+/// Appends the lines of the digests after the first ones. The error: a growth was refused.
+pub(crate) fn push_digests(
+    lines: &mut Vec<u8>,
+    first: usize,
+    digests: &[[u8; 32]],
 ) -> Result<(), Memory>
-    requires { length notes.now ≡ length steps.now }
-    ensures { OnOk result (out.new.items ≡ out.old.items ++ flat_map (entry_text version) (entries_of notes.now steps.now)) }
+    requires few { first ≤ length digests.now }
+    requires lines { lines.old.items ≡ flat_map digest_text (take first digests.now) }
+    ensures { OnOk result (lines.new.items ≡ flat_map digest_text digests.now) }
 {
-    for i in 0..steps.len() {
-        let step = &steps[i];
-        push_entry(out, version, notes[i].as_slice(), step.edits.as_slice())?;
+    for at in first..digests.len() {
+        push_digest(lines, &digests[at])?;
     }
     Ok(())
 }
 
-/// The version, the package and the text.
-fn push_texts(out: &mut Vec<u8>, version: Version, content: &Content) -> Result<(), Memory>
-    ensures { OnOk result (out.new.items ≡ out.old.items ++ texts_text version (record_in content.now)) }
+/// The same of steps, each with its note.
+#[tactic(auto, using(crate::proofs::Beginnings::entries_begun))]
+pub(crate) fn push_entries(
+    lines: &mut Vec<u8>,
+    version: Version,
+    first: usize,
+    content: &Content,
+) -> Result<(), Memory>
+    requires noted { length content.now.notes.now ≡ length content.now.steps.now }
+    requires few { first ≤ length content.now.steps.now }
+    requires lines { lines.old.items ≡ flat_map (entry_text version) (entries_of (take first content.now.notes.now) (take first content.now.steps.now)) }
+    ensures { OnOk result (lines.new.items ≡ flat_map (entry_text version) (entries_of content.now.notes.now content.now.steps.now)) }
 {
-    out.extend_from_slice(version_line(version))?;
-    out.extend_from_slice(b"package ")?;
-    push_counted(out, content.package, b' ')?;
-    out.extend_from_slice(b"\ntext ")?;
-    push_counted(out, content.text, b'\n')?;
-    out.push(b'\n')?;
+    for at in first..content.steps.len() {
+        let step = &content.steps[at];
+        push_entry(
+            lines,
+            version,
+            content.notes[at].as_slice(),
+            step.edits.as_slice(),
+        )?;
+    }
     Ok(())
 }
 
-/// How many steps there are, each with its note.
-fn count_of(content: &Content) -> usize
-    requires { length content.now.notes.now ≡ length content.now.steps.now }
-    ensures { result ≡ length (record_in content.now).steps }
-{
-    content.steps.len()
-}
-
-/// The number of steps and the cursors.
-fn push_counts(out: &mut Vec<u8>, content: &Content) -> Result<(), Memory>
-    requires { length content.now.notes.now ≡ length content.now.steps.now }
-    ensures { OnOk result (out.new.items ≡ out.old.items ++ counts_text (record_in content.now)) }
-{
-    out.extend_from_slice(b"steps ")?;
-    push_number(out, count_of(content), b' ')?;
-    out.extend_from_slice(b"now ")?;
-    push_number(out, content.cursor as usize, b' ')?;
-    out.extend_from_slice(b"before ")?;
-    push_number(out, content.before as usize, b'\n')?;
-    Ok(())
-}
-
-/// All lines but the last, by those of the digests and of the steps.
-fn push_lines(
-    out: &mut Vec<u8>,
+/// The bytes of a record, by the lines of all digests and steps. The error: a growth was refused.
+fn joined_lines(
+    alloc: Global,
     version: Version,
     content: &Content,
     lines: &KeptLines,
-) -> Result<(), Memory>
+) -> Result<Vec<u8>, Memory>
     requires noted { length content.now.notes.now ≡ length content.now.steps.now }
     requires lines { AreAllLines version content.now.digests.now content.now.notes.now content.now.steps.now lines.now }
-    ensures { OnOk result (out.new.items ≡ out.old.items ++ lines_text version (record_in content.now)) }
+    ensures { IfOk result (λ bytes. bytes.items ≡ record_text version (record_in content.now)) }
 {
-    push_texts(out, version, content)?;
-    push_counts(out, content)?;
-    out.extend_from_slice(lines.digest_lines.as_slice())?;
-    out.extend_from_slice(lines.step_lines.as_slice())?;
-    Ok(())
-}
-
-/// The last line of a record that has these others.
-fn push_end(lines: &mut Vec<u8>) -> Result<(), Memory>
-    ensures { OnOk result (lines.new.items ≡ lines.old.items ++ end_line lines.old.items) }
-{
-    let digits = hex_digits(&Sha256::digest(lines.as_slice()));
-    lines.extend_from_slice(b"end ")?;
-    lines.extend_from_slice(&digits)?;
-    lines.push(b'\n')?;
-    Ok(())
+    let mut bytes = Vec::new(alloc);
+    bytes.extend_from_slice(version_line(version))?;
+    bytes.extend_from_slice(b"package ")?;
+    push_counted(&mut bytes, content.package, b' ')?;
+    bytes.extend_from_slice(b"\ntext ")?;
+    push_counted(&mut bytes, content.text, b'\n')?;
+    bytes.extend_from_slice(b"\nsteps ")?;
+    push_number(&mut bytes, content.steps.len(), b' ')?;
+    bytes.extend_from_slice(b"now ")?;
+    push_number(&mut bytes, content.cursor as usize, b' ')?;
+    bytes.extend_from_slice(b"before ")?;
+    push_number(&mut bytes, content.before as usize, b'\n')?;
+    bytes.extend_from_slice(lines.digest_lines.as_slice())?;
+    bytes.extend_from_slice(lines.step_lines.as_slice())?;
+    let digits = hex_digits(&Sha256::digest(bytes.as_slice()));
+    bytes.extend_from_slice(b"end ")?;
+    bytes.extend_from_slice(&digits)?;
+    bytes.push(b'\n')?;
+    Ok(bytes)
 }
 
 /// The bytes of a record, by the lines that are kept of one that begins with the same digests and steps; all of its own are kept then.
@@ -223,9 +205,7 @@ pub fn record_bytes(
     ensures first { AreFirstLines version content.now.digests.now content.now.notes.now content.now.steps.now kept.new }
 {
     let lines = mem::replace(kept, KeptLines::new(alloc)).with_all(version, content)?;
-    let mut bytes = Vec::new(alloc);
-    push_lines(&mut bytes, version, content, &lines)?;
-    push_end(&mut bytes)?;
+    let bytes = joined_lines(alloc, version, content, &lines)?;
     *kept = lines;
     Ok(bytes)
 }

@@ -1,7 +1,7 @@
-use Rattle.std.proofs.Common.{◌≡◌, ◌++◌, take}
+use Rattle.std.proofs.Common.{◌≡◌, take}
 use Rattle.std.specs.List.{flat_map}
 use Rattle.bz_journal_format.specs.Texts.{digest_text}
 use Rattle.bz_journal_format.proofs.writing.push_digests.Given as goal
 
-abbrev pub invariant-digests : goal.invariant-digests
-invariant-digests l = l.out.items ≡ l.fn.out.items ++ flat_map digest_text (take l.digest-index l.digests)
+abbrev pub invariant-loop-at : goal.invariant-loop-at
+invariant-loop-at l = l.lines.items ≡ flat_map digest_text (take l.at l.digests)
