@@ -1,4 +1,4 @@
-ghost use Rattle.std.specs.Prelude.{◌≡◌, [], ◌∷◌, ◌++◌, ◌+◌, ◌<◌, ◌≤◌, length, take, drop, slice_get, ◌↔◌, IsTrue, IsOk, MatchOption, OnOk, OnErr, OnSome};
+ghost use Rattle.std.specs.Prelude.{◌≡◌, [], ◌∷◌, ◌++◌, ◌+◌, ◌-◌, ◌<◌, ◌≤◌, length, take, drop, slice_get, ◌↔◌, IsTrue, IsOk, MatchOption, OnOk, OnErr, OnSome};
 ghost use Rattle.std.specs.Option.{option_copied};
 ghost use Rattle.std.specs.Prelude.{slice_set};
 ghost use Rattle.std.specs.Borrow.{sem};
@@ -128,6 +128,26 @@ impl<T> Items<T> {
 }
 
 impl<T: Drop> Items<T> {
+    /// Exchanges all of `other` with one item fewer from `at` on: what comes after these moves once. The error: a growth was refused; both
+    /// lists are then as before.
+    #[tactic(auto, using(crate::proofs::Spans::put_in, crate::proofs::Spans::put_out))]
+    fn splice_one_more(&mut self, at: usize, other: &mut Items<T>) -> Result<(), Memory>
+        requires some { 0 < length other.old }
+        requires within { at + length other.old ≤ length self.old + 1 }
+        ensures here { OnOk result (self.new ≡ take at self.old ++ other.old ++ drop (at + (length other.old - 1)) self.old) }
+        ensures there { OnOk result (other.new ≡ take (length other.old - 1) (drop at self.old)) }
+        ensures err { OnErr result ((self.new ≡ self.old) × (other.new ≡ other.old)) }
+    {
+        self.items.reserve(1)?;
+        let Some(last) = other.items.pop() else {
+            return Ok(());
+        };
+        let end = at + other.items.len();
+        self.items.insert(end, last).unwrap();
+        self.exchange(at, other);
+        Ok(())
+    }
+
     /// Exchanges all of `other` with `count` items from `at` on. Equal numbers take no memory. The error: a growth was
     /// refused; both lists are then as before.
     #[tactic(auto, using(crate::proofs::Spans::span))]
@@ -138,13 +158,17 @@ impl<T: Drop> Items<T> {
         ensures err { OnErr result ((self.new ≡ self.old) × (other.new ≡ other.old)) }
         ensures in_place { count ≡ length other.old → IsOk result }
     {
-        if other.items.len() == count {
+        let _whole = self.items.len();
+        let come = other.items.len();
+        if come == count {
             self.exchange(at, other);
             return Ok(());
         }
-        let _whole = self.items.len();
+        if come == count + 1 {
+            return self.splice_one_more(at, other);
+        }
         let end = at + count;
-        self.items.reserve(other.items.len())?;
+        self.items.reserve(come)?;
         let mut back = self.items.split_off(end)?;
         match self.items.split_off(at) {
             Ok(middle) => {
