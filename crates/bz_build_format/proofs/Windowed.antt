@@ -3,7 +3,7 @@ use Rattle.std.proofs.Common.{ℕ, suc, Bool, true, nat_eq, ◌≡◌, ◌≤◌
 use Rattle.std.specs.Prelude.{IfOk, Result, Ok, Err, Some}
 use Rattle.std.specs.Result.{result_ok}
 use Rattle.std.proofs.lemmas.Option.{same_Some}
-use Rattle.std.proofs.Math.Seq.{take-add}
+use Rattle.std.proofs.Math.Seq.{take-add, take-append_seam}
 use Rattle.std.proofs.lemmas.Bool.Decides.{nat_tests}
 use Rattle.std.proofs.lemmas.Grind.{flat_map-append}
 use Rattle.std.proofs.lemmas.List.{length-drop, nil_from_length, take-append-drop, take-take, take_all, drop-drop, drop-take, drop_all}
@@ -41,22 +41,37 @@ further_text from at reach parts text rest passed begins =
     ∙ sym (ap (λ t. t ++ rest) (ap spelled_parts (take-add from at parts) ∙ text_append (take from parts) (take at (drop from parts)))))
 
 -- what is between parts that stay at both ends of those of a window, among others
-pub cut_so : (from at stay count reach : ℕ) (parts left kept : List Part) (text rest middle : Bytes) → at ≤ length (take (reach - from) (drop from parts)) → from ≤ reach → reach < length parts
-    → left ≡ take (reach - (from + at)) (drop (from + at) parts) → kept ≡ drop (length left - stay) left → stay ≤ length left → count ≤ length kept → text ≡ spelled_parts (take at (take (reach - from) (drop from parts))) ++ rest → rest ≡ middle ++ spelled_parts (drop (length kept - count) kept)
+pub cut_so : (from at count reach : ℕ) (parts left : List Part) (text rest middle : Bytes) → at ≤ length (take (reach - from) (drop from parts)) → from ≤ reach → reach < length parts
+    → left ≡ take (reach - (from + at)) (drop (from + at) parts) → count ≤ length left → text ≡ spelled_parts (take at (take (reach - from) (drop from parts))) ++ rest → rest ≡ middle ++ spelled_parts (drop (length left - count) left)
     → spelled_parts (take (from + at) parts) ++ (middle ++ spelled_parts (take (reach - (from + at + (length left - count))) (drop (from + at + (length left - count)) parts))) ≡ spelled_parts (take from parts) ++ text
-cut_so from at stay count reach parts left kept text rest middle passed within inside own there le few begins ends =
+cut_so from at count reach parts left text rest middle passed within inside own few begins ends =
     let lower : at ≤ reach - from = omega (arith, passed, length-take (reach - from) (drop from parts)) in
     let size : length left ≡ reach - (from + at) = ap length own ∙ omega (arith, length-take (reach - (from + at)) (drop (from + at) parts), length-drop (from + at) parts, inside) in
-    let n : ℕ = length left in
-    let gone : ℕ = n - count in
+    let gone : ℕ = length left - count in
     let m : ℕ = reach - (from + at + gone) in
-    let kept_size : length kept ≡ stay = omega (arith, ap length there, length-drop (n - stay) left, le) in
-    let place : n - stay + (length kept - count) ≡ gone = omega (arith, kept_size, few, le) in
-    let many : reach - (from + at) ≡ gone + m = omega (arith, size, few, kept_size, le, lower, within) in
-    let last : drop (length kept - count) kept ≡ take m (drop (from + at + gone) parts) =
-    ap (drop (length kept - count)) there ∙ (drop-drop (length kept - count) (n - stay) left ∙ (ap (λ k. drop k left) place ∙ (ap (drop gone) (own ∙ ap (λ k. take k (drop (from + at) parts)) many)
-    ∙ (drop-take gone m (drop (from + at) parts) ∙ ap (take m) (drop-drop gone (from + at) parts))))) in
+    let many : reach - (from + at) ≡ gone + m = omega (arith, size, few, lower, within) in
+    let last : drop gone left ≡ take m (drop (from + at + gone) parts) =
+    ap (drop gone) (own ∙ ap (λ k. take k (drop (from + at) parts)) many) ∙ (drop-take gone m (drop (from + at) parts) ∙ ap (take m) (drop-drop gone (from + at) parts)) in
     sym (further_text from at reach parts text rest passed begins ∙ ap (λ t. spelled_parts (take (from + at) parts) ++ t) (ends ∙ ap (λ ps. middle ++ spelled_parts ps) last))
+
+-- one part less stays: what it spells is in front of the others
+pub one_less_stays : (text beginning more : Bytes) (parts : List Part) (len : ℕ) → text ≡ beginning ++ spelled_parts parts → len ≡ length beginning + length (spelled_parts (take 1 parts)) → more ≡ take len text
+    → text ≡ more ++ spelled_parts (drop 1 parts)
+one_less_stays text beginning more parts len is count found =
+    let next : Bytes = spelled_parts (take 1 parts) in
+    let all : text ≡ (beginning ++ next) ++ spelled_parts (drop 1 parts) =
+    is ∙ (ap (λ ps. beginning ++ spelled_parts ps) (sym (take-append-drop 1 parts)) ∙ (ap (λ t. beginning ++ t) (text_append (take 1 parts) (drop 1 parts)) ∙ sym (append_assoc beginning next (spelled_parts (drop 1 parts))))) in
+    let front : more ≡ beginning ++ next =
+    found ∙ (ap (λ k. take k text) (count ∙ sym (length-append beginning next)) ∙ (ap (take (length (beginning ++ next))) all ∙ take-append_seam (beginning ++ next) (spelled_parts (drop 1 parts)))) in
+    all ∙ ap (λ t. t ++ spelled_parts (drop 1 parts)) (sym front)
+
+-- one part less stays at the end of those of a window
+pub less_kept : (left kept : List Part) (count : ℕ) (rest more : Bytes) → count ≤ length left → kept ≡ drop (length left - count) left → 0 < length kept → rest ≡ more ++ spelled_parts (drop 1 kept)
+    → (count - 1 ≤ length left) × (rest ≡ more ++ spelled_parts (drop (length left - (count - 1)) left))
+less_kept left kept count rest more few own some is =
+    let size : length kept ≡ count = ap length own ∙ omega (arith, length-drop (length left - count) left, few) in
+    let place : length left - count + 1 ≡ length left - (count - 1) = omega (arith, size, some, few) in
+    (omega (arith, few), is ∙ ap (λ ps. more ++ spelled_parts ps) (ap (drop 1) own ∙ (drop-drop 1 (length left - count) left ∙ ap (λ k. drop k left) place)))
 
 module _ (join : LinesJoin) (split : LinesSplit) where
   -- lines in the place of parts, among lines

@@ -1,5 +1,5 @@
 //! Windows of parts, read of windows of texts.
-ghost use Rattle.std.specs.Prelude.{◌≡◌, ◌⊎◌, ◌<◌, ◌≤◌, ◌+◌, ◌-◌, ◌^◌, ◌++◌, [], ◌∷◌, IfOk, IfErr, IfSome, IsTrue, List, OnOk, length, take};
+ghost use Rattle.std.specs.Prelude.{◌≡◌, ◌⊎◌, ◌<◌, ◌≤◌, ◌+◌, ◌-◌, ◌^◌, ◌++◌, [], ◌∷◌, IfOk, IfErr, IfSome, IsTrue, List, OnOk, drop, length, take};
 ghost use Rattle.bz_grammar.specs.Joined.{AreWholeLines, file_with};
 ghost use Rattle.bz_grammar.specs.Legal.{Accepted, IsBuild, LegalBuild, Reads};
 ghost use Rattle.bz_grammar.specs.Spell.{limit, spell_node};
@@ -12,7 +12,7 @@ ghost use Rattle.bz_build_format.specs.private.Lines.{AreAmong, AreRead, IsPushe
 use crate::ends::{Side, rest_of_part, same};
 use bz_edit::PartWindow;
 use bz_grammar::laws::{lines_join, lines_split, one_reading};
-use bz_grammar::{Kind, LENGTH_LIMIT, Node, Part, ReadFault, Tree, copy_all};
+use bz_grammar::{Kind, LENGTH_LIMIT, Node, Part, ReadFault, Tree, copy_all, length_with};
 use bz_hosts::ends_with_line;
 use bz_items::{Items, Memory, Text};
 use bz_layout::TextWindow;
@@ -52,6 +52,22 @@ fn lines_read(alloc: Global, text: &[u8]) -> Option<Items<Part>>
     Some(lines)
 }
 
+/// The beginning of a text, up to what parts at its end spell, with what the first of these spells; none where there is no part.
+#[tactic(auto, using(crate::proofs::Windowed::one_less_stays))]
+fn with_next<'a>(text: &'a [u8], beginning: &[u8], parts: &[Part]) -> Option<&'a [u8]>
+    requires { text.now ≡ beginning.now ++ spelled_parts parts.now }
+    ensures some { IfSome result (λ _. 0 < length parts.now) }
+    ensures text { IfSome result (λ more. text.now ≡ more.now ++ spelled_parts (drop 1 parts.now)) }
+{
+    let Some(next) = parts.get(..1) else {
+        return None;
+    };
+    let Some(len) = length_with(next, beginning.len()) else {
+        return None;
+    };
+    text.get(..len)
+}
+
 /// The lines of a text in the place of parts from `from` as far as `reach`, but for those that it has in common with them at its beginning and at its
 /// end. None where they, or the parts around them as far as `reach`, are no whole lines, or a growth was refused.
 fn cut_lines(
@@ -74,12 +90,11 @@ fn cut_lines(
         return None;
     }
     let left = &parts[from..reach];
-    let mut stay = left.len();
+    let (mut count, mut middle) = same(Side::Back, left, rest);
     // comments alone are no lines: they are read with the line below them
     for _ in 0..2 {
-        let (_, kept) = left.split_at(left.len() - stay);
-        let (count, middle) = same(Side::Back, kept, rest);
         let gone = left.len() - count;
+        let (_, kept) = left.split_at(gone);
         if are_whole_lines(&parts[from + gone..reach])
             && let Some(lines) = lines_read(alloc, middle)
         {
@@ -89,10 +104,11 @@ fn cut_lines(
                 parts: lines,
             });
         }
-        if count == 0 {
+        let Some(more) = with_next(rest, middle, kept) else {
             return None;
-        }
-        stay = count - 1;
+        };
+        middle = more;
+        count -= 1;
     }
     None
 }
