@@ -1,4 +1,5 @@
 pub mod Effect
+pub mod Known
 pub mod Laws
 pub mod Prints
 pub mod Table

@@ -11,6 +11,7 @@ mod targets;
 mod windows;
 
 pub use bz_command_syntax::{Command, CommandFault};
+pub use bz_load::LoadedPaths;
 pub use bz_value::Refusal;
 pub use filling::{changed_copy, copied, marks_if_large};
 pub use laws::{
@@ -19,5 +20,5 @@ pub use laws::{
 };
 pub use outcome::{Outcome, Ran};
 pub use printing::looks_at_lines;
-pub use ruling::Work;
-pub use running::{run, run_in, run_named};
+pub use ruling::{Work, looks_for_load};
+pub use running::{Known, run, run_in, run_named};

@@ -8,6 +8,7 @@ ghost use Rattle.bz_value.specs.Windows.{AreOver, IsSpliced};
 ghost use Rattle.bz_rule.specs.Rules.{has_name};
 ghost use Rattle.bz_rule.specs.Index.{HaveSameNames};
 ghost use Rattle.bz_items.specs.Characters.{Bytes};
+ghost use Rattle.bz_load.specs.Paths.{AreListed};
 ghost use Rattle.bz_grammar.specs.Places.{Ascend};
 ghost use Rattle.bz_attribute.specs.Made.{function_of};
 ghost use Rattle.bz_comment.specs.Changes.{changed_by};
@@ -27,7 +28,7 @@ use bz_comment::{Change, change_comments, change_own};
 use bz_items::{Items, Memory, Text};
 use bz_label::Target;
 use bz_list::change_values;
-use bz_load::{fix, new_load};
+use bz_load::{LoadedPaths, fix, new_load};
 use bz_rule::{attribute, has_name, held_name};
 use bz_value::{Expr, Item, Refusal, Window};
 use std::alloc::Global;
@@ -427,14 +428,28 @@ fn inserted(alloc: Global, at: usize, new: Item, items: Items<Item>) -> Result<C
     })
 }
 
-/// What an operation on the symbols that the file loads makes of its items.
-fn on_loads(alloc: Global, operation: &LoadOperation, items: Items<Item>) -> Result<Changed, Memory>
+/// Whether a command looks for a load among the items; the paths from which they load say where there is none.
+pub fn looks_for_load(command: &Command) -> bool {
+    matches!(
+        &command.operation,
+        Operation::Load(LoadOperation::New { .. })
+    )
+}
+
+/// What an operation on the symbols that the file loads makes of its items, of which there may be the paths from which they load.
+fn on_loads(
+    alloc: Global,
+    operation: &LoadOperation,
+    paths: Option<&LoadedPaths>,
+    items: Items<Item>,
+) -> Result<Changed, Memory>
+    requires { IfSome paths (λ loaded. AreListed loaded.now items) }
     ensures items { IfOk result (λ changed. changed.items ≡ loads_changed operation.now items) }
     ensures compared { IfOk result (IsCompared items) }
 {
     match operation {
         LoadOperation::New { path, symbols } => {
-            let made = new_load(alloc, path.as_slice(), symbols.as_slice(), items)?;
+            let made = new_load(alloc, path.as_slice(), symbols.as_slice(), paths, items)?;
             let window = Window {
                 from: made.at,
                 gone: made.gone,
@@ -457,13 +472,16 @@ fn on_loads(alloc: Global, operation: &LoadOperation, items: Items<Item>) -> Res
     }
 }
 
-/// What a command makes of the items; a command on rules is meant for those at the places.
+/// What a command makes of the items; a command on rules is meant for those at the places. There may be the paths from which the items
+/// load.
 pub fn on_rules(
     work: Work<'_, '_>,
+    paths: Option<&LoadedPaths>,
     places: &[usize],
     items: Items<Item>,
 ) -> Result<Changed, Refusal>
-    requires { IsTrue (looks_at_rules work.command.now) → places.now ≡ places_by work items }
+    requires paths { IfSome paths (λ loaded. AreListed loaded.now items) }
+    requires places { IsTrue (looks_at_rules work.command.now) → places.now ≡ places_by work items }
     ensures ok { IfOk result (λ changed. on_rules work.entry.command.now work.entry.current.now (marks_by work.entry items) items ≡ Ok changed.items) }
     ensures compared { IfOk result (IsCompared items) }
     ensures err { IfErr result (λ refusal. (on_rules work.entry.command.now work.entry.current.now (marks_by work.entry items) items ≡ Err refusal) ⊎ (refusal ≡ Refusal.Memory)) }
@@ -481,7 +499,7 @@ pub fn on_rules(
             Ok(inserted(alloc, at, rule, items)?)
         }
         Operation::Rule(RuleOperation::Delete) => Ok(delete(work, places, items)?),
-        Operation::Load(operation) => Ok(on_loads(alloc, operation, items)?),
+        Operation::Load(operation) => Ok(on_loads(alloc, operation, paths, items)?),
         Operation::Rule(RuleOperation::SetKind { .. })
         | Operation::Attribute(_)
         | Operation::Value(_)

@@ -4,6 +4,8 @@ ghost use Rattle.std.specs.Option.{unwrap_or};
 ghost use Rattle.bz_rule.specs.Index.{HaveSameNames, IsIndexOf};
 ghost use Rattle.bz_value.specs.Windows.{AreOver};
 ghost use Rattle.bz_command.specs.Effect.{effect, looks_at_rules, printed};
+ghost use Rattle.bz_command.specs.Known.{IsKnownOf};
+ghost use Rattle.bz_load.specs.Paths.{AreListed};
 ghost use Rattle.bz_command.specs.private.Looks.{IsChange, IsLook, effect_by, printed_for};
 
 use crate::laws::effects_stay_proper;
@@ -14,10 +16,22 @@ use crate::targets::{is_any, meant};
 use bz_command_syntax::{Command, Operation, RuleOperation};
 use bz_items::{Items, Text};
 use bz_label::{Target, Which};
+use bz_load::LoadedPaths;
 use bz_rule::{Names, take_apart};
 use bz_value::{File, Item, Refusal};
 use std::alloc::Global;
 use std::mem;
+
+/// What was looked up in a file before a command.
+#[derive(Clone, Copy)]
+pub struct Known<'a> {
+    /// The lines on which its statements begin, from 1.
+    pub lines: &'a [u32],
+    /// The index of the names of its rules: with it a target that is a name is not sought among the items.
+    pub names: Option<&'a Names>,
+    /// The paths from which it loads: with them a load from another one is not sought.
+    pub paths: Option<&'a LoadedPaths>,
+}
 
 /// What is known of a command on a file before anything changes.
 #[derive(Drop)]
@@ -62,9 +76,16 @@ fn look_at(work: Work<'_, '_>, names: Option<&Names>, items: &[Item]) -> Result<
     Ok(Look::Changes(places))
 }
 
-/// What a command that prints nothing makes of a file; of a command on rules, of those at the places.
-fn change(work: Work<'_, '_>, places: &[usize], file: &mut File) -> Result<Ran, Refusal>
-    requires { IsChange work file.old places.now }
+/// What a command that prints nothing makes of a file; of a command on rules, of those at the places. There may be the paths from which
+/// the file loads.
+fn change(
+    work: Work<'_, '_>,
+    paths: Option<&LoadedPaths>,
+    places: &[usize],
+    file: &mut File,
+) -> Result<Ran, Refusal>
+    requires change { IsChange work file.old places.now }
+    requires paths { IfSome paths (λ loaded. AreListed loaded.now file.old) }
     ensures ok { OnOk result (effect_by work.entry file.old ≡ Ok file.new) }
     ensures printed { IfOk result (λ ran. printed_for work.entry file.old ≡ Ok ran.printed) }
     ensures windows { IfOk result (λ ran. AreOver ran.windows file.old file.new) }
@@ -77,7 +98,7 @@ fn change(work: Work<'_, '_>, places: &[usize], file: &mut File) -> Result<Ran, 
     let command = work.command;
     let _ = &command.operation;
     let before = mem::replace(&mut file.items, Items::new(work.alloc));
-    let changed = on_rules(work, places, before)?;
+    let changed = on_rules(work, paths, places, before)?;
     file.items = changed.items;
     Ok(Ran {
         windows: changed.windows,
@@ -88,34 +109,32 @@ fn change(work: Work<'_, '_>, places: &[usize], file: &mut File) -> Result<Ran, 
 
 /// The effect of a command on the rules that the target means, on a file in place, where its items differ then, and whether each is known to
 /// have the name that it had.
-/// `current` is the path of the file's package, `lines` the lines on which its statements begin, from 1. There may be an index of the
-/// names of its rules: with it a target that is a name is not sought among the items.
+/// `current` is the path of the file's package.
 /// Errors: the effect's refusal; `Memory`: a growth was refused. After an error the file may have lost its items.
 pub fn run_in(
     alloc: Global,
     command: &Command,
     target: &Target,
     current: &[u8],
-    lines: &[u32],
-    names: Option<&Names>,
+    known: Known<'_>,
     file: &mut File,
 ) -> Result<Ran, Refusal>
-    requires { IfSome names (λ index. IsIndexOf index.now file.old) }
-    ensures ok { OnOk result (effect command.now target.now current.now lines.now file.old ≡ Ok file.new) }
-    ensures printed { IfOk result (λ ran. printed command.now target.now current.now lines.now file.old ≡ Ok ran.printed) }
+    requires { IsKnownOf known file.old }
+    ensures ok { OnOk result (effect command.now target.now current.now known.entry.lines.now file.old ≡ Ok file.new) }
+    ensures printed { IfOk result (λ ran. printed command.now target.now current.now known.entry.lines.now file.old ≡ Ok ran.printed) }
     ensures windows { IfOk result (λ ran. AreOver ran.windows file.old file.new) }
     ensures same { IfOk result (λ ran. (ran.windows ≡ []) ↔ (file.new ≡ file.old)) }
     ensures names { IfOk result (λ ran. IsTrue ran.same_names → HaveSameNames file.old file.new) }
-    ensures err { IfErr result (λ refusal. (effect command.now target.now current.now lines.now file.old ≡ Err refusal) ⊎ (refusal ≡ Refusal.Memory)) }
+    ensures err { IfErr result (λ refusal. (effect command.now target.now current.now known.entry.lines.now file.old ≡ Err refusal) ⊎ (refusal ≡ Refusal.Memory)) }
 {
-    let work = Work::new(alloc, command, target, current, lines);
-    match look_at(work, names, file.items.as_slice())? {
+    let work = Work::new(alloc, command, target, current, known.lines);
+    match look_at(work, known.names, file.items.as_slice())? {
         Look::Stays(printed) => Ok(Ran {
             windows: Items::new(alloc),
             same_names: true,
             printed,
         }),
-        Look::Changes(places) => change(work, places.as_slice(), file),
+        Look::Changes(places) => change(work, known.paths, places.as_slice(), file),
     }
 }
 
@@ -136,28 +155,31 @@ pub fn run(
     ensures printed { IfOk result (λ outcome. printed command.now target.now current.now lines.now file.now ≡ Ok outcome.printed) }
     ensures err { IfErr result (λ refusal. (effect command.now target.now current.now lines.now file.now ≡ Err refusal) ⊎ (refusal ≡ Refusal.Memory)) }
 {
-    run_named(alloc, command, target, current, lines, None, file)
+    let known = Known {
+        lines,
+        names: None,
+        paths: None,
+    };
+    run_named(alloc, command, target, current, known, file)
 }
 
-/// The same of a file of which there may be an index of the names of its rules: with it a target that is a name is not sought among the
-/// items.
+/// The same of a file in which more than the lines may be looked up.
 pub fn run_named(
     alloc: Global,
     command: &Command,
     target: &Target,
     current: &[u8],
-    lines: &[u32],
-    names: Option<&Names>,
+    known: Known<'_>,
     file: &File,
 ) -> Result<Outcome, Refusal>
-    requires { IfSome names (λ index. IsIndexOf index.now file.now) }
-    ensures ok { IfOk result (λ outcome. effect command.now target.now current.now lines.now file.now ≡ Ok (unwrap_or outcome.file file.now)) }
-    ensures unchanged { IfOk result (λ outcome. (outcome.file ≡ None) ↔ (effect command.now target.now current.now lines.now file.now ≡ Ok file.now)) }
-    ensures printed { IfOk result (λ outcome. printed command.now target.now current.now lines.now file.now ≡ Ok outcome.printed) }
-    ensures err { IfErr result (λ refusal. (effect command.now target.now current.now lines.now file.now ≡ Err refusal) ⊎ (refusal ≡ Refusal.Memory)) }
+    requires { IsKnownOf known file.now }
+    ensures ok { IfOk result (λ outcome. effect command.now target.now current.now known.entry.lines.now file.now ≡ Ok (unwrap_or outcome.file file.now)) }
+    ensures unchanged { IfOk result (λ outcome. (outcome.file ≡ None) ↔ (effect command.now target.now current.now known.entry.lines.now file.now ≡ Ok file.now)) }
+    ensures printed { IfOk result (λ outcome. printed command.now target.now current.now known.entry.lines.now file.now ≡ Ok outcome.printed) }
+    ensures err { IfErr result (λ refusal. (effect command.now target.now current.now known.entry.lines.now file.now ≡ Err refusal) ⊎ (refusal ≡ Refusal.Memory)) }
 {
-    let work = Work::new(alloc, command, target, current, lines);
-    let places = match look_at(work, names, file.items.as_slice())? {
+    let work = Work::new(alloc, command, target, current, known.lines);
+    let places = match look_at(work, known.names, file.items.as_slice())? {
         Look::Stays(printed) => {
             return Ok(Outcome {
                 file: None,
@@ -171,7 +193,7 @@ pub fn run_named(
         windows,
         same_names: _,
         printed,
-    } = change(work, places.as_slice(), &mut new)?;
+    } = change(work, known.paths, places.as_slice(), &mut new)?;
     if windows.is_empty() {
         take_apart(new);
         return Ok(Outcome {
