@@ -29,10 +29,7 @@ fn write_part<E: Sink>(err: &mut E, bytes: &[u8]) -> Result<(), PortFault>
 fn write_both<E: Sink>(err: &mut E, first: &[u8], second: &[u8]) -> Result<(), PortFault>
     ensures { AnswersAppends result (E.faults err.old) (E.faults err.new) (E.contents err.old) (E.contents err.new) (first.now ++ second.now) }
 {
-    match write_part(err, first) {
-        Ok(()) => {}
-        Err(fault) => return Err(fault),
-    }
+    write_part(err, first)?;
     write_part(err, second)
 }
 

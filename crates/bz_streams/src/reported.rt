@@ -67,15 +67,6 @@ fn report_word<'a, E: Sink>(err: &mut E, file: &'a str, says: &'a str, word: &'a
     report_above(err, &[file, says, LinePiece::Own(word), END], below);
 }
 
-fn report_not_utf8<E: Sink>(err: &mut E, file: &str, at: usize, below: &[u8])
-    ensures { AppendsUnlessFailed (E.faults err.old) (E.faults err.new) (E.contents err.old) (E.contents err.new)
-        (fault_line file.now (ReadFault.NotUtf8 at) ++ below.now) }
-{
-    let mut places = Buffer::new();
-    let at = places.format(at);
-    report_word(err, file, ": NotUtf8 at ", at, below);
-}
-
 /// Reports a word on a file: writes `FILE: WORD` and a newline to `err`, up to its first fault. It takes no memory itself.
 #[tactic(auto, using(crate::proofs::Written::nothing_below))]
 pub fn report_named<'a, E: Sink>(err: &mut E, file: &'a str, word: &'a str)
@@ -109,7 +100,10 @@ fn report_fault_above<E: Sink>(err: &mut E, file: &str, fault: &ReadFault, below
     match fault_place(fault) {
         Some((line, column)) => report_place(err, file, line, column, word, below),
         None => match fault {
-            ReadFault::NotUtf8 { at } => report_not_utf8(err, file, *at, below),
+            ReadFault::NotUtf8 { at } => {
+                let mut places = Buffer::new();
+                report_word(err, file, ": NotUtf8 at ", places.format(*at), below);
+            }
             _ => report_word(err, file, ": ", word, below),
         },
     }

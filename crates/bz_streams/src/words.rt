@@ -12,13 +12,6 @@ pub fn argument_text<'a>(matches: &ArgMatches<'a>, id: &str) -> Option<&'a str>
     matches.get_str(id)
 }
 
-fn slice_of<'m, 'a>(matches: &'m ArgMatches<'a>, id: &str) -> Option<&'m [&'a str]>
-    ensures { option_map (λ s. map (λ v. v.now) s.now) result
-        ≡ all_of id.now (rows_of (found_of matches.now)) }
-{
-    matches.get_strs(id)
-}
-
 /// The texts of an argument, in order; none where it was not used. The error: memory was refused.
 pub fn argument_texts<'a>(
     alloc: Global,
@@ -28,7 +21,7 @@ pub fn argument_texts<'a>(
     ensures { IfOk result (λ texts. map (λ s. s.now) texts.items
         ≡ unwrap_or (all_of id.now (rows_of (found_of matches.now))) []) }
 {
-    match slice_of(matches, id) {
+    match matches.get_strs(id) {
         Some(texts) => Vec::from_slice(alloc, texts),
         None => Ok(Vec::new(alloc)),
     }
