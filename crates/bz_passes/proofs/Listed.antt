@@ -1,5 +1,5 @@
 -- The items of one list, sorted: sorted again they stay; what is kept of them; flags are not seen; where its old first item and the marks go.
-use Rattle.std.proofs.Common.{◌-◌, Bool, true, false, not, ◌&&◌, ◌||◌, List, [], ◌∷◌, ◌++◌, ◌≡◌, codes, refl, sym, ap, subst, ◌∙◌, map, if◌then◌else◌, inl, inr}
+use Rattle.std.proofs.Common.{Bool, true, false, not, ◌&&◌, ◌||◌, List, [], ◌∷◌, ◌++◌, ◌≡◌, codes, refl, sym, ap, subst, ◌∙◌, map, if◌then◌else◌, inl, inr}
 use Rattle.std.proofs.lemmas.Bool.{cases_Bool, and_right, false_from_ne_true, true_from_ne_false, true≢false, or_from, or_parts, and_from}
 use Rattle.std.proofs.lemmas.Slice.Eq.{bytes_eq-Decides}
 use Rattle.std.proofs.Math.Path.{fun_ext}

@@ -1,5 +1,5 @@
 -- Reading what was changed: the parts of expressions, by lists; and what the definitions make of a form, said of its lists.
-use Rattle.std.proofs.Common.{true, List, ◌∷◌, ◌≡◌, refl, sym, ap, ◌∙◌, map, true≢false, suc, Bool, false, [], if◌then◌else◌}
+use Rattle.std.proofs.Common.{true, List, ◌∷◌, ◌≡◌, refl, sym, ap, ◌∙◌, map, true≢false, suc, Bool, [], if◌then◌else◌}
 use mathlib.Core.Former.{Count}
 use Rattle.bz_token.specs.declared.class.Class.{Class}
 use Rattle.bz_grammar.specs.declared.kind.Kind.{Kind}

@@ -1,5 +1,5 @@
 -- Pieces of a file that no load is sorted across are tidied apart, and windows of a tidy file by themselves.
-use Rattle.std.proofs.Common.{◌||◌, ℕ, zero, suc, ◌+◌, ◌-◌, ◌≤◌, Bool, true, false, ◌&&◌, inl, inr, List, [], ◌∷◌, ◌++◌, ◌≡◌, length, take, drop, refl, sym, ap, ◌∙◌, subst, arith, append_assoc, append-nil, drop_at, length-append, length-drop, length-take-le, take-append-drop, take_at}
+use Rattle.std.proofs.Common.{◌||◌, ℕ, zero, suc, ◌+◌, ◌-◌, ◌<◌, ◌≤◌, get_or, Bool, true, false, ◌&&◌, inl, inr, List, [], ◌∷◌, ◌++◌, ◌≡◌, length, take, drop, refl, sym, ap, ◌∙◌, subst, arith, append_assoc, append-nil, drop_at, length-append, length-drop, length-take-le, take-append-drop, take_at}
 use Rattle.std.proofs.Math.Seq.{take-add}
 use Rattle.std.proofs.lemmas.Bool.{cases_Bool, or_parts}
 use Rattle.std.proofs.lemmas.List.{drop-map, length-map, map-append, take-map}
@@ -230,6 +230,16 @@ by_last test (x ∷ []) = refl
 by_last test (x ∷ y ∷ ys) =
     let last : suc (length (y ∷ ys) - 1) ≡ length (x ∷ y ∷ ys) - 1 = omega arith in
     by_last test (y ∷ ys) ∙ ap (λ n. option_map_or test (slice_get (x ∷ y ∷ ys) n) false) last
+
+pub last_before : (test : Item → Bool) (at : ℕ) (items : List Item) (item : Item) → 0 < at → at ≤ length items → item ≡ get_or items (at - 1) item → test item ≡ last_passes test (take at items)
+last_before test zero items item some h is = absurd (omega (arith, some))
+last_before test (suc n) [] item some h is = absurd (omega (arith, h))
+last_before test (suc zero) (x ∷ xs) item some h is = ap test is
+last_before test (suc (suc n)) (x ∷ []) item some h is = absurd (omega (arith, h))
+last_before test (suc (suc n)) (x ∷ y ∷ ys) item some h is =
+    let last : suc (suc n) - 1 ≡ suc n = omega arith in
+    let next : suc n - 1 ≡ n = omega arith in
+    last_before test (suc n) (y ∷ ys) item (omega arith) (omega (arith, h)) (is ∙ (ap (λ k. get_or (x ∷ y ∷ ys) k item) last ∙ ap (λ k. get_or (y ∷ ys) k item) (sym next)))
 
 pub last_of_more : (test : Item → Bool) (front : List Item) (item : Item) → last_passes test (front ++ item ∷ []) ≡ test item
 last_of_more test [] item = refl

@@ -17,13 +17,16 @@ pub fn begins_with_load(items: &[Item]) -> bool
     items.first().is_some_and(|first| first.is_comparable())
 }
 
-/// Whether the last item is one.
-#[tactic(auto, using(crate::proofs::Pieces::by_last))]
-fn ends_with_load(items: &[Item]) -> bool
-    ensures load { result ≡ ends_so items.now }
-    ensures some { IsTrue result → 0 < length items.now }
+/// Whether the item before a place is one.
+fn is_past_load(items: &[Item], at: usize) -> bool
+    requires { at ≤ length items.now }
+    ensures load { result ≡ ends_so (take at items.now) }
+    ensures some { IsTrue result → 0 < at }
 {
-    items.last().is_some_and(|last| last.is_comparable())
+    if at == 0 {
+        return false;
+    }
+    items[at - 1].is_comparable()
 }
 
 /// Whether such loads are on both sides of a place.
@@ -31,8 +34,7 @@ fn touches(items: &[Item], at: usize) -> bool
     requires { at ≤ length items.now }
     ensures { result ≡ touches_so at items.now }
 {
-    let (front, back) = items.split_at(at);
-    ends_with_load(front) && begins_with_load(back)
+    is_past_load(items, at) && begins_with_load(items.split_at(at).1)
 }
 
 /// Whether they are on both sides of where any window begins or ends.
@@ -58,7 +60,7 @@ pub(crate) fn start_of_run(items: &[Item]) -> usize
     ensures loads { AreLoads (drop result items.now) }
 {
     let mut start = items.len();
-    while ends_with_load(items.split_at(start).0) {
+    while is_past_load(items, start) {
         start -= 1;
     }
     start
