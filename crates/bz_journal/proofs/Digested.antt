@@ -1,7 +1,7 @@
 -- The digests of texts where one is put after the first ones, and those along a trail.
 use Rattle.std.proofs.Common.{◌≡◌, ◌∙◌, ◌+◌, ◌<◌, Ok, ℕ, zero, suc, List, [], ◌∷◌, ◌++◌, length, map, take, ap, arith, length-append, refl, subst, sym}
 use Rattle.std.specs.Prelude.{slice_index_or}
-use Rattle.std.proofs.lemmas.List.{map-append, take-map, take_all, take_more}
+use Rattle.std.proofs.lemmas.List.{length-map, map-append, take-map, take_all, take_more}
 use Rattle.bz_journal.specs.Clauses.{Answer, AreFirstDigests, Bytes, Edit, History, Node, present, sha256, texts_of, trail_at}
 use Rattle.bz_journal.specs.declared.action.Reply.TheVariants.{Changed}
 use Rattle.bz_journal.proofs.Following.{Goes}
@@ -38,6 +38,10 @@ module _ {A B : Type 0} (f : A → B) where
       let one : d ≡ f y = cc in
       let others : ds ≡ map f (take (length ds) ys) = cc in
       ap (λ (z : B). z ∷ take n ds) one ∙ ap (λ (l : List B). f y ∷ l) (cut_first n ds ys x others)
+
+  -- those of all are those of the first ones too
+  pub first_of_all : (ds : List B) (xs : List A) → ds ≡ map f xs → ds ≡ map f (take (length ds) xs)
+  first_of_all ds xs known = known ∙ ap (map f) (sym (take_all (length ds) xs (omega (arith, ap length known, length-map xs f))))
 
   -- those of all are there
   pub all_first : (count : ℕ) (ds : List B) (xs : List A) → ds ≡ map f (take (length ds) xs) → length ds ≡ count → count ≡ length xs → ds ≡ map f xs

@@ -1,18 +1,17 @@
 //! Actions in a course, and what is kept beside it from one command to the next: the value of the present text, so that a command need not
 //! make it anew. Where that text is the layout of a tidy value only what changes is tidied and laid out.
-ghost use Rattle.std.specs.Prelude.{◌≡◌, ◌≤◌, List, None, OnOk, length};
-ghost use Rattle.bz_journal.specs.Clauses.{AreOver, Do, EndsAt, Format, HasActed, HasMade, IsBuild, IsFormatted, IsSeenIn, Item, MakesLines, Node, action_in, after_meaning, note_limit, present, session_history, view_of, written};
+ghost use Rattle.std.specs.Prelude.{◌≤◌, OnOk, length};
+ghost use Rattle.bz_journal.specs.Clauses.{AreOver, Do, EndsAt, Format, HasActed, HasMade, IsFormatted, IsSeenIn, Node, action_in, after_meaning, note_limit, present, session_history, view_of, written};
 
 use crate::action::{Action, Reply};
 use crate::answering::{Lookups, answer, is_by_name, look_up};
 use crate::course::{Course, at_once, unchanged};
 use crate::laws::written_is_laid_out;
-use crate::making::{Made, made_by_text, made_by_windows};
+use crate::making::{Made, made_of};
 use crate::meaning::{printed_answer, run_beside, value_of};
 use crate::moving::begins_after;
 use bz_build_format::{formatted_once, reads_back};
 use bz_command_syntax::Command;
-use bz_grammar::Tree;
 use bz_grammar::laws::one_reading;
 use bz_items::{Items, Text};
 use bz_label::Target;
@@ -81,37 +80,22 @@ impl Seen {
             self.lookups = Lookups::none();
         }
     }
-
-    /// The lines of a value that a command made of that of a tree, and which is another one in these windows. Errors: `TooLarge`, `TooDeep`; `Memory`.
-    fn made_of(&mut self, windows: Items<Window>, file: File, tree: &Tree) -> Result<Made, Refusal>
-        requires build { IsBuild tree.now }
-        requires seen { IsSeenIn tree.now self.old }
-        requires over { AreOver windows (view_of tree.now) file }
-        ensures made { MakesLines file tree.now result }
-        ensures seen { IsSeenIn tree.now self.new }
-        ensures value { self.new.value ≡ self.old.value }
-    {
-        match self.written {
-            Some(len) => made_by_windows(windows, file, tree, len, self.lookups.names.take()),
-            None => made_by_text(file, tree, tree.len()),
-        }
-    }
 }
 
-/// Takes up the lines that were made of a value that is to be written, and keeps this as the value of the present text where it was not given
-/// up; or answers what refused them. The errors are those of taking them up.
+/// Takes up a value that is to be written, and is another one than that of the present text in these windows alone. It is kept as the value of
+/// the new text, unless it is given up. The errors are those of making its lines and of taking them up.
 fn take_up(
     course: &mut Course,
     seen: &mut Seen,
-    made: Result<Made, Refusal>,
+    windows: Items<Window>,
+    file: File,
     printed: Option<Text>,
     note: &str,
 ) -> Result<Reply, Refusal>
     requires short { length note.now ≤ note_limit }
-    requires none { seen.old.value ≡ None }
     requires seen { IsSeenIn course.old.tree seen.old }
-    requires made { (file : List Item) × MakesLines file course.old.tree made }
-    ensures end { (file : List Item) → MakesLines file course.old.tree made → EndsAt (after_meaning note.now (session_history course.old) (written file printed)) course.old result course.new }
+    requires over { AreOver windows (view_of course.old.tree) file }
+    ensures end { EndsAt (after_meaning note.now (session_history course.old) (written file printed)) course.old result course.new }
     ensures seen { IsSeenIn course.new.tree seen.new }
 {
     one_reading();
@@ -122,7 +106,7 @@ fn take_up(
         value,
         names,
         length,
-    } = match made {
+    } = match made_of(seen, windows, file, before) {
         Ok(made) => made,
         Err(refusal) => return Err(refusal),
     };
@@ -181,8 +165,7 @@ fn edit(
                 seen.value = seen.written.is_some().then_some(file);
                 return Ok(unchanged(printed));
             }
-            let made = seen.made_of(ran.windows, file, here);
-            take_up(course, seen, made, printed, note)
+            take_up(course, seen, ran.windows, file, printed, note)
         }
         Err(refusal) => {
             take_apart(file);
@@ -203,8 +186,8 @@ fn format(course: &mut Course, seen: &mut Seen, note: &str) -> Result<Reply, Ref
     let here = course.present();
     reads_back(here);
     let file = value_of(seen.value.take(), here)?;
-    let made = made_by_text(file, here, here.len());
-    take_up(course, seen, made, None, note)
+    let windows = Items::new(course.alloc()); // the value is that of the text
+    take_up(course, seen, windows, file, None, note)
 }
 
 /// Does an action with a note by what is kept beside the course, as `Session::act_noted` says. The errors are those.

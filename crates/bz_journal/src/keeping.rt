@@ -1,15 +1,14 @@
 //! Actions whose history outlives the run: a file and its journal, kept.
-ghost use Rattle.std.specs.Prelude.{◌≡◌, IfOk, IfSome};
+ghost use Rattle.std.specs.Prelude.{◌≡◌, IfOk};
 ghost use Rattle.bz_journal.specs.Clauses.{Action, AreFirstDigests, Bytes, HasActed, IsWrittenSince, KeepsPair, SessionState, present, session_history};
 
 use crate::action::Reply;
 use crate::course::{Course, text_of};
-use crate::digests::journal_by;
+use crate::digests::{complete, learn};
 use bz_files::Files;
 use bz_items::Memory;
 use bz_resume::{PairFault, keep};
 use bz_value::Refusal;
-use sha2::{Digest, Sha256};
 use std::alloc::Global;
 
 /// Why an action was not kept.
@@ -28,38 +27,6 @@ pub(crate) struct Written {
     pub(crate) text: Vec<u8>,
 }
 
-/// The present text of a course: the one that is at hand, or else that of the tree. The error: a growth was refused.
-pub(crate) fn own_text(course: &Course, text: Option<Vec<u8>>) -> Result<Vec<u8>, Memory>
-    requires { IfSome text (λ own. own.items ≡ present (session_history course.now)) }
-    ensures { IfOk result (λ own. own.items ≡ present (session_history course.now)) }
-{
-    match text {
-        Some(text) => Ok(text),
-        None => text_of(course.present()),
-    }
-}
-
-/// The same; its digest is then known where those of the texts before it are, as far as memory allows.
-pub(crate) fn known_text(
-    course: &Course,
-    digests: &mut Vec<[u8; 32]>,
-    text: Option<Vec<u8>>,
-) -> Result<Vec<u8>, Memory>
-    requires first { AreFirstDigests digests.old.items (session_history course.now).texts }
-    requires text { IfSome text (λ own. own.items ≡ present (session_history course.now)) }
-    ensures first { AreFirstDigests digests.new.items (session_history course.now).texts }
-    ensures text { IfOk result (λ own. own.items ≡ present (session_history course.now)) }
-{
-    let text = own_text(course, text)?;
-    let _tree = course.present();
-    let cursor = course.cursor() as usize;
-    if digests.len() != cursor || digests.reserve(1).is_err() {
-        return Ok(text);
-    }
-    digests.push(Sha256::digest(text.as_slice())).unwrap();
-    Ok(text)
-}
-
 /// What is written of a course, where its cursor is another one than this. The error: a growth was refused.
 pub(crate) fn written_since(
     course: &mut Course,
@@ -74,8 +41,11 @@ pub(crate) fn written_since(
     if course.cursor() == from {
         return Ok(None);
     }
-    let text = known_text(course, digests, None)?;
-    let journal = journal_by(course, digests.as_slice(), text.as_slice())?;
+    let text = text_of(None, course.present());
+    learn(course, digests, &text);
+    let text = text?;
+    complete(course, digests)?;
+    let journal = course.journal(digests.as_slice(), text.as_slice())?;
     Ok(Some(Written { journal, text }))
 }
 

@@ -1,7 +1,8 @@
 //! The lines of a new value that are other ones than in the present tree.
 ghost use Rattle.std.specs.Prelude.{◌≡◌, ◌<◌, ◌≤◌, Err, IfOk, IfSome, length};
-ghost use Rattle.bz_journal.specs.Clauses.{AreLinesOf, AreOver, IsBuild, IsIndexOf, IsWritten, MakesLines, Refusal, SetFault, depth_limit, depth_of, laid_out, layout, limit, spell_node, view_of};
+ghost use Rattle.bz_journal.specs.Clauses.{AreLinesOf, AreOver, IsBuild, IsIndexOf, IsSeenIn, IsWritten, MakesLines, Refusal, SetFault, depth_limit, depth_of, laid_out, layout, limit, spell_node, view_of};
 
+use crate::doing::Seen;
 use crate::naming::outlives;
 use bz_build_format::{is_mostly_other, read_text, read_windows, reads_back};
 use bz_edit::PartWindow;
@@ -66,7 +67,7 @@ fn lines_of_windows(
 /// The lines of a value that is another one than that of a tree in these windows alone: only what is in them is tidied and laid out. The tree is the
 /// layout of a tidy value, and has `len` bytes; there may be an index of the names in that value. Errors: `TooLarge`, `TooDeep`; `Memory`: a growth
 /// was refused.
-pub(crate) fn made_by_windows(
+fn made_by_windows(
     mut windows: Items<Window>,
     mut file: File,
     tree: &Tree,
@@ -104,15 +105,27 @@ pub(crate) fn made_by_windows(
 /// another one. The comparison takes a tenth of what a command on a shorter one does, and the value of that is not much.
 const LONG: usize = 2 << 20;
 
-/// The lines of a value by the text of its layout, which has about `about` bytes, whatever the value and the tree have to do with each other.
-/// Errors: `TooLarge`, `TooDeep`; `Memory`: a growth was refused.
-pub(crate) fn made_by_text(file: File, tree: &Tree, about: usize) -> Result<Made, Refusal>
-    requires { IsBuild tree.now }
-    ensures { MakesLines file tree.now result }
+/// The lines of a value that is another one than that of a tree in these windows alone, by what is kept beside that tree: where this isn't known
+/// to be the layout of a tidy value, all of it is tidied and laid out. Errors: `TooLarge`, `TooDeep`; `Memory`: a growth was refused.
+pub(crate) fn made_of(
+    seen: &mut Seen,
+    windows: Items<Window>,
+    file: File,
+    tree: &Tree,
+) -> Result<Made, Refusal>
+    requires build { IsBuild tree.now }
+    requires seen { IsSeenIn tree.now seen.old }
+    requires over { AreOver windows (view_of tree.now) file }
+    ensures made { MakesLines file tree.now result }
+    ensures seen { IsSeenIn tree.now seen.new }
 {
+    if let Some(len) = seen.written {
+        return made_by_windows(windows, file, tree, len, seen.lookups.names.take());
+    }
+    drop(windows);
     let alloc = file.items.alloc();
     let tidy = tidy(alloc, file)?;
-    let text = match text_of_file(alloc, &tidy, about) {
+    let text = match text_of_file(alloc, &tidy, tree.len()) {
         Ok(text) => text,
         Err(fault) => {
             take_apart(tidy);

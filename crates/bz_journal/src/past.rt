@@ -1,15 +1,15 @@
 //! What a run has of a file: its texts so far, as a course, or alone once the last command on it is done.
 ghost use Rattle.std.specs.Prelude.{◌≡◌, ◌≤◌, ◌++◌, true, IfOk, IfSome, OnErr, OnOk, length, string_bytes};
-ghost use Rattle.bz_journal.specs.Clauses.{Acts, AreFirstDigests, Do, HasActed, IsSeenIn, Keeps, KeepsFile, MakesOrWants, SessionState, action_in, listing, note_limit, present, session_history};
+ghost use Rattle.bz_journal.specs.Clauses.{Action as Requested, Acts, AreFirstDigests, Bytes, Do, HasActed, IsSeenIn, Keeps, KeepsFile, MakesOrWants, SessionState, action_in, listing, note_limit, present, session_history};
 ghost use Rattle.bz_journal.specs.Forms.{ActsIn, KeepsIn, OpensPast, past_history};
 ghost use Rattle.bz_journal.specs.private.Courses.{HasCourse};
 
 use crate::action::{Action, Reply, is_changed};
 use crate::alone::{Alone, of_first, taken_up};
-use crate::course::{Course, MOST_NOTE, begin};
-use crate::digests::listed_by;
+use crate::course::{Course, MOST_NOTE, begin, text_of};
+use crate::digests::{learn, listed_by};
 use crate::doing::{Seen, act};
-use crate::keeping::{KeepFault, known_text, own_text, persist, written_since};
+use crate::keeping::{KeepFault, persist, written_since};
 use crate::meaning::meant;
 use crate::session::Session;
 use bz_command_syntax::Command;
@@ -83,28 +83,23 @@ fn past_of(course: Course, digests: Vec<[u8; 32]>, text: Option<Vec<u8>>) -> Pas
     }
 }
 
-/// Does an action with a note in a course, by what is kept of it, as `Session::act_noted` says. The digests of texts that a new one cut off
-/// go. The errors are those.
-fn act_in(
-    course: &mut Course,
+/// What is kept of a course after an action that was answered so: the value of a short text goes, and the digests of texts that a new one cut off.
+fn settle(
+    course: &Course,
     digests: &mut Vec<[u8; 32]>,
     seen: &mut Seen,
-    action: &Action<'_>,
-    note: &str,
-) -> Result<Reply, Refusal>
-    requires seen { IsSeenIn course.old.tree seen.old }
-    requires digests { AreFirstDigests digests.old.items (session_history course.old).texts }
-    ensures acted { HasActed (action_in action.now) note.now course.old result course.new }
-    ensures seen { IsSeenIn course.new.tree seen.new }
-    ensures digests { AreFirstDigests digests.new.items (session_history course.new).texts }
+    answer: &Result<Reply, Refusal>,
+)
+    requires { IsSeenIn course.now.tree seen.old }
+    ensures seen { IsSeenIn course.now.tree seen.new }
+    ensures digests { (s : SessionState) (action : Requested) (note : Bytes) → HasActed action note s answer.now course.now → AreFirstDigests digests.old.items (session_history s).texts
+        → AreFirstDigests digests.new.items (session_history course.now).texts }
 {
-    let answer = act(course, seen, action, note);
     seen.let_go();
-    if !is_changed(&answer) {
-        return answer;
+    if !is_changed(answer) {
+        return;
     }
     digests.truncate(course.cursor() as usize);
-    answer
 }
 
 impl Past {
@@ -177,18 +172,20 @@ impl Past {
             Form::Course(course) => course,
             Form::Alone(texts) => return texts.wanting(action, note),
         };
-        let _here = course.present();
+        let here = course.present();
         if is_last
             && note.len() <= MOST_NOTE
             && course.steps() == 0
             && let Action::Do(command, target) = *action
         {
             let note = String::from_str(course.alloc(), note)?;
-            let text = own_text(course, self.text.take())?;
+            let text = text_of(self.text.take(), here)?;
             return self.act_last(text, command, target, note);
         }
         self.text = None;
-        act_in(course, &mut self.digests, &mut self.seen, action, note)
+        let answer = act(course, &mut self.seen, action, note);
+        settle(course, &mut self.digests, &mut self.seen, &answer);
+        answer
     }
 
     /// Does an action with a note and keeps it, as `Session::keep_noted` does. The errors are those.
@@ -208,9 +205,11 @@ impl Past {
             Form::Course(course) => course,
             Form::Alone(texts) => return texts.wanting(action, note).map_err(KeepFault::Refused),
         };
-        let standing = known_text(course, &mut self.digests, self.text.take());
+        let standing = text_of(self.text.take(), course.present());
+        learn(course, &mut self.digests, &standing);
         let from = course.cursor();
-        let answer = act_in(course, &mut self.digests, &mut self.seen, action, note);
+        let answer = act(course, &mut self.seen, action, note);
+        settle(course, &mut self.digests, &mut self.seen, &answer);
         let written = written_since(course, &mut self.digests, from);
         let kept = persist(course.alloc(), answer, standing, &written, file, files);
         self.text = written.ok().flatten().map(|written| written.text);

@@ -1,6 +1,6 @@
 use Rattle.std.proofs.Common.{◌∙◌, List, ap, refl, subst, sym}
 use Rattle.std.proofs.lemmas.Bool.{false≢true}
-use Rattle.bz_journal.specs.Clauses.{Item, MakesLines, Node, SessionState, session_history}
+use Rattle.bz_journal.specs.Clauses.{AreOver, Item, Node, SessionState, session_history, view_of}
 use Rattle.bz_journal.proofs.Edited.{edited_made, edited_refused, edited_same}
 use Rattle.bz_journal.proofs.doing.edit.Goals as goal
 
@@ -15,13 +15,15 @@ returns-then-is_empty-clause-made c = record {
   small = λ own. own;
 }
 
-pub take_up-requires-clause-made : goal.take_up-requires-clause-made
-take_up-requires-clause-made c = (c.run_beside.new.file, subst (λ (n : Node). MakesLines c.run_beside.new.file n c.made_of-made.result) c.present-here.ensures.tree c.made_of-made.ensures.made)
+pub take_up-requires-clause-over : goal.take_up-requires-clause-over
+take_up-requires-clause-over c =
+    subst (λ (n : Node). AreOver c.in-Ok-run_beside.ran.windows (view_of n) c.run_beside.new.file) c.present-here.ensures.tree
+    (subst (λ (xs : List Item). AreOver c.in-Ok-run_beside.ran.windows xs c.run_beside.new.file) c.in_ok-file.ensures c.in-Ok-run_beside.ensures.windows)
 
 pub returns-else-is_empty-clause-made : goal.returns-else-is_empty-clause-made
 returns-else-is_empty-clause-made c =
     let new : List Item = c.run_beside.new.file in
-    let end = c.take_up.ensures.end new (subst (λ (n : Node). MakesLines new n c.made_of-made.result) c.present-here.ensures.tree c.made_of-made.ensures.made) in
+    let end = c.take_up.ensures.end in
     record {
       makes =
           edited_made c.args.command.now c.args.target.now c.as_bytes-current.result.now c.present-here.result.now c.in_ok-file.file _ c.reads_back.ensures c.in_ok-file.ensures c.in-Ok.ensures.alike

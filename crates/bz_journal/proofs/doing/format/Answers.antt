@@ -1,15 +1,17 @@
-use Rattle.std.proofs.Common.{subst}
-use Rattle.bz_journal.specs.Clauses.{MakesLines, Node, session_history}
+use Rattle.std.proofs.Common.{◌∙◌, List, ap, subst, sym}
+use Rattle.bz_journal.specs.Clauses.{AreOver, session_history, view_of}
+use Rattle.bz_journal.specs.Words.{Window}
 use Rattle.bz_journal.proofs.Acting.{formats_made}
 use Rattle.bz_journal.proofs.Formatting.{formatted_after}
 use Rattle.bz_journal.proofs.doing.format.Goals as goal
 
-pub take_up-requires-clause-made : goal.take_up-requires-clause-made
-take_up-requires-clause-made c = (c.in_ok-file.file, subst (λ (n : Node). MakesLines c.in_ok-file.file n c.made_by_text-made.result) c.present-here.ensures.tree c.made_by_text-made.ensures)
+pub take_up-requires-clause-over : goal.take_up-requires-clause-over
+take_up-requires-clause-over c =
+    subst (λ (ws : List Window). AreOver ws (view_of c.args.course.now.tree) c.in_ok-file.file) (sym c.new-windows.ensures) (sym (c.in_ok-file.ensures ∙ ap view_of c.present-here.ensures.tree))
 
 pub returns-clause-made : goal.returns-clause-made
 returns-clause-made c =
-    let end = c.take_up.ensures.end c.in_ok-file.file (subst (λ (n : Node). MakesLines c.in_ok-file.file n c.made_by_text-made.result) c.present-here.ensures.tree c.made_by_text-made.ensures) in
+    let end = c.take_up.ensures.end in
     record {
       makes = formats_made c.args.note.now (session_history c.args.course.now) c.present-here.result.now c.in_ok-file.file c.present-here.ensures.text c.reads_back.ensures c.in_ok-file.ensures
           c.take_up.result (session_history c.take_up.new.course) end.made;
@@ -19,7 +21,6 @@ returns-clause-made c =
 
 pub returns-clause-formatted : goal.returns-clause-formatted
 returns-clause-formatted c =
-    let end = c.take_up.ensures.end c.in_ok-file.file (subst (λ (n : Node). MakesLines c.in_ok-file.file n c.made_by_text-made.result) c.present-here.ensures.tree c.made_by_text-made.ensures) in
     formatted_after c.formatted_once.ensures c.args.note.now (session_history c.args.course.now) (session_history c.take_up.new.course) c.take_up.result c.present-here.ensures.within
     (formats_made c.args.note.now (session_history c.args.course.now) c.present-here.result.now c.in_ok-file.file c.present-here.ensures.text c.reads_back.ensures c.in_ok-file.ensures
-    c.take_up.result (session_history c.take_up.new.course) end.made)
+    c.take_up.result (session_history c.take_up.new.course) c.take_up.ensures.end.made)

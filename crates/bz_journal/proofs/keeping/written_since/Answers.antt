@@ -5,11 +5,11 @@ use Rattle.bz_journal.proofs.keeping.written_since.Goals as goal
 
 pub returns-clause-written : goal.returns-clause-written
 returns-clause-written c =
-    let stays : c.journal_by.new.course ≡ c.args.course.now = c.journal_by.ensures.stays in (
+    let stays : c.journal.new.self ≡ c.args.course.now = c.journal.ensures.stays in (
       subst (λ (x : SessionState). x.cursor ≢ c.args.from) (sym stays) (has_moved c.cursor.result c.args.from _ c.args.from c.if-cursor-from.false c.cursor.ensures refl),
       record {
         stored = c.in_ok-journal.ensures.stored ∙ ap saved (sym stays);
-        own = subst (λ (x : SessionState). IsSavedSession x) (sym stays) c.in_ok-journal.ensures.journal;
-        text = c.in_ok-text.ensures.text ∙ ap (λ (x : SessionState). present (session_history x)) (sym stays);
+        own = subst (λ (x : SessionState). IsSavedSession x) (sym stays) c.journal.ensures.journal;
+        text = (rw c.in_ok-text.was at c.text_of-text.ensures) ∙ c.present.ensures.text ∙ ap (λ (x : SessionState). present (session_history x)) (sym stays);
       },
     )

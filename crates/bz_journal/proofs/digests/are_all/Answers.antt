@@ -2,7 +2,7 @@ use Rattle.std.proofs.Common.{◌+◌, arith}
 use Rattle.std.proofs.lemmas.Grind.{common_steps}
 use Rattle.bz_journal.specs.Clauses.{session_history, sha256}
 use Rattle.bz_journal.proofs.Digested.{all_first}
-use Rattle.bz_journal.proofs.digests.known.Goals as goal
+use Rattle.bz_journal.proofs.digests.are_all.Goals as goal
 
 pub returns : goal.returns
-returns c = grind (arith, common_steps, all_first sha256 (c.steps.result + 1) c.args.digests.now (session_history c.args.course.now).texts c.requires)
+returns c = λ is. grind (arith, common_steps, all_first sha256 (c.steps.result + 1) c.args.digests.now (session_history c.args.course.now).texts c.requires)
