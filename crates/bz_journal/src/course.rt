@@ -1,5 +1,5 @@
 //! The course of a file: its texts as one tree and the steps between them, and what actions make of it.
-ghost use Rattle.std.specs.Prelude.{◌≡◌, ◌≤◌, ◌<◌, ◌+◌, ◌↔◌, true, false, take, Err, None, Ok, Result, ℕ, List, IfOk, IfSome, OnOk, OnErr, IsOk, IsTrue, length, string_bytes};
+ghost use Rattle.std.specs.Prelude.{◌≡◌, ◌≤◌, ◌<◌, ◌+◌, ◌↔◌, true, false, take, Err, None, Ok, Result, ℕ, List, IfOk, OnOk, OnErr, IsOk, IsTrue, length, string_bytes};
 ghost use Rattle.bz_journal.specs.Clauses.{AreThere, EndsAt, HoldsState, IsAtOnce, IsBuild, IsSmall, IsTree, MakesOrWants, OpensText, Redo, Refusal, Undo, action_in, after_text, are_even, changed, most_steps, note_limit, opened, present, session_history, session_trail, spell_node, steps_back, steps_forward, unchanged, with_windows};
 
 use crate::action::{Action, Reply};
@@ -74,14 +74,10 @@ pub(crate) fn begin(alloc: Global, package: &str, text: &[u8]) -> Result<Course,
     })
 }
 
-/// The text of a tree: the one that is at hand, or else what the tree spells. The error: a growth was refused.
-pub(crate) fn text_of(own: Option<Vec<u8>>, tree: &Tree) -> Result<Vec<u8>, Memory>
-    requires { IfSome own (λ text. text.items ≡ spell_node tree.now) }
+/// The text of a tree. The error: a growth was refused.
+pub(crate) fn text_of(tree: &Tree) -> Result<Vec<u8>, Memory>
     ensures { IfOk result (λ text. text.items ≡ spell_node tree.now) }
 {
-    if let Some(text) = own {
-        return Ok(text);
-    }
     let mut text = Vec::new(tree.root.parts.alloc());
     tree.spell_into(&mut text)?;
     Ok(text)

@@ -1,9 +1,9 @@
 //! Actions whose history outlives the run: a file and its journal, kept.
-ghost use Rattle.std.specs.Prelude.{◌≡◌, IfOk};
+ghost use Rattle.std.specs.Prelude.{◌≡◌, IfOk, IfSome};
 ghost use Rattle.bz_journal.specs.Clauses.{Action, AreFirstDigests, Bytes, HasActed, IsWrittenSince, KeepsPair, SessionState, present, session_history};
 
 use crate::action::Reply;
-use crate::course::{Course, text_of};
+use crate::course::Course;
 use crate::digests::{complete, learn};
 use bz_files::Files;
 use bz_items::Memory;
@@ -27,6 +27,19 @@ pub(crate) struct Written {
     pub(crate) text: Vec<u8>,
 }
 
+/// The present text of a course: the one that is at hand, or else what its tree spells. The error: a growth was refused.
+pub(crate) fn own_text(course: &Course, text: Option<Vec<u8>>) -> Result<Vec<u8>, Memory>
+    requires { IfSome text (λ own. own.items ≡ present (session_history course.now)) }
+    ensures { IfOk result (λ own. own.items ≡ present (session_history course.now)) }
+{
+    if let Some(text) = text {
+        return Ok(text);
+    }
+    let mut text = Vec::new(course.alloc());
+    course.present().spell_into(&mut text)?;
+    Ok(text)
+}
+
 /// What is written of a course, where its cursor is another one than this. The error: a growth was refused.
 pub(crate) fn written_since(
     course: &mut Course,
@@ -41,7 +54,7 @@ pub(crate) fn written_since(
     if course.cursor() == from {
         return Ok(None);
     }
-    let text = text_of(None, course.present());
+    let text = own_text(course, None);
     learn(course, digests, &text);
     let text = text?;
     complete(course, digests)?;

@@ -67,7 +67,7 @@ impl Session {
         ensures small { IsSmall (session_trail self.now) → AreSmall (session_history self.now) self.now.steps }
     {
         self.holds();
-        let text = text_of(None, self.present())?;
+        let text = text_of(self.present())?;
         let saved = Saved {
             tree: &self.tree,
             content: Content {
@@ -128,7 +128,7 @@ impl Session {
         reopened();
         let mut journal = Vec::new(alloc);
         self.save_into(&mut journal)?;
-        let text = text_of(None, self.present())?;
+        let text = text_of(self.present())?;
         Session::resume(alloc, journal.as_slice(), text.as_slice())
     }
 }

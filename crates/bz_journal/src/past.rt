@@ -6,10 +6,10 @@ ghost use Rattle.bz_journal.specs.private.Courses.{HasCourse};
 
 use crate::action::{Action, Reply, is_changed};
 use crate::alone::{Alone, of_first, taken_up};
-use crate::course::{Course, MOST_NOTE, begin, text_of};
+use crate::course::{Course, MOST_NOTE, begin};
 use crate::digests::{learn, listed_by};
 use crate::doing::{Seen, act};
-use crate::keeping::{KeepFault, persist, written_since};
+use crate::keeping::{KeepFault, own_text, persist, written_since};
 use crate::meaning::meant;
 use crate::session::Session;
 use bz_command_syntax::Command;
@@ -172,14 +172,14 @@ impl Past {
             Form::Course(course) => course,
             Form::Alone(texts) => return texts.wanting(action, note),
         };
-        let here = course.present();
+        let _here = course.present();
         if is_last
             && note.len() <= MOST_NOTE
             && course.steps() == 0
             && let Action::Do(command, target) = *action
         {
             let note = String::from_str(course.alloc(), note)?;
-            let text = text_of(self.text.take(), here)?;
+            let text = own_text(course, self.text.take())?;
             return self.act_last(text, command, target, note);
         }
         self.text = None;
@@ -205,7 +205,7 @@ impl Past {
             Form::Course(course) => course,
             Form::Alone(texts) => return texts.wanting(action, note).map_err(KeepFault::Refused),
         };
-        let standing = text_of(self.text.take(), course.present());
+        let standing = own_text(course, self.text.take());
         learn(course, &mut self.digests, &standing);
         let from = course.cursor();
         let answer = act(course, &mut self.seen, action, note);

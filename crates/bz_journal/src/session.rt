@@ -238,7 +238,7 @@ impl Session {
     ) -> Result<Reply, KeepFault>
         ensures { KeepsPair F.Files (action_in action.now) note.now file.now self.old result self.new files.old files.new }
     {
-        let standing = text_of(None, self.present());
+        let standing = text_of(self.present());
         let from = self.cursor();
         let answer = self.act_noted(action, note);
         let written = self.written_since(from);
@@ -253,7 +253,7 @@ impl Session {
         if self.cursor() == from {
             return Ok(None);
         }
-        let text = text_of(None, self.present())?;
+        let text = text_of(self.present())?;
         let mut journal = Vec::new(*self.steps.allocator());
         self.save_into(&mut journal)?;
         Ok(Some(Written { journal, text }))

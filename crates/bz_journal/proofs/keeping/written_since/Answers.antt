@@ -10,6 +10,6 @@ returns-clause-written c =
       record {
         stored = c.in_ok-journal.ensures.stored ∙ ap saved (sym stays);
         own = subst (λ (x : SessionState). IsSavedSession x) (sym stays) c.journal.ensures.journal;
-        text = (rw c.in_ok-text.was at c.text_of-text.ensures) ∙ c.present.ensures.text ∙ ap (λ (x : SessionState). present (session_history x)) (sym stays);
+        text = (rw c.in_ok-text.was at c.own_text-text.ensures) ∙ ap (λ (x : SessionState). present (session_history x)) (sym stays);
       },
     )

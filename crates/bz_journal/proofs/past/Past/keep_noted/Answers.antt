@@ -1,12 +1,11 @@
 use Rattle.std.proofs.Common.{◌≡◌, ℕ, rules, subst, sym}
-use Rattle.std.specs.Prelude.{IfOk}
 use Rattle.std.specs.Option.{option_flatten, option_map}
 use Rattle.std.specs.Result.{result_ok}
-use Rattle.bz_journal.specs.Clauses.{Action, Bytes, History, IsSeenIn, IsWrittenSince, Keeps, KeepsFile, KeepsPair, SessionState, action_in, session_history}
+use Rattle.bz_journal.specs.Clauses.{Action, History, IsSeenIn, IsWrittenSince, Keeps, KeepsFile, KeepsPair, SessionState, action_in, session_history}
 use Rattle.bz_journal.specs.Forms.{past_history}
 use Rattle.bz_journal.specs.declared.keeping.Written.{Written}
 use Rattle.bz_journal.specs.declared.past.Form.{Form}
-use Rattle.bz_journal.proofs.InForm.{kept_in, made_as, same_history}
+use Rattle.bz_journal.proofs.InForm.{made_as, same_history}
 use Rattle.bz_journal.proofs.Persisting.{file_unkept, text_kept}
 use Rattle.bz_journal.proofs.past.Past.keep_noted.Goals as goal
 
@@ -15,9 +14,6 @@ returns-in-Alone-clause-pair g c =
     subst (λ (form : Form). KeepsFile g.F.Files c.args.file.now (past_history form) c.in-Alone.texts c.map_err.result c.args.files.now c.args.files.now)
     (sym (made_as c.args.self.now _ _ _ c.make_course.ensures c.self.view_is c.in-Alone.is))
     (file_unkept g.F.Files c.args.file.now c.in-Alone.texts c.args.files.now (g.met.F.Files.only_now c.args.files.now) c.wanting.result c.map_err.result c.map_err.ensures.cases)
-
-pub learn-requires-clause-text : goal.learn-requires-clause-text
-learn-requires-clause-text g c = subst (λ (t : Bytes). IfOk c.text_of-standing.result (λ own. own.items ≡ t)) c.present.ensures.text c.text_of-standing.ensures
 
 pub written_since-written-requires : goal.written_since-written-requires
 written_since-written-requires g c = c.settle.ensures.digests c.in-Course.course (action_in c.args.action.now) c.args.note.now c.act-answer.ensures.acted c.learn.ensures
@@ -39,7 +35,7 @@ returns-clause-pair g c =
     subst (λ (k : ℕ). IsWrittenSince t k c.written_since-written.result) c.cursor-from.ensures c.written_since-written.ensures.written in
     subst (λ (h : History). KeepsFile g.F.Files c.args.file.now h (session_history t) c.persist-kept.result c.args.files.now c.persist-kept.new.files)
     (same_history c.args.self.now s (made_as c.args.self.now _ _ _ c.make_course.ensures c.self.view_is c.in-Course.is))
-    (KeepsPair.pair (c.persist-kept.ensures s t action c.args.note.now (subst (λ (x : Bytes). IfOk c.text_of-standing.result (λ own. own.items ≡ x)) c.present.ensures.text c.text_of-standing.ensures) written
+    (KeepsPair.pair (c.persist-kept.ensures s t action c.args.note.now c.own_text-standing.ensures written
     (rw c.written_since-written.ensures.stays c.act-answer.ensures.acted)))
 
 pub returns-clause-keeps : goal.returns-clause-keeps
@@ -51,17 +47,5 @@ returns-clause-keeps g c =
     subst (λ (k : ℕ). IsWrittenSince t k c.written_since-written.result) c.cursor-from.ensures c.written_since-written.ensures.written in
     subst (λ (h : History). Keeps action c.args.note.now h c.persist-kept.result (session_history t))
     (same_history c.args.self.now s (made_as c.args.self.now _ _ _ c.make_course.ensures c.self.view_is c.in-Course.is))
-    (KeepsPair.keeps (c.persist-kept.ensures s t action c.args.note.now (subst (λ (x : Bytes). IfOk c.text_of-standing.result (λ own. own.items ≡ x)) c.present.ensures.text c.text_of-standing.ensures) written
+    (KeepsPair.keeps (c.persist-kept.ensures s t action c.args.note.now c.own_text-standing.ensures written
     (rw c.written_since-written.ensures.stays c.act-answer.ensures.acted)))
-
-pub returns-clause-form : goal.returns-clause-form
-returns-clause-form g c =
-    let action : Action = action_in c.args.action.now in
-    let s : SessionState = c.in-Course.course in
-    let t : SessionState = c.written_since-written.new.course in
-    let written : IsWrittenSince t s.cursor c.written_since-written.result =
-    subst (λ (k : ℕ). IsWrittenSince t k c.written_since-written.result) c.cursor-from.ensures c.written_since-written.ensures.written in
-    kept_in g.F.Files action c.args.note.now c.args.file.now c.args.self.now s c.persist-kept.result t c.args.files.now c.persist-kept.new.files
-    (made_as c.args.self.now _ _ _ c.make_course.ensures c.self.view_is c.in-Course.is)
-    (c.persist-kept.ensures s t action c.args.note.now (subst (λ (x : Bytes). IfOk c.text_of-standing.result (λ own. own.items ≡ x)) c.present.ensures.text c.text_of-standing.ensures) written
-    (rw c.written_since-written.ensures.stays c.act-answer.ensures.acted))
