@@ -7,7 +7,8 @@ use crate::course::Course;
 use crate::digests::{complete, learn};
 use bz_files::Files;
 use bz_items::Memory;
-use bz_resume::{PairFault, keep};
+use bz_journal_format::{Version, record_bytes};
+use bz_resume::{Content, PairFault, keep};
 use bz_value::Refusal;
 use std::alloc::Global;
 
@@ -40,7 +41,8 @@ pub(crate) fn own_text(course: &Course, text: Option<Vec<u8>>) -> Result<Vec<u8>
     Ok(text)
 }
 
-/// What is written of a course, where its cursor is another one than this. The error: a growth was refused.
+/// What is written of a course, where its cursor is another one than this: the journal in version 2, and the present text. What the next
+/// journal has again is kept. The error: a growth was refused.
 pub(crate) fn written_since(
     course: &mut Course,
     digests: &mut Vec<[u8; 32]>,
@@ -58,7 +60,18 @@ pub(crate) fn written_since(
     learn(course, digests, &text);
     let text = text?;
     complete(course, digests)?;
-    let journal = course.journal(digests.as_slice(), text.as_slice())?;
+    course.holds();
+    let alloc = course.alloc();
+    let content = Content {
+        package: course.package.as_bytes(),
+        text: text.as_slice(),
+        cursor: course.cursor,
+        before: course.before,
+        digests: digests.as_slice(),
+        notes: course.notes.as_slice(),
+        steps: course.steps.as_slice(),
+    };
+    let journal = record_bytes(alloc, Version::Two, &content, &mut course.kept)?;
     Ok(Some(Written { journal, text }))
 }
 

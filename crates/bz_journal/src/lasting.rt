@@ -9,7 +9,6 @@ use crate::listing::listed;
 use crate::session::Session;
 use bz_edit::laws::texts_kept;
 use bz_items::{Memory, Text};
-use bz_journal_format::{Version, record_bytes};
 use bz_resume::laws::reopened;
 use bz_resume::{Content, ResumeFault, Resumed, Saved, resume, save_into};
 use std::alloc::Global;
@@ -22,29 +21,6 @@ impl Course {
     {
         self.holds();
         listed(alloc, self.cursor as usize, self.notes.as_slice(), digests)
-    }
-
-    /// The journal of the session with this present text, whose texts have these digests, in version 2. What the next one has again is
-    /// kept. The error: a growth was refused.
-    pub(crate) fn journal(&mut self, digests: &[[u8; 32]], text: &[u8]) -> Result<Vec<u8>, Memory>
-        requires digests { digests.now ≡ map sha256 (session_history self.old).texts }
-        requires text { text.now ≡ present (session_history self.old) }
-        ensures stored { IfOk result (λ stored. stored.items ≡ saved self.old) }
-        ensures journal { IsSavedSession self.old }
-        ensures stays { self.new ≡ self.old }
-    {
-        self.holds();
-        let alloc = self.alloc();
-        let content = Content {
-            package: self.package.as_bytes(),
-            text,
-            cursor: self.cursor,
-            before: self.before,
-            digests,
-            notes: self.notes.as_slice(),
-            steps: self.steps.as_slice(),
-        };
-        record_bytes(alloc, Version::Two, &content, &mut self.kept)
     }
 }
 
