@@ -48,9 +48,12 @@ refused_quiet name text f.TooLarge = record { stays = refl; nothing = refl; othe
 refused_quiet name text f.TooDeep = record { stays = refl; nothing = refl; other = λ is. cc is }
 refused_quiet name text f.Memory = record { stays = refl; nothing = refl; other = λ is. cc is }
 
-pub rewrites_quiet : (name text new : List ℕ) (folder after : Folder) (effect : Effect) → Rewrites name text new folder effect after → IsQuiet effect
-rewrites_quiet name text new folder after effect (inl done) = rw (done.0) (record { stays = refl; nothing = refl; other = λ is. cc is })
-rewrites_quiet name text new folder after effect (inr failed) = rw (failed.0) (record { stays = refl; nothing = refl; other = λ is. cc is })
+pub same_rewrites : (name text text' new new' : List ℕ) (folder folder' after : Folder) (effect : Effect) → text' ≡ text → new' ≡ new → folder' ≡ folder
+    → Rewrites name text' new' folder' effect after → Rewrites name text new folder effect after
+same_rewrites name text text' new new' folder folder' after effect of_text of_new of_folder rewrites =
+    subst (λ (f : Folder). Rewrites name text new f effect after) of_folder
+    (subst (λ (t : List ℕ). Rewrites name t new folder' effect after) of_text
+    (subst (λ (n : List ℕ). Rewrites name text' n folder' effect after) of_new rewrites))
 
 -- ---- the front of an input, one byte longer than a text may be, decides what becomes of it
 

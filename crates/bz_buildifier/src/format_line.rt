@@ -14,9 +14,10 @@ use clap::{Arg, ArgAction, ArgMatches, Command};
 use std::alloc::{AllocError, Global};
 use std::convert::AsStr;
 
-/// What is to be done with texts.
+/// What is to be done with texts, and where memory for that comes from.
 #[derive(Clone, Copy)]
 pub(crate) struct Options {
+    pub(crate) alloc: Global,
     pub(crate) mode: Mode,
     pub(crate) file_type: FileType,
 }
@@ -130,7 +131,11 @@ pub(crate) fn read_format_line<'a, S: AsStr>(
     };
     match argument_texts(alloc, &matches, "file") {
         Ok(files) => Ok(FormatLine {
-            options: Options { mode, file_type },
+            options: Options {
+                alloc,
+                mode,
+                file_type,
+            },
             files,
         }),
         Err(_) => Err(FormatUsage::Memory),

@@ -19,7 +19,7 @@ use crate::format_line::{FormatUsage, Options, clap_hint, read_format_line};
 use crate::mode::MODES;
 use crate::{Cut, Exit, Sink, Source};
 use bz_build_format::{FormatFault, format, format_bzl};
-use bz_files::{FileKind, Files};
+use bz_files::{FileKind, Files, rewrite};
 use bz_items::Text;
 use bz_streams::LinePiece::{Outside, Own};
 use bz_streams::{InputFault, MOST, STDIN, nearest, read_most, report_clap_hinted, report_pieces};
@@ -29,49 +29,19 @@ use std::convert::AsStr;
 // The status of words that are no line of the program's.
 const USAGE: u8 = 2;
 
-// Rewrites a file that still holds the text that was formatted; a failure is reported.
-fn rewrite<F: Files, E: Sink>(
-    files: &mut F,
-    err: &mut E,
-    name: &str,
-    text: &[u8],
-    new: &[u8],
-) -> Effect
-    ensures step { F.honest files.old ≡ true → (effect : r.Effect) × Rewrites name.now text.now new.now (F.folder files.old) effect (F.folder files.new)
-        × (result ≡ effect_seen effect)
-        × Reports (E.faults err.old) (E.faults err.new) (E.contents err.old) (E.contents err.new) effect.lines }
-    ensures open { result.closes ≡ false }
-    ensures status { result.cut ≢ Cut.Whole → result.status ≡ 3 }
-    ensures cut { ((result.cut ≡ Cut.Whole) × (F.faults files.new ≡ F.faults files.old))
-        ⊎ ((result.cut ≡ Cut.Files) × Rises (F.faults files.old) (F.faults files.new)) }
-    ensures count { F.faults files.old ≤ F.faults files.new }
-    ensures honest { F.honest files.new ≡ F.honest files.old }
-{
-    match bz_files::rewrite(files, name, text, new) {
-        Ok(()) => BEGUN,
-        Err(_) => fail(err, name, "cannot write", Cut::Files),
-    }
-}
-
 // The formatted text of the text of a file of this name.
-fn format_named(
-    alloc: Global,
-    file_type: FileType,
-    name: &str,
-    text: &[u8],
-) -> Result<Text, FormatFault>
-    ensures { FormatsAs (is_bzl file_type name.now) text.now result }
+fn format_named(options: Options, name: &str, text: &[u8]) -> Result<Text, FormatFault>
+    ensures { FormatsAs (is_bzl options.file_type name.now) text.now result }
 {
-    if file_type.is_bzl(name) {
-        format_bzl(alloc, text)
+    if options.file_type.is_bzl(name) {
+        format_bzl(options.alloc, text)
     } else {
-        format(alloc, text)
+        format(options.alloc, text)
     }
 }
 
 // Reads a file, formats it, and does what the mode wants. Of a text that is too long no more is read than the byte that shows it.
 fn file_effect<F: Files, W: Sink, E: Sink>(
-    alloc: Global,
     options: Options,
     name: &str,
     closed: bool,
@@ -89,20 +59,23 @@ fn file_effect<F: Files, W: Sink, E: Sink>(
     ensures counts { Counts (W.faults out.old) (W.faults out.new) }
     ensures honest { F.honest files.new ≡ F.honest files.old }
 {
-    let mut text = Vec::new(alloc);
+    let mut text = Vec::new(options.alloc);
     match files.read_most(name, FileKind::Regular, MOST, &mut text) {
         Ok(()) => {}
         Err(fault) => return unread_file(err, name, fault),
     }
-    let new = match format_named(alloc, options.file_type, name, &text) {
+    let new = match format_named(options, name, &text) {
         Ok(new) => new,
         Err(fault) => return refused(err, name, &text, &fault),
     };
     if is_rewritten(options.mode, &text, new.as_slice()) {
-        return rewrite(files, err, name, &text, new.as_slice());
+        match rewrite(files, name, &text, new.as_slice()) {
+            Ok(()) => return BEGUN,
+            Err(_) => return fail(err, name, "cannot write", Cut::Files),
+        }
     }
     let status = text_status(options.mode, &text, new.as_slice());
-    match file_out(alloc, options.mode, name, &text, new) {
+    match file_out(options.alloc, options.mode, name, &text, new) {
         Ok(bytes) => print(out, err, closed, bytes.as_slice(), status),
         Err(_) => fail(err, name, "Memory", Cut::Memory),
     }
@@ -110,7 +83,6 @@ fn file_effect<F: Files, W: Sink, E: Sink>(
 
 // Reads standard input, formats it, and does what the mode wants.
 fn input_effect<R: Source, W: Sink, E: Sink>(
-    alloc: Global,
     options: Options,
     input: &mut R,
     out: &mut W,
@@ -129,45 +101,20 @@ fn input_effect<R: Source, W: Sink, E: Sink>(
     ensures reader { result.cut ≢ Cut.Read → R.faults input.new ≡ R.faults input.old }
     ensures writer { result.cut ≢ Cut.Write → W.faults out.new ≡ W.faults out.old }
 {
-    let text = match read_most(alloc, input, MOST) {
+    let text = match read_most(options.alloc, input, MOST) {
         Ok(text) => text,
         Err(InputFault::Read) => return fail(err, STDIN, "cannot open", Cut::Read),
         Err(InputFault::Memory) => return fail(err, STDIN, "Memory", Cut::Memory),
     };
-    let new = match format_named(alloc, options.file_type, STDIN, &text) {
+    let new = match format_named(options, STDIN, &text) {
         Ok(new) => new,
         Err(fault) => return refused(err, STDIN, &text, &fault),
     };
     let status = text_status(options.mode, &text, new.as_slice());
-    match input_out(alloc, options.mode, &text, new) {
+    match input_out(options.alloc, options.mode, &text, new) {
         Ok(bytes) => print(out, err, false, bytes.as_slice(), status),
         Err(_) => fail(err, STDIN, "Memory", Cut::Memory),
     }
-}
-
-// One file after the other.
-fn run_files<F: Files, W: Sink, E: Sink>(
-    alloc: Global,
-    options: Options,
-    names: &[&str],
-    files: &mut F,
-    out: &mut W,
-    err: &mut E,
-) -> Effect
-    ensures runs { F.honest files.old ≡ true → (run : r.Effect) × (result ≡ effect_seen run)
-        × r.FilesFormatted options.mode options.file_type (map (λ name. name.now) names.now) begun (F.folder files.old) run (F.folder files.new)
-        × Writes run.closes (W.faults out.old) (W.faults out.new) (W.contents out.old) (W.contents out.new) run.out
-        × Reports (E.faults err.old) (E.faults err.new) (E.contents err.old) (E.contents err.new) run.lines }
-    ensures status { result.cut ≢ Cut.Whole → result.status ≡ 3 }
-    ensures cut { IsCutBy result.cut (F.faults files.old) (F.faults files.new) (W.faults out.old) (W.faults out.new) }
-    ensures honest { F.honest files.new ≡ F.honest files.old }
-{
-    let mut progress = BEGUN;
-    for &name in names {
-        let effect = file_effect(alloc, options, name, progress.closes, files, out, err);
-        progress = grown(progress, effect);
-    }
-    progress
 }
 
 // Reports that an option has no such word, and the one that is near, if one is.
@@ -285,12 +232,18 @@ pub fn buildifier<S: AsStr, R: Source, W: Sink, E: Sink, F: Files>(
         Ok(line) => line,
         Err(fault) => return unusable(alloc, words, &fault, err),
     };
+    let options = line.options;
     let names = line.files.as_slice();
     if names.is_empty() {
-        let effect = input_effect(alloc, line.options, input, out, err);
+        let effect = input_effect(options, input, out, err);
         return ended(grown(BEGUN, effect));
     }
-    ended(run_files(alloc, line.options, names, files, out, err))
+    let mut progress = BEGUN;
+    for &name in names {
+        let effect = file_effect(options, name, progress.closes, files, out, err);
+        progress = grown(progress, effect);
+    }
+    ended(progress)
 }
 
 fn ended(progress: Effect) -> Exit

@@ -1,9 +1,9 @@
-use Rattle.std.proofs.Common.{◌≡◌, ◌∙◌, refl, sym, subst, ap, List, ℕ, true, false, Err}
+use Rattle.std.proofs.Common.{◌≡◌, ◌∙◌, [], inl, inr, refl, sym, subst, ap, List, ℕ, true, false, Err}
 use Rattle.bz_files.specs.Folder.{Folder}
 use Rattle.bz_buildifier.specs.FormatRun.{FormatsAs, unread, without_memory, unformatted, kept, rewritten, Rewrites, Prints, is_rewritten, file_out, text_status}
 use Rattle.bz_buildifier.specs.Modes.{is_bzl}
 use Rattle.bz_buildifier.specs.FormatRun as r
-use Rattle.bz_buildifier.proofs.FormatSteps.{nothing_more, quiet, unread_quiet, refused_quiet, rewrites_quiet, formatted_file, refused_file}
+use Rattle.bz_buildifier.proofs.FormatSteps.{nothing_more, quiet, unread_quiet, refused_quiet, same_rewrites, formatted_file, refused_file}
 use Rattle.bz_buildifier.proofs.formatting.file_effect.Goals as goal
 
 pub returns-in-Err-clause-step : goal.returns-in-Err-clause-step
@@ -35,8 +35,8 @@ returns-in-Err-format_named-clause-step g c = λ honest.
       c.refused.ensures.reported,
     )
 
-pub returns-then-is_rewritten-clause-step : goal.returns-then-is_rewritten-clause-step
-returns-then-is_rewritten-clause-step g c = λ honest.
+pub returns-in-Ok-rewrite-clause-step : goal.returns-in-Ok-rewrite-clause-step
+returns-in-Ok-rewrite-clause-step g c = λ honest.
     let name = c.args.name.now in
     let before = g.F.Files.folder c.args.files.now in
     let after = g.F.Files.folder c.rewrite.new.files in
@@ -46,17 +46,37 @@ returns-then-is_rewritten-clause-step g c = λ honest.
     let file = formatted_file (is_bzl c.args.options.file_type name) before name found.0 c.new-text.result.items text c.deref.result.now new found.1 found.2 c.new-text.ensures.items c.deref.ensures.value c.in-Ok-format_named.ensures in
     let differs : is_rewritten c.args.options.mode text new ≡ true =
     rw (c.deref-2.ensures.value, c.as_slice.ensures) at (sym c.is_rewritten.ensures ∙ c.if-is_rewritten.true) in
-    let step = c.rewrite.ensures.step (c.in-Ok.ensures.honest ∙ honest) in
-    let rewrites : Rewrites name text new before step.0 after =
-    subst (λ (folder : Folder). Rewrites name text new folder step.0 after) (c.in-Ok.ensures.same honest)
-    (subst (λ (slice : List ℕ). Rewrites name slice new (g.F.Files.folder c.read_most.new.self) step.0 after) c.deref-then-is_rewritten.ensures.value
-    (subst (λ (slice : List ℕ). Rewrites name c.deref-then-is_rewritten.result.now slice (g.F.Files.folder c.read_most.new.self) step.0 after)
-    c.as_slice-then-is_rewritten.ensures step.1)) in (
-      step.0,
-      rewritten text new file.0 file.1 differs rewrites,
-      step.2,
-      quiet c.args.closed step.0 (g.W.Sink.faults c.args.out.now) (g.W.Sink.contents c.args.out.now) (rewrites_quiet name text new before after step.0 rewrites),
-      step.3,
+    let once = c.in-Ok.ensures.honest ∙ honest in
+    let effect = r.output_effect [] 0 in
+    let rewrites : Rewrites name c.deref-then-is_rewritten.result.now c.as_slice-then-is_rewritten.result.now (g.F.Files.folder c.read_most.new.self) effect after =
+    inl (refl, c.in-Ok-rewrite.ensures.held once, c.in-Ok-rewrite.ensures.replaced once) in (
+      effect,
+      rewritten text new file.0 file.1 differs (same_rewrites name text _ new _ before _ after effect c.deref-then-is_rewritten.ensures.value c.as_slice-then-is_rewritten.ensures (c.in-Ok.ensures.same honest) rewrites),
+      refl,
+      nothing_more c.args.closed (g.W.Sink.faults c.args.out.now) (g.W.Sink.contents c.args.out.now),
+      (refl, refl),
+    )
+
+pub returns-in-Err-rewrite-clause-step : goal.returns-in-Err-rewrite-clause-step
+returns-in-Err-rewrite-clause-step g c = λ honest.
+    let name = c.args.name.now in
+    let before = g.F.Files.folder c.args.files.now in
+    let after = g.F.Files.folder c.rewrite.new.files in
+    let new = c.in-Ok-format_named.new in
+    let text = c.read_most.new.into.items in
+    let found = c.in-Ok.ensures.found honest in
+    let file = formatted_file (is_bzl c.args.options.file_type name) before name found.0 c.new-text.result.items text c.deref.result.now new found.1 found.2 c.new-text.ensures.items c.deref.ensures.value c.in-Ok-format_named.ensures in
+    let differs : is_rewritten c.args.options.mode text new ≡ true =
+    rw (c.deref-2.ensures.value, c.as_slice.ensures) at (sym c.is_rewritten.ensures ∙ c.if-is_rewritten.true) in
+    let once = c.in-Ok.ensures.honest ∙ honest in
+    let effect = r.unwritten name in
+    let rewrites : Rewrites name c.deref-then-is_rewritten.result.now c.as_slice-then-is_rewritten.result.now (g.F.Files.folder c.read_most.new.self) effect after =
+    inr (refl, c.in-Err-rewrite.ensures.untouched once, c.in-Err-rewrite.ensures.either once) in (
+      effect,
+      rewritten text new file.0 file.1 differs (same_rewrites name text _ new _ before _ after effect c.deref-then-is_rewritten.ensures.value c.as_slice-then-is_rewritten.ensures (c.in-Ok.ensures.same honest) rewrites),
+      c.fail.ensures.effect,
+      nothing_more c.args.closed (g.W.Sink.faults c.args.out.now) (g.W.Sink.contents c.args.out.now),
+      c.fail.ensures.reported,
     )
 
 pub returns-in-Ok-file_out-clause-step : goal.returns-in-Ok-file_out-clause-step
@@ -82,5 +102,5 @@ returns-in-Ok-file_out-clause-step g c = λ honest.
 
 pub returns-clause-step : goal.returns-clause-step
 returns-clause-step g c =
-    let e = c.fail.ensures in
+    let e = c.fail-in-Err-file_out.ensures in
     λ honest. (r.memory_effect c.args.name.now, without_memory refl (c.in-Ok.ensures.same honest), e.effect, nothing_more c.args.closed (g.W.Sink.faults c.args.out.now) (g.W.Sink.contents c.args.out.now), e.reported)

@@ -4,7 +4,7 @@ use Rattle.bz_buildifier.specs.FormatRun as r
 use Rattle.bz_buildifier.specs.private.FormatShown.{effect_seen}
 use Rattle.bz_streams.specs.declared.exit.Cut.TheVariants as c
 use Rattle.bz_streams.specs.Outputs.{Writes, Reports, Counts}
-use Rattle.bz_buildifier.proofs.formatting.run_files.Given as goal
+use Rattle.bz_buildifier.proofs.formatting.buildifier.Given as goal
 
 -- what the files that are left do is what all do
 abbrev pub invariant-loop-name : goal.invariant-loop-name
