@@ -1,9 +1,9 @@
 //! The words of a command line: options, and where commands and targets are.
-ghost use Rattle.std.specs.Prelude.{◌≡◌, [], false, Ok, Err, IfOk, IfErr, IfSome, map, codes};
-ghost use Rattle.clap.specs.Words.{app_of, rule_of, found_of, fault_of, matches_of, rows_of};
+ghost use Rattle.std.specs.Prelude.{◌≡◌, false, Ok, Err, IfOk, IfErr, IfSome, map, codes};
+ghost use Rattle.clap.specs.Words.{app_of, rule_of, found_of, rows_of};
 ghost use Rattle.bz_streams.specs.Options.{option_hint_text};
 ghost use Rattle.bz_command_line.specs.App.{buildozer_app, lines_app, flag_rule, keep_going_rule, script_rule, operand_rule, line_hint};
-ghost use Rattle.bz_command_line.specs.Line.{is_flag_set, options_of, given_of, command_line_of};
+ghost use Rattle.bz_command_line.specs.Line.{is_flag_set, options_of, given_of, with_options, command_line_of};
 ghost use Rattle.bz_command_line.specs.Shown.{given_in, line_in, line_usage_in};
 ghost use Rattle.bz_command_line.specs.Worked.{WorkedCommandLines};
 
@@ -145,50 +145,44 @@ fn buildozer_command<'a>(alloc: Global) -> Result<Command<'a>, AllocError>
         .arg(flag(alloc, "journal", JOURNAL_HELP))
 }
 
-fn parse<'a, S: AsStr>(alloc: Global, words: &'a [S]) -> Result<ArgMatches<'a>, LineFault>
-    ensures ok { IfOk result (λ m. (fault_of buildozer_app (map S.text words.entry.now) ≡ [])
-        × (rows_of (found_of m) ≡ matches_of buildozer_app (map S.text words.entry.now))) }
-    ensures err { IfErr result (λ fault. IfSome (line_usage_in fault) (λ usage. command_line_of (map S.text words.entry.now) ≡ Err usage)) }
-{
-    let Ok(command) = buildozer_command(alloc) else {
-        return Err(LineFault::Memory);
-    };
-    match command.try_get_matches_from(words) {
-        Ok(matches) => Ok(matches),
-        Err(error) if error.kind() == ErrorKind::OutOfMemory => Err(LineFault::Memory),
-        Err(error) => Err(LineFault::Clap(error)),
-    }
-}
-
 fn is_flag_set(matches: &ArgMatches<'_>, id: &str) -> bool
     ensures { result ≡ is_flag_set id.now (rows_of (found_of matches.now)) }
 {
     matches!(argument_text(matches, id), Some("true"))
 }
 
-fn options_of(matches: &ArgMatches<'_>) -> Options
-    ensures { result ≡ options_of (rows_of (found_of matches.now)) }
-{
-    Options {
-        keep_going: is_flag_set(matches, "keep_going"),
-        to_stdout: is_flag_set(matches, "stdout"),
-        quiet: is_flag_set(matches, "quiet"),
-        journal: is_flag_set(matches, "journal"),
+impl<'a> CommandLine<'a> {
+    // The error: `BesideStdout`: the options say both what is kept beside files and that none is replaced.
+    fn of_options(options: Options, given: Given<'a>) -> Result<CommandLine<'a>, LineFault>
+        ensures ok { IfOk result (λ line. with_options options (Ok (given_in given.entry)) ≡ Ok (line_in line)) }
+        ensures err { IfErr result (λ fault. IfSome (line_usage_in fault) (λ usage. with_options options (Ok (given_in given.entry)) ≡ Err usage)) }
+    {
+        if options.journal && options.to_stdout {
+            return Err(LineFault::BesideStdout);
+        }
+        Ok(CommandLine { options, given })
     }
-}
 
-fn given_of<'a>(alloc: Global, matches: &ArgMatches<'a>) -> Result<Given<'a>, LineFault>
-    ensures ok { IfOk result (λ given. given_of (rows_of (found_of matches.now)) ≡ Ok (given_in given)) }
-    ensures err { IfErr result (λ fault. IfSome (line_usage_in fault) (λ usage. given_of (rows_of (found_of matches.now)) ≡ Err usage)) }
-{
-    let operands = argument_texts(alloc, matches, "operand").map_err(|_| LineFault::Memory)?;
-    let Some(file) = argument_text(matches, "file") else {
-        return Ok(Given::Operands(operands));
-    };
-    if operands.is_empty() {
-        Ok(Given::Script(file))
-    } else {
-        Err(LineFault::BesideScript)
+    // What clap found. Operands beside `-f` are reported first.
+    fn of_matches(alloc: Global, matches: &ArgMatches<'a>) -> Result<CommandLine<'a>, LineFault>
+        ensures ok { IfOk result (λ line. with_options (options_of (rows_of (found_of matches.now))) (given_of (rows_of (found_of matches.now))) ≡ Ok (line_in line)) }
+        ensures err { IfErr result (λ fault. IfSome (line_usage_in fault) (λ usage.
+            with_options (options_of (rows_of (found_of matches.now))) (given_of (rows_of (found_of matches.now))) ≡ Err usage)) }
+    {
+        let operands = argument_texts(alloc, matches, "operand").map_err(|_| LineFault::Memory)?;
+        let options = Options {
+            keep_going: is_flag_set(matches, "keep_going"),
+            to_stdout: is_flag_set(matches, "stdout"),
+            quiet: is_flag_set(matches, "quiet"),
+            journal: is_flag_set(matches, "journal"),
+        };
+        let Some(file) = argument_text(matches, "file") else {
+            return CommandLine::of_options(options, Given::Operands(operands));
+        };
+        if !operands.is_empty() {
+            return Err(LineFault::BesideScript);
+        }
+        CommandLine::of_options(options, Given::Script(file))
     }
 }
 
@@ -199,13 +193,14 @@ pub fn read_line<'a, S: AsStr>(alloc: Global, words: &'a [S]) -> Result<CommandL
     ensures ok { IfOk result (λ line. command_line_of (map S.text words.entry.now) ≡ Ok (line_in line)) }
     ensures err { IfErr result (λ fault. IfSome (line_usage_in fault) (λ usage. command_line_of (map S.text words.entry.now) ≡ Err usage)) }
 {
-    let matches = parse(alloc, words)?;
-    let given = given_of(alloc, &matches)?;
-    let options = options_of(&matches);
-    if options.journal && options.to_stdout {
-        return Err(LineFault::BesideStdout);
+    let Ok(command) = buildozer_command(alloc) else {
+        return Err(LineFault::Memory);
+    };
+    match command.try_get_matches_from(words) {
+        Ok(matches) => CommandLine::of_matches(alloc, &matches),
+        Err(error) if error.kind() == ErrorKind::OutOfMemory => Err(LineFault::Memory),
+        Err(error) => Err(LineFault::Clap(error)),
     }
-    Ok(CommandLine { options, given })
 }
 
 /// What is printed below clap's text of words that it refuses: a line on the first word before `--` that is written as an option and is

@@ -4,11 +4,12 @@ ghost use Rattle.std.specs.List.{concat};
 ghost use Rattle.bz_streams.specs.Controls.{escaped_text};
 ghost use Rattle.bz_command_line.specs.Reported.{ReportsLine, numbered, usage_line, IsLineUsageLine};
 ghost use Rattle.bz_command_line.specs.Shown.{usage_in, script_usage_in, line_usage_in};
+ghost use Rattle.bz_command_line.specs.Verbs.{operand_fault_name};
 
 use crate::line::{LineFault, line_hint};
 use crate::requested::UsageFault;
 use crate::script::ScriptFault;
-use crate::verb::hint_for;
+use crate::verb::{Refused, hint_for};
 use bz_streams::{LinePiece, Sink, report_clap_hinted, report_named, report_pieces};
 use itoa::Buffer;
 use std::alloc::{AllocError, Global};
@@ -17,23 +18,22 @@ use std::convert::AsStr;
 // Reports what is refused and its hint, and below that this place in a file.
 fn report_numbered<'a, E: Sink>(
     err: &mut E,
-    refused: &'a str,
-    name: &'a str,
+    refused: &'a Refused<'_>,
     number: &'a str,
     hint: &'a str,
     file: &'a str,
     place: &'a str,
 )
-    ensures { ReportsLine E.Sink err.old err.new (concat (concat (codes "buildozer: " ∷ numbered refused.entry.now name.entry.now number.entry.now
+    ensures { ReportsLine E.Sink err.old err.new (concat (concat (codes "buildozer: " ∷ numbered refused.entry.now.operand.now (operand_fault_name refused.entry.now.fault) number.entry.now
         ++ hint.entry.now ∷ []) ∷ escaped_text file.entry.now ∷ place.entry.now ∷ [])) }
 {
     report_pieces(
         err,
         &[
             LinePiece::Own("buildozer: "),
-            LinePiece::Outside(refused),
+            LinePiece::Outside(refused.operand),
             LinePiece::Own(": "),
-            LinePiece::Own(name),
+            LinePiece::Own(refused.fault.name()),
             LinePiece::Own(" ("),
             LinePiece::Own(number),
             LinePiece::Own(")\n"),
@@ -76,16 +76,7 @@ fn report_above<E: Sink>(
             let hint = hint_for(alloc, refused)?;
             let mut numbers = Buffer::new();
             let number = numbers.format(refused.fault.number());
-            let name = refused.fault.name();
-            report_numbered(
-                err,
-                refused.operand,
-                name,
-                number,
-                hint.as_str(),
-                file,
-                place,
-            );
+            report_numbered(err, refused, number, hint.as_str(), file, place);
             return Ok(());
         }
         UsageFault::NoCommand => report_below(err, "buildozer: no command\n", file, place),

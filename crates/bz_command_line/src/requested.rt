@@ -2,7 +2,7 @@
 ghost use Rattle.std.specs.Prelude.{◌≡◌, ◌⊎◌, Ok, Err, IfOk, IfErr, IfSome, OnOk, map};
 ghost use Rattle.std.specs.List.{All};
 ghost use Rattle.bz_command_line.specs.Requested as a;
-ghost use Rattle.bz_command_line.specs.Operands.{is_target, operand_target};
+ghost use Rattle.bz_command_line.specs.Operands.{is_target};
 ghost use Rattle.bz_command_line.specs.Paths.{HasPath};
 ghost use Rattle.bz_command_line.specs.Refused.{IsGroupFault, IsOperandFault};
 ghost use Rattle.bz_command_line.specs.Shown.{requested_in, usage_in};
@@ -48,19 +48,6 @@ fn is_target(operand: &[u8]) -> bool
         && (operand.contains(&b':') || operand.strip_prefix(b"//".as_slice()).is_some())
 }
 
-// The target of this text. Errors: `BadTarget`: it is none; `Memory`: a growth was refused.
-#[tactic(auto, using(crate::proofs::PathTexts::has_path))]
-fn read_target(alloc: Global, text: &str) -> Result<Target, OperandFault>
-    ensures answered { (result ≡ operand_target text.now) ⊎ (result ≡ Err OperandFault.Memory) }
-    ensures paths { IfOk result HasPath }
-{
-    match Target::read(alloc, text) {
-        Ok(target) => Ok(target),
-        Err(TargetFault::BadTarget) => Err(OperandFault::BadTarget),
-        Err(TargetFault::Memory) => Err(OperandFault::Memory),
-    }
-}
-
 // Appends what the operand of this text requests. The room comes first: a push that fails gives its value back, and the proof that
 // it is dropped is long.
 fn add<'a>(alloc: Global, requested: &mut Requested<'a>, text: &'a str) -> Result<(), OperandFault>
@@ -72,8 +59,11 @@ fn add<'a>(alloc: Global, requested: &mut Requested<'a>, text: &'a str) -> Resul
         if requested.targets.reserve(1).is_err() {
             return Err(OperandFault::Memory);
         }
-        let target = read_target(alloc, text)?;
-        requested.targets.push_reserved(target);
+        match Target::read(alloc, text) {
+            Ok(target) => requested.targets.push_reserved(target),
+            Err(TargetFault::BadTarget) => return Err(OperandFault::BadTarget),
+            Err(TargetFault::Memory) => return Err(OperandFault::Memory),
+        }
         return Ok(());
     }
     if requested.commands.reserve(1).is_err() {
