@@ -30,4 +30,4 @@ pub use mark_fields::{
 pub use pushing::{hex_digits, push_counted, push_number};
 pub use reading::read_record;
 pub use unread::Unread;
-pub use writing::{record_bytes, write_record};
+pub use writing::record_bytes;

@@ -1,6 +1,6 @@
 //! Writing a record: each function appends what it is named for. Where a growth is refused a part of it may be there; `record_bytes`
 //! writes into a list of its own.
-ghost use Rattle.std.specs.Prelude.{◌≡◌, ◌++◌, ◌≤◌, length, take, IfOk, OnOk, OnErr};
+ghost use Rattle.std.specs.Prelude.{◌≡◌, ◌++◌, ◌≤◌, length, take, IfOk, OnOk};
 ghost use Rattle.std.specs.List.{flat_map};
 ghost use Rattle.bz_journal_format.specs.Contents.{entries_of, entry_of, record_in};
 ghost use Rattle.bz_journal_format.specs.FirstLines.{AreAllLines, AreFirstLines};
@@ -208,16 +208,4 @@ pub fn record_bytes(
     let bytes = joined_lines(alloc, version, content, &lines)?;
     *kept = lines;
     Ok(bytes)
-}
-
-/// Appends the bytes of a record. The error: a growth was refused; `out` is then as before.
-pub fn write_record(version: Version, content: &Content, out: &mut Vec<u8>) -> Result<(), Memory>
-    requires { length content.now.notes.now ≡ length content.now.steps.now }
-    ensures ok { OnOk result (out.new.items ≡ out.old.items ++ record_text version (record_in content.now)) }
-    ensures err { OnErr result (out.new.items ≡ out.old.items) }
-{
-    let alloc = *out.allocator();
-    let bytes = record_bytes(alloc, version, content, &mut KeptLines::new(alloc))?;
-    out.extend_from_slice(bytes.as_slice())?;
-    Ok(())
 }

@@ -6,7 +6,7 @@ ghost use Rattle.bz_resume.specs.Saved.{CanSave, IsSaved, saved_history};
 use bz_edit::laws::texts_kept;
 use bz_grammar::Tree;
 use bz_items::Memory;
-use bz_journal_format::{Content, Version, write_record};
+use bz_journal_format::{Content, KeptLines, Version, record_bytes};
 
 /// What is borrowed of a session to save it.
 #[derive(Clone, Copy)]
@@ -25,5 +25,13 @@ pub fn save_into(saved: &Saved, out: &mut Vec<u8>) -> Result<(), Memory>
     ensures journal { IsSaved saved.now }
 {
     texts_kept();
-    write_record(Version::Two, &saved.content, out)
+    let alloc = *out.allocator();
+    let bytes = record_bytes(
+        alloc,
+        Version::Two,
+        &saved.content,
+        &mut KeptLines::new(alloc),
+    )?;
+    out.extend_from_slice(bytes.as_slice())?;
+    Ok(())
 }
