@@ -1,7 +1,7 @@
 //! Targets.
 ghost use Rattle.std.specs.Prelude.{◌≡◌, ◌↔◌, ◌&&◌, Err, None, Some, IfOk, true, ◌^◌, ◌-◌, min, nat_le, length};
 ghost use Rattle.std.specs.List.{list_all};
-ghost use Rattle.std.specs.Option.{option_and_then, option_map};
+ghost use Rattle.std.specs.Option.{option_and_then};
 ghost use Rattle.std.specs.Char.{is_ascii_digit};
 ghost use Rattle.bz_label.specs.Pieces.{is_present};
 ghost use Rattle.bz_label.specs.Targets.{decimal, which_of, target_of, after_percent, is_package, IsTarget};
@@ -151,19 +151,6 @@ fn halves(text: &[u8]) -> Option<(&[u8], &[u8])>
     }
 }
 
-/// The package and what follows it, of a text that is a target.
-fn target_halves(text: &[u8]) -> Option<(&[u8], &[u8])>
-    ensures { option_map (λ halves. target_of halves.0.now halves.1.now) result ≡ target_in text.now }
-{
-    let Some((path, word)) = halves(text) else {
-        return None;
-    };
-    if !fits(path, word) {
-        return None;
-    }
-    Some((path, word))
-}
-
 fn copied(alloc: Global, path: &[u8], word: &[u8]) -> Result<Target, Memory>
     ensures { IfOk result (λ target. target ≡ target_of path.now word.now) }
 {
@@ -184,9 +171,12 @@ impl Target {
         ensures bad { (result ≡ Err TargetFault.BadTarget)
             ↔ ((target : Target) → IsTarget text.now target → ⊥) }
     {
-        let Some((path, word)) = target_halves(text.as_bytes()) else {
+        let Some((path, word)) = halves(text.as_bytes()) else {
             return Err(TargetFault::BadTarget);
         };
+        if !fits(path, word) {
+            return Err(TargetFault::BadTarget);
+        }
         Ok(copied(alloc, path, word)?)
     }
 }
