@@ -32,6 +32,7 @@ pub use Rattle.bz_layout.specs.declared.setting.SetFault.{SetFault}
 pub use Rattle.bz_lex.specs.Faults.{is_of_leaves}
 pub use Rattle.bz_lex.specs.Stops.{IsFaultAt}
 pub use Rattle.bz_lex.specs.declared.fault.ReadFault.{ReadFault}
+pub use Rattle.bz_load.specs.Paths.{AreListed}
 pub use Rattle.bz_passes.specs.Passes.{tidied}
 pub use Rattle.bz_resume.specs.Journals.{AreSmall, Journal, NoJournal, journal_text, stands}
 pub use Rattle.bz_resume.specs.Pair.{journal_name}

@@ -7,7 +7,7 @@ use crate::course::{Course, unchanged};
 use crate::doing::Seen;
 use crate::meaning::{printed_answer, value_of};
 use bz_build_format::reads_back;
-use bz_command::{lines_matter, looks_at_lines, run_named};
+use bz_command::{Known, LoadedPaths, lines_matter, looks_at_lines, looks_for_load, run_named};
 use bz_command_syntax::Command;
 use bz_grammar::Tree;
 use bz_items::{Items, Memory};
@@ -21,11 +21,17 @@ pub(crate) struct Lookups {
     pub(crate) names: Option<Names>,
     /// The lines on which its statements begin.
     pub(crate) lines: Option<Items<u32>>,
+    /// The paths from which it loads.
+    pub(crate) paths: Option<LoadedPaths>,
 }
 
 impl Drop for Lookups {
     fn drop(self) {
-        let Lookups { names: _, lines: _ } = self;
+        let Lookups {
+            names: _,
+            lines: _,
+            paths: _,
+        } = self;
     }
 }
 
@@ -37,6 +43,7 @@ impl Lookups {
         Lookups {
             names: None,
             lines: None,
+            paths: None,
         }
     }
 
@@ -71,17 +78,38 @@ pub(crate) fn look_up_lines(
     Ok(())
 }
 
+/// What a command was, where the next one of its kind has use of what is looked up for it.
+#[derive(Clone, Copy)]
+pub(crate) enum Last {
+    /// It was for a rule by its name, and left all names.
+    Named,
+    /// It looked for a load from a path.
+    Loads,
+    Other,
+}
+
 /// Whether a target means rules by their name.
-pub(crate) fn is_by_name(target: &Target) -> bool {
+fn is_by_name(target: &Target) -> bool {
     matches!(target.which, Which::Name(_))
 }
 
-/// Looks up what a command and its target need of a tree and its value, and isn't there yet: the index of names where it is said that this is
-/// of use again. The error: memory was refused.
+/// What a command was, after which each item has the name that it had, if that is said.
+pub(crate) fn last_of(command: &Command, target: &Target, same_names: bool) -> Last {
+    if looks_for_load(command) {
+        Last::Loads
+    } else if same_names && is_by_name(target) {
+        Last::Named
+    } else {
+        Last::Other
+    }
+}
+
+/// Looks up what a command and its target need of a tree and its value, and isn't there yet: the index of names and the paths of loads where
+/// the last command was of the same kind. The error: memory was refused.
 pub(crate) fn look_up(
     command: &Command,
     target: &Target,
-    again: bool,
+    last: Last,
     lookups: &mut Lookups,
     tree: &Tree,
     file: &File,
@@ -92,11 +120,19 @@ pub(crate) fn look_up(
     ensures alike { OnOk result (GivesAlike command.now target.now (lines_begun lookups.new) (lines_of tree.now)) }
 {
     look_up_lines(command, target, lookups, tree)?;
-    if !again || !is_by_name(target) || lookups.names.is_some() {
-        return Ok(());
+    let alloc = file.items.alloc();
+    let items = file.items.as_slice();
+    match last {
+        Last::Named if is_by_name(target) && lookups.names.is_none() => {
+            lookups.names = Some(Names::of(alloc, items)?);
+            Ok(())
+        }
+        Last::Loads if looks_for_load(command) && lookups.paths.is_none() => {
+            lookups.paths = Some(LoadedPaths::of(alloc, items)?);
+            Ok(())
+        }
+        _ => Ok(()),
     }
-    lookups.names = Some(Names::of(file.items.alloc(), file.items.as_slice())?);
-    Ok(())
 }
 
 /// What a command that prints answers by the value of the present text, which is kept with what is looked up; none where it would change the
@@ -121,15 +157,18 @@ pub(crate) fn answer(
     let Ok(file) = value_of(seen.value.take(), here) else {
         return Some(Err(Refusal::Memory));
     };
-    let Ok(()) = look_up(command, target, true, &mut seen.lookups, here, &file) else {
+    let Ok(()) = look_up(command, target, Last::Named, &mut seen.lookups, here, &file) else {
         return Some(Err(Refusal::Memory));
     };
     let alloc = course.alloc();
     let current = course.package.as_bytes();
     let lookups = &seen.lookups;
-    let lines = lookups.begins();
-    let names = lookups.names.as_ref();
-    let ran = run_named(alloc, command, target, current, lines, names, &file);
+    let known = Known {
+        lines: lookups.begins(),
+        names: lookups.names.as_ref(),
+        paths: lookups.paths.as_ref(),
+    };
+    let ran = run_named(alloc, command, target, current, known, &file);
     seen.value = Some(file);
     match ran {
         Ok(outcome) => {

@@ -4,7 +4,7 @@ ghost use Rattle.std.specs.Prelude.{◌≤◌, OnOk, length};
 ghost use Rattle.bz_journal.specs.Clauses.{AreOver, Do, EndsAt, Format, HasActed, HasMade, IsFormatted, IsSeenIn, Node, action_in, after_meaning, note_limit, present, session_history, view_of, written};
 
 use crate::action::{Action, Reply};
-use crate::answering::{Lookups, answer, is_by_name, look_up};
+use crate::answering::{Last, Lookups, answer, last_of, look_up};
 use crate::course::{Course, at_once, unchanged};
 use crate::laws::written_is_laid_out;
 use crate::making::{Made, made_of};
@@ -22,7 +22,7 @@ use bz_value::{File, Refusal, Window};
 const FEWEST: usize = 500;
 
 /// After how many commands any value is kept, so that further ones cost the same in a short file as in a long one.
-const OFTEN: u32 = 64;
+const OFTEN: u32 = 16;
 
 /// What is kept beside a course.
 #[derive(Drop)]
@@ -35,8 +35,8 @@ pub(crate) struct Seen {
     pub(crate) written: Option<usize>,
     /// Whether the last command printed something, so that the value is worth keeping for the next one that prints.
     pub(crate) printed_last: bool,
-    /// Whether the last command was for a rule by its name and left all names, so that an index of them is worth making for the next one.
-    pub(crate) names_last: bool,
+    /// What the last command was, so that what is looked up for the next one of its kind is worth making.
+    pub(crate) last: Last,
     /// How many actions were done, up to `OFTEN`.
     pub(crate) done: u32,
 }
@@ -51,7 +51,7 @@ impl Seen {
             lookups: Lookups::none(),
             written: None,
             printed_last: false,
-            names_last: false,
+            last: Last::Other,
             done: 0,
         }
     }
@@ -105,6 +105,7 @@ fn take_up(
         windows,
         value,
         names,
+        paths,
         length,
     } = match made_of(seen, windows, file, before) {
         Ok(made) => made,
@@ -114,7 +115,11 @@ fn take_up(
     match course.take_up(windows, printed, note) {
         Ok(reply) => {
             reads_back(course.present());
-            seen.lookups = Lookups { names, lines };
+            seen.lookups = Lookups {
+                names,
+                lines,
+                paths,
+            };
             seen.written = Some(length);
             seen.value = value;
             Ok(reply)
@@ -142,10 +147,10 @@ fn edit(
 {
     let here = course.present();
     reads_back(here);
-    let again = seen.names_last;
+    let last = seen.last;
     let mut file = value_of(seen.value.take(), here)?;
     let lookups = &mut seen.lookups;
-    let Ok(()) = look_up(command, target, again, lookups, here, &file) else {
+    let Ok(()) = look_up(command, target, last, lookups, here, &file) else {
         take_apart(file);
         return Err(Refusal::Memory);
     };
@@ -158,7 +163,7 @@ fn edit(
     let lookups = &seen.lookups;
     match run_beside(command, target, current, lookups, len, &mut file) {
         Ok(ran) => {
-            seen.names_last = ran.same_names && is_by_name(target);
+            seen.last = last_of(command, target, ran.same_names);
             let printed = printed_answer(command, ran.printed);
             if ran.windows.is_empty() {
                 // that of another text is kept from the second command that prints on

@@ -1,10 +1,12 @@
 //! The lines of a new value that are other ones than in the present tree.
-ghost use Rattle.std.specs.Prelude.{◌≡◌, ◌<◌, ◌≤◌, Err, IfOk, IfSome, length};
-ghost use Rattle.bz_journal.specs.Clauses.{AreLinesOf, AreOver, IsBuild, IsIndexOf, IsSeenIn, IsWritten, MakesLines, Refusal, SetFault, depth_limit, depth_of, laid_out, layout, limit, spell_node, view_of};
+ghost use Rattle.std.specs.Prelude.{◌≡◌, ◌<◌, ◌≤◌, Err, IfOk, length};
+ghost use Rattle.bz_journal.specs.Clauses.{AreLinesOf, AreLookupsOf, AreOver, IsBuild, IsSeenIn, IsWritten, MakesLines, Refusal, SetFault, depth_limit, depth_of, laid_out, layout, limit, spell_node, view_of};
 
+use crate::answering::Lookups;
 use crate::doing::Seen;
-use crate::naming::outlives;
+use crate::naming::{followed, outlives};
 use bz_build_format::{is_mostly_other, read_text, read_windows, reads_back};
+use bz_command::LoadedPaths;
 use bz_edit::PartWindow;
 use bz_grammar::Tree;
 use bz_items::Items;
@@ -21,6 +23,8 @@ pub(crate) struct Made {
     pub(crate) value: Option<File>,
     /// The index of the names in the value, where that of the names before is known to be it.
     pub(crate) names: Option<Names>,
+    /// The paths from which the value loads, where those before are known.
+    pub(crate) paths: Option<LoadedPaths>,
     /// How many bytes its layout has.
     pub(crate) length: usize,
 }
@@ -65,33 +69,37 @@ fn lines_of_windows(
 }
 
 /// The lines of a value that is another one than that of a tree in these windows alone: only what is in them is tidied and laid out. The tree is the
-/// layout of a tidy value, and has `len` bytes; there may be an index of the names in that value. Errors: `TooLarge`, `TooDeep`; `Memory`: a growth
-/// was refused.
+/// layout of a tidy value, and has `len` bytes; what was looked up in that value and is of use in this one goes over. Errors: `TooLarge`,
+/// `TooDeep`; `Memory`: a growth was refused.
 fn made_by_windows(
     mut windows: Items<Window>,
     mut file: File,
     tree: &Tree,
     len: usize,
-    names: Option<Names>,
+    lookups: &mut Lookups,
 ) -> Result<Made, Refusal>
     requires build { IsBuild tree.now }
-    requires names { IfSome names (λ index. IsIndexOf index (view_of tree.now)) }
+    requires lookups { AreLookupsOf lookups.old tree.now }
     requires over { AreOver windows (view_of tree.now) file }
     requires written { IsWritten (view_of tree.now) tree.now }
     requires len { len ≡ length (spell_node tree.now) }
-    ensures { MakesLines file tree.now result }
+    ensures made { MakesLines file tree.now result }
+    ensures looked { AreLookupsOf lookups.new tree.now }
 {
     let alloc = file.items.alloc();
     if tidy_windows(alloc, &mut file, &mut windows).is_err() {
         take_apart(file);
         return Err(Refusal::Memory);
     }
-    let names = outlives(names, windows.as_slice(), file.items.as_slice());
+    let items = file.items.as_slice();
+    let names = outlives(lookups.names.take(), windows.as_slice(), items);
+    let paths = followed(alloc, lookups.paths.take(), windows.as_slice(), items);
     match lines_of_windows(windows.as_slice(), &file, tree, len) {
         Ok((windows, length)) => Ok(Made {
             windows,
             value: Some(file),
             names,
+            paths,
             length,
         }),
         Err(fault) => {
@@ -120,7 +128,7 @@ pub(crate) fn made_of(
     ensures seen { IsSeenIn tree.now seen.new }
 {
     if let Some(len) = seen.written {
-        return made_by_windows(windows, file, tree, len, seen.lookups.names.take());
+        return made_by_windows(windows, file, tree, len, &mut seen.lookups);
     }
     drop(windows);
     let alloc = file.items.alloc();
@@ -147,6 +155,7 @@ pub(crate) fn made_of(
         windows,
         value,
         names: None,
+        paths: None,
         length: text.len(),
     })
 }

@@ -1,11 +1,11 @@
 //! What a command makes of the value of a tree.
 ghost use Rattle.std.specs.Prelude.{◌≡◌, ◌⊎◌, Ok, IfOk, IfErr, IfSome};
-ghost use Rattle.bz_journal.specs.Clauses.{IsBuild, IsIndexOf, Means, Refusal, RunsIn, effect, gives, lines_begun, printed, printed_answer, refuses, spell_node, text_or, view_of};
+ghost use Rattle.bz_journal.specs.Clauses.{AreListed, IsBuild, IsIndexOf, Means, Refusal, RunsIn, effect, gives, lines_begun, printed, printed_answer, refuses, spell_node, text_or, view_of};
 
 use crate::answering::{Lookups, look_up_lines};
 use crate::filling::overfills;
 use bz_build_format::{reads_back, written_text};
-use bz_command::{Ran, Work, run_in};
+use bz_command::{Known, Ran, Work, run_in};
 use bz_command_syntax::Command;
 use bz_grammar::Tree;
 use bz_hosts::{into_view, view};
@@ -44,7 +44,8 @@ pub(crate) fn run_beside(
     len: usize,
     file: &mut File,
 ) -> Result<Ran, Refusal>
-    requires { IfSome lookups.now.names (λ index. IsIndexOf index file.old) }
+    requires names { IfSome lookups.now.names (λ index. IsIndexOf index file.old) }
+    requires paths { IfSome lookups.now.paths (λ loaded. AreListed loaded file.old) }
     ensures { RunsIn (effect command.now target.now current.now (lines_begun lookups.now) file.old) (printed command.now target.now current.now (lines_begun lookups.now) file.old) file.old result file.new }
 {
     let alloc = file.items.alloc();
@@ -52,8 +53,12 @@ pub(crate) fn run_beside(
     if overfills(Work::new(alloc, command, target, current, lines), len, file)? {
         return Err(Refusal::TooLarge);
     }
-    let names = lookups.names.as_ref();
-    run_in(alloc, command, target, current, lines, names, file)
+    let known = Known {
+        lines,
+        names: lookups.names.as_ref(),
+        paths: lookups.paths.as_ref(),
+    };
+    run_in(alloc, command, target, current, known, file)
 }
 
 /// What a command means on the text of a tree, which has this many bytes and is given up for its value: the text after it, none where the

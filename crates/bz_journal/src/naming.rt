@@ -1,10 +1,12 @@
-//! An index of names that outlives a change: where each item that changed has the name that is listed at its place, it is that of the new
-//! items too.
+//! What was looked up and outlives a change: an index of names, where each item that changed has the name that is listed at its place; and
+//! paths of loads, with those of what came.
 ghost use Rattle.std.specs.Prelude.{◌<◌, ◌+◌, ◌^◌, List, IfSome, IsTrue, length};
-ghost use Rattle.bz_journal.specs.Clauses.{AreOver, HasListedName, HaveListedNames, HaveListedNamesIn, IsIndexOf, Item};
+ghost use Rattle.bz_journal.specs.Clauses.{AreListed, AreOver, HasListedName, HaveListedNames, HaveListedNamesIn, IsIndexOf, Item};
 
+use bz_command::LoadedPaths;
 use bz_rule::{Names, held_name};
 use bz_value::{Item, Window};
+use std::alloc::Global;
 
 /// Whether an item has the name that is listed at its place.
 fn is_listed(index: &Names, at: usize, item: &Item) -> bool
@@ -58,5 +60,24 @@ pub(crate) fn outlives(names: Option<Names>, windows: &[Window], items: &[Item])
     match names {
         Some(index) if all_listed(&index, windows, items) => Some(index),
         _ => None,
+    }
+}
+
+/// The paths from which these items load too, which are other ones than those of which they are in these windows alone; none where memory was refused.
+pub(crate) fn followed(
+    alloc: Global,
+    paths: Option<LoadedPaths>,
+    windows: &[Window],
+    items: &[Item],
+) -> Option<LoadedPaths>
+    ensures { (before : List Item) → AreOver windows.now before items.now → IfSome paths (λ loaded. AreListed loaded before)
+        → IfSome result (λ loaded. AreListed loaded items.now) }
+{
+    let Some(mut loaded) = paths else {
+        return None;
+    };
+    match loaded.follow(alloc, windows, items) {
+        Ok(()) => Some(loaded),
+        Err(_) => None,
     }
 }

@@ -1,7 +1,7 @@
 -- The lines of a tidy value that are other ones than in a tree, and what was looked up that outlives them.
 use Rattle.std.specs.Prelude.{◌≡◌, ◌⊎◌, ◌≤◌, ◌==◌, ◌+◌, ◌-◌, ℕ, true, List, [], ◌∷◌, ◌++◌, length, map, take, drop, Option, Some, IfErr, IfOk, IfSome, Result}
 use Rattle.std.specs.List.{flat_map, list_any}
-use Rattle.bz_journal.specs.Words.{AreThere, Bytes, Index, IsIndexOf, IsProper, Item, Memory, Node, Part, PartWindow, Reads, Refusal, Window, depth_limit}
+use Rattle.bz_journal.specs.Words.{AreListed, AreThere, Bytes, Index, IsIndexOf, IsProper, Item, Memory, Node, Part, PartWindow, Reads, Refusal, Window, depth_limit}
 use Rattle.bz_journal.specs.Words.{depth_of, first_gap, fronts_in, held_name, laid_out, layout, leaves_part, newlines, node_parts, places_from, spell_part}
 use Rattle.bz_journal.specs.Words.{tidied, with_windows}
 use Rattle.bz_journal.specs.Meaning.{refuses, written}
@@ -13,12 +13,13 @@ pub record AreLinesOf (windows : List PartWindow) (tree : Node) (items : List It
   pub reads : Reads (layout items) (with_windows windows tree)
   pub deep : depth_of (laid_out items) ≤ depth_limit
 
--- The same, with the length of the layout; and the value and the index of names that are kept, if any, are of these items.
+-- The same, with the length of the layout; and the value, the index of names and the paths that are kept, if any, are of these items.
 pub record IsMadeOf (made : Made) (tree : Node) (items : List Item) : Type 0 where
   pub lines : AreLinesOf made.windows tree items
   pub length_is : made.length ≡ length (layout items)
   pub own : IfSome made.value (λ own. own ≡ items)
   pub named : IfSome made.names (λ index. IsIndexOf index items)
+  pub listed : IfSome made.paths (λ loaded. AreListed loaded items)
 
 -- The lines of a value tidied are made; or what is written of it is that refusal, or memory was refused.
 pub record MakesLines (file : List Item) (tree : Node) (result : Result Made Refusal) : Type 0 where
