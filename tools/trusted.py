@@ -118,7 +118,7 @@ def contracts(crate, file):
         owner, begins = block_of(lines[at]) or (owner, begins)
         if call := begins.match(lines[at]):
             body = []
-            while at < len(lines) and not re.match(r"^\s*\{(\})?$", lines[at]) and not lines[at].endswith(";"):
+            while at < len(lines) and not re.match(r"^\s*\{(\})?$", lines[at]) and not lines[at].endswith((";", " {")):
                 body.append(lines[at])
                 at += 1
             if owner in types if owner else own is None or call[1] in own:

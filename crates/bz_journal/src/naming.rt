@@ -76,7 +76,7 @@ pub(crate) fn followed(
     let Some(mut loaded) = paths else {
         return None;
     };
-    match loaded.follow(alloc, windows, items) {
+    match loaded.follow_windows(alloc, windows, items) {
         Ok(()) => Some(loaded),
         Err(_) => None,
     }

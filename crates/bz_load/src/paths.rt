@@ -88,7 +88,7 @@ impl LoadedPaths {
 
     /// Adds what is needed to have the paths from which these items load, where they are other ones than those before in these windows alone, of which it
     /// had them. The error: memory was refused.
-    pub fn follow(
+    pub fn follow_windows(
         &mut self,
         alloc: Global,
         windows: &[Window],

@@ -3,7 +3,7 @@ use Rattle.std.proofs.lemmas.Bool.{or_parts}
 use Rattle.bz_load.specs.Paths.{knows_path}
 use Rattle.bz_load.specs.private.Known.{come_from}
 use Rattle.bz_load.proofs.PathSteps.{none_over}
-use Rattle.bz_load.proofs.paths.LoadedPaths.follow.Goals as goal
+use Rattle.bz_load.proofs.paths.LoadedPaths.follow_windows.Goals as goal
 
 pub returns : goal.returns
 returns c = λ before over listed path none.
