@@ -1,5 +1,6 @@
 -- A keeping that reads the file first.
 use Rattle.std.proofs.Common.{◌≡◌, ◌≢◌, ◌∙◌, ◌⊎◌, ⊎_elim, ◌≤◌, inl, inr, refl, ap, true, List, ℕ, Some, subst}
+use Rattle.std.proofs.lemmas.Bool.{false≢true}
 use Rattle.std.proofs.lemmas.Result.{on_ok_weaker}
 use Rattle.std.specs.Prelude.{Result, Ok, Err, IsOk, IsErr, IfErr, OnOk, IsErrOf}
 use Rattle.std.specs.FinMap.{get}
@@ -21,6 +22,10 @@ use Rattle.bz_resume.proofs.Surviving.{checked, kept, others_kept, goes_on}
 -- a value is no error
 pub never_err : {T E : Type 0} (x : T) (y : E) → IsErrOf {T = T} {E = E} (Ok x) y → ⊥
 never_err x y is = cc
+
+pub of_ok : {T E : Type 0} (r : Result T E) (P : Type 0) → IsOk r → OnOk r P → P
+of_ok (Ok x) P is p = p
+of_ok (Err e) P is p = absurd (false≢true is)
 
 -- the errors of what only reads
 other_fault : (fault : PairFault) → fault ≢ p.Write → IsErrOf {T = Unit {0}} (Err fault) p.Changed ⊎ (IsErrOf {T = Unit {0}} (Err fault) p.Open ⊎ IsErrOf {T = Unit {0}} (Err fault) p.Memory)

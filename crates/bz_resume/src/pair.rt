@@ -1,5 +1,5 @@
 //! A file and its journal, replaced so that a stop at any moment leaves a pair that goes on.
-ghost use Rattle.std.specs.Prelude.{◌≡◌, ◌≢◌, ◌≤◌, true, Some, IfOk, IfErr, OnOk, IsErrOf, string_bytes};
+ghost use Rattle.std.specs.Prelude.{◌≡◌, ◌≢◌, ◌⊎◌, ◌≤◌, ◌↔◌, true, Some, IfOk, IfErr, OnOk, IsOk, IsErrOf, string_bytes};
 ghost use Rattle.std.specs.FinMap.{get};
 ghost use Rattle.bz_files.specs.Acts.{GoesThrough};
 ghost use Rattle.bz_files.specs.Folder.{IsUntouched};
@@ -20,6 +20,26 @@ pub fn journal_name(alloc: Global, file: &str) -> Result<String, Memory>
     format!(in alloc; "{file}.journal")
 }
 
+// What a read of a file says that gave these bytes, where the file is to hold others.
+fn compared(read: Result<(), FileFault>, held: &[u8], standing: &[u8]) -> Result<(), PairFault>
+    ensures ok { OnOk result (IsOk read × (held.now ≡ standing.now)) }
+    ensures changed { IsErrOf result PairFault.Changed ↔ (IsErrOf read FileFault.Absent) ⊎ (IsOk read × held.now ≢ standing.now) }
+    ensures open { IsErrOf result PairFault.Open ↔ IsErrOf read FileFault.Open }
+    ensures kinds { IfErr result (λ fault. fault ≢ PairFault.Write) }
+{
+    match read {
+        Ok(()) => {}
+        Err(FileFault::Absent) => return Err(PairFault::Changed),
+        Err(FileFault::Open) => return Err(PairFault::Open),
+        Err(FileFault::Write) => return Err(PairFault::Memory),
+        Err(FileFault::Memory) => return Err(PairFault::Memory),
+    }
+    if held == standing {
+        return Ok(());
+    }
+    Err(PairFault::Changed)
+}
+
 // Reads a file, which is to hold this text: of a longer one no more than the byte that shows it. Errors: `Changed`: it holds another or
 // isn't there; `Open`: it could not be read; `Memory`: a growth was refused.
 fn check_file<F: Files>(
@@ -38,17 +58,8 @@ fn check_file<F: Files>(
     ensures honest { F.honest files.new ≡ F.honest files.old }
 {
     let mut held = Vec::new(alloc);
-    match files.read_most(file, FileKind::Regular, standing.len() + 1, &mut held) {
-        Ok(()) => {}
-        Err(FileFault::Absent) => return Err(PairFault::Changed),
-        Err(FileFault::Open) => return Err(PairFault::Open),
-        Err(FileFault::Write) => return Err(PairFault::Memory),
-        Err(FileFault::Memory) => return Err(PairFault::Memory),
-    }
-    if held.as_slice() == standing {
-        return Ok(());
-    }
-    Err(PairFault::Changed)
+    let read = files.read_most(file, FileKind::Regular, standing.len() + 1, &mut held);
+    compared(read, held.as_slice(), standing)
 }
 
 /// Keeps what an action has led to, from one history to another: gives the journal of the file with this name the bytes `stored`,

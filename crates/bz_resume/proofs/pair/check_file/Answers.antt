@@ -1,18 +1,29 @@
-use Rattle.std.proofs.Common.{◌≡◌, ◌∙◌, ap, sym, Some}
-use Rattle.std.proofs.lemmas.Bool.{false≢true}
-use Rattle.std.proofs.lemmas.Slice.Eq.{bytes_eq-Decides}
+use Rattle.std.proofs.Common.{◌≡◌, ◌∙◌, ap, sym, inl, inr, Some, None}
+use Rattle.std.proofs.lemmas.Result.{on_ok_weaker}
 use Rattle.bz_files.proofs.Fronts.{shows}
+use Rattle.bz_resume.proofs.Checking.{of_ok}
 use Rattle.bz_resume.proofs.pair.check_file.Goals as goal
 
-pub returns-then-eq-clause-ok : goal.returns-then-eq-clause-ok
-returns-then-eq-clause-ok g c = λ honest.
-    let found = c.in-Ok.ensures.found honest in
-    let shown = shows c.args.standing.now found.0 c.new-held.result.items c.read_most.new.into.items c.as_slice.result.now found.2 c.new-held.ensures.items c.as_slice.ensures.value in
-    found.1 ∙ ap Some (shown.0 ((bytes_eq-Decides c.as_slice.result.now c.args.standing.now).0 (sym c.eq.ensures ∙ c.if-eq.true)))
+pub returns-clause-ok : goal.returns-clause-ok
+returns-clause-ok g c = λ honest. on_ok_weaker c.compared.result (λ same.
+    let found = of_ok c.read_most-read.result _ same.0 (c.read_most-read.ensures.found honest) in
+    let shown = shows c.args.standing.now found.0 c.new-held.result.items c.read_most-read.new.into.items c.as_slice.result.now found.2 c.new-held.ensures.items
+    c.as_slice.ensures.value in
+    found.1 ∙ ap Some (shown.0 same.1)) c.compared.ensures.ok
 
 pub returns-clause-changed : goal.returns-clause-changed
-returns-clause-changed g c = λ honest changed there.
-    let found = c.in-Ok.ensures.found honest in
-    let shown = shows c.args.standing.now found.0 c.new-held.result.items c.read_most.new.into.items c.as_slice.result.now found.2 c.new-held.ensures.items c.as_slice.ensures.value in
-    let same : Some found.0 ≡ Some c.args.standing.now = sym found.1 ∙ there in
-    false≢true (sym c.if-eq.false ∙ c.eq.ensures ∙ (bytes_eq-Decides c.as_slice.result.now c.args.standing.now).1 (shown.1 cc))
+returns-clause-changed g c = λ honest changed there. elim (c.compared.ensures.changed.0 changed) [
+  | inl absent ↦ let both : None ≡ Some c.args.standing.now = sym (c.read_most-read.ensures.absent honest absent) ∙ there in cc
+  | inr other ↦
+      let found = of_ok c.read_most-read.result _ other.0 (c.read_most-read.ensures.found honest) in
+      let shown = shows c.args.standing.now found.0 c.new-held.result.items c.read_most-read.new.into.items c.as_slice.result.now found.2 c.new-held.ensures.items
+      c.as_slice.ensures.value in
+      let same : Some found.0 ≡ Some c.args.standing.now = sym found.1 ∙ there in
+      other.1 (shown.1 cc)
+]
+
+pub returns-clause-cause : goal.returns-clause-cause
+returns-clause-cause g c = λ unread. c.read_most-read.ensures.cause (c.compared.ensures.open.0 unread)
+
+pub returns-clause-rest : goal.returns-clause-rest
+returns-clause-rest g c = λ none. c.read_most-read.ensures.kept (λ unread. none (c.compared.ensures.open.1 unread))
