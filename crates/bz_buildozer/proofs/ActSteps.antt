@@ -1,12 +1,12 @@
 -- What an action leaves, and what a step does in the open file of its package, without journals and with them.
 use Rattle.std.proofs.Common.{◌≡◌, ◌≢◌, ◌⊎◌, ◌∙◌, ◌+◌, ◌-◌, arith, ℕ, Bool, true, false, true≢false, eq-eqb, refl, sym, ap, inl, inr, Option, Ok, Err, nat_lt, if◌then◌else◌, zero, suc, List, [], ◌∷◌, Some, None, subst, ◌||◌, not, ◌++◌, ◌&&◌}
-use Rattle.std.specs.Prelude.{◌==◌, bytes_eq, length, map, slice_get, is_some, unwrap_or, IsSome}
+use Rattle.std.specs.Prelude.{◌==◌, bytes_eq, length, is_some, unwrap_or, IsSome}
 use Rattle.bz_items.specs.Characters.{Bytes}
 use Rattle.bz_value.specs.declared.refusal.Refusal.TheVariants.{TooFar, Full, NoteTooLong, Memory}
-use Rattle.bz_buildozer.specs.Sessions.{Action, Do, Format, Undo, Redo, Reply, Changed, Moved, Meaning, gives, History, Answer, Acts, Makes, after_meaning, changed, present, Leads, Means, Printed, listing, Pair}
+use Rattle.bz_buildozer.specs.Sessions.{Action, Do, Format, Undo, Redo, Reply, Changed, Moved, Meaning, gives, History, Answer, Acts, Makes, after_meaning, changed, present, Leads, Means, Printed, listing}
 use Rattle.bz_journal.specs.Meaning.{refuses}
 use Rattle.bz_journal.specs.History.{most_steps, moved, unchanged}
-use Rattle.bz_buildozer.specs.Keeps.{StillIsSame, after_keeping, FolderAfter, file_after, is_left_at, left_out}
+use Rattle.bz_buildozer.specs.Keeps.{StillIsSame, FolderAfter, file_after, is_left_at, left_out}
 use Rattle.bz_grammar.specs.Legal.{Reads}
 use Rattle.bz_grammar.specs.declared.tree.Node.{Node}
 use Rattle.bz_label.specs.declared.target.Target.{Target}
@@ -169,19 +169,11 @@ unkept_by sink old new one other name fault why is same faulted told =
 
 -- ---- a file after an action that was kept, or not
 
--- the file with what was marked; `mid` is it before
-pub marked_written : (after : History) (file mid : Opened) (written : Bool) (from to : ℕ) → mid ≡ record file { history = after }
-    → written ≡ (mid.written || not (to == from)) → from ≡ file.history.cursor → to ≡ after.cursor
-    → record mid { written = written } ≡ record file { history = after; written = file.written || not (after.cursor == file.history.cursor) }
-marked_written after file mid written from to same marked begun ended =
-    let wrote : written ≡ (file.written || not (after.cursor == file.history.cursor)) =
-    marked ∙ ap (λ (f : Opened). f.written || not (to == from)) same ∙ ap (λ (n : ℕ). file.written || not (to == n)) begun
-    ∙ ap (λ (n : ℕ). file.written || not (n == file.history.cursor)) ended in
-    ap (λ (f : Opened). record f { written = written }) same ∙ ap (λ (b : Bool). record file { history = after; written = b }) wrote
-
-pub marked_left : (fault : PairFault) (after : History) (file mid : Opened) → mid ≡ record file { history = after }
-    → record mid { left = true } ≡ after_keeping (Err (Pair fault)) after file
-marked_left fault after file mid same = ap (λ (f : Opened). record f { left = true }) same
+-- the file with what was marked
+pub marked_written : (after : History) (file : Opened) (from to : ℕ) → from ≡ file.history.cursor → to ≡ after.cursor
+    → record file { history = after; written = file.written || not (to == from) } ≡ record file { history = after; written = file.written || not (after.cursor == file.history.cursor) }
+marked_written after file from to begun ended = ap (λ (b : Bool). record file { history = after; written = b })
+    (ap (λ (n : ℕ). file.written || not (to == n)) begun ∙ ap (λ (n : ℕ). file.written || not (n == file.history.cursor)) ended)
 
 -- ---- what a step does in the open file of its package, without journals and with them
 
@@ -190,6 +182,9 @@ abbrev pub step_at : Target → Verb → Bytes → RunStep
 step_at target verb text = record { target = target; request = record { verb = verb; text = text } }
 
 -- ---- files that are left alone
+
+pub free_here : (place : ℕ) (journals : Bool) (used : List Used) → journals ≡ true → journals && is_left_at place used ≡ false → is_left_at place used ≡ false
+free_here place journals used kept free = sym (ap (λ (b : Bool). b && is_left_at place used) kept) ∙ free
 
 pub free_file : (journals : Bool) (place : ℕ) (used : List Used) (file : Opened) → file_at place used ≡ Some file → journals && is_left_at place used ≡ false
     → left_out journals (file_at place used) ≡ Some file

@@ -1,6 +1,6 @@
 -- What a run opens and does that may be cut: openings, and steps one after the other.
-use Rattle.std.proofs.Common.{arith, ◌≡◌, true, ◌⊎◌, ◌∙◌, ◌<◌, ◌++◌, inl, inr, ℕ, suc, Bool, List, [], ◌∷◌, length, Option, Some, None, Result, Ok, Err, refl, sym, ap, subst, ◌+◌, take, false, codes, append_assoc}
-use Rattle.std.specs.Prelude.{IfSome, IsSome, unwrap_or}
+use Rattle.std.proofs.Common.{arith, ◌≡◌, true, ◌⊎◌, ◌∙◌, ◌<◌, ◌++◌, inl, inr, ℕ, Bool, List, [], ◌∷◌, length, Option, Some, None, Result, Ok, Err, refl, sym, ap, subst, ◌+◌, take, false, codes, append_assoc}
+use Rattle.std.specs.Prelude.{IfSome, unwrap_or}
 use Rattle.std.specs.Option.{option_map}
 use Rattle.std.specs.FinMap.{get}
 use Rattle.std.proofs.lemmas.List.{length-append, append-nil}
@@ -11,26 +11,26 @@ use Rattle.bz_files.proofs.Elapsing.{elapsed_on}
 use Rattle.bz_buildozer.specs.Sessions.{History, Pair}
 use Rattle.bz_resume.specs.Pair.{journal_name}
 use Rattle.bz_streams.specs.Faults.{Rises}
-use Rattle.bz_streams.specs.Outputs.{Counts, Reports}
+use Rattle.bz_streams.specs.Outputs.{Counts}
 use Rattle.bz_streams.specs.declared.exit.Cut.{Cut}
 use Rattle.bz_streams.specs.declared.exit.Cut.TheVariants as c
 use Rattle.bz_streams.specs.declared.sink.Sink.{Ghosts as SinkOf}
-use Rattle.bz_buildozer.specs.Found.{IsNameOf, PackagesFound, found_at, found_in, found_second, second_name, Opened, Used, file_at, opened_with, first_name, package_number, with_opened}
-use Rattle.bz_buildozer.specs.Journals.{IsOpenedIn, JournalFault, JournalGives, OpensBeside, TakesBeside, fault_lines, file_of_journal, journal_beside, lines_of_journal, Adds}
+use Rattle.bz_buildozer.specs.Found.{IsNameOf, PackagesFound, found_in, found_second, second_name, Opened, Used, file_at, opened_with, first_name, in_package, package_number, with_opened}
+use Rattle.bz_buildozer.specs.Journals.{IsOpenedIn, JournalFault, OpensBeside, TakesBeside, file_of_journal, journal_beside, lines_of_journal}
 use Rattle.bz_buildozer.specs.Keeps.{KeepsFolder, ReadsFiles, after_keeping, file_after, left_out}
-use Rattle.bz_buildozer.specs.Opens.{Extends, Fills, Takes}
 use Rattle.bz_buildozer.specs.Run.{OpensUntil, SecondUntil, Answers, AnswersIn, Does, Finds, Progress, RunsSteps, TakesUntil, Uses, UsesWhole, World, ends_run, unreadable}
-use Rattle.bz_buildozer.proofs.PlaceSteps.{none_stays, opened_there, put_last, last_place, left_after_input, left_after_use, place_stays}
+use Rattle.bz_buildozer.proofs.PlaceSteps.{last_place, left_after_input, left_after_use, place_stays}
 use Rattle.bz_buildozer.proofs.StandSteps.{found_holds, second_holds}
 use Rattle.bz_grammar.specs.Spell.{limit}
 use Rattle.bz_streams.specs.Exits.{first_cut}
-use Rattle.bz_streams.specs.Ports.{IsInput}
 use Rattle.bz_streams.specs.Reported.{stdin, named_line}
 use Rattle.bz_streams.proofs.Outputs.{reports_more}
 use Rattle.bz_buildozer.specs.Calls.{ReportsLine, ReportsLines, IsLeft}
 use Rattle.bz_buildozer.specs.Reported.{unread_status}
 use Rattle.bz_buildozer.specs.Steps.{RunStep, input_package}
-use Rattle.bz_buildozer.specs.declared.reading.Opening.{Opening}
+use Rattle.bz_buildozer.specs.declared.reading.Taken.{Taken}
+use Rattle.bz_buildozer.specs.private.Taking.{Brings, InputUntil, NamedUntil, base_of}
+use Rattle.bz_buildozer.specs.private.ShownFiles.{taken_in}
 use Rattle.bz_buildozer.proofs.ReadSteps.{first_absent, first_opens, second_opens}
 
 -- ---- the file that an opening leaves, whatever comes
@@ -91,49 +91,6 @@ opened_until c.Files journals folder current file lines (inr (inl gone)) = opene
 opened_until c.Files journals folder current file lines (inr (inr unread)) = none_opened journals folder current file unread.1
 opened_until _ journals folder current file lines opens = absurd opens
 
--- ---- what is put at a place
-
--- a file that fills a place as one thing says fills it as another does that follows
-pub fills_more : {E : Type 0} (sink : SinkOf E) (place : ℕ) (Is Now : Option Opened → List Bytes → Type 0) (number : Option ℕ) (before after : List Used) (old new : E)
-    → ((file : Option Opened) (lines : List Bytes) → Is file lines → Now file lines) → Fills sink Is place number before after old new
-    → Fills sink Now place number before after old new
-fills_more sink place Is Now number before after old new more (file, lines, is, put, at, reported) = (file, lines, more file lines is, put, at, reported)
-
--- what a journal leaves that is refused
-pub refused_fills : {E : Type 0} (sink : SinkOf E) (current name journal bytes text : Bytes) (fault : JournalFault) (place : ℕ) (number : Option ℕ) (used : List Used) (old new : E)
-    → journal ≡ journal_name name → file_at place used ≡ None → number ≡ None → JournalGives current bytes text (Err fault)
-    → Reports (sink.faults old) (sink.faults new) (sink.contents old) (sink.contents new) (fault_lines journal fault)
-    → Fills sink (TakesBeside (Some bytes) current name text) place number used used old new
-refused_fills sink current name journal bytes text fault place number used old new named closed is gives reported = (
-  None,
-  fault_lines journal fault,
-  (Err fault, gives, refl, ap (λ (j : Bytes). fault_lines j fault) named),
-  sym (none_stays place used closed),
-  is,
-  reported,
-)
-
-pub fills_there : {E : Type 0} (sink : SinkOf E) (place : ℕ) (Is : Option Opened → List Bytes → Type 0) (number : Option ℕ) (before after : List Used) (old new : E)
-    → place < length before → Fills sink Is place number before after old new → IfSome number (λ at. IsSome (file_at at after))
-fills_there sink place Is number before after old new within (None, lines, is, put, at, told) =
-    subst (λ (found : Option ℕ). IfSome found (λ at. IsSome (file_at at after))) (sym at) tt
-fills_there sink place Is number before after old new within (Some file, lines, is, put, at, told) =
-    subst (λ (found : Option ℕ). IfSome found (λ at. IsSome (file_at at after))) (sym at) (opened_there place file before before after refl within put)
-
--- what fills the place of a package that was added makes it the last one
-pub fills_last : {E : Type 0} (sink : SinkOf E) (place : ℕ) (current added : Bytes) (Is : Option Opened → List Bytes → Type 0) (number : Option ℕ) (used mid after : List Used)
-    (old new : E) → place ≡ length used → mid ≡ used ++ record { «package» = added; file = None } ∷ [] → added ≡ current
-    → Fills sink Is place number mid after old new → Extends sink Is current number used after old new
-fills_last sink place current added Is number used mid after old new last is own (file, lines, takes, put, at, reported) = (
-  file,
-  lines,
-  takes,
-  put_last place used mid after (record { «package» = current; file = None }) file last
-      (is ∙ ap (λ (text : Bytes). used ++ record { «package» = text; file = None } ∷ []) own) put,
-  at ∙ ap (λ (n : ℕ). option_map (λ (_ : Opened). n) file) last,
-  reported,
-)
-
 -- the last package is one of them
 pub last_within : (place : ℕ) (used mid : List Used) (one : Used) → place ≡ length used → mid ≡ used ++ one ∷ [] → place < length mid
 last_within place used mid one at is = let long = ap length is ∙ length-append used (one ∷ []) in omega (arith, at, long)
@@ -182,35 +139,27 @@ unread_either status _ is = inr is
 
 -- ---- openings
 
-fails : {E : Type 0} (sink : SinkOf E) (place : ℕ) (Is : Option Opened → List Bytes → Type 0) (number : Option ℕ) (before after : List Used) (old new : E) (line : Bytes)
-    → file_at place before ≡ None → number ≡ None → after ≡ before → Is None (line ∷ []) → ReportsLine sink old new line → Fills sink Is place number before after old new
-fails sink place Is number before after old new line closed at same is told =
-    (None, line ∷ [], is, same ∙ sym (none_stays place before closed), at, one_line sink old new line told)
+-- no file is open, and these lines were printed
+pub none_taken : {E : Type 0} (sink : SinkOf E) (Is : Cut → Option Opened → List Bytes → Type 0) (taken : Taken) (why : Cut) (old new : E) (lines : List Bytes)
+    → taken ≡ record { file = None; cut = why } → Is why None lines → ReportsLines sink old new lines → Brings sink (Is taken.cut) (taken_in taken) old new
+none_taken sink Is taken why old new lines is says told = subst (λ (t : Taken). Brings sink (Is t.cut) (taken_in t) old new) (sym is) (lines, says, told)
 
--- no file is open, and this line was printed
-pub fails_as : {E : Type 0} (sink : SinkOf E) (place : ℕ) (Is : Cut → Option Opened → List Bytes → Type 0) (opening : Opening) (why : Cut) (used : List Used) (old new : E)
-    (line : Bytes) → file_at place used ≡ None → opening ≡ record { place = None; cut = why } → Is why None (line ∷ []) → ReportsLine sink old new line
-    → Fills sink (Is opening.cut) place opening.place used used old new
-fails_as sink place Is opening why used old new line closed is says told =
-    subst (λ (o : Opening). Fills sink (Is o.cut) place o.place used used old new) (sym is)
-    (fails sink place (Is why) None used used old new line closed refl refl says told)
+-- and this line was
+pub fails_as : {E : Type 0} (sink : SinkOf E) (Is : Cut → Option Opened → List Bytes → Type 0) (taken : Taken) (why : Cut) (old new : E) (line : Bytes)
+    → taken ≡ record { file = None; cut = why } → Is why None (line ∷ []) → ReportsLine sink old new line → Brings sink (Is taken.cut) (taken_in taken) old new
+fails_as sink Is taken why old new line is says told = none_taken sink Is taken why old new (line ∷ []) is says (one_line sink old new line told)
 
 -- what memory alone may cut
-pub fills_until : {E : Type 0} (sink : SinkOf E) (Trusted : Type 0) (journals : Bool) (folder : Folder) (current name text line : Bytes)
-    (Is : Option Opened → List Bytes → Type 0) (place : ℕ) (why : Cut) (number : Option ℕ) (before after : List Used) (old new : E) → file_at place before ≡ None
-    → (Trusted → (file : Option Opened) (lines : List Bytes) → Is file lines → TakesBeside (journal_beside journals folder name) current name text file lines)
-    → (why ≡ c.Whole → Fills sink Is place number before after old new) → (why ≡ c.Whole) ⊎ ((why ≡ c.Memory) × (number ≡ None) × (after ≡ before))
-    → (why ≡ c.Memory → ReportsLine sink old new line)
-    → Fills sink (λ file lines. Trusted → TakesUntil why journals folder current name text file lines) place number before after old new
-fills_until sink Trusted journals folder current name text line Is place why number before after old new closed more whole (inl is) told =
-    subst (λ (it : Cut). Fills sink (λ file lines. Trusted → TakesUntil it journals folder current name text file lines) place number before after old new) (sym is)
-    (fills_more sink place Is _ number before after old new (λ file lines taken trusted. more trusted file lines taken) (whole is))
-fills_until sink Trusted journals folder current name text line Is place why number before after old new closed more whole (inr memory) told =
-    subst (λ (it : Cut). Fills sink (λ file lines. Trusted → TakesUntil it journals folder current name text file lines) place number before after old new) (sym memory.0)
-    (fails sink place (λ file lines. Trusted → TakesUntil c.Memory journals folder current name text file lines) number before after old new line closed memory.1 memory.2
-    (λ trusted. (refl, (line, refl))) (told memory.0))
+pub memory_until : {E : Type 0} (sink : SinkOf E) (Is : Option Opened → List Bytes → Type 0) (Until : Cut → Option Opened → List Bytes → Type 0) (line : Bytes) (why : Cut)
+    (file : Option Opened) (old new : E) → ((lines : List Bytes) → Is file lines → Until c.Whole file lines) → (file ≡ None → Until c.Memory file (line ∷ []))
+    → (why ≡ c.Whole → Brings sink Is file old new) → (why ≡ c.Whole) ⊎ ((why ≡ c.Memory) × (file ≡ None)) → (why ≡ c.Memory → ReportsLine sink old new line)
+    → Brings sink (Until why) file old new
+memory_until sink Is Until line why file old new more refused whole (inl is) told =
+    let done = whole is in (done.0, subst (λ (it : Cut). Until it file done.0) (sym is) (more done.0 done.1), done.2)
+memory_until sink Is Until line why file old new more refused whole (inr (memory, closed)) told =
+    (line ∷ [], subst (λ (it : Cut). Until it file (line ∷ [])) (sym memory) (refused closed), one_line sink old new line (told memory))
 
-pub second_until : (why : Cut) (journals : Bool) (current name front text : Bytes) (folder now : Folder) (file : Option Opened) (lines : List Bytes) → name ≡ second_name current
+second_until : (why : Cut) (journals : Bool) (current name front text : Bytes) (folder now : Folder) (file : Option Opened) (lines : List Bytes) → name ≡ second_name current
     → get folder name ≡ Some text → front ≡ take (limit + 1) text → now ≡ folder → TakesUntil why journals now current name front file lines
     → SecondUntil why journals folder current file lines
 second_until c.Whole journals current name front text folder now file lines is held cut same takes =
@@ -219,7 +168,7 @@ second_until c.Files journals current name front text folder now file lines is h
     (takes.1, inr (takes.0, takes.2 ∙ ap (λ (n : Bytes). unreadable (journal_name n)) is))
 second_until _ journals current name front text folder now file lines is held cut same takes = takes
 
-pub first_until : (why : Cut) (journals : Bool) (current name front text : Bytes) (folder now : Folder) (file : Option Opened) (lines : List Bytes) → name ≡ first_name current
+first_until : (why : Cut) (journals : Bool) (current name front text : Bytes) (folder now : Folder) (file : Option Opened) (lines : List Bytes) → name ≡ first_name current
     → get folder name ≡ Some text → front ≡ take (limit + 1) text → now ≡ folder → TakesUntil why journals now current name front file lines
     → OpensUntil why journals folder current file lines
 first_until c.Whole journals current name front text folder now file lines is held cut same takes =
@@ -227,6 +176,20 @@ first_until c.Whole journals current name front text folder now file lines is he
 first_until c.Files journals current name front text folder now file lines is held cut same takes =
     inr (inr (takes.0, takes.1, takes.2 ∙ ap (λ (n : Bytes). unreadable (journal_name n)) is))
 first_until _ journals current name front text folder now file lines is held cut same takes = takes
+
+pub named_until : (second : Bool) (why : Cut) (journals : Bool) (current name front text : Bytes) (folder now : Folder) (file : Option Opened) (lines : List Bytes)
+    → name ≡ in_package current (base_of second) → get folder name ≡ Some text → front ≡ take (limit + 1) text → now ≡ folder
+    → TakesUntil why journals now current name front file lines → NamedUntil second why journals folder current file lines
+named_until false = first_until
+named_until true = second_until
+
+pub memory_named : (second journals : Bool) (folder : Folder) (current line : Bytes) → NamedUntil second c.Memory journals folder current None (line ∷ [])
+memory_named false journals folder current line = (refl, (line, refl))
+memory_named true journals folder current line = (refl, (line, refl))
+
+pub by_name_of : (second number : Bool) (why : Cut) (journals : Bool) (folder : Folder) (current : Bytes) (file : Option Opened) (lines : List Bytes) → second ≡ number
+    → NamedUntil number why journals folder current file lines → NamedUntil second why journals folder current file lines
+by_name_of second number why journals folder current file lines is opens = subst (λ (b : Bool). NamedUntil b why journals folder current file lines) (sym is) opens
 
 -- `BUILD.bazel` is not there
 pub absent_until : (why : Cut) (journals : Bool) (current name : Bytes) (folder now : Folder) (file : Option Opened) (lines : List Bytes) → name ≡ first_name current
@@ -236,25 +199,20 @@ absent_until c.Files journals current name folder now file lines is held same op
 absent_until _ journals current name folder now file lines is held same opens = opens
 
 -- It can't be read, and `BUILD` is tried.
-pub tried_on : {E : Type 0} (sink : SinkOf E) (Trusted Now : Type 0) (place : ℕ) (journals : Bool) (folder now : Folder) (current name : Bytes) (opening result : Opening)
-    (before after : List Used) (old mid new : E) → (Trusted → Now × (now ≡ folder)) → name ≡ first_name current → result ≡ record { place = opening.place; cut = c.Files }
-    → ReportsLine sink old mid (named_line name (codes "cannot open"))
-    → Fills sink (λ file lines. Now → SecondUntil opening.cut journals now current file lines) place opening.place before after mid new
-    → Fills sink (λ file lines. Trusted → OpensUntil result.cut journals folder current file lines) place result.place before after old new
-tried_on sink Trusted Now place journals folder now current name opening result before after old mid new still named is told (file, more, second, put, at, reported) =
-    subst (λ (o : Opening). Fills sink (λ file lines. Trusted → OpensUntil o.cut journals folder current file lines) place o.place before after old new) (sym is) (
-      file,
-      unreadable name ++ more,
-      (λ trusted. inl (
-        opening.cut,
-        more,
-        ap (λ (n : Bytes). unreadable n ++ more) named,
-        subst (λ (f : Folder). SecondUntil opening.cut journals f current file more) (still trusted).1 (second (still trusted).0),
-      )),
-      put,
-      at,
-      (sink.faults mid, sink.contents mid, told, reported),
-    )
+pub tried_on : {E : Type 0} (sink : SinkOf E) (Trusted Now : Type 0) (journals : Bool) (folder now : Folder) (current name : Bytes) (why : Cut) (file : Option Opened)
+    (old mid new : E) → (Trusted → Now × (now ≡ folder)) → name ≡ first_name current → ReportsLine sink old mid (named_line name (codes "cannot open"))
+    → Brings sink (λ found lines. Now → SecondUntil why journals now current found lines) file mid new
+    → Brings sink (λ found lines. Trusted → OpensUntil c.Files journals folder current found lines) file old new
+tried_on sink Trusted Now journals folder now current name why file old mid new still named told (more, second, reported) = (
+  unreadable name ++ more,
+  (λ trusted. inl (
+    why,
+    more,
+    ap (λ (n : Bytes). unreadable n ++ more) named,
+    subst (λ (f : Folder). SecondUntil why journals f current file more) (still trusted).1 (second (still trusted).0),
+  )),
+  (sink.faults mid, sink.contents mid, told, reported),
+)
 
 -- ---- the package of a step
 
@@ -285,86 +243,61 @@ uses_until c.Memory journals world current before after file number lines other 
 uses_until c.Files journals world current before after file number lines other none opens added at = (none, (file, opens, added, at))
 uses_until _ journals world current before after file number lines other none opens added at = absurd opens
 
--- what comes of opening a package that was not used before, or memory is refused before it is
-abbrev pub HasOpened : {E : Type 0} → SinkOf E → Type 0 → Bool → Folder → Bytes → Opening → List Used → List Used → E → E → Type 0
-HasOpened sink Trusted journals folder current opening before after old new =
-    Extends sink (λ file lines. Trusted → OpensUntil opening.cut journals folder current file lines) current opening.place before after old new
-    ⊎ ((opening ≡ record { place = None; cut = c.Memory }) × (after ≡ before) × ((line : Bytes) × ReportsLine sink old new line))
-
--- memory is refused before the package is used
-pub memory_uses : {E : Type 0} (sink : SinkOf E) (world : World) (journals : Bool) (current : Bytes) (remaining : Option Bytes) (before after : List Used) (opening : Opening)
-    (old new : E) → (opening ≡ record { place = None; cut = c.Memory }) × (after ≡ before) × ((line : Bytes) × ReportsLine sink old new line) → IsLeft world.known before remaining
-    → (lines : List Bytes) × Uses opening.cut journals world current before opening.place lines after × IsLeft world.known after remaining × ReportsLines sink old new lines
-memory_uses sink world journals current remaining before after opening old new (is, same, (line, told)) left = (
-  line ∷ [],
-  subst (λ (o : Opening). Uses o.cut journals world current before o.place (line ∷ []) after) (sym is) (refl, (line, refl), inl same),
-  subst (λ (used : List Used). IsLeft world.known used remaining) (sym same) left,
-  one_line sink old new line told,
-)
-
-pub uses_opened : {E : Type 0} (sink : SinkOf E) (Trusted : Type 0) (world : World) (journals : Bool) (current : Bytes) (remaining : Option Bytes) (before after : List Used)
-    (opening : Opening) (old new : E) → Trusted → (journals ≡ false → current ≡ input_package → ⊥) → package_number current before ≡ None
-    → HasOpened sink Trusted journals world.folder current opening before after old new → IsLeft world.known before remaining
-    → (lines : List Bytes) × Uses opening.cut journals world current before opening.place lines after × IsLeft world.known after remaining × ReportsLines sink old new lines
-uses_opened sink Trusted world journals current remaining before after opening old new trusted other none (inl (file, lines, opens, added, at, reported)) left = (
+-- the file of a package that was not used before was read, or memory is refused
+pub uses_read : {E : Type 0} (sink : SinkOf E) (Trusted : Type 0) (world : World) (journals : Bool) (current : Bytes) (remaining : Option Bytes) (before after : List Used)
+    (why : Cut) (file : Option Opened) (number : Option ℕ) (old new : E) → Trusted → (journals ≡ false → current ≡ input_package → ⊥)
+    → package_number current before ≡ None → after ≡ before ++ record { «package» = current; file = file } ∷ []
+    → number ≡ option_map (λ (_ : Opened). length before) file
+    → Brings sink (λ found lines. Trusted → OpensUntil why journals world.folder current found lines) file old new → IsLeft world.known before remaining
+    → (lines : List Bytes) × Uses why journals world current before number lines after × IsLeft world.known after remaining × ReportsLines sink old new lines
+uses_read sink Trusted world journals current remaining before after why file number old new trusted other none added at (lines, opens, told) left = (
   lines,
-  uses_until opening.cut journals world current before after file opening.place lines other none (opens trusted) added at,
+  uses_until why journals world current before after file number lines other none (opens trusted) added at,
   left_after_use world.known remaining before after (record { «package» = current; file = file }) added left,
-  reported,
+  told,
 )
-uses_opened sink Trusted world journals current remaining before after opening old new trusted other none (inr unused) left =
-    memory_uses sink world journals current remaining before after opening old new unused left
-
--- the package is the last one, with a file that the folder has, where journals are kept
-pub adds_opened : {E : Type 0} (sink : SinkOf E) (Trusted : Type 0) (journals : Bool) (folder : Folder) (current : Bytes) (before after : List Used) (opening : Opening)
-    (old new : E) → Trusted → journals ≡ true → HasOpened sink Trusted journals folder current opening before after old new
-    → Adds current (IsOpenedIn true folder current) opening.place before after
-adds_opened sink Trusted journals folder current before after opening old new trusted kept (inl (file, lines, opens, added, at, reported)) =
-    inr (file, added, at, subst (λ (b : Bool). IfSome file (IsOpenedIn b folder current)) kept (opened_until opening.cut journals folder current file lines (opens trusted)))
-adds_opened sink Trusted journals folder current before after opening old new trusted kept (inr (is, same, told)) = inl (same, ap (λ (o : Opening). o.place) is)
 
 -- ---- standard input
 
--- Standard input can't be read, or memory is refused, once its package is the last one.
-pub input_failed : {E : Type 0} (sink : SinkOf E) (world : World) (opening : Opening) (why : Cut) (remaining : Option Bytes) (before after : List Used) (word : Bytes)
-    (old new : E) → opening ≡ record { place = None; cut = why } → Uses why false world input_package before None (named_line stdin word ∷ []) after
-    → after ≡ before ++ record { «package» = input_package; file = None } ∷ [] → ReportsLine sink old new (named_line stdin word)
-    → (lines : List Bytes) × Uses opening.cut false world input_package before opening.place lines after × IsLeft world.known after remaining × ReportsLines sink old new lines
-input_failed sink world opening why remaining before after word old new is uses added told = (
-  named_line stdin word ∷ [],
-  subst (λ (o : Opening). Uses o.cut false world input_package before o.place (named_line stdin word ∷ []) after) (sym is) uses,
-  left_after_input world.known remaining before after (record { «package» = input_package; file = None }) refl added,
-  one_line sink old new (named_line stdin word) told,
+input_uses : (why : Cut) (world : World) (before after : List Used) (file : Option Opened) (number : Option ℕ) (lines : List Bytes) → package_number input_package before ≡ None
+    → after ≡ before ++ record { «package» = input_package; file = file } ∷ [] → number ≡ option_map (λ (_ : Opened). length before) file
+    → InputUntil why world.known file lines → Uses why false world input_package before number lines after
+input_uses c.Whole world before after file number lines none added at (text, is, takes) = (
+  length before,
+  used_first false world input_package before after (Some (stdin, text)) file lines none (inl (refl, refl, (text, is, refl))) takes added,
+  last_place before after input_package file number added at,
 )
+input_uses c.Read world before after file number lines none added at (closed, told) = (
+  refl,
+  refl,
+  none,
+  at ∙ ap (option_map (λ (_ : Opened). length before)) closed,
+  told,
+  added ∙ ap (λ (f : Option Opened). before ++ record { «package» = input_package; file = f } ∷ []) closed,
+)
+input_uses c.Memory world before after file number lines none added at (closed, told) = (
+  at ∙ ap (option_map (λ (_ : Opened). length before)) closed,
+  told,
+  inr (added ∙ ap (λ (f : Option Opened). before ++ record { «package» = input_package; file = f } ∷ []) closed),
+)
+input_uses _ world before after file number lines none added at reads = absurd reads
 
--- It was read, and memory alone may be refused.
-pub input_opened : {E : Type 0} (sink : SinkOf E) (world : World) (opening : Opening) (remaining left_over : Option Bytes) (before mid after : List Used) (old new : E)
-    → package_number input_package before ≡ None → mid ≡ before ++ record { «package» = input_package; file = None } ∷ []
-    → (opening.cut ≡ c.Whole → (text : Bytes) × IsInput remaining text
-    × Extends sink (Takes input_package stdin text) input_package opening.place before after old new)
-    → (opening.cut ≡ c.Whole) ⊎ ((opening.cut ≡ c.Memory) × (opening.place ≡ None) × (after ≡ mid))
-    → (opening.cut ≡ c.Memory → ReportsLine sink old new (named_line stdin (codes "Memory"))) → IsLeft world.known before remaining
-    → (lines : List Bytes) × Uses opening.cut false world input_package before opening.place lines after × IsLeft world.known after left_over × ReportsLines sink old new lines
-input_opened sink world opening remaining left_over before mid after old new none added whole (inl is) told left =
-    let read = whole is in
-    let done = read.2 in (
-      done.1,
-      subst (λ (it : Cut). Uses it false world input_package before opening.place done.1 after) (sym is) (
-        length before,
-        used_first false world input_package before after (Some (stdin, read.0)) done.0 done.1 none
-            (inl (refl, refl, (read.0, subst (λ (bytes : Option Bytes). IsInput bytes read.0) (left none) read.1, refl))) done.2 done.3,
-        last_place before after input_package done.0 opening.place done.3 done.4,
-      ),
-      left_after_input world.known left_over before after (record { «package» = input_package; file = done.0 }) refl done.3,
-      done.5,
+-- it was read, or can't be
+pub uses_input : {E : Type 0} (sink : SinkOf E) (world : World) (journals : Bool) (current : Bytes) (remaining left_over : Option Bytes) (before after : List Used)
+    (why : Cut) (file : Option Opened) (number : Option ℕ) (old new : E) → (journals ≡ false) × (current ≡ input_package) → package_number current before ≡ None
+    → after ≡ before ++ record { «package» = current; file = file } ∷ [] → number ≡ option_map (λ (_ : Opened). length before) file
+    → Brings sink (InputUntil why remaining) file old new → IsLeft world.known before remaining
+    → (lines : List Bytes) × Uses why journals world current before number lines after × IsLeft world.known after left_over × ReportsLines sink old new lines
+uses_input sink world journals current remaining left_over before after why file number old new (plain, is) none added at (lines, reads, told) left =
+    let none : package_number input_package before ≡ None = subst (λ (name : Bytes). package_number name before ≡ None) is none in
+    let added = added ∙ ap (λ (name : Bytes). before ++ record { «package» = name; file = file } ∷ []) is in (
+      lines,
+      subst (λ (kept : Bool). Uses why kept world current before number lines after) (sym plain)
+          (subst (λ (name : Bytes). Uses why false world name before number lines after) (sym is)
+          (input_uses why world before after file number lines none added at (subst (λ (known : Option Bytes). InputUntil why known file lines) (left none) reads))),
+      left_after_input world.known left_over before after (record { «package» = input_package; file = file }) refl added,
+      told,
     )
-input_opened sink world opening remaining left_over before mid after old new none added whole (inr (memory, at, same)) told left = (
-  named_line stdin (codes "Memory") ∷ [],
-  subst (λ (it : Cut). Uses it false world input_package before opening.place (named_line stdin (codes "Memory") ∷ []) after) (sym memory)
-      (at, (named_line stdin (codes "Memory"), refl), inr (same ∙ added)),
-  left_after_input world.known left_over before after (record { «package» = input_package; file = None }) refl (same ∙ added),
-  one_line sink old new (named_line stdin (codes "Memory")) (told memory),
-)
 
 -- ---- one step
 

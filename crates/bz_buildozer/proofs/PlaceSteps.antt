@@ -16,9 +16,7 @@ use Rattle.bz_buildozer.specs.declared.used.Opened as o
 use Rattle.bz_buildozer.specs.declared.used.Used as d
 use Rattle.bz_grammar.specs.Spell.{limit}
 use Rattle.bz_buildozer.specs.Opens.{Takes}
-use Rattle.bz_buildozer.specs.declared.reading.Opening.{Opening}
 use Rattle.bz_buildozer.proofs.ReadSteps.{front_takes}
-use Rattle.bz_streams.specs.declared.exit.Cut.{Cut}
 use Rattle.bz_buildozer.specs.Calls.{IsLeft}
 use Rattle.bz_streams.specs.Ports.{IsInput}
 use Rattle.bz_buildozer.specs.Steps.{input_package}
@@ -190,22 +188,17 @@ kept_pushed {E} result done keys new items mid all one kept added still pushed i
     added ∙ ap (λ (ks : List Bytes). ks ++ one.«package» ∷ []) kept ∙ sym (ap (λ (xs : List d.Used). packages_of (map used_in xs)) whole ∙ packages_last items one)
 
 -- the file that a package was given
-file_there : (place : ℕ) (file : Option Opened) (used : List Used) → place < length used → file_at place (with_opened place file used) ≡ file
+pub file_there : (place : ℕ) (file : Option Opened) (used : List Used) → place < length used → file_at place (with_opened place file used) ≡ file
 file_there place file [] within = absurd (omega arith)
 file_there zero file (one ∷ more) within = refl
 file_there (suc place) file (one ∷ more) within = file_there place file more (omega arith)
 
-pub opened_there : (place : ℕ) (file : Opened) (used whole new : List Used) → used ≡ whole → place < length whole → new ≡ with_opened place (Some file) used
-    → IsSome (file_at place new)
-opened_there place file used whole new same within is =
-    ap (λ (now : List Used). is_some (file_at place now)) (is ∙ ap (with_opened place (Some file)) same)
-    ∙ ap is_some (file_there place (Some file) whole within)
-
--- a package with no file is as it was without one
-pub none_stays : (place : ℕ) (used : List Used) → file_at place used ≡ None → with_opened place None used ≡ used
-none_stays place [] none = refl
-none_stays zero (one ∷ more) none = ap (λ (file : Option Opened). record one { file = file } ∷ more) (sym none)
-none_stays (suc place) (one ∷ more) none = ap (λ (rest : List Used). one ∷ rest) (none_stays place more none)
+pub found_there : (place : ℕ) (used : List Used) → Some place ≡ option_map (λ (_ : Opened). place) (file_at place used) → IsSome (file_at place used)
+found_there place used is = some_there (file_at place used) is
+  where
+    some_there : (file : Option Opened) → Some place ≡ option_map (λ (_ : Opened). place) file → IsSome file
+    some_there None is = absurd (let e = is in cc)
+    some_there (Some file) is = refl
 
 -- a file that is there is one of a package
 within_used : (place : ℕ) (used : List Used) → IsSome (file_at place used) → place < length used
@@ -218,23 +211,14 @@ within_items place items used same is =
     subst (λ (n : ℕ). place < n) (ap length (sym same) ∙ length-map items used_in) (within_used place used is)
 
 -- the last package
-pub last_none : (used : List Used) (one : Used) → file_at (length used) (used ++ one ∷ []) ≡ one.file
+last_none : (used : List Used) (one : Used) → file_at (length used) (used ++ one ∷ []) ≡ one.file
 last_none [] one = refl
 last_none (first ∷ more) one = last_none more one
 
-pub last_put : (used : List Used) (one : Used) (file : Option Opened)
+last_put : (used : List Used) (one : Used) (file : Option Opened)
     → with_opened (length used) file (used ++ one ∷ []) ≡ used ++ record one { file = file } ∷ []
 last_put [] one file = refl
 last_put (first ∷ more) one file = ap (λ (rest : List Used). first ∷ rest) (last_put more one file)
-
-pub closed_last : (place : ℕ) (used new : List Used) (one : Used) → place ≡ length used → new ≡ used ++ one ∷ [] → one.file ≡ None → file_at place new ≡ None
-closed_last place used new one at is none =
-    ap (λ (n : ℕ). file_at n new) at ∙ (ap (file_at (length used)) is ∙ (last_none used one ∙ none))
-
-pub put_last : (place : ℕ) (used mid new : List Used) (one : Used) (file : Option Opened) → place ≡ length used → mid ≡ used ++ one ∷ []
-    → new ≡ with_opened place file mid → new ≡ used ++ record one { file = file } ∷ []
-put_last place used mid new one file at is put =
-    put ∙ (ap (λ (n : ℕ). with_opened n file mid) at ∙ (ap (with_opened (length used) file) is ∙ last_put used one file))
 
 -- ---- the first bytes of standard input, one more than a text may have, decide what becomes of it
 
@@ -301,13 +285,6 @@ place_stays current (suc place) file (one ∷ more) =
 pub is_found : (found : Option ℕ) → (found ≡ None) ⊎ ((place : ℕ) × (found ≡ Some place))
 is_found None = inl refl
 is_found (Some place) = inr (place, refl)
-
--- the file of a package that was used before
-pub place_again : (place : ℕ) (used new : List Used) (opening : Opening) (cut : Cut)
-    → opening ≡ record { place = option_map (λ _. place) (file_at place used); cut = cut } → new ≡ used
-    → opening.place ≡ option_map (λ _. place) (file_at place new)
-place_again place used new opening cut is same =
-    ap (λ (it : Opening). it.place) is ∙ ap (λ (all : List Used). option_map (λ (_ : Opened). place) (file_at place all)) (sym same)
 
 -- the file of a package that was used last
 pub last_place : (used new : List Used) (current : Bytes) (file : Option Opened) (found : Option ℕ)

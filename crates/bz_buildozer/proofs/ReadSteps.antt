@@ -3,6 +3,8 @@ use Rattle.std.proofs.Common.{◌≡◌, ◌⊎◌, inl, inr, ℕ, List, Err, re
 use Rattle.bz_lex.specs.declared.fault.ReadFault.{ReadFault}
 use Rattle.bz_lex.specs.declared.fault.ReadFault.TheVariants as rf
 use Rattle.bz_grammar.specs.Faults.{IsOfText}
+use Rattle.bz_journal.specs.Forms.{OpensPast, past_history}
+use Rattle.bz_journal.specs.declared.past.Form.{Form}
 use Rattle.bz_journal.specs.Shown.{OpensText, session_history}
 use Rattle.bz_streams.specs.Excerpts.{fault_excerpt}
 use Rattle.bz_streams.specs.Reported.{fault_line, named_line}
@@ -38,7 +40,7 @@ use Rattle.bz_resume.specs.Resumed.{IsStale}
 use Rattle.bz_resume.proofs.Outcomes.{not_other, one_journal}
 use Rattle.bz_files.specs.Folder.{Folder}
 use Rattle.bz_resume.specs.Pair.{journal_name}
-use Rattle.bz_buildozer.specs.Sessions.{History, present}
+use Rattle.bz_buildozer.specs.Sessions.{History, opened as begun_with, present}
 use Rattle.bz_journal.specs.Lasting.{IsResumedSession}
 use Rattle.bz_journal.specs.State.{SessionState}
 use Rattle.bz_buildozer.specs.Journals.{JournalFault, JournalGives, JournalGivesOne, StandsAt, TakesBeside, file_of_journal, journal_beside, of_package, of_resuming, OpensBeside, HeldFilesGoOn}
@@ -197,6 +199,16 @@ fault_gives A current bytes text f.Damaged other version damaged stale = ((λ is
 pub same_opened : (name called text read : Bytes) (h g : History) → name ≡ called → text ≡ read → h ≡ g → opened_with name text h ≡ opened_with called read g
 same_opened name called text read h g names texts histories =
     ap (λ (n : Bytes). opened_with n text h) names ∙ ap (λ (b : Bytes). opened_with called b h) texts ∙ ap (λ (x : History). opened_with called read x) histories
+
+-- a text that is accepted
+pub past_takes : (current name called slice text read : Bytes) (form : Form) → called ≡ name → slice ≡ text → read ≡ text → OpensPast current slice (Ok form)
+    → Takes current name text (Some (opened_with called read (past_history form))) []
+past_takes current name called slice text read form names same reads (session, is, opens) = inl (
+  subst Accepted same opens.accepted,
+  ap (λ (f : Opened). Some f) (same_opened called name read text (past_history form) (begun_with current text) names reads
+      (ap past_history is ∙ opens.ok ∙ ap (begun_with current) same)),
+  refl,
+)
 
 -- ---- one thing comes of a journal
 

@@ -1,8 +1,8 @@
 -- What several parts of a run do, one after the other.
-use Rattle.std.proofs.Common.{◌≡◌, ◌∙◌, ◌++◌, ◌∷◌, ◌+◌, ◌<◌, ◌≤◌, inl, inr, ℕ, List, [], length, get_or, take, Option, Bool, true, true≢false, refl, sym, ap, subst, arith, append_assoc}
+use Rattle.std.proofs.Common.{◌≡◌, ◌∙◌, ◌++◌, ◌∷◌, ◌+◌, ◌<◌, ◌≤◌, inl, inr, ℕ, List, [], length, get_or, take, drop, map, Option, Bool, true, true≢false, refl, sym, ap, subst, arith, append_assoc}
 use Rattle.std.specs.List.{All, flat_map}
 use Rattle.std.proofs.lemmas.Grind.{flat_map-append}
-use Rattle.std.proofs.lemmas.List.{append-nil, take_all, take_more}
+use Rattle.std.proofs.lemmas.List.{append-nil, map-append, take_all, take_more, take-append-drop}
 use Rattle.std.proofs.lemmas.List.Elements.{All-get_or}
 use Rattle.bz_files.specs.Folder.{Folder}
 use Rattle.bz_files.proofs.Elapsing.{elapsed_on, stays, weakened}
@@ -17,7 +17,11 @@ use Rattle.bz_buildozer.proofs.FailSteps.{cut_alone, ended_runs, runs_more}
 use Rattle.bz_buildozer.proofs.SafeSteps.{began_safely}
 use Rattle.bz_buildozer.specs.Moments.{IsMeanwhile, IsMomentOfSteps}
 use Rattle.bz_buildozer.specs.Run.{World, RunsSteps, ends_run}
-use Rattle.bz_buildozer.specs.Steps.{RunStep}
+use Rattle.bz_label.specs.declared.target.Target.{Target}
+use Rattle.bz_command_line.specs.Shown.{requested_in, request_in}
+use Rattle.bz_command_line.specs.declared.requested.Request.{Request}
+use Rattle.bz_command_line.specs.declared.requested.Requested.{Requested}
+use Rattle.bz_buildozer.specs.Steps.{RunStep, all_steps, step_of, steps_requested}
 use Rattle.bz_buildozer.specs.Found.{Used}
 
 -- ---- moments
@@ -151,3 +155,59 @@ part_last part items item = flat_map-append part items (item ∷ []) ∙ ap (λ 
 pub all_at : {A : Type 0} (P : A → Type 0) (items held : List A) (at : ℕ) (item : A) → held ≡ items → at < length held → item ≡ get_or held at item
     → All P items → P item
 all_at P items held at item same within is all = subst P (sym is) (All-get_or P held at item within (subst (All P) (sym same) all))
+
+-- ---- the steps of lines, as far as these were done
+
+pub split_at : {A : Type 0} (items held : List A) (at : ℕ) (item : A) → held ≡ items → at < length held → item ≡ get_or held at item
+    → items ≡ take at items ++ item ∷ drop (at + 1) items
+split_at items held at item same within is = sym (take-append-drop (at + 1) items)
+    ∙ (ap (λ first. first ++ drop (at + 1) items) (taken_at items held at item same within is) ∙ append_assoc (take at items) (item ∷ []) (drop (at + 1) items))
+
+-- the steps of these commands on a target
+abbrev pub on_target : List Request → Target → List RunStep
+on_target commands target = map (step_of target) (map request_in commands)
+
+-- the steps of the first lines
+abbrev pub lines_before : ℕ → List Requested → List RunStep
+lines_before at lines = all_steps (map requested_in (take at lines))
+
+pub steps_on : (target : Target) (some more : List Request) → on_target (some ++ more) target ≡ on_target some target ++ on_target more target
+steps_on target some more = ap (map (step_of target)) (map-append request_in some more) ∙ map-append (step_of target) (map request_in some) (map request_in more)
+
+steps_of_lines : (some more : List Requested) → all_steps (map requested_in (some ++ more)) ≡ all_steps (map requested_in some) ++ all_steps (map requested_in more)
+steps_of_lines some more = ap all_steps (map-append requested_in some more) ∙ flat_map-append steps_requested (map requested_in some) (map requested_in more)
+
+pub one_more : (a b c more all : List RunStep) → all ≡ c ++ more → a ++ (b ++ all) ≡ (a ++ (b ++ c)) ++ more
+one_more a b c more all is = ap (λ (s : List RunStep). a ++ (b ++ s)) is ∙ (ap (λ (s : List RunStep). a ++ s) (sym (append_assoc b c more)) ∙ sym (append_assoc a (b ++ c) more))
+
+pub one_line_more : (lines : List Requested) (at : ℕ) (line : Requested) → at < length lines → line ≡ get_or lines at line
+    → lines_before (at + 1) lines ≡ lines_before at lines ++ steps_requested (requested_in line)
+one_line_more lines at line within is = ap (λ (some : List Requested). all_steps (map requested_in some)) (taken_at lines lines at line refl within is)
+    ∙ (steps_of_lines (take at lines) (line ∷ []) ∙ ap (λ rest. lines_before at lines ++ rest) (append-nil (steps_requested (requested_in line))))
+
+-- All steps are those that were done and some more. (How many lines, targets and commands were taken up.)
+pub steps_left : (lines : List Requested) (at : ℕ) (line : Requested) (held : List Target) (at' : ℕ) (target : Target) (done : ℕ) → at < length lines
+    → line ≡ get_or lines at line → held ≡ line.targets.items → at' < length held → target ≡ get_or held at' target
+    → (rest : List RunStep) × (all_steps (map requested_in lines) ≡ (lines_before at lines ++ (flat_map (on_target line.commands.items) (take at' line.targets.items)
+    ++ on_target (take done line.commands.items) target)) ++ rest)
+steps_left lines at line held at' target done within is same within' is' =
+    let commands = line.commands.items in
+    let targets = line.targets.items in
+    let front = flat_map (on_target commands) (take at' targets) in
+    let some = on_target (take done commands) target in
+    let more = on_target (drop done commands) target in
+    let others = flat_map (on_target commands) (drop (at' + 1) targets) in
+    let last = all_steps (map requested_in (drop (at + 1) lines)) in
+    let of_target : on_target commands target ≡ some ++ more =
+    ap (λ (these : List Request). on_target these target) (sym (take-append-drop done commands)) ∙ steps_on target (take done commands) (drop done commands) in
+    let of_line : steps_requested (requested_in line) ≡ front ++ ((some ++ more) ++ others) =
+    ap (flat_map (on_target commands)) (split_at targets held at' target same within' is')
+    ∙ (flat_map-append (on_target commands) (take at' targets) (target ∷ drop (at' + 1) targets) ∙ ap (λ (s : List RunStep). front ++ (s ++ others)) of_target) in
+    let of_lines : steps_requested (requested_in line) ++ last ≡ front ++ (some ++ (more ++ (others ++ last))) =
+    ap (λ (s : List RunStep). s ++ last) of_line ∙ (append_assoc front ((some ++ more) ++ others) last
+    ∙ ap (λ (s : List RunStep). front ++ s) (append_assoc (some ++ more) others last ∙ append_assoc some more (others ++ last))) in (
+      more ++ (others ++ last),
+      ap (λ (these : List Requested). all_steps (map requested_in these)) (split_at lines lines at line refl within is)
+          ∙ (steps_of_lines (take at lines) (line ∷ drop (at + 1) lines) ∙ (ap (λ (s : List RunStep). lines_before at lines ++ s) of_lines
+          ∙ one_more (lines_before at lines) front some (more ++ (others ++ last)) (some ++ (more ++ (others ++ last))) refl)),
+    )

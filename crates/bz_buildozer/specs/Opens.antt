@@ -1,6 +1,5 @@
 -- How a package is opened, and what an action does in one.
-use Rattle.std.specs.Prelude.{◌≡◌, ◌≢◌, ◌⊎◌, ◌↔◌, ◌≤◌, ◌<◌, ◌+◌, ◌++◌, ℕ, true, List, [], ◌∷◌, length, take, codes, Option, Some, None}
-use Rattle.std.specs.Option.{option_map}
+use Rattle.std.specs.Prelude.{◌≡◌, ◌≢◌, ◌⊎◌, ◌↔◌, ◌+◌, ◌++◌, true, List, [], ◌∷◌, take, codes, Option, Some, None}
 use Rattle.bz_lex.specs.declared.fault.ReadFault.{ReadFault}
 use Rattle.bz_lex.specs.Faults.{is_of_leaves}
 use Rattle.bz_lex.specs.Stops.{IsFaultAt}
@@ -11,17 +10,9 @@ use Rattle.bz_items.specs.Characters.{Bytes}
 use Rattle.bz_buildozer.specs.Sessions.{opened}
 use Rattle.bz_grammar.specs.Faults.{IsFaultOf}
 use Rattle.bz_streams.specs.Excerpts.{fault_excerpt}
-use Rattle.bz_streams.specs.Outputs.{Reports}
 use Rattle.bz_streams.specs.Reported.{named_line, fault_line}
-use Rattle.bz_streams.specs.declared.sink.Sink.{Ghosts as SinkOf}
-use Rattle.bz_buildozer.specs.Found.{Opened, Used, file_at, opened_with, with_opened, PackagesFound, root_above, second_name}
+use Rattle.bz_buildozer.specs.Found.{Opened, opened_with, PackagesFound, root_above, second_name}
 use Rattle.bz_buildozer.specs.Reported.{absent_hint}
-
--- a package of this path has this number, and its file isn't open
-pub record IsUnopened (place : ℕ) (current : Bytes) (used : List Used) : Type 0 where
-  pub short : length current ≤ 65536
-  pub within : place < length used
-  pub closed : file_at place used ≡ None
 
 -- a text of this name, as it was read, with the history that begins with it
 abbrev pub opened_fresh : Bytes → Bytes → Bytes → Opened
@@ -47,16 +38,3 @@ abbrev pub Opens : Folder → Bytes → Option PackagesFound → Option Opened �
 Opens folder current (Some found) file lines = Takes current found.0 found.1 file lines
 Opens folder current None file lines =
     (file ≡ None) × (lines ≡ (named_line (second_name current) (codes "cannot open") ++ absent_hint current (root_above folder)) ∷ [])
-
--- The package with this number has a file from now on, or none, of which this is so, and the lines were printed. (Its number, where
--- its file is open; the packages, and standard error, before and after.)
-abbrev pub Fills : {E : Type 0} → SinkOf E → (Option Opened → List Bytes → Type 0) → ℕ → Option ℕ → List Used → List Used → E → E → Type 0
-Fills sink Is place number before after old new = (file : Option Opened) × (lines : List Bytes) × Is file lines
-    × (after ≡ with_opened place file before) × (number ≡ option_map (λ _. place) file)
-    × Reports (sink.faults old) (sink.faults new) (sink.contents old) (sink.contents new) lines
-
--- The same of a package that is the last one from now on.
-abbrev pub Extends : {E : Type 0} → SinkOf E → (Option Opened → List Bytes → Type 0) → Bytes → Option ℕ → List Used → List Used → E → E → Type 0
-Extends sink Is current number before after old new = (file : Option Opened) × (lines : List Bytes) × Is file lines
-    × (after ≡ before ++ record { «package» = current; file = file } ∷ []) × (number ≡ option_map (λ _. length before) file)
-    × Reports (sink.faults old) (sink.faults new) (sink.contents old) (sink.contents new) lines

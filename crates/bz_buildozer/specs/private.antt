@@ -1,3 +1,4 @@
 -- What the contracts of private functions cite, and no contract of a public call reaches: nobody has to trust it.
 pub mod Shown
 pub mod ShownFiles
+pub mod Taking

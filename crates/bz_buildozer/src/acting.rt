@@ -3,30 +3,26 @@ ghost use Rattle.std.specs.Prelude.{◌≡◌, ◌≢◌, ◌⊎◌, ◌&&◌, �
 ghost use Rattle.bz_files.specs.Folder.{Folder};
 ghost use Rattle.bz_grammar.specs.Legal.{Reads};
 ghost use Rattle.bz_grammar.specs.declared.tree.Node.{Node};
-ghost use Rattle.bz_buildozer.specs.Sessions.{Do, History, Leads, action_in, present};
-ghost use Rattle.bz_label.specs.declared.target.Target as t;
+ghost use Rattle.bz_buildozer.specs.Sessions.{Do, History, action_in, present};
 ghost use Rattle.bz_command_line.specs.Paths.{HasPath};
-ghost use Rattle.bz_command_line.specs.Shown.{request_in};
-ghost use Rattle.bz_command_line.specs.declared.verb.Verb as v;
 ghost use Rattle.bz_buildozer.specs.Found as p;
 ghost use Rattle.bz_buildozer.specs.Found.{file_at};
 ghost use Rattle.bz_buildozer.specs.private.ShownFiles.{opened_in, used_in};
-ghost use Rattle.bz_buildozer.specs.Calls.{KeepsSome, KeepsStep, ReportsLine, ReportsLines, WorksOn, spot, Proceeds};
+ghost use Rattle.bz_buildozer.specs.Calls.{KeepsStep, ReportsLine, ReportsLines, WorksOn, spot, Proceeds};
 ghost use Rattle.bz_buildozer.specs.Keeps.{is_left_at};
 ghost use Rattle.bz_buildozer.specs.Moments.{AllAreSafe};
 ghost use Rattle.bz_buildozer.specs.Reported.{unkept_line};
-ghost use Rattle.bz_buildozer.specs.Run.{Answers, AreHints, Does, reply_notes, printed_in, reported_of};
-ghost use Rattle.bz_buildozer.specs.private.Shown.{progress_in};
+ghost use Rattle.bz_buildozer.specs.Run.{Answers, AreHints, Does, LeadsBy, reply_notes, printed_in, reported_of};
+ghost use Rattle.bz_buildozer.specs.private.Shown.{progress_in, step_in};
 ghost use Rattle.bz_buildozer.specs.Steps as s;
-ghost use Rattle.bz_buildozer.specs.Steps.{RunStep, input_package, step_of};
+ghost use Rattle.bz_buildozer.specs.Steps.{RunStep, input_package};
 
-use crate::opening::open_package;
 use crate::reported::{fail, report_refusal};
 use crate::run::Run;
-use crate::step::{action_of, package_of};
+use crate::step::{Step, action_of, package_of};
 use crate::used::{Opened, Used};
 use crate::workspace::Workspace;
-use bz_command_line::Request;
+use bz_command_line::Verb;
 use bz_command_syntax::Command;
 use bz_files::Files;
 use bz_hint::{report_hint, report_notes};
@@ -36,7 +32,7 @@ use bz_label::Target;
 use bz_resume::PairFault;
 use bz_streams::{Cut, Sink, Source, first_cut};
 use bz_value::Refusal;
-use std::alloc::{AllocError, Global};
+use std::alloc::AllocError;
 
 // The file of a package, which is open.
 fn file_of(used: &Used) -> &Opened
@@ -132,13 +128,12 @@ fn help<E: Sink>(
     }
 }
 
-// An action is refused, which is reported, and below that what helps.
+// The action of a step is refused, which is reported, and below that what helps.
 fn refuse_action<E: Sink>(
     journals: bool,
     run: &mut Run,
     place: usize,
-    action: &Action<'_>,
-    command: &str,
+    step: Step<'_>,
     refusal: Refusal,
     err: &mut E,
 ) -> Cut
@@ -147,14 +142,14 @@ fn refuse_action<E: Sink>(
     ensures whole { result ≡ Cut.Whole → refusal ≢ Refusal.Memory }
     ensures state { progress_in run.new ≡ record (progress_in run.old) { failed = true } }
     ensures reported { (file : p.Opened) → file_at place run.old.workspace ≡ Some file
-        → (refusal ≢ Refusal.Memory → (h : History) × Leads (action_in action.now) command.now h (Err refusal) file.history)
-        → (hint : List (List ℕ)) × ReportsLines E.Sink err.old err.new (reported_of journals file.name command.now (Err refusal) hint) × (result ≡ Cut.Memory → hint ≡ [])
-        × (result ≡ Cut.Whole → AreHints (Err refusal) (Some (action_in action.now)) file.name file.history hint) }
+        → (refusal ≢ Refusal.Memory → (h : History) × LeadsBy (s.action_of step.entry.target.now (step_in step.entry).request.verb) step.entry.request.now.text.now h (Err refusal) file.history)
+        → (hint : List (List ℕ)) × ReportsLines E.Sink err.old err.new (reported_of journals file.name step.entry.request.now.text.now (Err refusal) hint)
+        × (result ≡ Cut.Memory → hint ≡ []) × (result ≡ Cut.Whole → AreHints (Err refusal) (s.action_of step.entry.target.now (step_in step.entry).request.verb) file.name file.history hint) }
 {
-    let cut = refuse(journals, run, place, command, refusal, err);
-    match action {
-        Action::Do(command, target) => help(run, place, command, target, refusal, err),
-        Action::Format | Action::Undo(_) | Action::Redo(_) => cut,
+    let cut = refuse(journals, run, place, step.request.text, refusal, err);
+    match &step.request.verb {
+        Verb::Do(command) => help(run, place, command, step.target, refusal, err),
+        Verb::Undo(_) | Verb::Redo(_) | Verb::Journal => cut,
     }
 }
 
@@ -175,7 +170,7 @@ fn note<E: Sink>(run: &Run, place: usize, action: &Action<'_>, reply: &Reply, er
 }
 
 // Lists the texts of the open file of the package with this number.
-fn list_at<E: Sink>(alloc: Global, run: &mut Run, place: usize, command: &str, err: &mut E) -> Cut
+fn list_at<E: Sink>(run: &mut Run, place: usize, command: &str, err: &mut E) -> Cut
     requires { IsSome (file_at place run.old.workspace) }
     ensures kinds { (result ≡ Cut.Whole) ⊎ (result ≡ Cut.Memory) }
     ensures answers { (journals : Bool) (folder : Folder) (step : RunStep) → (journals && is_left_at place run.old.workspace) ≡ false
@@ -183,6 +178,7 @@ fn list_at<E: Sink>(alloc: Global, run: &mut Run, place: usize, command: &str, e
         × Answers result journals step (Some place) folder (progress_in run.old) lines folder (progress_in run.new) × ReportsLines E.Sink err.old err.new lines }
     ensures same { run.new.workspace ≡ run.old.workspace }
 {
+    let alloc = *run.printed.allocator();
     let Ok(text) = open_file(&run.workspace, place).past.listing(alloc) else {
         return refuse(false, run, place, command, Refusal::Memory, err);
     };
@@ -219,57 +215,22 @@ fn leave<E: Sink>(run: &mut Run, place: usize, fault: PairFault, err: &mut E) ->
     }
 }
 
-// Does an action in the open file of the package with this number, and keeps its journal and it where journals are kept: what it prints
-// is kept too, what is to be noted is reported, and so is a refusal.
-fn act_at<F: Files, E: Sink>(
-    journals: bool,
-    run: &mut Run,
-    place: usize,
-    action: &Action<'_>,
-    command: &str,
-    files: &mut F,
-    err: &mut E,
-) -> Cut
-    requires { IsSome (file_at place run.old.workspace) }
-    ensures answers { (journals ≡ true → F.honest files.old ≡ true) → (journals ≡ true → AllAreSafe (F.folder files.old) run.old.workspace)
-        → (journals && is_left_at place run.old.workspace) ≡ false → (target : t.Target) (verb : v.Verb) → s.action_of target verb ≡ Some (action_in action.now)
-        → (lines : List (List ℕ)) × Answers result journals (step_of target (record { verb = verb; text = command.now })) (Some place) (F.folder files.old)
-        (progress_in run.old) lines (F.folder files.new) (progress_in run.new) × ReportsLines E.Sink err.old err.new lines }
-    ensures keeps { journals ≡ true → KeepsSome F.Files place (action_in action.now) command.now run.old.workspace run.new.workspace files.old files.new }
-    ensures works { WorksOn F.Files result files.old files.new }
-{
-    match run
-        .workspace
-        .act(journals, place, action, command, run.once, files)
-    {
-        Ok(reply) => match put_printed(&reply, &mut run.printed) {
-            Ok(()) => note(run, place, action, &reply, err),
-            Err(_) => refuse(journals, run, place, command, Refusal::Memory, err),
-        },
-        Err(KeepFault::Refused(refusal)) => {
-            refuse_action(journals, run, place, action, command, refusal, err)
-        }
-        Err(KeepFault::Pair(fault)) => leave(run, place, fault, err),
-    }
-}
-
-// Does a command on a target in the open file of the package with this number, unless there is none or it is left alone; where journals
-// are kept, its journal and it are kept after an action.
-fn act_on<F: Files, E: Sink>(
-    alloc: Global,
+// Does a step in the open file of the package with this number, unless there is none or it is left alone. Where journals are kept, its
+// journal and it are kept after an action. What it prints is kept too, what is to be noted is reported, and so is a refusal, and below it
+// what helps.
+fn act<F: Files, E: Sink>(
     journals: bool,
     run: &mut Run,
     place: Option<usize>,
-    target: &Target,
-    request: &Request<'_>,
+    step: Step<'_>,
     files: &mut F,
     err: &mut E,
 ) -> Cut
     requires { IfSome place (λ at. IsSome (file_at at run.old.workspace)) }
     ensures answers { (journals ≡ true → F.honest files.old ≡ true) → (journals ≡ true → AllAreSafe (F.folder files.old) run.old.workspace) → (lines : List (List ℕ))
-        × Answers result journals (step_of target.now (request_in request.now)) place (F.folder files.old) (progress_in run.old) lines
-        (F.folder files.new) (progress_in run.new) × ReportsLines E.Sink err.old err.new lines }
-    ensures keeps { journals ≡ true → KeepsStep F.Files (step_of target.now (request_in request.now)) place run.old.workspace run.new.workspace files.old files.new }
+        × Answers result journals (step_in step.entry) place (F.folder files.old) (progress_in run.old) lines (F.folder files.new) (progress_in run.new)
+        × ReportsLines E.Sink err.old err.new lines }
+    ensures keeps { journals ≡ true → KeepsStep F.Files (step_in step.entry) place run.old.workspace run.new.workspace files.old files.new }
     ensures works { WorksOn F.Files result files.old files.new }
 {
     let Some(place) = place else {
@@ -280,33 +241,39 @@ fn act_on<F: Files, E: Sink>(
         run.failed = true;
         return Cut::Whole;
     }
-    match action_of(&request.verb, target) {
-        None => list_at(alloc, run, place, request.text, err),
-        Some(action) => act_at(journals, run, place, &action, request.text, files, err),
+    let command = step.request.text;
+    let Some(action) = action_of(&step.request.verb, step.target) else {
+        return list_at(run, place, command, err);
+    };
+    match run.workspace.act(journals, place, &action, command, files) {
+        Ok(reply) => match put_printed(&reply, &mut run.printed) {
+            Ok(()) => note(run, place, &action, &reply, err),
+            Err(_) => refuse(journals, run, place, command, Refusal::Memory, err),
+        },
+        Err(KeepFault::Refused(refusal)) => {
+            refuse_action(journals, run, place, step, refusal, err)
+        }
+        Err(KeepFault::Pair(fault)) => leave(run, place, fault, err),
     }
 }
 
 /// Does one step: opens its package, if that was not used before, and does its command there. Where journals are kept, that is done on
 /// the file and its journal.
 pub(crate) fn do_step<R: Source, F: Files, E: Sink>(
-    alloc: Global,
     journals: bool,
     run: &mut Run,
-    target: &Target,
-    request: &Request<'_>,
+    step: Step<'_>,
     input: &mut R,
     files: &mut F,
     err: &mut E,
 ) -> Cut
-    requires { HasPath target.now }
-    ensures { Proceeds journals (target.now.«package» ≡ input_package) (step_of target.now (request_in request.now) ∷ [])
-        (λ why world. Does why journals world (step_of target.now (request_in request.now))) result
+    requires { HasPath step.target.now }
+    ensures { Proceeds journals (step.entry.target.now.«package» ≡ input_package) (step_in step.entry ∷ [])
+        (λ why world. Does why journals world (step_in step.entry)) result
         (spot R.Source F.Files E.Sink run.old input.old files.old err.old) (spot R.Source F.Files E.Sink run.new input.new files.new err.new) }
 {
-    let package = package_of(target);
-    let workspace = &mut run.workspace;
-    let opening = open_package(alloc, journals, workspace, package, input, files, err);
-    let place = opening.place;
-    let acted = act_on(alloc, journals, run, place, target, request, files, err);
+    let package = package_of(step.target);
+    let opening = run.workspace.open(package, journals, input, files, err);
+    let acted = act(journals, run, opening.place, step, files, err);
     first_cut(opening.cut, acted)
 }

@@ -22,7 +22,6 @@ use bz_command_line::Options;
 use bz_files::{Files, rewrite};
 use bz_items::Memory;
 use bz_streams::{Cut, Exit, LinePiece, Sink, first_cut, report_pieces, write_whole};
-use std::alloc::Global;
 
 const CHANGED: u8 = 0;
 
@@ -30,6 +29,13 @@ const SAME: u8 = 3;
 
 /// The name by which standard output is reported.
 const STDOUT: &str = "<stdout>";
+
+/// What a run is to leave at its end: its options, and whether the text of standard input is shown.
+#[derive(Clone, Copy)]
+pub(crate) struct Ending {
+    pub(crate) options: Options,
+    pub(crate) shown: bool,
+}
 
 fn is_input(used: &Used) -> bool
     ensures { result ≡ is_input (used_in used.now) }
@@ -59,34 +65,34 @@ fn put_file(file: &Opened, output: &mut Vec<u8>) -> Result<bool, Memory>
 }
 
 // Appends what a package gives to standard output. Whether its text is another one than was read.
-fn put_text(used: &Used, shown: bool, to_stdout: bool, output: &mut Vec<u8>) -> Result<bool, Memory>
+fn put_text(used: &Used, ending: Ending, output: &mut Vec<u8>) -> Result<bool, Memory>
     ensures { IfOk result (λ changed. (changed ≡ has_changed (used_in used.now))
-        × (output.new.items ≡ output.old.items ++ text_out shown to_stdout (used_in used.now))) }
+        × (output.new.items ≡ output.old.items ++ text_out ending.shown ending.options.to_stdout (used_in used.now))) }
 {
     let Some(file) = &used.file else {
         return Ok(false);
     };
     let start = output.len();
     let changed = put_file(file, output)?;
-    if !goes_out(is_input(used), shown, to_stdout, changed) {
+    if !goes_out(
+        is_input(used),
+        ending.shown,
+        ending.options.to_stdout,
+        changed,
+    ) {
         output.truncate(start);
     }
     Ok(changed)
 }
 
 // Appends what the packages give to standard output, in order. Whether some text is another one than was read.
-fn put_texts(
-    packages: &[Used],
-    shown: bool,
-    to_stdout: bool,
-    output: &mut Vec<u8>,
-) -> Result<bool, Memory>
+fn put_texts(packages: &[Used], ending: Ending, output: &mut Vec<u8>) -> Result<bool, Memory>
     ensures { IfOk result (λ changed. (changed ≡ list_any has_changed (map used_in packages.now))
-        × (output.new.items ≡ output.old.items ++ texts_out shown to_stdout (map used_in packages.now))) }
+        × (output.new.items ≡ output.old.items ++ texts_out ending.shown ending.options.to_stdout (map used_in packages.now))) }
 {
     let mut changed = false;
     for used in packages {
-        changed |= put_text(used, shown, to_stdout, output)?;
+        changed |= put_text(used, ending, output)?;
     }
     Ok(changed)
 }
@@ -95,22 +101,21 @@ fn put_texts(
 // reported: memory was refused, and nothing is written; or standard output failed.
 fn print_all<W: Sink, E: Sink>(
     packages: &[Used],
-    shown: bool,
-    to_stdout: bool,
+    ending: Ending,
     printed: Vec<u8>,
     out: &mut W,
     err: &mut E,
 ) -> Result<bool, Cut>
     ensures ok { IfOk result (λ changed. (changed ≡ list_any has_changed (map used_in packages.now))
-        × PrintsAll W.Sink out.old out.new (printed.items ++ texts_out shown to_stdout (map used_in packages.now))
+        × PrintsAll W.Sink out.old out.new (printed.items ++ texts_out ending.shown ending.options.to_stdout (map used_in packages.now))
         × (W.faults out.new ≡ W.faults out.old) × (err.new ≡ err.old)) }
     ensures err { IfErr result (λ cut. ((cut ≡ Cut.Memory) × (out.new ≡ out.old)) ⊎ ((cut ≡ Cut.Write)
-        × PrintsSome W.Sink out.old out.new (printed.items ++ texts_out shown to_stdout (map used_in packages.now))
+        × PrintsSome W.Sink out.old out.new (printed.items ++ texts_out ending.shown ending.options.to_stdout (map used_in packages.now))
         × Rises (W.faults out.old) (W.faults out.new))) }
     ensures told { IfErr result (λ cut. ReportsLines E.Sink err.old err.new (output_lines cut)) }
 {
     let mut output = printed;
-    let Ok(changed) = put_texts(packages, shown, to_stdout, &mut output) else {
+    let Ok(changed) = put_texts(packages, ending, &mut output) else {
         return Err(fail(err, STDOUT, "Memory", Cut::Memory));
     };
     match write_whole(out, &output) {
@@ -136,13 +141,7 @@ fn report_written<E: Sink>(quiet: bool, name: &str, err: &mut E)
 }
 
 // Writes the file of a package, where it changed and is to be written. With its journal it was written before, which is reported.
-fn write_file<F: Files, E: Sink>(
-    alloc: Global,
-    options: Options,
-    used: &Used,
-    files: &mut F,
-    err: &mut E,
-) -> Cut
+fn write_file<F: Files, E: Sink>(options: Options, used: &Used, files: &mut F, err: &mut E) -> Cut
     ensures reported { result ≡ Cut.Whole → ReportsLines E.Sink err.old err.new
         (fixed_lines options.quiet (name_fixed options.journal options.to_stdout (used_in used.now))) }
     ensures writes { options.journal ≡ false → (F.honest files.old ≡ true) ⊎ ((used_in used.now).«package» ≡ input_package) → result ≡ Cut.Whole
@@ -168,7 +167,7 @@ fn write_file<F: Files, E: Sink>(
     if options.to_stdout || is_input(used) {
         return Cut::Whole;
     }
-    let mut text = Vec::new(alloc);
+    let mut text = Vec::new(*file.name.allocator());
     let Ok(changed) = put_file(file, &mut text) else {
         return fail(err, name, "Memory", Cut::Memory);
     };
@@ -184,7 +183,6 @@ fn write_file<F: Files, E: Sink>(
 
 // Writes the files that changed, in order; each is tried. With journals they were written before, which is reported.
 fn write_files<F: Files, E: Sink>(
-    alloc: Global,
     options: Options,
     packages: &[Used],
     files: &mut F,
@@ -197,7 +195,7 @@ fn write_files<F: Files, E: Sink>(
 {
     let mut cut = Cut::Whole;
     for used in packages {
-        let later = write_file(alloc, options, used, files, err);
+        let later = write_file(options, used, files, err);
         cut = first_cut(cut, later);
     }
     cut
@@ -223,9 +221,7 @@ fn ended(failed: bool, changed: bool, cut: Cut) -> Exit
 /// the files that changed are written, each where it still holds what was read of it; with their journals they were written before, which is
 /// reported. A failure is reported, and what is left is done all the same. Of two failures it is that of the files which cuts the run.
 pub(crate) fn finish<W: Sink, F: Files, E: Sink>(
-    alloc: Global,
-    options: Options,
-    shown: bool,
+    ending: Ending,
     run: Run,
     cut: Cut,
     out: &mut W,
@@ -236,10 +232,10 @@ pub(crate) fn finish<W: Sink, F: Files, E: Sink>(
         × (F.faults files.new ≡ F.faults files.old) }
     ensures ends { (F.honest files.old ≡ true) ⊎ All (λ used. used.«package» ≡ input_package) (progress_in run).used
         → (later : Cut) × (written : Cut) × (told : List (List ℕ))
-        × TriesFiles written options (progress_in run).used (F.folder files.old) told (F.folder files.new)
-        × PrintsUntil W.Sink later out.old out.new ((progress_in run).printed ++ texts_out shown options.to_stdout (progress_in run).used)
+        × TriesFiles written ending.options (progress_in run).used (F.folder files.old) told (F.folder files.new)
+        × PrintsUntil W.Sink later out.old out.new ((progress_in run).printed ++ texts_out ending.shown ending.options.to_stdout (progress_in run).used)
         × ReportsLines E.Sink err.old err.new (output_lines later ++ told) × (result.cut ≡ first_cut cut (first_cut written later)) }
-    ensures kept { options.journal ≡ true → files.new ≡ files.old }
+    ensures kept { ending.options.journal ≡ true → files.new ≡ files.old }
     ensures status { result.cut ≢ Cut.Whole → result.status ≡ 2 }
     ensures used { result.status ≢ 1 }
     ensures write { result.cut ≡ Cut.Write → cut ≢ Cut.Write → Rises (W.faults out.old) (W.faults out.new) }
@@ -255,8 +251,8 @@ pub(crate) fn finish<W: Sink, F: Files, E: Sink>(
         ..
     } = run;
     let packages = workspace.used();
-    let output = print_all(packages, shown, options.to_stdout, printed, out, err);
-    let written = write_files(alloc, options, packages, files, err);
+    let output = print_all(packages, ending, printed, out, err);
+    let written = write_files(ending.options, packages, files, err);
     match output {
         Ok(changed) => ended(failed, changed, first_cut(cut, written)),
         Err(later) => ended(failed, true, first_cut(cut, first_cut(written, later))),

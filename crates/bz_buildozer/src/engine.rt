@@ -16,7 +16,7 @@ ghost use Rattle.bz_buildozer.specs.Steps.{all_steps, input_package, names_input
 ghost use Rattle.bz_buildozer.specs.Reported.{no_journal_line};
 ghost use Rattle.bz_buildozer.specs.Run.{World};
 
-use crate::ending::finish;
+use crate::ending::{Ending, finish};
 use crate::reported::{UNUSED, report_unread, unused};
 use crate::run::begun;
 use crate::running::run_lines;
@@ -32,6 +32,20 @@ use std::alloc::Global;
 use std::convert::AsStr;
 use std::slice::from_ref;
 
+// What a run takes beside its ports: memory, and its options.
+#[derive(Clone, Copy)]
+struct Job {
+    alloc: Global,
+    options: Options,
+}
+
+// A file of lines that was read.
+#[derive(Clone, Copy)]
+struct ReadScript<'a> {
+    name: &'a str,
+    bytes: &'a [u8],
+}
+
 // Whether rules of standard input are meant where journals are kept: it has none.
 #[tactic(auto, using(crate::proofs::StepLists::named_in_lines))]
 fn lacks_journal(options: Options, lines: &[Requested<'_>]) -> bool
@@ -42,8 +56,7 @@ fn lacks_journal(options: Options, lines: &[Requested<'_>]) -> bool
 
 // Does what lines request, on files alone or with their journals, and ends the run; unless that needs a journal of standard input.
 fn perform<R: Source, W: Sink, E: Sink, F: Files>(
-    alloc: Global,
-    options: Options,
+    job: Job,
     lines: &[Requested<'_>],
     input: &mut R,
     out: &mut W,
@@ -52,63 +65,34 @@ fn perform<R: Source, W: Sink, E: Sink, F: Files>(
 ) -> Exit
     requires { All (λ requested. All HasPath requested.targets.items) lines.now }
     ensures ends { (F.honest files.old ≡ true) ⊎ AreOfInputAndSome (map requested_in lines.now) → EndsIn W.Sink E.Sink F.Files
-        (LinesEnd options (map requested_in lines.now) (world_of R.Source F.Files input.old files.old)) result out.old out.new err.old err.new files.new }
-    ensures unread { options.journal ≡ true → names_input (map requested_in lines.now) ≡ true → (input.new ≡ input.old) × (out.new ≡ out.old) × (files.new ≡ files.old) }
-    ensures reads_nothing { options.journal ≡ true → ReadsNothing R.Source result.cut input.old input.new }
+        (LinesEnd job.options (map requested_in lines.now) (world_of R.Source F.Files input.old files.old)) result out.old out.new err.old err.new files.new }
+    ensures unread { job.options.journal ≡ true → names_input (map requested_in lines.now) ≡ true → (input.new ≡ input.old) × (out.new ≡ out.old) × (files.new ≡ files.old) }
+    ensures reads_nothing { job.options.journal ≡ true → ReadsNothing R.Source result.cut input.old input.new }
     ensures unused { result.status ≡ 1 → (input.new ≡ input.old) × (out.new ≡ out.old) × (files.new ≡ files.old) }
-    ensures usage { result.status ≡ 1 → (options.journal ≡ true) × (names_input (map requested_in lines.now) ≡ true)
+    ensures usage { result.status ≡ 1 → (job.options.journal ≡ true) × (names_input (map requested_in lines.now) ≡ true)
         × ReportsLines E.Sink err.old err.new (no_journal_line ∷ []) }
-    ensures moments { options.journal ≡ true → F.honest files.old ≡ true
+    ensures moments { job.options.journal ≡ true → F.honest files.old ≡ true
         → PassesBy F.Files (IsMomentOfSteps (F.folder files.old) (all_steps (map requested_in lines.now)) []) files.old files.new }
     ensures sound { R.sound input.old ≡ true → result.cut ≢ Cut.Read }
     ensures status { result.cut ≢ Cut.Whole → result.status ≡ 2 }
     ensures ended { IsEndedOver R.Source W.Sink F.Files result.cut input.old input.new out.old out.new files.old files.new }
     ensures honest { F.honest files.new ≡ F.honest files.old }
 {
-    if lacks_journal(options, lines) {
+    if lacks_journal(job.options, lines) {
         report_pieces(
             err,
             &[LinePiece::Own("buildozer: package - has no journal\n")],
         );
         return UNUSED;
     }
-    let mut run = begun(alloc, are_one_step(lines));
-    let cut = run_lines(alloc, options, lines, &mut run, input, files, err);
+    let mut run = begun(job.alloc, are_one_step(lines));
+    let cut = run_lines(job.options, lines, &mut run, input, files, err);
     let shown = shows_input(lines);
-    finish(alloc, options, shown, run, cut, out, files, err)
-}
-
-// Operands among the words.
-fn run_operands<R: Source, W: Sink, E: Sink, F: Files>(
-    alloc: Global,
-    options: Options,
-    operands: &[&str],
-    input: &mut R,
-    out: &mut W,
-    err: &mut E,
-    files: &mut F,
-) -> Exit
-    ensures ends { (F.honest files.old ≡ true) ⊎ IsOfInput (words_given (map (λ s. s.now) operands.now)) → EndsIn W.Sink E.Sink F.Files
-        (OrOutOfMemory (world_of R.Source F.Files input.old files.old)
-        (OperandsOutcome options (map (λ s. s.now) operands.now) (world_of R.Source F.Files input.old files.old)))
-        result out.old out.new err.old err.new files.new }
-    ensures unread { GivesNothing options (words_given (map (λ s. s.now) operands.now)) → (input.new ≡ input.old) × (out.new ≡ out.old) × (files.new ≡ files.old) }
-    ensures unused { result.status ≡ 1 → (input.new ≡ input.old) × (out.new ≡ out.old) × (files.new ≡ files.old) }
-    ensures usage { result.status ≡ 1 → (line : List ℕ)
-        × ((world : World) → OperandsOutcome options (map (λ s. s.now) operands.now) world (unused world.folder line))
-        × ReportsLines E.Sink err.old err.new (line ∷ []) }
-    ensures unread_kept { options.journal ≡ true → IsStill R.Source input.old input.new }
-    ensures moments { options.journal ≡ true → F.honest files.old ≡ true
-        → PassesBy F.Files (IsMomentOfRun (world_of R.Source F.Files input.old files.old) (words_given (map (λ s. s.now) operands.now))) files.old files.new }
-    ensures sound { R.sound input.old ≡ true → result.cut ≢ Cut.Read }
-    ensures status { result.cut ≢ Cut.Whole → result.status ≡ 2 }
-    ensures ended { IsEndedOver R.Source W.Sink F.Files result.cut input.old input.new out.old out.new files.old files.new }
-    ensures honest { F.honest files.new ≡ F.honest files.old }
-{
-    match read_group(alloc, operands) {
-        Ok(requested) => perform(alloc, options, from_ref(&requested), input, out, err, files),
-        Err(fault) => unused(report_usage(alloc, err, &fault), err),
-    }
+    let ending = Ending {
+        options: job.options,
+        shown,
+    };
+    finish(ending, run, cut, out, files, err)
 }
 
 // Whether rules of standard input are meant where the lines are read from there.
@@ -119,57 +103,57 @@ fn edits_input(name: &str, lines: &[Requested<'_>]) -> bool
     name == INPUT && names_input(lines)
 }
 
-// What a text of lines by this name requests.
+// What the text of a file of lines requests.
 fn run_text<R: Source, W: Sink, E: Sink, F: Files>(
-    alloc: Global,
-    options: Options,
-    name: &str,
-    bytes: &[u8],
+    job: Job,
+    read: ReadScript<'_>,
     input: &mut R,
     out: &mut W,
     err: &mut E,
     files: &mut F,
 ) -> Exit
-    ensures ends { F.honest files.old ≡ true → (known : Option (List ℕ)) → (name.now ≢ input_package → known ≡ R.remaining input.old)
+    ensures ends { F.honest files.old ≡ true → (known : Option (List ℕ)) → (read.entry.name.now ≢ input_package → known ≡ R.remaining input.old)
         → EndsIn W.Sink E.Sink F.Files (OrOutOfMemory (world_with F.Files files.old known)
-        (TextOutcome options name.now bytes.now (world_with F.Files files.old known))) result out.old out.new err.old err.new files.new }
+        (TextOutcome job.options read.entry.name.now read.entry.bytes.now (world_with F.Files files.old known))) result out.old out.new err.old err.new files.new }
     ensures unused { result.status ≡ 1 → (input.new ≡ input.old) × (out.new ≡ out.old) × (files.new ≡ files.old) }
-    ensures usage { result.status ≡ 1 → (line : List ℕ) × ((world : World) → TextOutcome options name.now bytes.now world (unused world.folder line))
+    ensures usage { result.status ≡ 1 → (line : List ℕ) × ((world : World) → TextOutcome job.options read.entry.name.now read.entry.bytes.now world (unused world.folder line))
         × ReportsLines E.Sink err.old err.new (line ∷ []) }
-    ensures unread_kept { options.journal ≡ true → IsStill R.Source input.old input.new }
-    ensures moments { options.journal ≡ true → F.honest files.old ≡ true → PassesBy F.Files (λ now. (lines : List a.Requested)
-        × IsText bytes.now × (script_of bytes.now ≡ Ok lines) × IsMomentOfSteps (F.folder files.old) (all_steps lines) [] now) files.old files.new }
+    ensures unread_kept { job.options.journal ≡ true → IsStill R.Source input.old input.new }
+    ensures moments { job.options.journal ≡ true → F.honest files.old ≡ true → PassesBy F.Files (λ now. (lines : List a.Requested)
+        × IsText read.entry.bytes.now × (script_of read.entry.bytes.now ≡ Ok lines) × IsMomentOfSteps (F.folder files.old) (all_steps lines) [] now) files.old files.new }
     ensures sound { R.sound input.old ≡ true → result.cut ≢ Cut.Read }
     ensures status { result.cut ≢ Cut.Whole → result.status ≡ 2 }
     ensures ended { IsEndedOver R.Source W.Sink F.Files result.cut input.old input.new out.old out.new files.old files.new }
     ensures honest { F.honest files.new ≡ F.honest files.old }
 {
-    let text = match text_in(bytes) {
+    let text = match text_in(read.bytes) {
         Ok(text) => text,
         Err(fault) => {
-            report_fault(err, reported_name(name), &fault);
+            report_fault(err, reported_name(read.name), &fault);
             return UNUSED;
         }
     };
-    let lines = match read_script(alloc, text) {
+    let lines = match read_script(job.alloc, text) {
         Ok(lines) => lines,
-        Err(fault) => return unused(report_script(alloc, err, reported_name(name), &fault), err),
+        Err(fault) => return unused(
+            report_script(job.alloc, err, reported_name(read.name), &fault),
+            err,
+        ),
     };
     let lines = lines.as_slice();
-    if edits_input(name, lines) {
+    if edits_input(read.name, lines) {
         report_pieces(
             err,
             &[LinePiece::Own("buildozer: package - cannot be edited beside -f -\n")],
         );
         return UNUSED;
     }
-    perform(alloc, options, lines, input, out, err, files)
+    perform(job, lines, input, out, err, files)
 }
 
 // A file of lines.
 fn run_script<R: Source, W: Sink, E: Sink, F: Files>(
-    alloc: Global,
-    options: Options,
+    job: Job,
     name: &str,
     input: &mut R,
     out: &mut W,
@@ -177,24 +161,30 @@ fn run_script<R: Source, W: Sink, E: Sink, F: Files>(
     files: &mut F,
 ) -> Exit
     ensures ends { F.honest files.old ≡ true → EndsIn W.Sink E.Sink F.Files (OrOutOfMemory (world_of R.Source F.Files input.old files.old)
-        (ScriptOutcome options name.now (world_of R.Source F.Files input.old files.old))) result out.old out.new err.old err.new files.new }
+        (ScriptOutcome job.options name.now (world_of R.Source F.Files input.old files.old))) result out.old out.new err.old err.new files.new }
     ensures unused { result.status ≡ 1 → out.new ≡ out.old }
     ensures unused_input { result.status ≡ 1 → name.now ≢ input_package → input.new ≡ input.old }
     ensures unused_files { result.status ≡ 1 → name.now ≡ input_package → files.new ≡ files.old }
     ensures unused_time { result.status ≡ 1 → F.honest files.old ≡ true → KeepsFolder F.Files files.old files.new }
     ensures usage { result.status ≡ 1 → result.cut ≡ Cut.Whole → (line : List ℕ)
-        × IsUnused (F.honest files.old) (world_of R.Source F.Files input.old files.old) (ScriptOutcome options name.now) line
+        × IsUnused (F.honest files.old) (world_of R.Source F.Files input.old files.old) (ScriptOutcome job.options name.now) line
         × ReportsLines E.Sink err.old err.new (line ∷ []) }
-    ensures unread_kept { options.journal ≡ true → name.now ≢ input_package → IsStill R.Source input.old input.new }
-    ensures moments { options.journal ≡ true → F.honest files.old ≡ true
+    ensures unread_kept { job.options.journal ≡ true → name.now ≢ input_package → IsStill R.Source input.old input.new }
+    ensures moments { job.options.journal ≡ true → F.honest files.old ≡ true
         → PassesBy F.Files (IsMomentOfRun (world_of R.Source F.Files input.old files.old) (script name.now)) files.old files.new }
     ensures sound { R.sound input.old ≡ true → result.cut ≢ Cut.Read }
     ensures status { result.cut ≢ Cut.Whole → (result.status ≡ 2) ⊎ (result.status ≡ 1) }
     ensures ended { IsEndedOver R.Source W.Sink F.Files result.cut input.old input.new out.old out.new files.old files.new }
     ensures honest { F.honest files.new ≡ F.honest files.old }
 {
-    match read_bytes(alloc, name, input, files) {
-        Ok(bytes) => run_text(alloc, options, name, &bytes, input, out, err, files),
+    match read_bytes(job.alloc, name, input, files) {
+        Ok(bytes) => {
+            let read = ReadScript {
+                name,
+                bytes: &bytes,
+            };
+            run_text(job, read, input, out, err, files)
+        }
         Err(cut) => report_unread(err, reported_name(name), cut),
     }
 }
@@ -261,10 +251,15 @@ pub fn buildozer<S: AsStr, R: Source, W: Sink, E: Sink, F: Files>(
         Ok(line) => line,
         Err(fault) => return unused(report_line_usage(alloc, err, words, &fault), err),
     };
+    let job = Job {
+        alloc,
+        options: line.options,
+    };
     match &line.given {
-        Given::Operands(operands) => {
-            run_operands(alloc, line.options, operands, input, out, err, files)
-        }
-        Given::Script(name) => run_script(alloc, line.options, name, input, out, err, files),
+        Given::Operands(operands) => match read_group(alloc, operands) {
+            Ok(requested) => perform(job, from_ref(&requested), input, out, err, files),
+            Err(fault) => unused(report_usage(alloc, err, &fault), err),
+        },
+        Given::Script(name) => run_script(job, name, input, out, err, files),
     }
 }

@@ -1,84 +1,186 @@
-//! The package of a step.
-ghost use Rattle.std.specs.Prelude.{◌≡◌, ◌≢◌, ◌≤◌, ℕ, List, Option, None, true, false, length, IfSome, IsSome};
+//! The file of a package, which is read and opened.
+ghost use Rattle.std.specs.Prelude.{◌≡◌, ◌≢◌, ◌⊎◌, ◌≤◌, ℕ, None, Some, true, codes, length};
+ghost use Rattle.bz_resume.specs.Pair.{journal_name};
 ghost use Rattle.bz_streams.specs.Outputs.{Counts};
-ghost use Rattle.bz_buildozer.specs.Keeps.{KeepsFolder};
-ghost use Rattle.bz_buildozer.specs.Found.{package_number, file_at};
-ghost use Rattle.bz_buildozer.specs.Calls.{MayRun, ReportsLines, ReadsNothing, UsesSome, world_with, AreCutOver, AreCutBy, IsLeft};
-ghost use Rattle.bz_buildozer.specs.Run.{Uses, World};
-ghost use Rattle.bz_buildozer.specs.Steps.{input_package};
+ghost use Rattle.bz_streams.specs.Reported.{named_line};
+ghost use Rattle.bz_buildozer.specs.Calls.{ReportsLine, AreCutBy};
+ghost use Rattle.bz_buildozer.specs.Journals.{TakesBeside};
+ghost use Rattle.bz_buildozer.specs.Keeps.{ReadsFiles};
+ghost use Rattle.bz_buildozer.specs.Opens.{Takes};
+ghost use Rattle.bz_buildozer.specs.Run.{TakesUntil};
+ghost use Rattle.bz_buildozer.specs.private.Taking.{Brings, InputUntil, NamedUntil, base_of};
+ghost use Rattle.bz_buildozer.specs.private.ShownFiles.{taken_in};
 
-use crate::reading::{Opening, fail};
+use crate::reading::{Taken, bytes_of, fail, fail_absent, misplaced, name_in, unnamed, unresumed};
+use crate::rooting::root_above;
 use crate::script::INPUT;
-use crate::workspace::Workspace;
-use bz_files::Files;
-use bz_streams::{Cut, InputFault, MOST, STDIN, Sink, Source, read_most};
+use crate::used::Opened;
+use bz_files::{FileFault, Files};
+use bz_items::Text;
+use bz_journal::{Past, Session};
+use bz_lex::ReadFault;
+use bz_resume::journal_name;
+use bz_streams::{
+    Cut, InputFault, MOST, STDIN, Sink, Source, read_most, report_fault_in, report_named,
+};
 use std::alloc::Global;
 
-// Reads and opens standard input. It is kept as used first, so that it is not read a second time.
-fn open_input<R: Source, E: Sink>(
-    alloc: Global,
-    workspace: &mut Workspace,
-    input: &mut R,
+// Opens a file with what was read of it, or reports its fault: `NAME:LINE:COLUMN: FAULT` and below it the line of the text with a caret,
+// `NAME: NotUtf8 at BYTE` or `NAME: FAULT`. The name and the package are taken as given. It is cut where memory was refused, which is
+// reported as `NAME: Memory`.
+fn open_text<E: Sink>(package: &str, name: &str, text: Vec<u8>, err: &mut E) -> Taken
+    requires { length «package».now ≤ 65536 }
+    ensures whole { result.cut ≡ Cut.Whole → Brings E.Sink (Takes «package».now name.now text.items) (taken_in result) err.old err.new }
+    ensures cut { (result.cut ≡ Cut.Whole) ⊎ ((result.cut ≡ Cut.Memory) × (taken_in result ≡ None)) }
+    ensures told { result.cut ≡ Cut.Memory → ReportsLine E.Sink err.old err.new (named_line name.now (codes "Memory")) }
+{
+    let alloc = *text.allocator();
+    let Ok(called) = String::from_str(alloc, name) else {
+        return fail(err, name, "Memory", Cut::Memory);
+    };
+    match Past::open(alloc, package, text.as_slice()) {
+        Ok(past) => Taken {
+            file: Some(Opened::new(called, Text::from_vec(text), past)),
+            cut: Cut::Whole,
+        },
+        Err(fault) => match fault {
+            ReadFault::Memory => fail(err, name, "Memory", Cut::Memory),
+            _ => {
+                report_fault_in(err, name, &text, &fault);
+                Taken {
+                    file: None,
+                    cut: Cut::Whole,
+                }
+            }
+        },
+    }
+}
+
+// Opens a file as its journal says, whose bytes these are, or reports why no history goes on with it, and what may be done. It is cut
+// where memory was refused.
+fn open_resumed<E: Sink>(
+    package: &str,
+    name: &str,
+    text: Vec<u8>,
+    journal: &str,
+    bytes: &[u8],
     err: &mut E,
-) -> Opening
-    requires { package_number input_package workspace.old ≡ None }
-    ensures uses { (world : World) → IsLeft world.known workspace.old (R.remaining input.old) → (lines : List (List ℕ))
-        × Uses result.cut false world input_package workspace.old result.place lines workspace.new
-        × IsLeft world.known workspace.new (R.remaining input.new) × ReportsLines E.Sink err.old err.new lines }
-    ensures there { IfSome result.place (λ at. IsSome (file_at at workspace.new)) }
+) -> Taken
+    requires { journal.now ≡ journal_name name.now }
+    ensures whole { result.cut ≡ Cut.Whole
+        → Brings E.Sink (TakesBeside (Some bytes.now) «package».now name.now text.items) (taken_in result) err.old err.new }
+    ensures cut { (result.cut ≡ Cut.Whole) ⊎ ((result.cut ≡ Cut.Memory) × (taken_in result ≡ None)) }
+    ensures told { result.cut ≡ Cut.Memory → ReportsLine E.Sink err.old err.new (named_line journal.now (codes "Memory (8)")) }
+{
+    let alloc = *text.allocator();
+    let session = match Session::resume(alloc, bytes, text.as_slice()) {
+        Ok(session) => session,
+        Err(fault) => return unresumed(err, journal, &fault),
+    };
+    if session.package() != package {
+        return misplaced(err, journal, session.package());
+    }
+    match String::from_str(alloc, name) {
+        Ok(name) => Taken {
+            file: Some(Opened::new(name, Text::from_vec(text), Past::new(session))),
+            cut: Cut::Whole,
+        },
+        Err(_) => fail(err, journal, "Memory (8)", Cut::Memory),
+    }
+}
+
+// Opens a file with what was read of it, and resumes its journal where journals are kept and it is there. A journal may be of any length,
+// so it is read whole.
+fn open_found<F: Files, E: Sink>(
+    package: &str,
+    name: &str,
+    text: Vec<u8>,
+    journals: bool,
+    files: &mut F,
+    err: &mut E,
+) -> Taken
+    requires { length «package».now ≤ 65536 }
+    ensures takes { Brings E.Sink (λ file lines. F.honest files.old ≡ true
+        → TakesUntil result.cut journals (F.folder files.old) «package».now name.now text.items file lines) (taken_in result) err.old err.new }
+    ensures files { ReadsFiles F.Files result.cut files.old files.new }
+{
+    if !journals {
+        return open_text(package, name, text, err);
+    }
+    let alloc = *text.allocator();
+    let Ok(journal) = journal_name(alloc, name) else {
+        return fail(err, name, "Memory", Cut::Memory);
+    };
+    let journal = journal.as_str();
+    match bytes_of(alloc, files, journal, usize::MAX) {
+        Ok(bytes) => open_resumed(package, name, text, journal, bytes.as_slice(), err),
+        Err(FileFault::Absent) => open_text(package, name, text, err),
+        Err(FileFault::Memory) => fail(err, journal, "Memory", Cut::Memory),
+        Err(_) => fail(err, journal, "cannot open", Cut::Files),
+    }
+}
+
+// The name of a package's file below the package: the first one, or the second.
+fn base_of(second: bool) -> &'static str
+    ensures { result.now ≡ base_of second }
+{
+    if second { "BUILD" } else { "BUILD.bazel" }
+}
+
+/// Reads and opens the file of a package: `BUILD.bazel`, else `BUILD`; the second one alone where the first was tried. Of a file no more is
+/// read than one byte past the limit of a text. Where journals are kept, `FILE.journal` is read too, and resumed where it is there. A fault
+/// is reported by one line for each file: those of the text, below which its line is, `NAME: cannot open` where neither is there or one could
+/// not be read, and `NAME: Memory` where memory was refused; of a journal `NAME.journal: cannot open`, or `NAME.journal: FAULT (NUMBER)`.
+/// Where neither is there, what a package is, and where the root of the workspace is, is printed below the line. Cuts: `Memory` and `Files`,
+/// the first that came; the second file may be open after a `Files` of the first.
+pub(crate) fn open_named<F: Files, E: Sink>(
+    alloc: Global,
+    package: &str,
+    second: bool,
+    journals: bool,
+    files: &mut F,
+    err: &mut E,
+) -> Taken
+    requires { length «package».now ≤ 65536 }
+    ensures opens { Brings E.Sink (λ file lines. F.honest files.old ≡ true
+        → NamedUntil second result.cut journals (F.folder files.old) «package».now file lines) (taken_in result) err.old err.new }
+    ensures files { ReadsFiles F.Files result.cut files.old files.new }
+{
+    let Ok(name) = name_in(alloc, package, base_of(second)) else {
+        return unnamed(err, package);
+    };
+    let name = name.as_str();
+    match bytes_of(alloc, files, name, MOST) {
+        Ok(text) => open_found(package, name, text, journals, files, err),
+        Err(FileFault::Memory) => fail(err, name, "Memory", Cut::Memory),
+        Err(FileFault::Absent) if !second => open_named(alloc, package, true, journals, files, err),
+        Err(FileFault::Absent) => match root_above(alloc, files) {
+            Ok(root) => fail_absent(err, name, package, root.as_deref()),
+            Err(_) => unnamed(err, package),
+        },
+        Err(_) if second => fail(err, name, "cannot open", Cut::Files),
+        Err(_) => {
+            report_named(err, name, "cannot open");
+            let Taken { file, cut: _ } = open_named(alloc, package, true, journals, files, err);
+            Taken {
+                file,
+                cut: Cut::Files,
+            }
+        }
+    }
+}
+
+/// Reads and opens standard input. Cuts: `Read` and `Memory`, which are reported.
+pub(crate) fn open_input<R: Source, E: Sink>(alloc: Global, input: &mut R, err: &mut E) -> Taken
+    ensures takes { Brings E.Sink (InputUntil result.cut (R.remaining input.old)) (taken_in result) err.old err.new }
     ensures works { R.sound input.old ≡ true → result.cut ≢ Cut.Read }
     ensures sound { R.sound input.new ≡ R.sound input.old }
     ensures cut { (files : ℕ) → AreCutBy result.cut (R.faults input.old) (R.faults input.new) files files }
     ensures read_faults { Counts (R.faults input.old) (R.faults input.new) }
 {
-    let Ok(place) = workspace.add(INPUT.as_bytes()) else {
-        return fail(err, STDIN, "Memory", Cut::Memory);
-    };
     match read_most(alloc, input, MOST) {
-        Ok(text) => workspace.open_text(place, INPUT, STDIN, text, err),
+        Ok(text) => open_text(INPUT, STDIN, text, err),
         Err(InputFault::Read) => fail(err, STDIN, "cannot open", Cut::Read),
         Err(InputFault::Memory) => fail(err, STDIN, "Memory", Cut::Memory),
     }
-}
-
-// Whether standard input is to be read: no journals are kept, the package means it, and was not used before.
-fn wants_input(journals: bool, workspace: &Workspace, package: &str) -> bool
-    ensures yes { result ≡ true → (journals ≡ false) × («package».now ≡ input_package) × (package_number input_package workspace.now ≡ None) }
-    ensures other { result ≡ false → journals ≡ false → «package».now ≡ input_package → package_number input_package workspace.now ≡ None → ⊥ }
-{
-    !journals && package == INPUT && workspace.place(INPUT.as_bytes()).is_none()
-}
-
-/// The open file of a package, which is read where it is used first, and its journal with it where journals are kept; standard
-/// input has none, and isn't read then. Where there is no file, that was reported at its first use.
-pub(crate) fn open_package<R: Source, F: Files, E: Sink>(
-    alloc: Global,
-    journals: bool,
-    workspace: &mut Workspace,
-    package: &str,
-    input: &mut R,
-    files: &mut F,
-    err: &mut E,
-) -> Opening
-    requires { length «package».now ≤ 65536 }
-    ensures uses { MayRun journals (F.honest files.old) («package».now ≡ input_package) → (known : Option (List ℕ))
-        → IsLeft known workspace.old (R.remaining input.old) → (lines : List (List ℕ))
-        × Uses result.cut journals (world_with F.Files files.old known) «package».now workspace.old result.place lines workspace.new
-        × IsLeft known workspace.new (R.remaining input.new) × ReportsLines E.Sink err.old err.new lines }
-    ensures some { journals ≡ true → F.honest files.old ≡ true → UsesSome (F.folder files.old) «package».now result.place workspace.old workspace.new }
-    ensures time { journals ≡ true → F.honest files.old ≡ true → KeepsFolder F.Files files.old files.new }
-    ensures there { IfSome result.place (λ at. IsSome (file_at at workspace.new)) }
-    ensures folder { MayRun journals (F.honest files.old) («package».now ≡ input_package) → F.folder files.new ≡ F.folder files.old }
-    ensures unread { journals ≡ true → ReadsNothing R.Source result.cut input.old input.new }
-    ensures works { R.sound input.old ≡ true → result.cut ≢ Cut.Read }
-    ensures sound { R.sound input.new ≡ R.sound input.old }
-    ensures cut { AreCutOver R.Source F.Files result.cut input.old input.new files.old files.new }
-    ensures read_faults { Counts (R.faults input.old) (R.faults input.new) }
-    ensures counts { Counts (F.faults files.old) (F.faults files.new) }
-    ensures honest { F.honest files.new ≡ F.honest files.old }
-{
-    if wants_input(journals, workspace, package) {
-        return open_input(alloc, workspace, input, err);
-    }
-    workspace.open(package, journals, files, err)
 }

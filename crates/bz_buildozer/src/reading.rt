@@ -1,8 +1,7 @@
-//! What opening a file takes: its name, its bytes and its session.
-ghost use Rattle.std.specs.Prelude.{◌≡◌, ◌≢◌, ◌⊎◌, ◌≤◌, ◌++◌, [], ◌∷◌, codes, eqb, flat_map, length, option_map, take, true, Some, None, IfOk, IfErr, IsErrOf, string_bytes};
+//! What opening a file takes: its name, its bytes, and the lines on why it isn't open.
+ghost use Rattle.std.specs.Prelude.{◌≡◌, ◌≢◌, ◌⊎◌, ◌≤◌, ◌++◌, [], ◌∷◌, codes, eqb, flat_map, option_map, take, true, Some, None, IfOk, IfErr, IsErrOf, string_bytes};
 ghost use Rattle.std.specs.List.{ends_with};
 ghost use Rattle.std.specs.FinMap.{get};
-ghost use Rattle.bz_grammar.specs.Legal.{Accepted};
 ghost use Rattle.bz_items.specs.Characters.{Bytes};
 ghost use Rattle.bz_streams.specs.Faults.{Rises, AppendsUnlessFailed};
 ghost use Rattle.bz_streams.specs.Outputs.{Reports};
@@ -11,34 +10,23 @@ ghost use Rattle.bz_streams.specs.Reported.{named_line};
 ghost use Rattle.bz_buildozer.specs.Found.{in_package};
 ghost use Rattle.bz_buildozer.specs.Journals.{fault_lines, of_package, of_resuming, shown_package};
 ghost use Rattle.bz_buildozer.specs.Keeps.{KeepsFolder};
-ghost use Rattle.bz_buildozer.specs.Opens.{IsRefusedFor, opened_fresh};
-ghost use Rattle.bz_buildozer.specs.private.ShownFiles.{opened_in};
 ghost use Rattle.bz_buildozer.specs.Reported.{absent_hint, package_hint};
 
+use crate::script::INPUT;
 use crate::used::Opened;
 use bz_files::{FileFault, FileKind, Files};
-use bz_items::{Memory, Text};
-use bz_journal::{Past, ResumeFault};
-use bz_lex::ReadFault;
-use bz_streams::{Cut, LinePiece, Sink, report_named, report_pieces};
+use bz_items::Memory;
+use bz_journal::ResumeFault;
+use bz_streams::{Cut, LinePiece, STDIN, Sink, report_named, report_pieces};
 use std::alloc::Global;
 
-/// What came of opening a package.
-#[derive(Clone, Copy)]
-pub(crate) struct Opening {
-    /// The number of the package, where its file is open.
-    pub(crate) place: Option<usize>,
+/// What came of reading the file of a package.
+#[derive(Drop)]
+pub(crate) struct Taken {
+    /// The file, where it is open.
+    pub(crate) file: Option<Opened>,
     /// The first failure, or that there was none.
     pub(crate) cut: Cut,
-}
-
-impl Opening {
-    /// What came of opening the package with this number, where its file is open.
-    pub(crate) fn new(place: Option<usize>, cut: Cut) -> Opening
-        ensures { result ≡ record { place = place; cut = cut } }
-    {
-        Opening { place, cut }
-    }
 }
 
 /// A file of a package, by its path below the current folder. The error: memory was refused.
@@ -77,35 +65,14 @@ pub(crate) fn bytes_of<F: Files>(
     Ok(text)
 }
 
-/// The open file of a text that was read. Errors, each with the text: those of reading the text; `Memory` where a growth was refused.
-pub(crate) fn opened(
-    alloc: Global,
-    package: &str,
-    name: &str,
-    text: Vec<u8>,
-) -> Result<Opened, (Vec<u8>, ReadFault)>
-    requires { length «package».now ≤ 65536 }
-    ensures ok { IfOk result (λ file. (opened_in file ≡ opened_fresh «package».now name.now text.items) × Accepted text.items) }
-    ensures err { IfErr result (λ refused. (refused.1 ≡ ReadFault.Memory) ⊎ IsRefusedFor text.items refused.1) }
-    ensures text { IfErr result (λ refused. refused.0.items ≡ text.items) }
-{
-    let Ok(name) = String::from_str(alloc, name) else {
-        return Err((text, ReadFault::Memory));
-    };
-    match Past::open(alloc, package, text.as_slice()) {
-        Ok(past) => Ok(Opened::new(name, Text::from_vec(text), past)),
-        Err(fault) => Err((text, fault)),
-    }
-}
-
 /// Reports a word on a file, and no file is open.
-pub(crate) fn fail<E: Sink>(err: &mut E, name: &str, word: &str, cut: Cut) -> Opening
-    ensures opening { result ≡ record { place = None; cut = cut } }
+pub(crate) fn fail<E: Sink>(err: &mut E, name: &str, word: &str, cut: Cut) -> Taken
+    ensures taken { result ≡ record { file = None; cut = cut } }
     ensures reported { AppendsUnlessFailed (E.faults err.old) (E.faults err.new) (E.contents err.old) (E.contents err.new)
         (named_line name.now word.now) }
 {
     report_named(err, name, word);
-    Opening::new(None, cut)
+    Taken { file: None, cut }
 }
 
 // What is before the path of the root of the workspace.
@@ -129,25 +96,24 @@ fn package_hint(package: &str) -> &'static str
     }
 }
 
-// Reports a word on a file, and below the line a hint, and the root of the workspace after its lead, or nothing.
+// Reports that a file can't be read, and below the line a hint, and the root of the workspace after its lead, or nothing.
 fn report_above<'a, E: Sink>(
     err: &mut E,
     name: &'a str,
-    word: &'a str,
     hint: &'a str,
     lead: &'a str,
     root: &'a str,
     end: &'a str,
 )
     ensures { AppendsUnlessFailed (E.faults err.old) (E.faults err.new) (E.contents err.old) (E.contents err.new)
-        (named_line name.entry.now word.entry.now ++ (hint.entry.now ++ (lead.entry.now ++ (root.entry.now ++ end.entry.now)))) }
+        (named_line name.entry.now (codes "cannot open") ++ (hint.entry.now ++ (lead.entry.now ++ (root.entry.now ++ end.entry.now)))) }
 {
     report_pieces(
         err,
         &[
             LinePiece::Outside(name),
             LinePiece::Own(": "),
-            LinePiece::Own(word),
+            LinePiece::Own("cannot open"),
             LinePiece::Own("\n"),
             LinePiece::Own(hint),
             LinePiece::Own(lead),
@@ -164,38 +130,36 @@ pub(crate) fn fail_absent<E: Sink>(
     name: &str,
     package: &str,
     root: Option<&str>,
-) -> Opening
-    ensures opening { result ≡ record { place = None; cut = Cut.Whole } }
+) -> Taken
+    ensures taken { result ≡ record { file = None; cut = Cut.Whole } }
     ensures reported { AppendsUnlessFailed (E.faults err.old) (E.faults err.new) (E.contents err.old) (E.contents err.new)
         (named_line name.now (codes "cannot open") ++ absent_hint «package».now (option_map (λ s. s.now) root.entry)) }
 {
     let hint = package_hint(package);
     match root {
-        Some(root) => report_above(err, name, "cannot open", hint, ROOT_LEAD, root, "\n"),
-        None => report_above(err, name, "cannot open", hint, "", "", ""),
+        Some(root) => report_above(err, name, hint, ROOT_LEAD, root, "\n"),
+        None => report_above(err, name, hint, "", "", ""),
     }
-    Opening::new(None, Cut::Whole)
+    Taken {
+        file: None,
+        cut: Cut::Whole,
+    }
 }
 
 // Reports a word on a journal, and by these pieces what may be done; no file is open.
-fn fail_with_hint<E: Sink>(
-    err: &mut E,
-    journal: &str,
-    word: &str,
-    hint: &[LinePiece<'_>],
-) -> Opening
-    ensures opening { result ≡ record { place = None; cut = Cut.Whole } }
+fn fail_with_hint<E: Sink>(err: &mut E, journal: &str, word: &str, hint: &[LinePiece<'_>]) -> Taken
+    ensures taken { result ≡ record { file = None; cut = Cut.Whole } }
     ensures reported { Reports (E.faults err.old) (E.faults err.new) (E.contents err.old) (E.contents err.new)
         (named_line journal.now word.now ∷ flat_map line_piece_text hint.now ∷ []) }
 {
-    let opening = fail(err, journal, word, Cut::Whole);
+    let taken = fail(err, journal, word, Cut::Whole);
     report_pieces(err, hint);
-    opening
+    taken
 }
 
 /// Reports why a journal is not resumed, and after that what may be done; no file is open.
-pub(crate) fn unresumed<E: Sink>(err: &mut E, journal: &str, fault: &ResumeFault) -> Opening
-    ensures place { result.place ≡ None }
+pub(crate) fn unresumed<E: Sink>(err: &mut E, journal: &str, fault: &ResumeFault) -> Taken
+    ensures file { result.file ≡ None }
     ensures whole { result.cut ≡ Cut.Whole → fault.now ≢ ResumeFault.Memory }
     ensures cut { (result.cut ≡ Cut.Whole) ⊎ (result.cut ≡ Cut.Memory) }
     ensures told { result.cut ≡ Cut.Memory → AppendsUnlessFailed (E.faults err.old) (E.faults err.new) (E.contents err.old) (E.contents err.new)
@@ -235,8 +199,8 @@ fn shown_package(path: &str) -> &str
 }
 
 /// Reports that a journal was written for this package, which is another one, and what may be done; no file is open.
-pub(crate) fn misplaced<'a, E: Sink>(err: &mut E, journal: &'a str, package: &'a str) -> Opening
-    ensures opening { result ≡ record { place = None; cut = Cut.Whole } }
+pub(crate) fn misplaced<'a, E: Sink>(err: &mut E, journal: &'a str, package: &'a str) -> Taken
+    ensures taken { result ≡ record { file = None; cut = Cut.Whole } }
     ensures reported { Reports (E.faults err.old) (E.faults err.new) (E.contents err.old) (E.contents err.new)
         (fault_lines journal.entry.now (of_package «package».entry.now)) }
 {
@@ -254,11 +218,14 @@ pub(crate) fn misplaced<'a, E: Sink>(err: &mut E, journal: &'a str, package: &'a
     )
 }
 
-/// Reports that memory was refused before a file of the package had its name, and no file is open.
-pub(crate) fn unnamed<E: Sink>(err: &mut E, package: &str) -> Opening
-    ensures opening { result ≡ record { place = None; cut = Cut.Memory } }
+/// Reports that memory was refused before a file of the package had its name. No file is open.
+pub(crate) fn unnamed<E: Sink>(err: &mut E, package: &str) -> Taken
+    ensures taken { result ≡ record { file = None; cut = Cut.Memory } }
     ensures told { (line : Bytes) × AppendsUnlessFailed (E.faults err.old) (E.faults err.new) (E.contents err.old) (E.contents err.new) line }
 {
+    if package == INPUT {
+        return fail(err, STDIN, "Memory", Cut::Memory);
+    }
     let slash = if package.is_empty() { "" } else { "/" };
     report_pieces(
         err,
@@ -268,5 +235,8 @@ pub(crate) fn unnamed<E: Sink>(err: &mut E, package: &str) -> Opening
             LinePiece::Own("BUILD: Memory\n"),
         ],
     );
-    Opening::new(None, Cut::Memory)
+    Taken {
+        file: None,
+        cut: Cut::Memory,
+    }
 }

@@ -12,8 +12,6 @@ pub(crate) struct Run {
     pub(crate) workspace: Workspace,
     pub(crate) printed: Vec<u8>,
     pub(crate) failed: bool,
-    /// Whether it has one step, so that no other one comes after it.
-    pub(crate) once: bool,
 }
 
 /// A run that begins, of one step or of any.
@@ -21,9 +19,8 @@ pub(crate) fn begun(alloc: Global, once: bool) -> Run
     ensures { progress_in result ≡ nothing_done }
 {
     Run {
-        workspace: Workspace::new(alloc),
+        workspace: Workspace::new(alloc, once),
         printed: Vec::new(alloc),
         failed: false,
-        once,
     }
 }

@@ -12,6 +12,13 @@ use bz_command_line::{Request, Requested, Verb};
 use bz_journal::Action;
 use bz_label::Target;
 
+/// A target, and a command on it.
+#[derive(Clone, Copy)]
+pub(crate) struct Step<'a> {
+    pub(crate) target: &'a Target,
+    pub(crate) request: &'a Request<'a>,
+}
+
 /// What the session of the target's file is to do; to list its texts is no action.
 pub(crate) fn action_of<'a>(verb: &'a Verb, target: &'a Target) -> Option<Action<'a>>
     ensures { option_map action_in result ≡ s.action_of target.entry.now verb.entry.now }

@@ -4,7 +4,7 @@ ghost use Rattle.std.specs.Option.{option_map};
 ghost use Rattle.bz_journal.specs.Forms.{past_history};
 ghost use Rattle.bz_files.specs.Faults.{Rises};
 ghost use Rattle.bz_journal.specs.Keeping.{IsRefused, IsWriteOrOpen};
-ghost use Rattle.bz_buildozer.specs.Keeps.{after_keeping, file_left};
+ghost use Rattle.bz_buildozer.specs.Keeps.{file_left};
 ghost use Rattle.bz_buildozer.specs.Sessions.{History, Keeps, KeepsFile, action_in};
 ghost use Rattle.bz_buildozer.specs.Found.{opened_with, with_opened};
 ghost use Rattle.bz_buildozer.specs.private.ShownFiles.{opened_in, used_in};
@@ -53,47 +53,6 @@ impl Opened {
         }
     }
 
-    /// Does an action with a note, and keeps the journal and the file where the text is another one then. What became of the two is not
-    /// marked yet.
-    fn keep_pair<F: Files>(
-        &mut self,
-        action: &Action<'_>,
-        note: &str,
-        files: &mut F,
-    ) -> Result<Reply, KeepFault>
-        ensures keeps { Keeps (action_in action.now) note.now (opened_in self.old).history result (opened_in self.new).history }
-        ensures same { opened_in self.new ≡ record (opened_in self.old) { history = (opened_in self.new).history } }
-        ensures pair { KeepsFile F.Files (opened_in self.old).name (opened_in self.old).history (opened_in self.new).history result files.old files.new }
-    {
-        self.past
-            .keep_noted(action, note, self.name.as_str(), files)
-    }
-
-    // The same, and what became of the two is marked.
-    fn keep<F: Files>(
-        &mut self,
-        action: &Action<'_>,
-        note: &str,
-        files: &mut F,
-    ) -> Result<Reply, KeepFault>
-        ensures { (history : History) × Keeps (action_in action.now) note.now (opened_in self.old).history result history
-            × (opened_in self.new ≡ after_keeping result history (opened_in self.old))
-            × KeepsFile F.Files (opened_in self.old).name (opened_in self.old).history history result files.old files.new }
-    {
-        let from = self.past.cursor();
-        match self.keep_pair(action, note, files) {
-            Ok(reply) => {
-                self.written |= self.past.cursor() != from;
-                Ok(reply)
-            }
-            Err(KeepFault::Refused(refusal)) => Err(KeepFault::Refused(refusal)),
-            Err(KeepFault::Pair(fault)) => {
-                self.left = true;
-                Err(KeepFault::Pair(fault))
-            }
-        }
-    }
-
     /// Does an action with a note, which is said to be the last one there or not: that changes what it takes, and not what it does. Where
     /// journals are kept, the journal and the file are, and what became of the two is marked.
     pub(crate) fn act<F: Files>(
@@ -113,12 +72,26 @@ impl Opened {
         ensures count { F.faults files.old ≤ F.faults files.new }
         ensures honest { F.honest files.new ≡ F.honest files.old }
     {
-        if journals {
-            return self.keep(action, note, files);
+        if !journals {
+            return match self.past.act_noted(action, note, is_last) {
+                Ok(reply) => Ok(reply),
+                Err(refusal) => Err(KeepFault::Refused(refusal)),
+            };
         }
-        match self.past.act_noted(action, note, is_last) {
-            Ok(reply) => Ok(reply),
-            Err(refusal) => Err(KeepFault::Refused(refusal)),
+        let from = self.past.cursor();
+        match self
+            .past
+            .keep_noted(action, note, self.name.as_str(), files)
+        {
+            Ok(reply) => {
+                self.written |= self.past.cursor() != from;
+                Ok(reply)
+            }
+            Err(KeepFault::Refused(refusal)) => Err(KeepFault::Refused(refusal)),
+            Err(KeepFault::Pair(fault)) => {
+                self.left = true;
+                Err(KeepFault::Pair(fault))
+            }
         }
     }
 }

@@ -5,11 +5,16 @@ use Rattle.bz_command_line.specs.Verbs.{prints}
 use Rattle.bz_command_line.specs.declared.requested.Requested.{Requested}
 use Rattle.bz_command_line.specs.declared.requested.Request.{Request}
 use Rattle.bz_buildozer.specs.Run as r
-use Rattle.bz_buildozer.specs.Steps.{is_of_input}
+use Rattle.bz_command_line.specs.Shown.{request_in}
+use Rattle.bz_buildozer.specs.Steps.{RunStep, is_of_input, step_of}
 use Rattle.bz_buildozer.specs.declared.run.Run.{Run}
+use Rattle.bz_buildozer.specs.declared.step.Step.{Step}
 
 abbrev pub progress_in : Run → r.Progress
 progress_in run = record { used = run.workspace; printed = run.printed.items; failed = run.failed }
+
+abbrev pub step_in : Step → RunStep
+step_in step = step_of step.target.now (request_in step.request.now)
 
 -- a command that doesn't print
 abbrev pub prints_nothing_in : Request → Bool

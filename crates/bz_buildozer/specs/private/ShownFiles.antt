@@ -1,10 +1,11 @@
 -- The files of a run as contracts see them, and what the code keeps to find a package: its path as a key, in order of first use.
-use Rattle.std.specs.Prelude.{ℕ, List, Vec, map, string_bytes}
+use Rattle.std.specs.Prelude.{ℕ, List, Option, Vec, map, string_bytes}
 use Rattle.std.specs.Option.{option_map}
 use Rattle.std.specs.declared.alloc.Global.{Global}
 use Rattle.bz_items.specs.Characters.{Bytes}
 use Rattle.bz_journal.specs.Forms.{past_history}
 use Rattle.bz_buildozer.specs.Found as p
+use Rattle.bz_buildozer.specs.declared.reading.Taken.{Taken}
 use Rattle.bz_buildozer.specs.declared.used.Opened.{Opened}
 use Rattle.bz_buildozer.specs.declared.used.Used.{Used}
 
@@ -13,6 +14,9 @@ opened_in file = record { name = string_bytes file.name; read = file.read; histo
 
 abbrev pub used_in : Used → p.Used
 used_in used = record { «package» = used.«package»; file = option_map opened_in used.file }
+
+abbrev pub taken_in : Taken → Option p.Opened
+taken_in taken = option_map opened_in taken.file
 
 abbrev pub texts_of_keys : List (Vec ℕ Global) → List Bytes
 texts_of_keys keys = map (λ (key : Vec ℕ Global). key.items) keys

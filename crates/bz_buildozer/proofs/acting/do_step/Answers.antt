@@ -1,11 +1,10 @@
 use Rattle.std.proofs.Common.{◌≡◌, ◌∙◌, ◌++◌, inl, true, sym, subst}
-use Rattle.bz_command_line.specs.Shown.{request_in}
 use Rattle.bz_streams.proofs.Outputs.{counts_more}
 use Rattle.bz_items.specs.Characters.{Bytes}
 use Rattle.bz_buildozer.specs.Calls.{UsesSome}
 use Rattle.bz_buildozer.specs.Run.{World}
-use Rattle.bz_buildozer.specs.private.Shown.{progress_in}
-use Rattle.bz_buildozer.specs.Steps.{input_package, step_of}
+use Rattle.bz_buildozer.specs.private.Shown.{progress_in, step_in}
+use Rattle.bz_buildozer.specs.Steps.{input_package}
 use Rattle.bz_buildozer.proofs.CutSteps.{by_name, cut_after, neither_read, works_unread}
 use Rattle.bz_buildozer.proofs.FailSteps.{does_so, left_after, more_lines}
 use Rattle.bz_buildozer.proofs.RunSteps.{honest_kept}
@@ -14,25 +13,25 @@ use Rattle.bz_buildozer.proofs.acting.do_step.Goals as goal
 
 pub returns : goal.returns
 returns g c =
-    let opening = c.open_package-opening in
+    let opening = c.open-opening in
     let name = c.package_of-package.result.now in
     let named = c.package_of-package.ensures in
     let folder = g.F.Files.folder in
     let is_honest = g.F.Files.honest c.args.files.now ≡ true in
-    let step = step_of c.args.target.now (request_in c.args.request.now) in
+    let step = step_in c.args.step in
     let before = progress_in c.args.run.now in
-    let acted = c.act_on-acted in
+    let acted = c.act-acted in
     let after = progress_in acted.new.run in
-    let used = opening.new.workspace in
+    let used = opening.new.self in
     let works = acted.ensures.works in
     let unread = works_unread acted.result (g.F.Files.faults opening.new.files) (g.F.Files.faults acted.new.files) works.cut in
     record {
       does = λ can safe known left.
           let world : World = record { folder = folder c.args.files.now; known = known } in
-          let here = by_name is_honest c.args.journals name c.args.target.now.«package» input_package named can in
+          let here = by_name is_honest c.args.journals name c.args.step.target.now.«package» input_package named can in
           let opened = opening.ensures.uses here known left in
           let same = opening.ensures.folder here in
-          let kept = λ (is : c.args.journals ≡ true). honest_kept c.args.journals (g.F.Files.honest c.args.files.now) (c.args.target.now.«package» ≡ input_package) can is in
+          let kept = λ (is : c.args.journals ≡ true). honest_kept c.args.journals (g.F.Files.honest c.args.files.now) (c.args.step.target.now.«package» ≡ input_package) can is in
           let done = acted.ensures.answers (λ is. opening.ensures.honest ∙ kept is) (λ is.
           opened_safely (folder c.args.files.now) (folder opening.new.files) name opening.result.place before.used used same (opening.ensures.some is (kept is)) (safe is)) in (
             opened.0 ++ done.0,

@@ -1,7 +1,9 @@
-use Rattle.std.proofs.Common.{◌≡◌, ◌∙◌, [], Err, Some, sym, ap, subst}
+use Rattle.std.proofs.Common.{◌≡◌, ◌∙◌, [], Err, Option, Some, sym, ap, subst}
+use Rattle.bz_command_line.specs.Shown.{request_in}
 use Rattle.bz_buildozer.specs.Found.{file_at}
-use Rattle.bz_buildozer.specs.Run.{AreHints, Progress, reported_of}
-use Rattle.bz_buildozer.specs.Sessions.{Action, Do, Leads, action_in}
+use Rattle.bz_buildozer.specs.Run.{AreHints, LeadsBy, Progress, reported_of}
+use Rattle.bz_buildozer.specs.Sessions.{Action, Do}
+use Rattle.bz_buildozer.specs.Steps.{action_of}
 use Rattle.bz_buildozer.proofs.ActSteps.{refused_tree}
 use Rattle.bz_buildozer.proofs.FailSteps.{more_lines}
 use Rattle.bz_buildozer.proofs.acting.refuse_action.Goals as goal
@@ -9,13 +11,15 @@ use Rattle.bz_buildozer.proofs.acting.refuse_action.Goals as goal
 pub returns-in-Do-clause-reported : goal.returns-in-Do-clause-reported
 returns-in-Do-clause-reported g c = λ file there leads.
     let refused = c.refuse-cut in
-    let is : action_in c.args.action.now ≡ Do c.in-Do.command.now c.in-Do.target.now = ap action_in c.in-Do.is in
+    let target = c.args.step.target.now in
+    let text = c.args.step.request.now.text.now in
+    let is : action_of target (request_in c.args.step.request.now).verb ≡ Some (Do c.in-Do.command target) = ap (action_of target) c.in-Do.is in
     let helped = c.help.ensures.hints file (ap (λ (state : Progress). file_at c.args.place state.used) refused.ensures.state ∙ there)
-    (λ other long. let led = leads other in refused_tree c.in-Do.command.now c.in-Do.target.now c.args.command.now led.0 file.history c.args.refusal long
-    (subst (λ (action : Action). Leads action c.args.command.now led.0 (Err c.args.refusal) file.history) is led.1)) in (
+    (λ other long. let led = leads other in refused_tree c.in-Do.command target text led.0 file.history c.args.refusal long
+    (subst (λ (found : Option Action). LeadsBy found text led.0 (Err c.args.refusal) file.history) is led.1)) in (
       helped.0,
-      more_lines g.E.Sink c.args.err.now refused.new.err c.help.new.err (reported_of c.args.journals file.name c.args.command.now (Err c.args.refusal) []) helped.0
+      more_lines g.E.Sink c.args.err.now refused.new.err c.help.new.err (reported_of c.args.journals file.name text (Err c.args.refusal) []) helped.0
           (refused.ensures.reported file there) helped.1,
       helped.2,
-      (λ whole. subst (λ (action : Action). AreHints (Err c.args.refusal) (Some action) file.name file.history helped.0) (sym is) (helped.3 whole)),
+      (λ whole. subst (λ (found : Option Action). AreHints (Err c.args.refusal) found file.name file.history helped.0) (sym is) (helped.3 whole)),
     )

@@ -21,7 +21,7 @@ returns-clause-whole g c whole =
 pub returns-in-Ok-clause-ends : goal.returns-in-Ok-clause-ends
 returns-in-Ok-clause-ends g c = λ premise.
     let same = c.used-packages.ensures in
-    let options = c.args.options in
+    let options = c.args.ending.options in
     let printed = c.args.run.printed.items in
     let done = c.in-Ok.ensures.ok in
     let tried = c.write_files-written.ensures.tries
@@ -32,7 +32,7 @@ returns-in-Ok-clause-ends g c = λ premise.
       subst (λ (used : List Used). TriesFiles c.write_files-written.result options used (g.F.Files.folder c.args.files.now) tried.0
           (g.F.Files.folder c.write_files-written.new.files)) same tried.1,
       subst (λ (used : List Used). PrintsUntil g.W.Sink cut.Whole c.args.out.now c.print_all-output.new.out
-          (printed ++ texts_out c.args.shown options.to_stdout used)) same done.1,
+          (printed ++ texts_out c.args.ending.shown options.to_stdout used)) same done.1,
       more_lines g.E.Sink c.args.err.now c.print_all-output.new.err c.write_files-written.new.err [] tried.0 (ap g.E.Sink.faults done.3, ap g.E.Sink.contents done.3) tried.2,
       c.ended.ensures.cut ∙ c.first_cut.ensures ∙ ap (first_cut c.args.cut) (sym (cut_alone c.write_files-written.result)),
     )
@@ -40,7 +40,7 @@ returns-in-Ok-clause-ends g c = λ premise.
 pub returns-clause-ends : goal.returns-clause-ends
 returns-clause-ends g c = λ premise.
     let same = c.used-packages.ensures in
-    let options = c.args.options in
+    let options = c.args.ending.options in
     let printed = c.args.run.printed.items in
     let tried = c.write_files-written.ensures.tries
     (subst (λ (used : List Used). (g.F.Files.honest c.args.files.now ≡ true) ⊎ All (λ (one : Used). one.«package» ≡ input_package) used) (sym same) premise) in (
@@ -50,7 +50,7 @@ returns-clause-ends g c = λ premise.
       subst (λ (used : List Used). TriesFiles c.write_files-written.result options used (g.F.Files.folder c.args.files.now) tried.0
           (g.F.Files.folder c.write_files-written.new.files)) same tried.1,
       subst (λ (used : List Used). PrintsUntil g.W.Sink c.in-Err.later c.args.out.now c.print_all-output.new.out
-          (printed ++ texts_out c.args.shown options.to_stdout used)) same
+          (printed ++ texts_out c.args.ending.shown options.to_stdout used)) same
           (prints_err g.W.Sink c.in-Err.later c.args.out.now c.print_all-output.new.out _ c.in-Err.ensures.err),
       more_lines g.E.Sink c.args.err.now c.print_all-output.new.err c.write_files-written.new.err (output_lines c.in-Err.later) tried.0 c.in-Err.ensures.told tried.2,
       c.ended-in-Err.ensures.cut ∙ c.first_cut-in-Err-2.ensures ∙ ap (first_cut c.args.cut) c.first_cut-in-Err.ensures,

@@ -1,14 +1,22 @@
-use Rattle.std.proofs.Common.{◌≡◌, ◌≢◌, List, ℕ, map, refl, ap, sym, subst, ◌∙◌, Bor, Ok, inr}
+use Rattle.std.proofs.Common.{◌≡◌, ◌≢◌, ◌∷◌, [], List, ℕ, map, refl, ap, sym, subst, ◌∙◌, arith, true≢false, Bor, Ok, inl, inr}
+use Rattle.std.specs.Prelude.{IsErr}
+use Rattle.std.specs.List.{All}
+use Rattle.std.proofs.lemmas.List.Elements.{All-push}
 use Rattle.bz_files.specs.Folder.{Folder}
 use Rattle.bz_command_line.specs.Line.{LineUsage, operands, script, command_line_of}
-use Rattle.bz_command_line.specs.Shown.{given_in, line_in, line_usage_in}
+use Rattle.bz_command_line.specs.Paths.{HasPath}
+use Rattle.bz_command_line.specs.Refused.{IsGroupFault}
+use Rattle.bz_command_line.specs.Requested.{Usage}
+use Rattle.bz_command_line.specs.Shown.{given_in, line_in, line_usage_in, requested_in, usage_in}
+use Rattle.bz_command_line.specs.declared.requested.Requested.{Requested}
 use Rattle.bz_buildozer.specs.Calls.{ReportsLine}
 use Rattle.bz_buildozer.specs.Outcome.{unused, GivesNothing, LineGivesNothing, LineOutcome}
-use Rattle.bz_buildozer.specs.Reported.{IsLineUsageLine}
+use Rattle.bz_buildozer.specs.Moments.{IsMomentOfRun}
+use Rattle.bz_buildozer.specs.Reported.{IsLineUsageLine, no_journal_line, usage_line}
 use Rattle.bz_buildozer.specs.Run.{World}
-use Rattle.bz_buildozer.specs.Steps.{input_package}
+use Rattle.bz_buildozer.specs.Steps.{input_package, names_input}
 use Rattle.bz_buildozer.proofs.FailSteps.{one_line}
-use Rattle.bz_buildozer.proofs.Outcomes.{by_words, each_of, no_words, ends_more, ends_told, read_nothing, told_found, words_done, words_given, words_kept, words_premise, words_unused, script_premise, no_time, of_script}
+use Rattle.bz_buildozer.proofs.Outcomes.{at_some, by_operands, by_words, each_of, names_given, no_journal, operands_done, operands_premise, no_words, ends_more, ends_told, read_nothing, told_found, words_done, words_given, words_kept, words_premise, words_unused, script_premise, no_time, of_script}
 use Rattle.bz_buildozer.proofs.engine.buildozer.Goals as goal
 
 pub returns-in-Err-clause-ends : goal.returns-in-Err-clause-ends
@@ -28,6 +36,43 @@ returns-in-Err-clause-ends g c premise =
       one_line g.E.Sink c.args.err.now end.new.err it.2.0 it.2.2,
     )) e.ensures.refused end.ensures.ok end.ensures.err
 
+pub returns-in-Operands-clause-usage : goal.returns-in-Operands-clause-usage
+returns-in-Operands-clause-usage g c is is_whole =
+    let words = map g.S.AsStr.text c.args.words.now in
+    let line = line_in c.in-Ok.line in
+    let texts = map (λ (s : Bor (List ℕ)). s.now) c.deref.result.now in
+    let same : line.given ≡ operands texts = ap given_in c.in-Operands.is ∙ ap (λ (these : List (Bor (List ℕ))). operands (map (λ (s : Bor (List ℕ)). s.now) these)) (sym c.deref.ensures.value) in
+    let world : World = record { folder = g.F.Files.folder c.args.files.now; known = g.R.Source.remaining c.args.input.now } in
+    let e = c.report_usage in
+    let end = c.unused-in-Err-read_group in
+    let it = told_found e.result end.result (usage_in c.in-Err-read_group.fault) e.new.err end.new.err
+    (λ (usage : Usage). λ now. ReportsLine g.E.Sink c.args.err.now now (usage_line [] usage)) _ is e.ensures.some e.ensures.reported end.ensures.ok end.ensures.err in (
+      usage_line [] it.0,
+      (
+        world,
+        (λ _. refl),
+        words_given words line (operands texts) world (unused world.folder (usage_line [] it.0)) c.in-Ok.ensures.ok same
+            (inl (it.0, at_some (IsGroupFault texts) (usage_in c.in-Err-read_group.fault) it.0 it.1 c.in-Err-read_group.ensures.err, refl)),
+      ),
+      one_line g.E.Sink c.args.err.now end.new.err (usage_line [] it.0) it.2,
+    )
+
+pub returns-in-Ok-read_group-clause-ends : goal.returns-in-Ok-read_group-clause-ends
+returns-in-Ok-read_group-clause-ends g c premise =
+    let words = map g.S.AsStr.text c.args.words.now in
+    let line = line_in c.in-Ok.line in
+    let texts = map (λ (s : Bor (List ℕ)). s.now) c.deref.result.now in
+    let same : line.given ≡ operands texts = ap given_in c.in-Operands.is ∙ ap (λ (these : List (Bor (List ℕ))). operands (map (λ (s : Bor (List ℕ)). s.now) these)) (sym c.deref.ensures.value) in
+    let requested = requested_in c.in-Ok-read_group.requested in
+    let lines = map requested_in c.from_ref.result.now in
+    let one : lines ≡ requested ∷ [] = ap (map requested_in) c.from_ref.ensures.value in
+    let world : World = record { folder = g.F.Files.folder c.args.files.now; known = g.R.Source.remaining c.args.input.now } in
+    ends_more g.W.Sink g.E.Sink g.F.Files c.perform.result _ _ c.args.out.now c.perform.new.out c.args.err.now c.perform.new.err c.perform.new.files
+    (λ ended is. words_done words line (operands texts) world ended c.in-Ok.ensures.ok same
+    (operands_done line.options texts world requested lines ended c.in-Ok-read_group.ensures.ok one is))
+    (c.perform.ensures.ends (operands_premise (g.F.Files.honest c.args.files.now) texts requested lines c.in-Ok-read_group.ensures.ok one
+    (words_premise (g.F.Files.honest c.args.files.now) words line (operands texts) c.in-Ok.ensures.ok same premise)))
+
 pub returns-in-Operands-clause-ends : goal.returns-in-Operands-clause-ends
 returns-in-Operands-clause-ends g c premise =
     let words = map g.S.AsStr.text c.args.words.now in
@@ -35,9 +80,17 @@ returns-in-Operands-clause-ends g c premise =
     let texts = map (λ (s : Bor (List ℕ)). s.now) c.deref.result.now in
     let same : line.given ≡ operands texts = ap given_in c.in-Operands.is ∙ ap (λ (these : List (Bor (List ℕ))). operands (map (λ (s : Bor (List ℕ)). s.now) these)) (sym c.deref.ensures.value) in
     let world : World = record { folder = g.F.Files.folder c.args.files.now; known = g.R.Source.remaining c.args.input.now } in
-    ends_more g.W.Sink g.E.Sink g.F.Files c.run_operands.result _ _ c.args.out.now c.run_operands.new.out c.args.err.now c.run_operands.new.err c.run_operands.new.files
-    (λ ended. words_done words line (operands texts) world ended c.in-Ok.ensures.ok same)
-    (c.run_operands.ensures.ends (words_premise (g.F.Files.honest c.args.files.now) words line (operands texts) c.in-Ok.ensures.ok same premise))
+    let e = c.report_usage in
+    let end = c.unused-in-Err-read_group in
+    ends_told g.W.Sink g.E.Sink g.F.Files end.result world c.args.out.now c.args.err.now end.new.err c.args.files.now refl (LineOutcome words (command_line_of words) world) e.result
+    e.new.err (λ is.
+    let it = told_found e.result end.result (usage_in c.in-Err-read_group.fault) e.new.err end.new.err
+    (λ (usage : Usage). λ now. ReportsLine g.E.Sink c.args.err.now now (usage_line [] usage)) _ is e.ensures.some e.ensures.reported end.ensures.ok end.ensures.err in (
+      usage_line [] it.0,
+      words_given words line (operands texts) world (unused world.folder (usage_line [] it.0)) c.in-Ok.ensures.ok same
+          (inl (it.0, at_some (IsGroupFault texts) (usage_in c.in-Err-read_group.fault) it.0 it.1 c.in-Err-read_group.ensures.err, refl)),
+      one_line g.E.Sink c.args.err.now end.new.err (usage_line [] it.0) it.2,
+    )) e.ensures.refused end.ensures.ok end.ensures.err
 
 pub returns-clause-ends : goal.returns-clause-ends
 returns-clause-ends g c premise =
@@ -57,11 +110,17 @@ returns-in-Err-clause-read g c none read =
     (record { folder = g.F.Files.folder c.args.files.now; known = g.R.Source.remaining c.args.input.now }) c.unused.result c.args.out.now c.args.out.now c.args.err.now
     c.unused.new.err c.args.files.now none read (returns-in-Err-clause-ends g c (inr none))
 
+pub returns-in-Ok-read_group-clause-read : goal.returns-in-Ok-read_group-clause-read
+returns-in-Ok-read_group-clause-read g c none read =
+    read_nothing g.W.Sink g.E.Sink g.F.Files (map g.S.AsStr.text c.args.words.now)
+    (record { folder = g.F.Files.folder c.args.files.now; known = g.R.Source.remaining c.args.input.now }) c.perform.result c.args.out.now c.perform.new.out
+    c.args.err.now c.perform.new.err c.perform.new.files none read (returns-in-Ok-read_group-clause-ends g c (inr none))
+
 pub returns-in-Operands-clause-read : goal.returns-in-Operands-clause-read
 returns-in-Operands-clause-read g c none read =
     read_nothing g.W.Sink g.E.Sink g.F.Files (map g.S.AsStr.text c.args.words.now)
-    (record { folder = g.F.Files.folder c.args.files.now; known = g.R.Source.remaining c.args.input.now }) c.run_operands.result c.args.out.now c.run_operands.new.out
-    c.args.err.now c.run_operands.new.err c.run_operands.new.files none read (returns-in-Operands-clause-ends g c (inr none))
+    (record { folder = g.F.Files.folder c.args.files.now; known = g.R.Source.remaining c.args.input.now }) c.unused-in-Err-read_group.result c.args.out.now c.args.out.now
+    c.args.err.now c.unused-in-Err-read_group.new.err c.args.files.now none read (returns-in-Operands-clause-ends g c (inr none))
 
 pub returns-clause-read : goal.returns-clause-read
 returns-clause-read g c none read =
@@ -69,13 +128,18 @@ returns-clause-read g c none read =
     (record { folder = g.F.Files.folder c.args.files.now; known = g.R.Source.remaining c.args.input.now }) c.run_script.result c.args.out.now c.run_script.new.out
     c.args.err.now c.run_script.new.err c.run_script.new.files none read (returns-clause-ends g c (inr none))
 
-pub returns-in-Operands-clause-unread : goal.returns-in-Operands-clause-unread
-returns-in-Operands-clause-unread g c nothing =
+pub returns-in-Ok-read_group-clause-unread : goal.returns-in-Ok-read_group-clause-unread
+returns-in-Ok-read_group-clause-unread g c nothing =
     let line = line_in c.in-Ok.line in
-    let same : line.given ≡ operands (map (λ (s : Bor (List ℕ)). s.now) c.deref.result.now) =
-    ap given_in c.in-Operands.is ∙ ap (λ (these : List (Bor (List ℕ))). operands (map (λ (s : Bor (List ℕ)). s.now) these)) (sym c.deref.ensures.value) in
+    let texts = map (λ (s : Bor (List ℕ)). s.now) c.deref.result.now in
+    let same : line.given ≡ operands texts = ap given_in c.in-Operands.is ∙ ap (λ (these : List (Bor (List ℕ))). operands (map (λ (s : Bor (List ℕ)). s.now) these)) (sym c.deref.ensures.value) in
     let found : LineGivesNothing (Ok line) = subst LineGivesNothing c.in-Ok.ensures.ok nothing in
-    c.run_operands.ensures.unread (subst (GivesNothing line.options) same found)
+    let given : GivesNothing line.options (operands texts) = subst (GivesNothing line.options) same found in
+    elim given [
+      | inl refused ↦ absurd (true≢false (sym (subst IsErr c.in-Ok-read_group.ensures.ok refused)))
+      | inr named ↦ c.perform.ensures.unread named.0 (names_given texts (requested_in c.in-Ok-read_group.requested) (map requested_in c.from_ref.result.now)
+          c.in-Ok-read_group.ensures.ok (ap (map requested_in) c.from_ref.ensures.value) named.1)
+    ]
 
 pub returns-clause-unread : goal.returns-clause-unread
 returns-clause-unread g c nothing =
@@ -99,15 +163,22 @@ returns-in-Err-clause-usage g c is is_whole =
       one_line g.E.Sink c.args.err.now end.new.err it.2.0 it.2.2,
     )
 
-pub returns-in-Operands-clause-usage : goal.returns-in-Operands-clause-usage
-returns-in-Operands-clause-usage g c is is_whole =
+pub returns-in-Ok-read_group-clause-usage : goal.returns-in-Ok-read_group-clause-usage
+returns-in-Ok-read_group-clause-usage g c is is_whole =
     let line = line_in c.in-Ok.line in
     let texts = map (λ (s : Bor (List ℕ)). s.now) c.deref.result.now in
     let same : line.given ≡ operands texts = ap given_in c.in-Operands.is ∙ ap (λ (these : List (Bor (List ℕ))). operands (map (λ (s : Bor (List ℕ)). s.now) these)) (sym c.deref.ensures.value) in
     let world : World = record { folder = g.F.Files.folder c.args.files.now; known = g.R.Source.remaining c.args.input.now } in
-    let told = c.run_operands.ensures.usage is in (
-      told.0,
-      (world, (λ _. refl), words_given (map g.S.AsStr.text c.args.words.now) line (operands texts) world (unused world.folder told.0) c.in-Ok.ensures.ok same (told.1 world)),
+    let told = c.perform.ensures.usage is in
+    let requested = requested_in c.in-Ok-read_group.requested in
+    let named = ap names_input (sym (ap (map requested_in) c.from_ref.ensures.value)) ∙ told.1 in (
+      no_journal_line,
+      (
+        world,
+        (λ _. refl),
+        words_given (map g.S.AsStr.text c.args.words.now) line (operands texts) world (unused world.folder no_journal_line) c.in-Ok.ensures.ok same
+            (inr (requested, c.in-Ok-read_group.ensures.ok, no_journal line.options (requested ∷ []) world told.0 named)),
+      ),
       told.2,
     )
 
@@ -126,10 +197,14 @@ pub returns-in-Err-clause-unused_time : goal.returns-in-Err-clause-unused_time
 returns-in-Err-clause-unused_time g c is honest =
     no_time g.F.Files.moment g.F.Files.since c.args.files.now c.args.files.now (λ (now : Folder). now ≡ g.F.Files.folder c.args.files.now) refl
 
+pub returns-in-Ok-read_group-clause-unused_time : goal.returns-in-Ok-read_group-clause-unused_time
+returns-in-Ok-read_group-clause-unused_time g c is honest =
+    no_time g.F.Files.moment g.F.Files.since c.args.files.now c.perform.new.files (λ (now : Folder). now ≡ g.F.Files.folder c.args.files.now)
+    (c.perform.ensures.unused is).2
+
 pub returns-in-Operands-clause-unused_time : goal.returns-in-Operands-clause-unused_time
 returns-in-Operands-clause-unused_time g c is honest =
-    no_time g.F.Files.moment g.F.Files.since c.args.files.now c.run_operands.new.files (λ (now : Folder). now ≡ g.F.Files.folder c.args.files.now)
-    (c.run_operands.ensures.unused is).2
+    no_time g.F.Files.moment g.F.Files.since c.args.files.now c.args.files.now (λ (now : Folder). now ≡ g.F.Files.folder c.args.files.now) refl
 
 pub returns-clause-unused_input : goal.returns-clause-unused_input
 returns-clause-unused_input g c is takes =
@@ -143,9 +218,9 @@ returns-clause-unused_files g c is takes =
     c.run_script.ensures.unused_files is
     (of_script (λ (name : List ℕ). name ≡ input_package) (map g.S.AsStr.text c.args.words.now) line c.in-Script.name.now c.in-Ok.ensures.ok (ap given_in c.in-Script.is) takes)
 
-pub returns-in-Operands-clause-unread_kept : goal.returns-in-Operands-clause-unread_kept
-returns-in-Operands-clause-unread_kept g c kept takes =
-    c.run_operands.ensures.unread_kept (words_kept (map g.S.AsStr.text c.args.words.now) (line_in c.in-Ok.line) c.in-Ok.ensures.ok kept)
+pub returns-in-Ok-read_group-clause-unread_kept : goal.returns-in-Ok-read_group-clause-unread_kept
+returns-in-Ok-read_group-clause-unread_kept g c kept takes =
+    let still = c.perform.ensures.reads_nothing (words_kept (map g.S.AsStr.text c.args.words.now) (line_in c.in-Ok.line) c.in-Ok.ensures.ok kept) in (still.0, still.1)
 
 pub returns-clause-unread_kept : goal.returns-clause-unread_kept
 returns-clause-unread_kept g c kept takes =
@@ -157,16 +232,28 @@ pub returns-in-Err-clause-moments : goal.returns-in-Err-clause-moments
 returns-in-Err-clause-moments g c honest = no_words g.F.Files c.args.files.now c.args.files.now (command_line_of (map g.S.AsStr.text c.args.words.now))
     (g.R.Source.remaining c.args.input.now) refl (g.met.F.Files.only_now c.args.files.now)
 
-pub returns-in-Operands-clause-moments : goal.returns-in-Operands-clause-moments
-returns-in-Operands-clause-moments g c honest =
+pub returns-in-Ok-read_group-clause-moments : goal.returns-in-Ok-read_group-clause-moments
+returns-in-Ok-read_group-clause-moments g c honest =
+    let line = line_in c.in-Ok.line in
     let texts = map (λ (s : Bor (List ℕ)). s.now) c.deref.result.now in
-    let same : (line_in c.in-Ok.line).given ≡ operands texts =
-    ap given_in c.in-Operands.is ∙ ap (λ (these : List (Bor (List ℕ))). operands (map (λ (s : Bor (List ℕ)). s.now) these)) (sym c.deref.ensures.value) in
+    let same : line.given ≡ operands texts = ap given_in c.in-Operands.is ∙ ap (λ (these : List (Bor (List ℕ))). operands (map (λ (s : Bor (List ℕ)). s.now) these)) (sym c.deref.ensures.value) in
     let known = g.R.Source.remaining c.args.input.now in
     let world : World = record { folder = g.F.Files.folder c.args.files.now; known = known } in
-    by_words g.F.Files c.args.files.now c.run_operands.new.files (map g.S.AsStr.text c.args.words.now) (line_in c.in-Ok.line) (operands texts) world
-    c.in-Ok.ensures.ok same (λ kept. each_of g.F.Files c.args.files.now c.run_operands.new.files known (operands texts)
-    (g.met.F.Files.only_now c.args.files.now) (c.run_operands.ensures.moments kept honest))
+    by_words g.F.Files c.args.files.now c.perform.new.files (map g.S.AsStr.text c.args.words.now) line (operands texts) world
+    c.in-Ok.ensures.ok same (λ kept. each_of g.F.Files c.args.files.now c.perform.new.files known (operands texts) (g.met.F.Files.only_now c.args.files.now)
+    (by_operands g.F.Files c.args.files.now c.perform.new.files known texts (requested_in c.in-Ok-read_group.requested) (map requested_in c.from_ref.result.now)
+    c.in-Ok-read_group.ensures.ok (ap (map requested_in) c.from_ref.ensures.value) (c.perform.ensures.moments kept honest)))
+
+pub returns-in-Operands-clause-moments : goal.returns-in-Operands-clause-moments
+returns-in-Operands-clause-moments g c honest =
+    let line = line_in c.in-Ok.line in
+    let texts = map (λ (s : Bor (List ℕ)). s.now) c.deref.result.now in
+    let same : line.given ≡ operands texts = ap given_in c.in-Operands.is ∙ ap (λ (these : List (Bor (List ℕ))). operands (map (λ (s : Bor (List ℕ)). s.now) these)) (sym c.deref.ensures.value) in
+    let known = g.R.Source.remaining c.args.input.now in
+    let world : World = record { folder = g.F.Files.folder c.args.files.now; known = known } in
+    by_words g.F.Files c.args.files.now c.args.files.now (map g.S.AsStr.text c.args.words.now) line (operands texts) world
+    c.in-Ok.ensures.ok same (λ kept. each_of g.F.Files c.args.files.now c.args.files.now known (operands texts) (g.met.F.Files.only_now c.args.files.now)
+    (no_time g.F.Files.moment g.F.Files.since c.args.files.now c.args.files.now (IsMomentOfRun world (operands texts)) refl))
 
 pub returns-clause-moments : goal.returns-clause-moments
 returns-clause-moments g c honest =
@@ -176,3 +263,9 @@ returns-clause-moments g c honest =
     by_words g.F.Files c.args.files.now c.run_script.new.files (map g.S.AsStr.text c.args.words.now) (line_in c.in-Ok.line) (script name) world
     c.in-Ok.ensures.ok (ap given_in c.in-Script.is) (λ kept. each_of g.F.Files c.args.files.now c.run_script.new.files known (script name)
     (g.met.F.Files.only_now c.args.files.now) (c.run_script.ensures.moments kept honest))
+
+pub perform-requires : goal.perform-requires
+perform-requires g c =
+    let paths : All (λ (requested : Requested). All HasPath requested.targets.items) (c.in-Ok-read_group.requested ∷ []) =
+    All-push (λ (requested : Requested). All HasPath requested.targets.items) [] c.in-Ok-read_group.requested (λ k d less. absurd (omega arith)) c.in-Ok-read_group.ensures.paths in
+    subst (λ (lines : List Requested). All (λ (requested : Requested). All HasPath requested.targets.items) lines) (sym c.from_ref.ensures.value) paths

@@ -19,12 +19,12 @@ pub returns-then-lacks_journal-clause-ends : goal.returns-then-lacks_journal-cla
 returns-then-lacks_journal-clause-ends g c premise =
     let world : World = record { folder = g.F.Files.folder c.args.files.now; known = g.R.Source.remaining c.args.input.now } in
     ends_unused g.W.Sink g.E.Sink g.F.Files (record { status = 1; cut = cut.Whole }) world c.args.out.now c.args.err.now c.report_pieces.new.err c.args.files.now refl
-    (LinesEnd c.args.options (map requested_in c.args.lines.now) world) no_journal_line (inl (sym c.lacks_journal.ensures ∙ c.if-lacks_journal.true, refl)) refl
+    (LinesEnd c.args.job.options (map requested_in c.args.lines.now) world) no_journal_line (inl (sym c.lacks_journal.ensures ∙ c.if-lacks_journal.true, refl)) refl
     (one_line g.E.Sink c.args.err.now c.report_pieces.new.err no_journal_line c.report_pieces.ensures)
 
 pub returns-then-lacks_journal-clause-usage : goal.returns-then-lacks_journal-clause-usage
 returns-then-lacks_journal-clause-usage g c is =
-    let both = and_parts c.args.options.journal (names_input (map requested_in c.args.lines.now)) (sym c.lacks_journal.ensures ∙ c.if-lacks_journal.true) in (
+    let both = and_parts c.args.job.options.journal (names_input (map requested_in c.args.lines.now)) (sym c.lacks_journal.ensures ∙ c.if-lacks_journal.true) in (
       both.0,
       both.1,
       one_line g.E.Sink c.args.err.now c.report_pieces.new.err no_journal_line c.report_pieces.ensures,
@@ -42,7 +42,7 @@ returns-clause-unread g c kept named =
 pub returns-clause-ends : goal.returns-clause-ends
 returns-clause-ends g c given =
     let ran = c.run_lines-cut in
-    let options = c.args.options in
+    let options = c.args.job.options in
     let lines = map requested_in c.args.lines.now in
     let folder = g.F.Files.folder in
     let is_honest = g.F.Files.honest c.args.files.now in

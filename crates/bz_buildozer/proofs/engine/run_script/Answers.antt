@@ -32,7 +32,7 @@ returns-in-Ok-clause-ends g c honest =
     let world : World = record { folder = g.F.Files.folder c.args.files.now; known = known } in
     let read = script_read world c.args.name.now c.in-Ok.bytes.items (c.in-Ok.ensures.ok.0 honest) in
     ends_more g.W.Sink g.E.Sink g.F.Files c.run_text.result _ _ c.args.out.now c.run_text.new.out c.args.err.now c.run_text.new.err c.run_text.new.files
-    (λ ended. script_done c.args.options c.args.name.now read.0 c.in-Ok.bytes.items c.deref.result.now (g.F.Files.folder c.args.files.now)
+    (λ ended. script_done c.args.job.options c.args.name.now read.0 c.in-Ok.bytes.items c.deref.result.now (g.F.Files.folder c.args.files.now)
     (g.F.Files.folder c.read_bytes.new.files) known ended c.deref.ensures.value (c.read_bytes.ensures.folder honest) read.1 read.2)
     (c.run_text.ensures.ends (c.read_bytes.ensures.honest ∙ honest) known (λ other. ap g.R.Source.remaining (sym (c.read_bytes.ensures.input other))))
 
@@ -41,7 +41,7 @@ returns-in-Err-clause-usage g c is is_whole =
     let whole = sym c.report_unread.ensures.cut ∙ is_whole in
     let name = c.args.name.now in (
       unread_line (reported_name name) cut.Whole,
-      script_missing (g.F.Files.honest c.args.files.now) (record { folder = g.F.Files.folder c.args.files.now; known = g.R.Source.remaining c.args.input.now }) c.args.options name
+      script_missing (g.F.Files.honest c.args.files.now) (record { folder = g.F.Files.folder c.args.files.now; known = g.R.Source.remaining c.args.input.now }) c.args.job.options name
           (c.in-Err.ensures.err.0 whole) (c.in-Err.ensures.absent whole),
       one_line g.E.Sink c.args.err.now c.report_unread.new.err _
           (subst (λ (called : List ℕ). ReportsLine g.E.Sink c.args.err.now c.report_unread.new.err (unread_line called cut.Whole)) c.reported_name.ensures
@@ -55,7 +55,7 @@ pub returns-in-Ok-clause-usage : goal.returns-in-Ok-clause-usage
 returns-in-Ok-clause-usage g c is is_whole =
     let told = c.run_text.ensures.usage is in (
       told.0,
-      script_unused (g.F.Files.honest c.args.files.now) (record { folder = g.F.Files.folder c.args.files.now; known = g.R.Source.remaining c.args.input.now }) c.args.options
+      script_unused (g.F.Files.honest c.args.files.now) (record { folder = g.F.Files.folder c.args.files.now; known = g.R.Source.remaining c.args.input.now }) c.args.job.options
           c.args.name.now c.in-Ok.bytes.items c.deref.result.now told.0 c.deref.ensures.value c.in-Ok.ensures.ok.0 told.1,
       told.2,
     )

@@ -25,7 +25,7 @@ returns-in-Err-clause-usage g c is = (
 pub returns-then-edits_input-clause-usage : goal.returns-then-edits_input-clause-usage
 returns-then-edits_input-clause-usage g c is = (
   input_line,
-  (λ world. text_lines c.args.options c.args.name.now c.args.bytes.now c.in-Ok.text.now world (map requested_in c.in-Ok-read_script.lines.items)
+  (λ world. text_lines c.args.job.options c.args.read.name.now c.args.read.bytes.now c.in-Ok.text.now world (map requested_in c.in-Ok-read_script.lines.items)
       (map requested_in c.as_slice-lines.result.now) (unused world.folder input_line) c.in-Ok.ensures.ok.0 c.in-Ok.ensures.ok.1 c.in-Ok-read_script.ensures.ok
       (ap (map requested_in) c.as_slice-lines.ensures.value) (inl (sym c.edits_input.ensures ∙ c.if-edits_input.true, refl))),
   one_line g.E.Sink c.args.err.now c.report_pieces.new.err input_line
@@ -41,7 +41,7 @@ returns-in-Err-read_script-clause-usage g c is =
     let it = told_found e.result end.result found e.new.err end.new.err (λ (usage : Usage). λ now. ReportsLine g.E.Sink c.args.err.now now (usage_line file usage)) _ is
     e.ensures.some e.ensures.reported end.ensures.ok end.ensures.err in (
       usage_line file it.0,
-      (λ world. text_unused c.args.options c.args.name.now c.args.bytes.now c.in-Ok.text.now file (usage_line file it.0) world found it.0 c.in-Ok.ensures.ok.0 c.in-Ok.ensures.ok.1
+      (λ world. text_unused c.args.job.options c.args.read.name.now c.args.read.bytes.now c.in-Ok.text.now file (usage_line file it.0) world found it.0 c.in-Ok.ensures.ok.0 c.in-Ok.ensures.ok.1
           c.in-Err-read_script.ensures.err it.1 c.reported_name-in-Err-read_script.ensures refl),
       one_line g.E.Sink c.args.err.now end.new.err (usage_line file it.0) it.2,
     )
@@ -51,7 +51,7 @@ returns-in-Err-clause-ends g c honest known before =
     let world : World = record { folder = g.F.Files.folder c.args.files.now; known = known } in
     let told = returns-in-Err-clause-usage g c refl in
     ends_unused g.W.Sink g.E.Sink g.F.Files (record { status = 1; cut = cut.Whole }) world c.args.out.now c.args.err.now c.report_fault.new.err c.args.files.now refl
-    (OrOutOfMemory world (TextOutcome c.args.options c.args.name.now c.args.bytes.now world)) told.0 (inr (told.1 world)) refl told.2
+    (OrOutOfMemory world (TextOutcome c.args.job.options c.args.read.name.now c.args.read.bytes.now world)) told.0 (inr (told.1 world)) refl told.2
 
 pub perform-requires : goal.perform-requires
 perform-requires g c =
@@ -62,16 +62,16 @@ returns-then-edits_input-clause-ends g c honest known before =
     let world : World = record { folder = g.F.Files.folder c.args.files.now; known = known } in
     let told = returns-then-edits_input-clause-usage g c refl in
     ends_unused g.W.Sink g.E.Sink g.F.Files (record { status = 1; cut = cut.Whole }) world c.args.out.now c.args.err.now c.report_pieces.new.err c.args.files.now refl
-    (OrOutOfMemory world (TextOutcome c.args.options c.args.name.now c.args.bytes.now world)) told.0 (inr (told.1 world)) refl told.2
+    (OrOutOfMemory world (TextOutcome c.args.job.options c.args.read.name.now c.args.read.bytes.now world)) told.0 (inr (told.1 world)) refl told.2
 
 pub returns-clause-ends : goal.returns-clause-ends
 returns-clause-ends g c honest known before =
-    let options = c.args.options in
-    let name = c.args.name.now in
+    let options = c.args.job.options in
+    let name = c.args.read.name.now in
     let left_over = g.R.Source.remaining c.args.input.now in
     let world : World = record { folder = g.F.Files.folder c.args.files.now; known = known } in
     ends_more g.W.Sink g.E.Sink g.F.Files c.perform.result _ _ c.args.out.now c.perform.new.out c.args.err.now c.perform.new.err c.perform.new.files
-    (λ ended is. inr (text_lines options name c.args.bytes.now c.in-Ok.text.now world (map requested_in c.in-Ok-read_script.lines.items)
+    (λ ended is. inr (text_lines options name c.args.read.bytes.now c.in-Ok.text.now world (map requested_in c.in-Ok-read_script.lines.items)
     (map requested_in c.as_slice-lines.result.now) ended c.in-Ok.ensures.ok.0 c.in-Ok.ensures.ok.1 c.in-Ok-read_script.ensures.ok
     (ap (map requested_in) c.as_slice-lines.ensures.value)
     (inr (sym c.edits_input.ensures ∙ c.if-edits_input.false, (left_over, (λ other. sym (before (not_input name other))), is)))))
@@ -83,7 +83,7 @@ returns-in-Err-read_script-clause-ends g c honest known before =
     let e = c.report_script in
     let end = c.unused in
     ends_told g.W.Sink g.E.Sink g.F.Files end.result world c.args.out.now c.args.err.now end.new.err c.args.files.now refl
-    (TextOutcome c.args.options c.args.name.now c.args.bytes.now world) e.result e.new.err
+    (TextOutcome c.args.job.options c.args.read.name.now c.args.read.bytes.now world) e.result e.new.err
     (λ is. let told = returns-in-Err-read_script-clause-usage g c is in (told.0, told.1 world, told.2)) e.ensures.refused end.ensures.ok end.ensures.err
 
 pub returns-clause-usage : goal.returns-clause-usage
@@ -91,9 +91,9 @@ returns-clause-usage g c is =
     let told = c.perform.ensures.usage is in
     let lines = map requested_in c.as_slice-lines.result.now in (
       no_journal_line,
-      (λ world. text_lines c.args.options c.args.name.now c.args.bytes.now c.in-Ok.text.now world (map requested_in c.in-Ok-read_script.lines.items) lines
+      (λ world. text_lines c.args.job.options c.args.read.name.now c.args.read.bytes.now c.in-Ok.text.now world (map requested_in c.in-Ok-read_script.lines.items) lines
           (unused world.folder no_journal_line) c.in-Ok.ensures.ok.0 c.in-Ok.ensures.ok.1 c.in-Ok-read_script.ensures.ok (ap (map requested_in) c.as_slice-lines.ensures.value)
-          (inr (sym c.edits_input.ensures ∙ c.if-edits_input.false, (world.known, (λ _. refl), no_journal c.args.options lines world told.0 told.1)))),
+          (inr (sym c.edits_input.ensures ∙ c.if-edits_input.false, (world.known, (λ _. refl), no_journal c.args.job.options lines world told.0 told.1)))),
       told.2,
     )
 
@@ -102,18 +102,18 @@ returns-clause-unread_kept g c kept = let still = c.perform.ensures.reads_nothin
 
 pub returns-in-Err-clause-moments : goal.returns-in-Err-clause-moments
 returns-in-Err-clause-moments g c kept honest = no_time g.F.Files.moment g.F.Files.since c.args.files.now c.args.files.now
-    (IsMomentOfText (g.F.Files.folder c.args.files.now) c.args.bytes.now) refl
+    (IsMomentOfText (g.F.Files.folder c.args.files.now) c.args.read.bytes.now) refl
 
 pub returns-then-edits_input-clause-moments : goal.returns-then-edits_input-clause-moments
 returns-then-edits_input-clause-moments g c kept honest = no_time g.F.Files.moment g.F.Files.since c.args.files.now c.args.files.now
-    (IsMomentOfText (g.F.Files.folder c.args.files.now) c.args.bytes.now) refl
+    (IsMomentOfText (g.F.Files.folder c.args.files.now) c.args.read.bytes.now) refl
 
 pub returns-clause-moments : goal.returns-clause-moments
 returns-clause-moments g c kept honest =
-    by_text g.F.Files c.args.files.now c.perform.new.files c.args.bytes.now c.in-Ok.text.now (map requested_in c.in-Ok-read_script.lines.items)
+    by_text g.F.Files c.args.files.now c.perform.new.files c.args.read.bytes.now c.in-Ok.text.now (map requested_in c.in-Ok-read_script.lines.items)
     (map requested_in c.as_slice-lines.result.now) c.in-Ok.ensures.ok.0 c.in-Ok.ensures.ok.1 c.in-Ok-read_script.ensures.ok (ap (map requested_in) c.as_slice-lines.ensures.value)
     (c.perform.ensures.moments kept honest)
 
 pub returns-in-Err-read_script-clause-moments : goal.returns-in-Err-read_script-clause-moments
 returns-in-Err-read_script-clause-moments g c kept honest = no_time g.F.Files.moment g.F.Files.since c.args.files.now c.args.files.now
-    (IsMomentOfText (g.F.Files.folder c.args.files.now) c.args.bytes.now) refl
+    (IsMomentOfText (g.F.Files.folder c.args.files.now) c.args.read.bytes.now) refl

@@ -1,12 +1,25 @@
-use Rattle.std.proofs.Common.{map, take}
+use Rattle.std.proofs.Common.{◌++◌, map, take}
+use Rattle.std.specs.List.{flat_map}
 use Rattle.bz_command_line.specs.Shown.{requested_in}
-use Rattle.bz_buildozer.specs.Outcome.{AreOfInput}
-use Rattle.bz_buildozer.specs.Steps.{all_steps}
 use Rattle.bz_buildozer.specs.Calls.{spot}
-use Rattle.bz_buildozer.proofs.RunSteps.{Done}
+use Rattle.bz_buildozer.specs.Outcome.{AreOfInput}
+use Rattle.bz_buildozer.proofs.RunSteps.{Done, lines_before, on_target}
 use Rattle.bz_buildozer.proofs.running.run_lines.Given as goal
 
--- what the lines so far request was done
+-- these steps, the first of all, were done
 abbrev pub invariant-loop-line : goal.invariant-loop-line
-invariant-loop-line g l = Done l.options.journal (AreOfInput (map requested_in l.lines)) l.options.keep_going (all_steps (map requested_in (take l.line-index l.lines))) l.cut
+invariant-loop-line g l = Done l.options.journal (AreOfInput (map requested_in l.lines)) l.options.keep_going (lines_before l.line-index l.lines) l.cut
+    (spot g.R.Source g.F.Files g.E.Sink l.fn.run l.fn.input l.fn.files l.fn.err) (spot g.R.Source g.F.Files g.E.Sink l.run l.input l.files l.err)
+
+-- and those on the targets of a line so far
+abbrev pub invariant-loop-target : goal.invariant-loop-target
+invariant-loop-target g l = Done l.options.journal (AreOfInput (map requested_in l.lines)) l.options.keep_going
+    (lines_before l.line-index l.lines ++ flat_map (on_target l.line.commands.items) (take l.target-index l.line.targets.items)) l.cut
+    (spot g.R.Source g.F.Files g.E.Sink l.fn.run l.fn.input l.fn.files l.fn.err) (spot g.R.Source g.F.Files g.E.Sink l.run l.input l.files l.err)
+
+-- and on this target the commands so far
+abbrev pub invariant-loop-request : goal.invariant-loop-request
+invariant-loop-request g l = Done l.options.journal (AreOfInput (map requested_in l.lines)) l.options.keep_going
+    (lines_before l.line-index l.lines ++ (flat_map (on_target l.line.commands.items) (take l.target-index l.line.targets.items)
+    ++ on_target (take l.request-index l.line.commands.items) l.target)) l.cut
     (spot g.R.Source g.F.Files g.E.Sink l.fn.run l.fn.input l.fn.files l.fn.err) (spot g.R.Source g.F.Files g.E.Sink l.run l.input l.files l.err)

@@ -1,19 +1,12 @@
-use Rattle.std.proofs.Common.{◌≡◌, ◌∙◌, Bool, Ok, Err, refl, subst, sym, true≢false}
+use Rattle.std.proofs.Common.{◌≡◌, ◌∙◌, ◌||◌, Bool, not, Ok, Err, refl, subst, sym, true≢false}
+use Rattle.std.specs.Prelude.{◌==◌}
+use Rattle.bz_items.specs.Characters.{Bytes}
 use Rattle.bz_journal.specs.Forms.{past_history}
 use Rattle.bz_buildozer.specs.Keeps.{file_left}
-use Rattle.bz_buildozer.specs.Sessions.{Refused}
+use Rattle.bz_buildozer.specs.Sessions.{KeepFault, Keeps, KeepsFile, action_in}
 use Rattle.bz_buildozer.specs.private.ShownFiles.{opened_in}
+use Rattle.bz_buildozer.proofs.ActSteps.{marked_written}
 use Rattle.bz_buildozer.proofs.used.Opened.act.Goals as goal
-
-pub returns-then-journals-clause-acts : goal.returns-then-journals-clause-acts
-returns-then-journals-clause-acts g c =
-    let done = c.keep.ensures in (
-      done.0,
-      done.1,
-      subst (λ (b : Bool). opened_in c.keep.new.self ≡ file_left b c.keep.result done.0 (opened_in c.args.self.now)) (sym c.if-journals.true) done.2,
-      (λ _. done.3),
-      (λ plain. absurd (true≢false (sym c.if-journals.true ∙ plain))),
-    )
 
 pub returns-in-Ok-clause-acts : goal.returns-in-Ok-clause-acts
 returns-in-Ok-clause-acts g c =
@@ -21,11 +14,53 @@ returns-in-Ok-clause-acts g c =
     let after = past_history c.act_noted.new.self in (
       after,
       c.in-Ok.ensures.acts,
-      subst (λ (b : Bool). record file { history = after } ≡ file_left b (Ok c.in-Ok.reply) after file) (sym c.if-journals.false) refl,
-      (λ kept. absurd (true≢false (sym kept ∙ c.if-journals.false))),
+      subst (λ (b : Bool). record file { history = after } ≡ file_left b (Ok c.in-Ok.reply) after file) (sym c.if-not-journals.true) refl,
+      (λ kept. absurd (true≢false (sym kept ∙ c.if-not-journals.true))),
       (λ _. (refl, tt)),
     )
 
 pub returns-in-Err-clause-acts : goal.returns-in-Err-clause-acts
 returns-in-Err-clause-acts g c =
-    (past_history c.act_noted.new.self, c.in-Err.ensures.acts, refl, (λ kept. absurd (true≢false (sym kept ∙ c.if-journals.false))), (λ _. (refl, tt)))
+    (past_history c.act_noted.new.self, c.in-Err.ensures.acts, refl, (λ kept. absurd (true≢false (sym kept ∙ c.if-not-journals.true))), (λ _. (refl, tt)))
+
+pub returns-in-Ok-keep_noted-clause-acts : goal.returns-in-Ok-keep_noted-clause-acts
+returns-in-Ok-keep_noted-clause-acts g c =
+    let file = opened_in c.args.self.now in
+    let kept = c.keep_noted in
+    let after = past_history kept.new.self in
+    let reply = c.in-Ok-keep_noted.reply in (
+      after,
+      c.in-Ok-keep_noted.ensures.keeps,
+      subst (λ (b : Bool). record file { history = after; written = file.written || not (c.cursor.result == c.cursor-from.result) } ≡ file_left b (Ok reply) after file) (sym c.if-not-journals.false)
+          (marked_written after file c.cursor-from.result c.cursor.result c.cursor-from.ensures c.cursor.ensures),
+      (λ _. subst (λ (name : Bytes). KeepsFile g.F.Files name file.history after (Ok reply) c.args.files.now kept.new.files) c.as_str.ensures.value c.in-Ok-keep_noted.ensures.pair),
+      (λ plain. absurd (true≢false (sym c.if-not-journals.false ∙ plain))),
+    )
+
+pub returns-in-Err-Refused-clause-acts : goal.returns-in-Err-Refused-clause-acts
+returns-in-Err-Refused-clause-acts g c =
+    let file = opened_in c.args.self.now in
+    let kept = c.keep_noted in
+    let after = past_history kept.new.self in
+    let done = c.in-Err-Refused in (
+      after,
+      subst (λ (fault : KeepFault). Keeps (action_in c.args.action.now) c.args.note.now file.history (Err fault) after) done.field-0-is done.ensures.keeps,
+      refl,
+      (λ _. subst (λ (fault : KeepFault). KeepsFile g.F.Files file.name file.history after (Err fault) c.args.files.now kept.new.files) done.field-0-is
+          (subst (λ (name : Bytes). KeepsFile g.F.Files name file.history after (Err done.field-0) c.args.files.now kept.new.files) c.as_str.ensures.value done.ensures.pair)),
+      (λ plain. absurd (true≢false (sym c.if-not-journals.false ∙ plain))),
+    )
+
+pub returns-in-Err-Pair-clause-acts : goal.returns-in-Err-Pair-clause-acts
+returns-in-Err-Pair-clause-acts g c =
+    let file = opened_in c.args.self.now in
+    let kept = c.keep_noted in
+    let after = past_history kept.new.self in
+    let done = c.in-Err-Pair in (
+      after,
+      subst (λ (fault : KeepFault). Keeps (action_in c.args.action.now) c.args.note.now file.history (Err fault) after) done.field-0-is done.ensures.keeps,
+      refl,
+      (λ _. subst (λ (fault : KeepFault). KeepsFile g.F.Files file.name file.history after (Err fault) c.args.files.now kept.new.files) done.field-0-is
+          (subst (λ (name : Bytes). KeepsFile g.F.Files name file.history after (Err done.field-0) c.args.files.now kept.new.files) c.as_str.ensures.value done.ensures.pair)),
+      (λ plain. absurd (true≢false (sym c.if-not-journals.false ∙ plain))),
+    )

@@ -1,23 +1,93 @@
-use Rattle.std.proofs.Common.{inl, None, refl}
-use Rattle.bz_buildozer.specs.Found as p
-use Rattle.bz_buildozer.proofs.PlaceSteps.{closed_last}
-use Rattle.bz_buildozer.proofs.FailSteps.{fills_last, fills_there, last_within}
+use Rattle.std.proofs.Common.{◌≡◌, ◌∙◌, ◌∷◌, [], true, Bool, List, None, inl, inr, refl, ap, sym, subst, true≢false}
+use Rattle.std.specs.Prelude.{IfSome}
+use Rattle.bz_items.specs.Characters.{Bytes}
+use Rattle.bz_buildozer.specs.Found.{Used, package_number}
+use Rattle.bz_buildozer.specs.Calls.{IsLeft}
+use Rattle.bz_buildozer.specs.Journals.{IsOpenedIn}
+use Rattle.bz_buildozer.specs.Run.{Uses, World}
+use Rattle.bz_buildozer.specs.declared.reading.Taken.{Taken}
+use Rattle.bz_buildozer.specs.private.ShownFiles.{taken_in}
+use Rattle.bz_buildozer.proofs.FailSteps.{last_within, one_line, opened_until, uses_input, uses_read}
+use Rattle.bz_buildozer.proofs.PlaceSteps.{opened_last, place_last}
 use Rattle.bz_buildozer.proofs.workspace.Workspace.open.Goals as goal
 
-pub open_first-requires : goal.open_first-requires
-open_first-requires g c =
-    let one : p.Used = record { «package» = c.as_bytes-2.result.now; file = None } in record {
-      short = c.requires;
-      within = last_within c.in-Ok.place c.args.self.now c.add.new.self one c.in-Ok.ensures.place c.in-Ok.ensures.ok;
-      closed = closed_last c.in-Ok.place c.args.self.now c.add.new.self one c.in-Ok.ensures.place c.in-Ok.ensures.ok refl;
-    }
+pub put-place-requires : goal.put-place-requires
+put-place-requires g c = last_within c.in-Ok.place c.args.self.now c.add.new.self (record { «package» = c.as_bytes-2.result.now; file = None }) c.in-Ok.ensures.place c.in-Ok.ensures.ok
 
-pub returns-in-Ok-clause-opens : goal.returns-in-Ok-clause-opens
-returns-in-Ok-clause-opens g c = λ none.
-    inl (fills_last g.E.Sink c.in-Ok.place c.args.package.now c.as_bytes-2.result.now _ _ c.args.self.now c.add.new.self c.open_first.new.self c.args.err.now c.open_first.new.err
-    c.in-Ok.ensures.place c.in-Ok.ensures.ok c.as_bytes-2.ensures.value c.open_first.ensures.first)
+pub put-place-requires-2 : goal.put-place-requires-2
+put-place-requires-2 g c = last_within c.in-Ok.place c.args.self.now c.add.new.self (record { «package» = c.as_bytes-2.result.now; file = None }) c.in-Ok.ensures.place c.in-Ok.ensures.ok
 
-pub returns-in-Ok-clause-there : goal.returns-in-Ok-clause-there
-returns-in-Ok-clause-there g c = fills_there g.E.Sink c.in-Ok.place _ _ c.add.new.self c.open_first.new.self c.args.err.now c.open_first.new.err
-    (last_within c.in-Ok.place c.args.self.now c.add.new.self (record { «package» = c.as_bytes-2.result.now; file = None }) c.in-Ok.ensures.place c.in-Ok.ensures.ok)
-    c.open_first.ensures.first
+pub returns-in-Some-clause-uses : goal.returns-in-Some-clause-uses
+returns-in-Some-clause-uses g c = λ can known left.
+    let number = sym (c.place.ensures ∙ ap (λ (name : Bytes). package_number name c.args.self.now) c.as_bytes.ensures.value) ∙ c.in-Some.is in
+    ([], (c.in-Some.place, inl (number, refl, refl), c.opened_at.ensures.at), left, (refl, refl))
+
+pub returns-in_default-add-clause-uses : goal.returns-in_default-add-clause-uses
+returns-in_default-add-clause-uses g c = λ can known left.
+    let told = c.unnamed.ensures.told in
+    let same = c.in_default-add.ensures.err in
+    let world : World = record { folder = g.F.Files.folder c.args.files.now; known = known } in (
+      told.0 ∷ [],
+      subst (λ (taken : Taken). Uses taken.cut c.args.journals world c.args.package.now c.args.self.now None (told.0 ∷ []) c.add.new.self) (sym c.unnamed.ensures.taken)
+          (refl, (told.0, refl), inl same),
+      subst (λ (used : List Used). IsLeft known used (g.R.Source.remaining c.args.input.now)) (sym same) left,
+      one_line g.E.Sink c.args.err.now c.unnamed.new.err told.0 told.1,
+    )
+
+pub returns-then-reads_input-clause-uses : goal.returns-then-reads_input-clause-uses
+returns-then-reads_input-clause-uses g c = λ can known left.
+    let old = c.args.self.now in
+    let file = taken_in c.open_input-file.result in
+    let number = c.put-place in
+    uses_input g.E.Sink (record { folder = g.F.Files.folder c.args.files.now; known = known }) c.args.journals c.args.package.now (g.R.Source.remaining c.args.input.now)
+    (g.R.Source.remaining c.open_input-file.new.input) old number.new.self c.open_input-file.result.cut file number.result c.args.err.now c.open_input-file.new.err
+    (c.reads_input.ensures.yes c.if-reads_input.true) (sym (c.place.ensures ∙ ap (λ (name : Bytes). package_number name c.args.self.now) c.as_bytes.ensures.value) ∙ c.in_default.is)
+    (opened_last c.in-Ok.place old c.add.new.self number.new.self c.as_bytes-2.result.now c.args.package.now file c.in-Ok.ensures.place c.as_bytes-2.ensures.value c.in-Ok.ensures.ok number.ensures.put)
+    (place_last c.in-Ok.place old file number.result c.in-Ok.ensures.place number.ensures.place) c.open_input-file.ensures.takes left
+
+pub returns-clause-uses : goal.returns-clause-uses
+returns-clause-uses g c = λ can known left.
+    let old = c.args.self.now in
+    let file = taken_in c.open_named-file.result in
+    let number = c.put-place-2 in
+    let other = c.reads_input.ensures.other c.if-reads_input.false in
+    elim can [
+      | inl honest ↦ uses_read g.E.Sink (g.F.Files.honest c.args.files.now ≡ true) (record { folder = g.F.Files.folder c.args.files.now; known = known }) c.args.journals
+          c.args.package.now (g.R.Source.remaining c.args.input.now) old number.new.self c.open_named-file.result.cut file number.result c.args.err.now c.open_named-file.new.err honest other (sym (c.place.ensures ∙ ap (λ (name : Bytes). package_number name c.args.self.now) c.as_bytes.ensures.value) ∙ c.in_default.is)
+          (opened_last c.in-Ok.place old c.add.new.self number.new.self c.as_bytes-2.result.now c.args.package.now file c.in-Ok.ensures.place c.as_bytes-2.ensures.value c.in-Ok.ensures.ok
+          number.ensures.put) (place_last c.in-Ok.place old file number.result c.in-Ok.ensures.place number.ensures.place) c.open_named-file.ensures.opens left
+      | inr is ↦ absurd (other is.0 is.1)
+    ]
+
+pub returns-clause-folder : goal.returns-clause-folder
+returns-clause-folder g c = λ can. elim can [
+  | inl honest ↦ c.open_named-file.ensures.files.folder honest
+  | inr is ↦ absurd (c.reads_input.ensures.other c.if-reads_input.false is.0 is.1)
+]
+
+pub returns-then-reads_input-clause-some : goal.returns-then-reads_input-clause-some
+returns-then-reads_input-clause-some g c = λ kept honest. absurd (true≢false (sym kept ∙ (c.reads_input.ensures.yes c.if-reads_input.true).0))
+
+pub returns-then-reads_input-clause-time : goal.returns-then-reads_input-clause-time
+returns-then-reads_input-clause-time g c = λ kept honest. absurd (true≢false (sym kept ∙ (c.reads_input.ensures.yes c.if-reads_input.true).0))
+
+pub returns-in-Some-clause-some : goal.returns-in-Some-clause-some
+returns-in-Some-clause-some g c = λ kept honest.
+    let number = sym (c.place.ensures ∙ ap (λ (name : Bytes). package_number name c.args.self.now) c.as_bytes.ensures.value) ∙ c.in-Some.is in
+    inl (c.in-Some.place, number, refl, c.opened_at.ensures.at)
+
+pub returns-clause-some : goal.returns-clause-some
+returns-clause-some g c = λ kept honest.
+    let old = c.args.self.now in
+    let file = taken_in c.open_named-file.result in
+    let done = c.open_named-file.ensures.opens in inr (
+      (sym (c.place.ensures ∙ ap (λ (name : Bytes). package_number name c.args.self.now) c.as_bytes.ensures.value) ∙ c.in_default.is),
+      inr (
+        file,
+        opened_last c.in-Ok.place old c.add.new.self c.put-place-2.new.self c.as_bytes-2.result.now c.args.package.now file c.in-Ok.ensures.place c.as_bytes-2.ensures.value
+            c.in-Ok.ensures.ok c.put-place-2.ensures.put,
+        place_last c.in-Ok.place old file c.put-place-2.result c.in-Ok.ensures.place c.put-place-2.ensures.place,
+        subst (λ (b : Bool). IfSome file (IsOpenedIn b (g.F.Files.folder c.args.files.now) c.args.package.now)) kept
+            (opened_until c.open_named-file.result.cut c.args.journals (g.F.Files.folder c.args.files.now) c.args.package.now file done.0 (done.1 honest)),
+      ),
+    )

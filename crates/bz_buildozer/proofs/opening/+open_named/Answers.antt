@@ -1,0 +1,65 @@
+use Rattle.std.proofs.Common.{◌≡◌, ◌∙◌, true, false, ap, refl, None, Err, Bor, List, ℕ, inl, option_map}
+use Rattle.bz_streams.specs.declared.exit.Cut.TheVariants as cut
+use Rattle.bz_buildozer.specs.Found.{in_package, root_above}
+use Rattle.bz_buildozer.specs.Run.{unreadable}
+use Rattle.bz_buildozer.specs.private.ShownFiles.{taken_in}
+use Rattle.bz_buildozer.specs.private.Taking.{NamedUntil, base_of}
+use Rattle.bz_buildozer.proofs.FailSteps.{by_name_of, fails_as, memory_named, named_until, tried_on, reads_on}
+use Rattle.bz_buildozer.proofs.ReadSteps.{neither_opens}
+use Rattle.bz_buildozer.proofs.opening.+open_named.Goals as goal
+
+pub returns-in-Ok-bytes_of-clause-opens : goal.returns-in-Ok-bytes_of-clause-opens
+returns-in-Ok-bytes_of-clause-opens g t c =
+    let read = c.in-Ok-bytes_of.ensures in
+    let done = c.open_found.ensures.takes in (
+      done.0,
+      (λ honest. let held = read.found honest in named_until c.args.second c.open_found.result.cut c.args.journals c.args.package.now c.as_str-name.result.now
+          c.in-Ok-bytes_of.text.items held.0 (g.F.Files.folder c.args.files.now) (g.F.Files.folder c.bytes_of.new.files) (taken_in c.open_found.result) done.0
+          (c.as_str-name.ensures.value ∙ c.in-Ok.ensures ∙ ap (in_package c.args.package.now) c.base_of.ensures) held.1 held.2 (read.folder honest) (done.1 (read.honest ∙ honest))),
+      done.2,
+    )
+
+pub returns-in-Err-Memory-clause-opens : goal.returns-in-Err-Memory-clause-opens
+returns-in-Err-Memory-clause-opens g t c =
+    fails_as g.E.Sink (λ why file lines. g.F.Files.honest c.args.files.now ≡ true → NamedUntil c.args.second why c.args.journals (g.F.Files.folder c.args.files.now) c.args.package.now file lines) c.fail.result cut.Memory
+    c.args.err.now c.fail.new.err _ c.fail.ensures.taken (λ honest. memory_named c.args.second c.args.journals (g.F.Files.folder c.args.files.now) c.args.package.now _) c.fail.ensures.reported
+
+pub returns-in_default-clause-opens : goal.returns-in_default-clause-opens
+returns-in_default-clause-opens g t c =
+    fails_as g.E.Sink (λ why file lines. g.F.Files.honest c.args.files.now ≡ true → NamedUntil c.args.second why c.args.journals (g.F.Files.folder c.args.files.now) c.args.package.now file lines) c.unnamed.result cut.Memory
+    c.args.err.now c.unnamed.new.err c.unnamed.ensures.told.0 c.unnamed.ensures.taken (λ honest. memory_named c.args.second c.args.journals (g.F.Files.folder c.args.files.now) c.args.package.now _)
+    c.unnamed.ensures.told.1
+
+pub returns-in-Ok-root_above-clause-opens : goal.returns-in-Ok-root_above-clause-opens
+returns-in-Ok-root_above-clause-opens g t c =
+    fails_as g.E.Sink (λ why file lines. g.F.Files.honest c.args.files.now ≡ true → NamedUntil c.args.second why c.args.journals (g.F.Files.folder c.args.files.now) c.args.package.now file lines) c.fail_absent.result cut.Whole
+    c.args.err.now c.fail_absent.new.err _ c.fail_absent.ensures.taken
+    (λ honest. by_name_of c.args.second true cut.Whole c.args.journals (g.F.Files.folder c.args.files.now) c.args.package.now None _ c.if-not-second.false
+    (neither_opens c.args.journals c.args.package.now c.as_str-name.result.now (g.F.Files.folder c.args.files.now)
+    (option_map (λ (s : Bor (List ℕ)). s.now) c.as_deref.result) (c.as_str-name.ensures.value ∙ c.in-Ok.ensures ∙ ap (in_package c.args.package.now) (c.base_of.ensures ∙ ap base_of c.if-not-second.false))
+    (c.in-Err-Absent.ensures.absent honest (ap Err c.in-Err-Absent.field-0-is))
+    (c.as_deref.ensures.value ∙ c.in-Ok-root_above.ensures (c.bytes_of.ensures.honest ∙ honest) ∙ ap root_above (c.bytes_of.ensures.folder honest)))) c.fail_absent.ensures.reported
+
+pub returns-in-Err-Absent-2-clause-opens : goal.returns-in-Err-Absent-2-clause-opens
+returns-in-Err-Absent-2-clause-opens g t c =
+    fails_as g.E.Sink (λ why file lines. g.F.Files.honest c.args.files.now ≡ true → NamedUntil c.args.second why c.args.journals (g.F.Files.folder c.args.files.now) c.args.package.now file lines) c.unnamed-in-Err-root_above.result cut.Memory
+    c.args.err.now c.unnamed-in-Err-root_above.new.err c.unnamed-in-Err-root_above.ensures.told.0 c.unnamed-in-Err-root_above.ensures.taken
+    (λ honest. memory_named c.args.second c.args.journals (g.F.Files.folder c.args.files.now) c.args.package.now _) c.unnamed-in-Err-root_above.ensures.told.1
+
+pub returns-in-Err-clause-opens : goal.returns-in-Err-clause-opens
+returns-in-Err-clause-opens g t c =
+    fails_as g.E.Sink (λ why file lines. g.F.Files.honest c.args.files.now ≡ true → NamedUntil c.args.second why c.args.journals (g.F.Files.folder c.args.files.now) c.args.package.now file lines) c.fail-in-Err.result cut.Files
+    c.args.err.now c.fail-in-Err.new.err _ c.fail-in-Err.ensures.taken
+    (λ honest. by_name_of c.args.second true cut.Files c.args.journals (g.F.Files.folder c.args.files.now) c.args.package.now None _ c.if-second.true
+    (refl, inl (ap unreadable (c.as_str-name.ensures.value ∙ c.in-Ok.ensures ∙ ap (in_package c.args.package.now) (c.base_of.ensures ∙ ap base_of c.if-second.true))))) c.fail-in-Err.ensures.reported
+
+pub returns-clause-opens : goal.returns-clause-opens
+returns-clause-opens g t c =
+    let read = c.in-Err.ensures in
+    let folder = g.F.Files.folder c.args.files.now in
+    let second = c.open_named-file in
+    let done = tried_on g.E.Sink (g.F.Files.honest c.args.files.now ≡ true) (g.F.Files.honest c.bytes_of.new.files ≡ true) c.args.journals folder
+    (g.F.Files.folder c.bytes_of.new.files) c.args.package.now c.as_str-name.result.now second.result.cut (taken_in second.result) c.args.err.now
+    c.report_named.new.err second.new.err (λ honest. (read.honest ∙ honest, read.folder honest)) (c.as_str-name.ensures.value ∙ c.in-Ok.ensures ∙ ap (in_package c.args.package.now) (c.base_of.ensures ∙ ap base_of c.if-second.false))
+    c.report_named.ensures second.ensures.opens in
+    (done.0, (λ honest. by_name_of c.args.second false cut.Files c.args.journals folder c.args.package.now (taken_in second.result) done.0 c.if-second.false (done.1 honest)), done.2)

@@ -1,0 +1,36 @@
+-- What comes of reading the file of a package, or standard input.
+use Rattle.std.specs.Prelude.{◌≡◌, Bool, true, false, List, Option, None, codes}
+use Rattle.bz_files.specs.Folder.{Folder}
+use Rattle.bz_items.specs.Characters.{Bytes}
+use Rattle.bz_streams.specs.Outputs.{Reports}
+use Rattle.bz_streams.specs.Ports.{IsInput}
+use Rattle.bz_streams.specs.Reported.{stdin}
+use Rattle.bz_streams.specs.declared.exit.Cut.{Cut}
+use Rattle.bz_streams.specs.declared.exit.Cut.TheVariants as c
+use Rattle.bz_streams.specs.declared.sink.Sink.{Ghosts as SinkOf}
+use Rattle.bz_buildozer.specs.Found.{Opened}
+use Rattle.bz_buildozer.specs.Opens.{Takes}
+use Rattle.bz_buildozer.specs.Run.{AreOneLine, OpensUntil, SecondUntil, unreadable}
+use Rattle.bz_buildozer.specs.Steps.{input_package}
+
+-- Of a file, or of none, this is so, and the lines were printed. (Standard error before and after.)
+abbrev pub Brings : {E : Type 0} → SinkOf E → (Option Opened → List Bytes → Type 0) → Option Opened → E → E → Type 0
+Brings sink Is file old new = (lines : List Bytes) × Is file lines
+    × Reports (sink.faults old) (sink.faults new) (sink.contents old) (sink.contents new) lines
+
+-- Standard input is opened, or can't be read.
+abbrev pub InputUntil : Cut → Option Bytes → Option Opened → List Bytes → Type 0
+InputUntil c.Whole known file lines = (text : Bytes) × IsInput known text × Takes input_package stdin text file lines
+InputUntil c.Read known file lines = (file ≡ None) × (lines ≡ unreadable stdin)
+InputUntil c.Memory known file lines = (file ≡ None) × AreOneLine lines
+InputUntil why known file lines = ⊥
+
+-- the name of a package's file below the package: the first one, or the second
+abbrev pub base_of : Bool → Bytes
+base_of false = codes "BUILD.bazel"
+base_of true = codes "BUILD"
+
+-- The file of a package that has its first name, or else its second one, is opened, or that with the second one alone.
+abbrev pub NamedUntil : Bool → Cut → Bool → Folder → Bytes → Option Opened → List Bytes → Type 0
+NamedUntil false why journals folder current file lines = OpensUntil why journals folder current file lines
+NamedUntil true why journals folder current file lines = SecondUntil why journals folder current file lines
