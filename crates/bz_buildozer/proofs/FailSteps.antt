@@ -6,18 +6,14 @@ use Rattle.std.specs.FinMap.{get}
 use Rattle.std.proofs.lemmas.List.{length-append, append-nil}
 use Rattle.bz_items.specs.Characters.{Bytes}
 use Rattle.bz_files.specs.Folder.{Folder}
-use Rattle.bz_files.specs.declared.files.Files.{Ghosts as FilesOf}
-use Rattle.bz_files.proofs.Elapsing.{elapsed_on}
 use Rattle.bz_buildozer.specs.Sessions.{History, Pair}
 use Rattle.bz_resume.specs.Pair.{journal_name}
-use Rattle.bz_streams.specs.Faults.{Rises}
-use Rattle.bz_streams.specs.Outputs.{Counts}
 use Rattle.bz_streams.specs.declared.exit.Cut.{Cut}
 use Rattle.bz_streams.specs.declared.exit.Cut.TheVariants as c
 use Rattle.bz_streams.specs.declared.sink.Sink.{Ghosts as SinkOf}
 use Rattle.bz_buildozer.specs.Found.{IsNameOf, PackagesFound, found_in, found_second, second_name, Opened, Used, file_at, opened_with, first_name, in_package, package_number, with_opened}
 use Rattle.bz_buildozer.specs.Journals.{IsOpenedIn, JournalFault, OpensBeside, TakesBeside, file_of_journal, journal_beside, lines_of_journal}
-use Rattle.bz_buildozer.specs.Keeps.{KeepsFolder, ReadsFiles, after_keeping, file_after, left_out}
+use Rattle.bz_buildozer.specs.Keeps.{after_keeping, file_after, left_out}
 use Rattle.bz_buildozer.specs.Run.{OpensUntil, SecondUntil, Answers, AnswersIn, Does, Finds, Progress, RunsSteps, TakesUntil, Uses, UsesWhole, World, ends_run, unreadable}
 use Rattle.bz_buildozer.proofs.PlaceSteps.{last_place, left_after_input, left_after_use, place_stays}
 use Rattle.bz_buildozer.proofs.StandSteps.{found_holds, second_holds}
@@ -31,7 +27,7 @@ use Rattle.bz_buildozer.specs.Steps.{RunStep, input_package}
 use Rattle.bz_buildozer.specs.declared.reading.Taken.{Taken}
 use Rattle.bz_buildozer.specs.private.Taking.{Brings, InputUntil, NamedUntil, base_of}
 use Rattle.bz_buildozer.specs.private.ShownFiles.{taken_in}
-use Rattle.bz_buildozer.proofs.ReadSteps.{first_absent, first_opens, second_opens}
+use Rattle.bz_buildozer.proofs.ReadSteps.{first_opens, second_opens}
 
 -- ---- the file that an opening leaves, whatever comes
 
@@ -96,20 +92,6 @@ pub last_within : (place : ℕ) (used mid : List Used) (one : Used) → place �
 last_within place used mid one at is = let long = ap length is ∙ length-append used (one ∷ []) in omega (arith, at, long)
 
 -- ---- files that are read
-
--- two reads, one after the other, of which the first did not fail
-pub reads_on : {F : Type 0} (files : FilesOf F) (why : Cut) (old mid new : F) → (files.honest old ≡ true → files.folder mid ≡ files.folder old)
-    → (files.honest old ≡ true → KeepsFolder files old mid) → files.faults mid ≡ files.faults old → files.honest mid ≡ files.honest old
-    → ReadsFiles files why mid new → ReadsFiles files why old new
-reads_on files why old mid new same time still honest more = record {
-  folder = λ trusted. more.folder (honest ∙ trusted) ∙ same trusted;
-  time = λ trusted. elapsed_on (files.moment old) (files.moment mid) (files.moment new) (files.since old) (files.since mid) (files.since new)
-      (λ (now : Folder). now ≡ files.folder old) (λ (now : Folder). now ≡ files.folder mid) (λ now is. is ∙ same trusted) (time trusted) (more.time (honest ∙ trusted));
-  cut = subst (λ (n : ℕ). (why ≡ c.Whole) ⊎ ((why ≡ c.Memory) ⊎ ((why ≡ c.Files) × Rises n (files.faults new)))) still more.cut;
-  steady = λ whole. more.steady whole ∙ still;
-  counts = subst (λ (n : ℕ). Counts n (files.faults new)) still more.counts;
-  honest = more.honest ∙ honest;
-}
 
 -- ---- lines on standard error
 
@@ -190,13 +172,6 @@ memory_named true journals folder current line = (refl, (line, refl))
 pub by_name_of : (second number : Bool) (why : Cut) (journals : Bool) (folder : Folder) (current : Bytes) (file : Option Opened) (lines : List Bytes) → second ≡ number
     → NamedUntil number why journals folder current file lines → NamedUntil second why journals folder current file lines
 by_name_of second number why journals folder current file lines is opens = subst (λ (b : Bool). NamedUntil b why journals folder current file lines) (sym is) opens
-
--- `BUILD.bazel` is not there
-pub absent_until : (why : Cut) (journals : Bool) (current name : Bytes) (folder now : Folder) (file : Option Opened) (lines : List Bytes) → name ≡ first_name current
-    → get folder name ≡ None → now ≡ folder → SecondUntil why journals now current file lines → OpensUntil why journals folder current file lines
-absent_until c.Whole journals current name folder now file lines is held same opens = first_absent journals current name folder now file lines is held same opens
-absent_until c.Files journals current name folder now file lines is held same opens = inr (inl (ap (get folder) (sym is) ∙ held, opens))
-absent_until _ journals current name folder now file lines is held same opens = opens
 
 -- It can't be read, and `BUILD` is tried.
 pub tried_on : {E : Type 0} (sink : SinkOf E) (Trusted Now : Type 0) (journals : Bool) (folder now : Folder) (current name : Bytes) (why : Cut) (file : Option Opened)

@@ -282,10 +282,6 @@ place_stays current (suc place) file (one ∷ more) =
 
 -- ---- how a package is used
 
-pub is_found : (found : Option ℕ) → (found ≡ None) ⊎ ((place : ℕ) × (found ≡ Some place))
-is_found None = inl refl
-is_found (Some place) = inr (place, refl)
-
 -- the file of a package that was used last
 pub last_place : (used new : List Used) (current : Bytes) (file : Option Opened) (found : Option ℕ)
     → new ≡ used ++ record { «package» = current; file = file } ∷ [] → found ≡ option_map (λ _. length used) file

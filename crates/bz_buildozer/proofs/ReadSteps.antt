@@ -411,13 +411,6 @@ pub first_opens : (journals : Bool) (current name front text : Bytes) (folder no
 first_opens journals current name front text folder now file lines =
     there_opens journals current (first_name current) name front text folder now (found_second folder current) file lines
 
-pub first_absent : (journals : Bool) (current name : Bytes) (folder now : Folder) (file : Option Opened) (lines : List Bytes) → name ≡ first_name current
-    → get folder name ≡ None → now ≡ folder → OpensBeside journals now current (found_second now current) file lines
-    → OpensBeside journals folder current (found_in folder current) file lines
-first_absent journals current name folder now file lines is held same opens =
-    absent_opens journals current (first_name current) name folder (found_second folder current) file lines is held
-    (subst (λ (it : Folder). OpensBeside journals it current (found_second it current) file lines) same opens)
-
 -- ---- a file that goes on is opened at the text that it holds
 
 -- where a history matches a text it has that text

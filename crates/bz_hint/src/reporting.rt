@@ -9,7 +9,7 @@ ghost use Rattle.bz_streams.specs.Faults.{AppendsUnlessFailed};
 ghost use Rattle.bz_streams.specs.Outputs.{Reports};
 ghost use Rattle.bz_streams.specs.Controls.{escaped_text};
 ghost use Rattle.bz_command_syntax.specs.Patterns.{has_escaped_digit, missing_group};
-ghost use Rattle.bz_hint.specs.Hints.{change_notes, comment_hint_lines, escaped_digit_lines, missing_group_line, missing_group_lines, missing_line, missing_lines, refusal_hint, refusing_lines, rule_line, target_lines};
+ghost use Rattle.bz_hint.specs.Hints.{change_notes, comment_hint_lines, escaped_digit_lines, missing_group_lines, missing_line, missing_lines, refusal_hint, refusing_lines, rule_line, target_lines};
 ghost use Rattle.bz_hint.specs.Names as names;
 ghost use Rattle.bz_hint.specs.Refusing as refusing;
 
@@ -24,10 +24,17 @@ use bz_streams::{LinePiece, Sink, report_pieces};
 use itoa::Buffer;
 use std::alloc::Global;
 
-// No rule of a file has this name.
-fn report_missing<'a, E: Sink>(err: &mut E, file: &'a str, name: &'a str)
+// No rule of a file has this name; after that, what is said of one that is near.
+fn report_missing<'a, E: Sink>(
+    err: &mut E,
+    file: &'a str,
+    name: &'a str,
+    lead: &'a str,
+    near: &'a str,
+    end: &'a str,
+)
     ensures { AppendsUnlessFailed (E.faults err.old) (E.faults err.new) (E.contents err.old) (E.contents err.new)
-        (missing_line file.entry.now name.entry.now (codes "\n")) }
+        (missing_line file.entry.now name.entry.now (lead.entry.now ++ (escaped_text near.entry.now ++ (end.entry.now ++ codes "\n")))) }
 {
     report_pieces(
         err,
@@ -37,27 +44,10 @@ fn report_missing<'a, E: Sink>(err: &mut E, file: &'a str, name: &'a str)
             LinePiece::Own(" has the name '"),
             LinePiece::Outside(name),
             LinePiece::Own("'"),
-            LinePiece::Own("\n"),
-        ],
-    );
-}
-
-// The same, and this one is near.
-fn report_near<'a, E: Sink>(err: &mut E, file: &'a str, name: &'a str, near: &'a str)
-    ensures { AppendsUnlessFailed (E.faults err.old) (E.faults err.new) (E.contents err.old) (E.contents err.new)
-        (missing_line file.entry.now name.entry.now (codes ": did you mean '" ++ (escaped_text near.entry.now ++ codes "'?\n"))) }
-{
-    report_pieces(
-        err,
-        &[
-            LinePiece::Own("buildozer: no rule of "),
-            LinePiece::Outside(file),
-            LinePiece::Own(" has the name '"),
-            LinePiece::Outside(name),
-            LinePiece::Own("'"),
-            LinePiece::Own(": did you mean '"),
+            LinePiece::Own(lead),
             LinePiece::Outside(near),
-            LinePiece::Own("'?\n"),
+            LinePiece::Own(end),
+            LinePiece::Own("\n"),
         ],
     );
 }
@@ -69,8 +59,8 @@ fn report_nearest<'a, E: Sink>(err: &mut E, file: &'a str, name: &'a str, near: 
 {
     match near {
         Some(near) if near == name => {}
-        Some(near) => report_near(err, file, name, near),
-        None => report_missing(err, file, name),
+        Some(near) => report_missing(err, file, name, ": did you mean '", near, "'?"),
+        None => report_missing(err, file, name, "", "", ""),
     }
 }
 
@@ -91,10 +81,17 @@ fn hint_missing<E: Sink>(
     Ok(())
 }
 
-// A rule without a name refuses.
-fn report_unnamed<'a, E: Sink>(err: &mut E, file: &'a str, line: &'a str)
-    ensures { AppendsUnlessFailed (E.faults err.old) (E.faults err.new) (E.contents err.old) (E.contents err.new)
-        (rule_line file.entry.now line.entry.now None) }
+// The rule on a line refuses; what is said of its name is after that.
+fn report_refusing<'a, E: Sink>(
+    err: &mut E,
+    file: &'a str,
+    line: &'a str,
+    lead: &'a str,
+    name: &'a str,
+    end: &'a str,
+)
+    ensures { AppendsUnlessFailed (E.faults err.old) (E.faults err.new) (E.contents err.old) (E.contents err.new) (codes "buildozer: "
+        ++ (escaped_text file.entry.now ++ (codes ":" ++ (line.entry.now ++ (lead.entry.now ++ (escaped_text name.entry.now ++ (end.entry.now ++ codes "\n"))))))) }
 {
     report_pieces(
         err,
@@ -103,25 +100,10 @@ fn report_unnamed<'a, E: Sink>(err: &mut E, file: &'a str, line: &'a str)
             LinePiece::Outside(file),
             LinePiece::Own(":"),
             LinePiece::Own(line),
-            LinePiece::Own(": the rule refuses it\n"),
-        ],
-    );
-}
-
-fn report_named<'a, E: Sink>(err: &mut E, file: &'a str, line: &'a str, name: &'a str)
-    ensures { AppendsUnlessFailed (E.faults err.old) (E.faults err.new) (E.contents err.old) (E.contents err.new)
-        (rule_line file.entry.now line.entry.now (Some name.entry.now)) }
-{
-    report_pieces(
-        err,
-        &[
-            LinePiece::Own("buildozer: "),
-            LinePiece::Outside(file),
-            LinePiece::Own(":"),
-            LinePiece::Own(line),
-            LinePiece::Own(": the rule '"),
+            LinePiece::Own(lead),
             LinePiece::Outside(name),
-            LinePiece::Own("' refuses it\n"),
+            LinePiece::Own(end),
+            LinePiece::Own("\n"),
         ],
     );
 }
@@ -134,9 +116,18 @@ fn report_rule<E: Sink>(err: &mut E, file: &str, line: u32, name: Option<&str>)
     let mut numbers = Buffer::new();
     let line = numbers.format(line);
     match name {
-        Some(name) => report_named(err, file, line, name),
-        None => report_unnamed(err, file, line),
+        Some(name) => report_refusing(err, file, line, ": the rule '", name, "' refuses it"),
+        None => report_refusing(err, file, line, "", "", ": the rule refuses it"),
     }
+}
+
+// A command on a target that is refused, and the path of the package of the file that it is done in.
+#[derive(Clone, Copy)]
+struct Refused<'a> {
+    command: &'a Command,
+    target: &'a Target,
+    current: &'a [u8],
+    refusal: Refusal,
 }
 
 // Reports which of the rules that a target means refuses the command, if one does.
@@ -145,15 +136,19 @@ fn hint_refusing<E: Sink>(
     err: &mut E,
     file: &str,
     text: &[u8],
-    command: &Command,
-    target: &Target,
-    current: &[u8],
+    refused: Refused<'_>,
 ) -> Result<(), Memory>
     ensures ok { (n : Node) → Reads text.now n → OnOk result (Reports (E.faults err.old) (E.faults err.new) (E.contents err.old) (E.contents err.new)
-        (refusing_lines file.now (refusing.refusing_rule command.now target.now.which current.now (lines_of n) (view_of n)))) }
+        (refusing_lines file.now (refusing.refusing_rule refused.entry.command.now refused.entry.target.now.which refused.entry.current.now (lines_of n) (view_of n)))) }
     ensures err { OnErr result (err.new ≡ err.old) }
 {
-    if let Some(rule) = refusing_rule(alloc, text, command, target, current)? {
+    if let Some(rule) = refusing_rule(
+        alloc,
+        text,
+        refused.command,
+        refused.target,
+        refused.current,
+    )? {
         report_rule(err, file, rule.line, rule.name.as_deref());
     }
     Ok(())
@@ -165,20 +160,15 @@ fn hint_target<E: Sink>(
     err: &mut E,
     file: &str,
     text: &[u8],
-    command: &Command,
-    target: &Target,
-    current: &[u8],
-    refusal: Refusal,
+    refused: Refused<'_>,
 ) -> Result<(), Memory>
     ensures ok { (n : Node) → Reads text.now n → OnOk result (Reports (E.faults err.old) (E.faults err.new) (E.contents err.old) (E.contents err.new)
-        (target_lines file.now refusal command.now target.now.which current.now (lines_of n) (view_of n))) }
+        (target_lines file.now refused.entry.refusal refused.entry.command.now refused.entry.target.now.which refused.entry.current.now (lines_of n) (view_of n))) }
     ensures err { OnErr result (err.new ≡ err.old) }
 {
-    match &target.which {
-        Which::All | Which::Kind(_) => {
-            hint_refusing(alloc, err, file, text, command, target, current)
-        }
-        Which::Name(name) if refusal.number() == Refusal::NoTarget.number() => {
+    match &refused.target.which {
+        Which::All | Which::Kind(_) => hint_refusing(alloc, err, file, text, refused),
+        Which::Name(name) if refused.refusal.number() == Refusal::NoTarget.number() => {
             hint_missing(alloc, err, file, text, name.as_slice())
         }
         Which::Name(_) | Which::Line(_) | Which::Package => Ok(()),
@@ -213,54 +203,57 @@ pub fn report_hint<E: Sink>(
         (refusal_hint file.now refusal command.now target.now.which current.now (lines_of n) (view_of n))) }
     ensures err { OnErr result (err.new ≡ err.old) }
 {
-    hint_target(alloc, err, file, text, command, target, current, refusal)?;
+    let refused = Refused {
+        command,
+        target,
+        current,
+        refusal,
+    };
+    hint_target(alloc, err, file, text, refused)?;
     report_comment_text(err, command, refusal);
     Ok(())
 }
 
-// A template names a group that its pattern lacks.
-fn report_missing_group<'a, E: Sink>(err: &mut E, file: &'a str, name: &'a str)
+// Reports a note on a file.
+fn report_note<'a, E: Sink>(err: &mut E, file: &'a str, lead: &'a str, name: &'a str, end: &'a str)
     ensures { AppendsUnlessFailed (E.faults err.old) (E.faults err.new) (E.contents err.old) (E.contents err.new)
-        (missing_group_line file.entry.now name.entry.now) }
+        (codes "buildozer: note: " ++ (escaped_text file.entry.now ++ (lead.entry.now ++ (escaped_text name.entry.now ++ (end.entry.now ++ codes "\n"))))) }
 {
     report_pieces(
         err,
         &[
             LinePiece::Own("buildozer: note: "),
             LinePiece::Outside(file),
-            LinePiece::Own(": the pattern has no group '"),
+            LinePiece::Own(lead),
             LinePiece::Outside(name),
-            LinePiece::Own(
-                "', and nothing is put there: before a letter, a digit or _ a group is written ${1}\n",
-            ),
+            LinePiece::Own(end),
+            LinePiece::Own("\n"),
         ],
     );
 }
+
+// What is noted of a group that a pattern lacks, after its name.
+const MISSING: &str =
+    "', and nothing is put there: before a letter, a digit or _ a group is written ${1}";
+
+const ESCAPED: &str =
+    ": a backslash before a digit is put there as it is: a group is written $1 or ${1}";
 
 fn note_missing_group<E: Sink>(err: &mut E, file: &str, pattern: &Pattern, template: &[u8])
     ensures { Reports (E.faults err.old) (E.faults err.new) (E.contents err.old) (E.contents err.new)
         (missing_group_lines file.now (missing_group pattern.now template.now)) }
 {
     if let Some(name) = pattern.missing_group(template) {
-        report_missing_group(err, file, name);
+        report_note(err, file, ": the pattern has no group '", name, MISSING);
     }
 }
 
-fn note_escaped_digit<'a, E: Sink>(err: &mut E, file: &'a str, template: &[u8])
+fn note_escaped_digit<E: Sink>(err: &mut E, file: &str, template: &[u8])
     ensures { Reports (E.faults err.old) (E.faults err.new) (E.contents err.old) (E.contents err.new)
-        (escaped_digit_lines file.entry.now (has_escaped_digit template.now)) }
+        (escaped_digit_lines file.now (has_escaped_digit template.now)) }
 {
     if has_escaped_digit(template) {
-        report_pieces(
-            err,
-            &[
-                LinePiece::Own("buildozer: note: "),
-                LinePiece::Outside(file),
-                LinePiece::Own(
-                    ": a backslash before a digit is put there as it is: a group is written $1 or ${1}\n",
-                ),
-            ],
-        );
+        report_note(err, file, "", "", ESCAPED);
     }
 }
 

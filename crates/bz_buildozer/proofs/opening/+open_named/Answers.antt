@@ -4,7 +4,7 @@ use Rattle.bz_buildozer.specs.Found.{in_package, root_above}
 use Rattle.bz_buildozer.specs.Run.{unreadable}
 use Rattle.bz_buildozer.specs.private.ShownFiles.{taken_in}
 use Rattle.bz_buildozer.specs.private.Taking.{NamedUntil, base_of}
-use Rattle.bz_buildozer.proofs.FailSteps.{by_name_of, fails_as, memory_named, named_until, tried_on, reads_on}
+use Rattle.bz_buildozer.proofs.FailSteps.{by_name_of, fails_as, memory_named, named_until, tried_on}
 use Rattle.bz_buildozer.proofs.ReadSteps.{neither_opens}
 use Rattle.bz_buildozer.proofs.opening.+open_named.Goals as goal
 
