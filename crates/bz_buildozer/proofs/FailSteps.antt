@@ -91,8 +91,6 @@ opened_until _ journals folder current file lines opens = absurd opens
 pub last_within : (place : ℕ) (used mid : List Used) (one : Used) → place ≡ length used → mid ≡ used ++ one ∷ [] → place < length mid
 last_within place used mid one at is = let long = ap length is ∙ length-append used (one ∷ []) in omega (arith, at, long)
 
--- ---- files that are read
-
 -- ---- lines on standard error
 
 pub one_line : {E : Type 0} (sink : SinkOf E) (old new : E) (line : Bytes) → ReportsLine sink old new line → ReportsLines sink old new (line ∷ [])

@@ -1,5 +1,5 @@
 -- The packages of a run by their numbers, their files, and how a package is used.
-use Rattle.std.proofs.Common.{◌≡◌, ◌+◌, ℕ, Bool, true, false, ◌||◌, List, [], ◌∷◌, ◌++◌, Option, Some, None, refl, sym, ap, ◌∙◌, true≢false, arith, cond, ◌<◌, zero, suc, length, map, get_or, Result, Ok, subst, ◌⊎◌, inl, inr, take}
+use Rattle.std.proofs.Common.{◌≡◌, ◌+◌, ℕ, Bool, true, false, ◌||◌, List, [], ◌∷◌, ◌++◌, Option, Some, None, refl, sym, ap, ◌∙◌, true≢false, arith, cond, ◌<◌, zero, suc, length, map, get_or, Result, Ok, subst, take}
 use Rattle.std.specs.Prelude.{Vec, bytes_eq, if◌then◌else◌, slice_get, slice_set, is_ok, is_some, IsSome, IfSome}
 use Rattle.std.specs.List.{list_any, position, position_from}
 use Rattle.std.specs.Option.{option_map}
