@@ -1,6 +1,7 @@
 //! Commands that leave the present text as it is, answered by the value beside a session.
-ghost use Rattle.std.specs.Prelude.{◌≡◌, IfSome, OnOk};
-ghost use Rattle.bz_journal.specs.Clauses.{AreLookupsOf, Bytes, Do, GivesAlike, HasMade, IsSeenIn, Node, lines_begun, lines_of, view_of};
+ghost use Rattle.std.specs.Prelude.{◌≡◌, IfSome, List, OnOk};
+ghost use Rattle.bz_command.specs.Known.{IsKnownOf};
+ghost use Rattle.bz_journal.specs.Clauses.{AreListed, AreLookupsOf, Bytes, Do, GivesAlike, HasMade, IsIndexOf, IsSeenIn, Item, Node, lines_begun, lines_of, view_of};
 
 use crate::action::Reply;
 use crate::course::{Course, unchanged};
@@ -54,6 +55,19 @@ impl Lookups {
         match &self.lines {
             Some(lines) => lines.as_slice(),
             None => &[],
+        }
+    }
+
+    /// What a command is handed of it.
+    pub(crate) fn known(&self) -> Known<'_>
+        ensures lines { result.lines.now ≡ lines_begun self.now }
+        ensures own { (items : List Item) → IfSome self.now.names (λ index. IsIndexOf index items) → IfSome self.now.paths (λ loaded. AreListed loaded items)
+            → IsKnownOf result items }
+    {
+        Known {
+            lines: self.begins(),
+            names: self.names.as_ref(),
+            paths: self.paths.as_ref(),
         }
     }
 }
@@ -163,11 +177,7 @@ pub(crate) fn answer(
     let alloc = course.alloc();
     let current = course.package.as_bytes();
     let lookups = &seen.lookups;
-    let known = Known {
-        lines: lookups.begins(),
-        names: lookups.names.as_ref(),
-        paths: lookups.paths.as_ref(),
-    };
+    let known = lookups.known();
     let ran = run_named(alloc, command, target, current, known, &file);
     seen.value = Some(file);
     match ran {

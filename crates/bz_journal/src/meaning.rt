@@ -5,7 +5,7 @@ ghost use Rattle.bz_journal.specs.Clauses.{AreListed, IsBuild, IsIndexOf, Means,
 use crate::answering::{Lookups, look_up_lines};
 use crate::filling::overfills;
 use bz_build_format::{reads_back, written_text};
-use bz_command::{Known, Ran, Work, run_in};
+use bz_command::{Ran, Work, run_in};
 use bz_command_syntax::Command;
 use bz_grammar::Tree;
 use bz_hosts::{into_view, view};
@@ -53,12 +53,7 @@ pub(crate) fn run_beside(
     if overfills(Work::new(alloc, command, target, current, lines), len, file)? {
         return Err(Refusal::TooLarge);
     }
-    let known = Known {
-        lines,
-        names: lookups.names.as_ref(),
-        paths: lookups.paths.as_ref(),
-    };
-    run_in(alloc, command, target, current, known, file)
+    run_in(alloc, command, target, current, lookups.known(), file)
 }
 
 /// What a command means on the text of a tree, which has this many bytes and is given up for its value: the text after it, none where the
