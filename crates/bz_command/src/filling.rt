@@ -1,11 +1,12 @@
 //! What a command makes of rules one by one, so that it can be looked at before all of them are made: where it can be past the limit of a text.
-ghost use Rattle.std.specs.Prelude.{◌≡◌, ◌⊎◌, Err, Ok, IfErr, IfOk, IfSome, length};
+ghost use Rattle.std.specs.Prelude.{◌≡◌, ◌⊎◌, Err, Ok, IfErr, IfOk, IfSome};
 ghost use Rattle.std.specs.Option.{option_copied};
-ghost use Rattle.bz_command.specs.Effect.{effect, on_each, on_one, source_of};
-ghost use Rattle.bz_command.specs.private.Looks.{changes_each, marks_by, places_by};
+ghost use Rattle.bz_rule.specs.Index.{marked_places};
+ghost use Rattle.bz_command.specs.Effect.{effect, meant, on_each, on_one, source_of};
+ghost use Rattle.bz_command.specs.private.Looks.{changes_each};
 
 use crate::ruling::{Work, on_one, source_of};
-use crate::targets::{is_any, meant, take_place};
+use crate::targets::{is_any, meant};
 use bz_command_syntax::{
     AttributeOperation, Command, CommentOperation, DictOperation, Entry, Operation, RuleOperation,
     ValueOperation,
@@ -128,32 +129,16 @@ fn might_be_past(
     }
 }
 
-/// A mark for each item: whether it is at one of the places, which are those of the items that a command is meant for.
-fn marks_of(work: Work<'_, '_>, places: &[usize], items: &[Item]) -> Result<Vec<bool>, Memory>
-    requires { places.now ≡ places_by work items.now }
-    ensures value { IfOk result (λ marks. marks.items ≡ marks_by work.entry items.now) }
-    ensures count { IfOk result (λ marks. length marks.items ≡ length items.now) }
-{
-    let mut marks = Vec::new(work.alloc);
-    let mut left = places;
-    for at in 0..items.len() {
-        let (mark, following) = take_place(at, left);
-        marks.push(mark)?;
-        left = following;
-    }
-    Ok(marks)
-}
-
-/// A mark for each item of a file, which has about this many bytes: whether a command that changes rules one by one is meant for it.
-/// `None` where it is no such command, where it is meant for none, and where what it makes can hardly be past the limit of a text; so that
-/// says nothing. The error: a growth was refused.
-pub fn marks_if_large(
+/// The places of the items that a command is meant for which changes rules one by one, of a file that has about this many bytes, from 0 in
+/// their order. `None` where it is no such command, where it is meant for none, and where what it makes can hardly be past the limit of a
+/// text; so that says nothing. The error: a growth was refused.
+pub fn places_if_large(
     work: Work<'_, '_>,
     file: &File,
     len: usize,
-) -> Result<Option<Vec<bool>>, Memory>
-    ensures each { IfOk result (λ made. IfSome made (λ marks. effect work.entry.command.now work.entry.target.now work.entry.current.now work.entry.lines.now file.now ≡ on_each work.entry.command.now work.entry.current.now marks.items file.now)) }
-    ensures count { IfOk result (λ made. IfSome made (λ marks. length marks.items ≡ length file.now)) }
+) -> Result<Option<Vec<usize>>, Memory>
+    ensures each { IfOk result (λ made. IfSome made (λ _. effect work.entry.command.now work.entry.target.now work.entry.current.now work.entry.lines.now file.now ≡ on_each work.entry.command.now work.entry.current.now (meant work.entry.target.now.which work.entry.lines.now file.now) file.now)) }
+    ensures places { IfOk result (λ made. IfSome made (λ places. places.items ≡ marked_places 0 (meant work.entry.target.now.which work.entry.lines.now file.now))) }
 {
     let command = work.command;
     let operation = &command.operation;
@@ -165,6 +150,5 @@ pub fn marks_if_large(
     if !is_any(places.as_slice()) {
         return Ok(None);
     }
-    let marks = marks_of(work, places.as_slice(), items)?;
-    Ok(Some(marks))
+    Ok(Some(places))
 }

@@ -13,7 +13,7 @@ mod windows;
 pub use bz_command_syntax::{Command, CommandFault};
 pub use bz_load::LoadedPaths;
 pub use bz_value::Refusal;
-pub use filling::{changed_copy, copied, marks_if_large};
+pub use filling::{changed_copy, copied, places_if_large};
 pub use laws::{
     commands_are_listed, comments_stay, effects_stay_proper, lines_matter, worked_command_effects,
     worked_effects,
