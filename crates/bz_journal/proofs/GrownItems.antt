@@ -1,123 +1,128 @@
 -- What is known of items that a command is tried on one after the other.
-use Rattle.std.proofs.Common.{◌≡◌, ◌≢◌, ◌≤◌, ◌⊎◌, ◌+◌, ◌-◌, ℕ, Bool, true, false, ◌||◌, List, [], ◌∷◌, Option, Result, Ok, Err, inl, inr, refl, sym, ap, ◌∙◌, subst, arith}
-use Rattle.std.specs.Prelude.{if◌then◌else◌}
-use Rattle.std.specs.List.{AllByRecursion}
-use Rattle.std.proofs.lemmas.Bool.{false≢true}
-use Rattle.std.proofs.lemmas.List.Elements.{recursion_from_All}
-use Rattle.bz_journal.specs.Clauses.{AllGrow, AreProperMade, Bytes, Grows, IsProperItem, Item, Overfills, Refusal, alone_length, limit, on_meant, one_where}
-use Rattle.bz_journal.specs.Words.{Expr, IsProper, NewItem, Operation}
+use Rattle.std.proofs.Common.{◌≡◌, ◌≢◌, ◌≤◌, ◌<◌, ◌+◌, ◌-◌, ℕ, Bool, true, false, ◌||◌, List, [], ◌∷◌, Option, Result, Ok, Err, refl, sym, ap, ◌∙◌, subst, arith, drop, get_or, length, true≢false}
+use Rattle.std.proofs.lemmas.List.{drop_more}
+use Rattle.std.proofs.lemmas.List.Elements.{All-weaker, recursion_from_All}
+use Rattle.bz_journal.specs.Clauses.{AreProperMade, Bytes, Grows, IsProperItem, Item, Overfills, Refusal, alone_length, limit, marked_places, meant}
+use Rattle.bz_journal.specs.Words.{Expr, IsProper, NewItem, Operation, on_meant}
+use Rattle.bz_label.specs.declared.target.Which.{Which}
 use Rattle.bz_command_syntax.specs.Proper.{IsProperCommand}
+use Rattle.bz_value.specs.Counted.{total}
+use Rattle.bz_value.specs.declared.value.Item.TheVariants as i
 use Rattle.bz_command.specs.Effect.{on_each, source_of, with_item_first}
-use Rattle.bz_journal.specs.private.Filling.{marked_alone, item_made}
+use Rattle.bz_journal.specs.private.Filling.{item_made}
 use Rattle.bz_command.proofs.ProperEffects.{each_keeps}
 use Rattle.bz_journal.proofs.HeldAlone.{held_alone}
 
--- one of both differs
-either_differs : (a b : Bool) (new item : Item) (others items : List Item) → (a ≡ true → others ≢ items) → (b ≡ true → new ≢ item)
-    → (a || b) ≡ true → new ∷ others ≢ item ∷ items
-either_differs true b new item others items h g e = λ same. let rest : others ≡ items = cc in h refl rest
-either_differs false b new item others items h g e = λ same. let first : new ≡ item = cc in g e first
+-- What is known of all by what is made of the items that are left: they overfill a file where that has at least this many bytes, each item in a file of
+-- its own, and is something else or something before it is. A refusal is one of all.
+abbrev pub Follows : List Item → Result (List Item) Refusal → ℕ → Bool → List Item → Result (List Item) Refusal → Type 0
+Follows items all left differs rest (Ok new) = left ≤ total alone_length new → (differs ≡ false → new ≢ rest) → Overfills items all
+Follows items all left differs rest (Err refusal) = all ≡ Err refusal
 
--- an item before the others
-first_grows : (size own : ℕ) (other differs mark : Bool) (item : Item) (marks : List Bool) (items : List Item) (one : NewItem) (rest : Result (List Item) Refusal)
-    → Grows own differs mark item one → AllGrow size other marks items rest → AllGrow (size + own) (other || differs) (mark ∷ marks) (item ∷ items) (with_item_first one rest)
-first_grows size own other differs mark item marks items (Err refusal) rest g h = absurd g
-first_grows size own other differs mark item marks items (Ok new) (Err refusal) g h = absurd h
-first_grows size own other differs mark item marks items (Ok new) (Ok others) g h =
-    let first : own ≤ (if mark then alone_length new else 0) = g.0 in
-    let following : size ≤ marked_alone marks others = h.0 in
-    (omega (arith, first, following), either_differs other differs new item others items h.1 g.1)
+-- what is past the limit one by one is so as a whole
+follows_all : (items : List Item) (all : Result (List Item) Refusal) → Follows items all (limit + 1) false items all
+follows_all items (Err refusal) = refl
+follows_all items (Ok new) =
+    let within = held_alone new in
+    λ own other. (other refl, omega (arith, own, within))
 
-later_refuses : (own : ℕ) (differs mark : Bool) (item : Item) (one : NewItem) (rest : Result (List Item) Refusal) (refusal : Refusal)
-    → Grows own differs mark item one → rest ≡ Err refusal → with_item_first one rest ≡ Err refusal
-later_refuses own differs mark item (Err other) rest refusal g e = absurd g
-later_refuses own differs mark item (Ok new) rest refusal g e = ap (with_item_first (Ok new)) e
+either_differs : (a b : Bool) (new x : Item) (others rest : List Item) → (b ≡ true → new ≢ x) → ((a || b) ≡ false → others ≢ rest) → a ≡ false → new ∷ others ≢ x ∷ rest
+either_differs true b new x others rest first following e = absurd (true≢false e)
+either_differs false true new x others rest first following e = λ same. let is : new ≡ x = cc in first refl is
+either_differs false false new x others rest first following e = λ same. let is : others ≡ rest = cc in following refl is
 
-meant_first : (change : Item → NewItem) (mark : Bool) (item : Item) (marks : List Bool) (items : List Item)
-    → on_meant change (mark ∷ marks) (item ∷ items) ≡ with_item_first (one_where change mark item) (on_meant change marks items)
-meant_first change true item marks items = refl
-meant_first change false item marks items = refl
+-- where none is meant all stay
+none_meant : (change : Item → NewItem) (at : ℕ) (marks : List Bool) (items : List Item) → [] ≡ marked_places at marks → on_meant change marks items ≡ Ok items
+none_meant change at [] items none = refl
+none_meant change at (true ∷ marks) items none = absurd (cc)
+none_meant change at (false ∷ marks) [] none = refl
+none_meant change at (false ∷ marks) (x ∷ items) none = ap (with_item_first (Ok x)) (none_meant change (at + 1) marks items none)
 
--- less of the same
-weaker : (size most : ℕ) (a b : Bool) (marks : List Bool) (items : List Item) (made : Result (List Item) Refusal) → size ≤ most → (a ≡ true → b ≡ true)
-    → AllGrow most b marks items made → AllGrow size a marks items made
-weaker size most a b marks items (Err refusal) less same h = absurd h
-weaker size most a b marks items (Ok new) less same h = let all = h.0 in (omega (arith, less, all), λ e. h.1 (same e))
+-- What is known while items are tried, of which those at the places are left: `left` is how many bytes are left until the limit is passed, and
+-- `differs` whether another item was made of one so far.
+pub record AreTried (change : Item → NewItem) (items : List Item) (all : Result (List Item) Refusal) (left : ℕ) (differs : Bool) (places : List ℕ) : Type 0 where
+  pub at : ℕ
+  pub marks : List Bool
+  pub count : at + length marks ≡ length items
+  pub meant_are : places ≡ marked_places at marks
+  pub follow : Follows items all left differs (drop at items) (on_meant change marks (drop at items))
 
-or_turned : (a b c : Bool) → (a || (b || c)) ≡ true → ((a || c) || b) ≡ true
-or_turned true b c e = refl
-or_turned false b true e = refl
-or_turned false true false e = refl
-or_turned false false false e = e
+-- before all
+pub first_tried : (change : Item → NewItem) (marks : List Bool) (items : List Item) (places : List ℕ) → places ≡ marked_places 0 marks → length marks ≡ length items
+    → AreTried change items (on_meant change marks items) (limit + 1) false places
+first_tried change marks items places are many = record { at = 0; marks = marks; count = omega (arith, many); meant_are = are; follow = follows_all items (on_meant change marks items) }
 
--- where none is left
-none_grows : (change : Item → NewItem) (ms : List Bool) (xs : List Item) → (ms ≡ []) ⊎ (xs ≡ []) → AllGrow 0 false ms xs (on_meant change ms xs)
-none_grows change [] xs none = (omega arith, λ e. absurd (false≢true e))
-none_grows change (true ∷ ms) [] none = (omega arith, λ e. absurd (false≢true e))
-none_grows change (false ∷ ms) [] none = (omega arith, λ e. absurd (false≢true e))
-none_grows change (m ∷ ms) (x ∷ xs) (inl none) = absurd cc
-none_grows change (m ∷ ms) (x ∷ xs) (inr none) = absurd cc
+module _ (change : Item → NewItem) (items : List Item) (all : Result (List Item) Refusal) (left : ℕ) (differs : Bool) where
+  -- one item after the first one, which stays or is tried
+  after_one : (x : Item) (rest : List Item) (made : Result (List Item) Refusal) → Follows items all left differs (x ∷ rest) (with_item_first (Ok x) made) → Follows items all left differs rest made
+  after_one x rest (Err refusal) h = h
+  after_one x rest (Ok new) h = λ own other. h (omega (arith, own)) (λ e same. let is : new ≡ rest = cc in other e is)
 
--- What is known of the items that are left is known of all: `left` is how many bytes are left until the limit is passed, and `differs` whether another
--- item was made of one so far.
-pub record AreTried (change : Item → NewItem) (marks : List Bool) (items : List Item) (left : ℕ) (differs : Bool) (ms : List Bool) (xs : List Item) : Type 0 where
-  pub grow : (size : ℕ) (other : Bool) → AllGrow size other ms xs (on_meant change ms xs) → AllGrow (size + (limit + 1 - left)) (other || differs) marks items (on_meant change marks items)
-  pub refuse : (refusal : Refusal) → on_meant change ms xs ≡ Err refusal → on_meant change marks items ≡ Err refusal
+  after_tried : (own : ℕ) (another : Bool) (x : Item) (rest : List Item) (one : NewItem) (made : Result (List Item) Refusal) → Grows own another x one
+      → Follows items all left differs (x ∷ rest) (with_item_first one made) → Follows items all (left - own) (differs || another) rest made
+  after_tried own another x rest (Err refusal) made g h = absurd g
+  after_tried own another x rest (Ok new) (Err refusal) g h = h
+  after_tried own another x rest (Ok new) (Ok others) g h =
+      let first = g.0 in
+      λ following other. h (omega (arith, first, following)) (either_differs differs another new x others rest g.1 other)
 
-module _ (change : Item → NewItem) (marks : List Bool) (items : List Item) where
-  module _ (left : ℕ) (differs mark : Bool) (item : Item) (ms : List Bool) (xs : List Item) (tried : AreTried change marks items left differs (mark ∷ ms) (item ∷ xs)) where
-    pub next_tried : (own : ℕ) (another : Bool) → Grows own another mark item (one_where change mark item) → AreTried change marks items (left - own) (differs || another) ms xs
-    next_tried own another g = record {
-      grow = λ size other h.
-          let first : AllGrow (size + own) (other || another) (mark ∷ ms) (item ∷ xs) (on_meant change (mark ∷ ms) (item ∷ xs)) =
-          subst (AllGrow (size + own) (other || another) (mark ∷ ms) (item ∷ xs)) (sym (meant_first change mark item ms xs))
-          (first_grows size own other another mark item ms xs (one_where change mark item) (on_meant change ms xs) g h) in
-          weaker (size + (limit + 1 - (left - own))) ((size + own) + (limit + 1 - left)) (other || (differs || another)) ((other || another) || differs) marks items (on_meant change marks items)
-          (omega arith) (or_turned other differs another) (tried.grow (size + own) (other || another) first);
-      refuse = λ refusal e. tried.refuse refusal (meant_first change mark item ms xs ∙ later_refuses own another mark item (one_where change mark item) (on_meant change ms xs) refusal g e);
-    }
+  -- The first place is that of an item. A refusal of that is one of all; else the next ones are tried.
+  abbrev pub IsNext : ℕ → List ℕ → Type 0
+  IsNext place places =
+      (place < length items) × ((x : Item) → x ≡ get_or items place x → (refusal : Refusal) → change x ≡ Err refusal → all ≡ Err refusal)
+      × ((x : Item) → x ≡ get_or items place x → (own : ℕ) (another : Bool) → Grows own another x (change x) → AreTried change items all (left - own) (differs || another) places)
 
-  pub all_tried : (left : ℕ) (differs : Bool) (ms : List Bool) (xs : List Item) → AreTried change marks items left differs ms xs → (ms ≡ []) ⊎ (xs ≡ [])
-      → differs ≡ true → left ≡ 0 → AllGrow (limit + 1) true marks items (on_meant change marks items)
-  all_tried left differs ms xs tried none other past =
-      weaker (limit + 1) (0 + (limit + 1 - left)) true (false || differs) marks items (on_meant change marks items) (omega (arith, past)) (λ e. other)
-      (tried.grow 0 false (none_grows change ms xs none))
+  next : (place : ℕ) (places : List ℕ) (at : ℕ) (marks : List Bool) → at + length marks ≡ length items → place ∷ places ≡ marked_places at marks
+      → Follows items all left differs (drop at items) (on_meant change marks (drop at items)) → IsNext place places
+  next place places at [] count are follow = absurd (cc)
+  next place places at (false ∷ marks) count are follow =
+      let split = drop_more items at (i.Block []) (omega (arith, count)) in
+      let rest = drop (at + 1) items in
+      next place places (at + 1) marks (omega (arith, count)) are
+      (after_one (get_or items at (i.Block [])) rest (on_meant change marks rest) (subst (λ (xs : List Item). Follows items all left differs xs (on_meant change (false ∷ marks) xs)) split follow))
+  next place places at (true ∷ marks) count are follow =
+      let here : place ≡ at = ap (λ ps. get_or ps 0 0) are in
+      let there : at < length items = omega (arith, count) in
+      let rest = drop (at + 1) items in
+      let after : (x : Item) → x ≡ get_or items at x → Follows items all left differs (x ∷ rest) (with_item_first (change x) (on_meant change marks rest)) =
+      λ x is. subst (λ (xs : List Item). Follows items all left differs xs (on_meant change (true ∷ marks) xs)) (drop_more items at x there ∙ ap (λ (y : Item). y ∷ rest) (sym is)) follow in
+      let first : IsNext at places = (
+        there,
+        (λ x is refusal refused. subst (λ (one : NewItem). Follows items all left differs (x ∷ rest) (with_item_first one (on_meant change marks rest))) refused (after x is)),
+        (λ x is own another grown. record {
+          at = at + 1;
+          marks = marks;
+          count = omega (arith, count);
+          meant_are = ap (drop 1) are;
+          follow = after_tried own another x rest (change x) (on_meant change marks rest) grown (after x is);
+        }),
+      ) in
+      subst (λ p. IsNext p places) (sym here) first
 
--- ---- what is past the limit one by one is so as a whole
+  -- at a place in a loop over them
+  pub next_tried : (places : List ℕ) (at : ℕ) → at < length places → AreTried change items all left differs (drop at places) → IsNext (get_or places at 0) (drop (at + 1) places)
+  next_tried places at there tried = next (get_or places at 0) (drop (at + 1) places) tried.at tried.marks tried.count (sym (drop_more places at 0 there) ∙ tried.meant_are) tried.follow
 
-pub overgrown : (marks : List Bool) (items : List Item) (made : Result (List Item) Refusal) → AllGrow (limit + 1) true marks items made → Overfills items made
-overgrown marks items (Err refusal) g = absurd g
-overgrown marks items (Ok new) g =
-    let own = g.0 in
-    let within = held_alone marks new in
-    (g.1 refl, omega (arith, own, within))
+  -- after them
+  pub all_tried : (places : List ℕ) → places ≡ [] → AreTried change items all left differs places → differs ≡ true → left ≡ 0 → Overfills items all
+  all_tried places none tried other past =
+      let rest = drop tried.at items in
+      let stay = none_meant change tried.at tried.marks rest (sym none ∙ tried.meant_are) in
+      subst (Follows items all left differs rest) stay tried.follow (omega (arith, past)) (λ e. absurd (true≢false (sym other ∙ e)))
 
 -- ---- what a command makes of each item of a proper file is proper
 
-each_proper : (operation : Operation) (current : Bytes) (items : List Item) → AllByRecursion IsProperItem items → IsProperCommand operation → (xs : List Item) → AllByRecursion IsProperItem xs
-    → AreProperMade (item_made operation current (source_of operation items)) xs
-unfolding item_made
-each_proper operation current items h p [] g = tt
-each_proper operation current items h p (x ∷ xs) g = (each_keeps current items h operation p x g.0, each_proper operation current items h p xs g.1)
-
 pub ones_proper : (operation : Operation) (current : Bytes) (found : Option Expr) (items xs : List Item) → IsProperCommand operation → IsProper items → found ≡ source_of operation items → xs ≡ items
     → AreProperMade (item_made operation current found) xs
+unfolding item_made
 ones_proper operation current found items xs p h same_value same_items =
-    let proper : AllByRecursion IsProperItem items = recursion_from_All IsProperItem items h in
-    rw (same_items, same_value) (each_proper operation current items proper p items proper)
+    rw (same_items, same_value) (All-weaker IsProperItem _ (each_keeps current items (recursion_from_All IsProperItem items h) operation p) items h)
 
--- ---- what a command makes of a file: `ms`, `xs` and `found` are the marks, the items and the value that is copied as they are handed on
+-- ---- what a command makes of a file is what is made of the items that it is meant for, of these and the value that is copied as they are handed on
 
-module _ (operation : Operation) (current : Bytes) (found : Option Expr) (marks ms : List Bool) (items xs : List Item) (made : Result (List Item) Refusal)
-    (same_value : found ≡ source_of operation items) (same_marks : ms ≡ marks) (same_items : xs ≡ items) (each : made ≡ on_each operation current marks items) where
-  one_by_one : made ≡ on_meant (item_made operation current found) ms xs
-  unfolding item_made
-  one_by_one = rw (same_value, same_marks, same_items) each
-
-  pub overfilled : AllGrow (limit + 1) true ms xs (on_meant (item_made operation current found) ms xs) → Overfills items made
-  overfilled g =
-      subst (λ (m : Result (List Item) Refusal). Overfills items m) (sym one_by_one)
-      (subst (λ (ys : List Item). Overfills ys (on_meant (item_made operation current found) ms xs)) same_items (overgrown ms xs (on_meant (item_made operation current found) ms xs) g))
-
-  pub refused_there : (refusal : Refusal) → on_meant (item_made operation current found) ms xs ≡ Err refusal → made ≡ Err refusal
-  refused_there refusal e = one_by_one ∙ e
+pub one_by_one : (operation : Operation) (which : Which) (lines : List ℕ) (current : Bytes) (found : Option Expr) (items xs : List Item) (made : Result (List Item) Refusal)
+    → found ≡ source_of operation items → xs ≡ items → made ≡ on_each operation current (meant which lines items) items
+    → (Is : List Item → Result (List Item) Refusal → Type 0) → Is xs (on_meant (item_made operation current found) (meant which lines xs) xs) → Is items made
+unfolding item_made
+one_by_one operation which lines current found items xs made same_value same_items each Is is =
+    subst (Is items) (sym each) (rw (same_items, same_value) at is)

@@ -1,6 +1,6 @@
 -- What items have in files of their own they have in one file: of the passes only the one over loads looks at more than one item, and that
 -- one only moves them.
-use Rattle.std.proofs.Common.{ℕ, ◌+◌, ◌≡◌, ◌≤◌, Bool, true, false, List, [], ◌∷◌, length, map, refl, sym, ap, ◌∙◌, arith}
+use Rattle.std.proofs.Common.{ℕ, ◌+◌, ◌≡◌, ◌≤◌, List, [], ◌∷◌, length, map, refl, sym, ap, ap₂, ◌∙◌, arith}
 use Rattle.std.proofs.lemmas.List.{append-nil}
 use Rattle.bz_value.specs.declared.value.Item.{Item}
 use Rattle.bz_value.specs.Counted.{total}
@@ -13,7 +13,7 @@ use Rattle.bz_passes.specs.Passes.{load_precedes, loads, on_statement, on_taken,
 use Rattle.bz_passes.proofs.Composed.{five_composed}
 use Rattle.bz_passes.proofs.Pieces.{tidied_alone}
 use Rattle.bz_passes.proofs.Sorting.{sort_total}
-use Rattle.bz_journal.specs.private.Filling.{alone_length, marked_alone}
+use Rattle.bz_journal.specs.private.Filling.{alone_length}
 
 abbrev own_length : Item → ℕ
 own_length item = length (item_text item)
@@ -30,15 +30,10 @@ first_below items rest item is =
     let same : length (layout items) ≡ length (layout (item ∷ rest)) = ap (λ (xs : List Item). length (layout xs)) is in
     omega (arith, first, same)
 
--- those of marked items are among those of all, and these are in the layout
-marked_within : (marks : List Bool) (items : List Item) → marked_alone marks items ≤ total own_length (map item_tidied items)
-marked_within [] items = omega arith
-marked_within (mark ∷ marks) [] = omega arith
-marked_within (true ∷ marks) (item ∷ items) =
-    let rest = marked_within marks items in
-    let own = alone_is item in
-    omega (arith, rest, own)
-marked_within (false ∷ marks) (item ∷ items) = let rest = marked_within marks items in omega (arith, rest)
+-- those of all are in the layout
+each_alone : (items : List Item) → total alone_length items ≡ total own_length (map item_tidied items)
+each_alone [] = refl
+each_alone (item ∷ items) = ap₂ (λ (own rest : ℕ). own + rest) (alone_is item) (each_alone items)
 
 all_within : (items : List Item) → total own_length items ≤ length (layout items)
 all_within [] = omega arith
@@ -60,9 +55,9 @@ same_total items =
     ∙ (changed_total settled (on_statement (taken after_passes)) items
     ∙ sym (changed_total own_length item_tidied items))))
 
-pub held_alone : (marks : List Bool) (items : List Item) → marked_alone marks items ≤ length (layout (tidied items))
-held_alone marks items =
-    let marked = marked_within marks items in
+pub held_alone : (items : List Item) → total alone_length items ≤ length (layout (tidied items))
+held_alone items =
+    let each = each_alone items in
     let same = same_total items in
     let whole = all_within (tidied items) in
-    omega (arith, marked, same, whole)
+    omega (arith, each, same, whole)

@@ -1,7 +1,7 @@
 -- What the clauses of this crate speak of, from its own definitions and from those of the crates below.
 pub use Rattle.bz_journal.specs.Actions.{Action, Do, Format, MakesText, Redo, Undo, action_in}
 pub use Rattle.bz_journal.specs.private.Alone.{text_or}
-pub use Rattle.bz_journal.specs.private.Filling.{AllGrow, AreProperMade, Grows, Overfills, alone_length, item_made_by, one_where}
+pub use Rattle.bz_journal.specs.private.Filling.{AreProperMade, Grows, Overfills, alone_length, item_made_by, items_made_by}
 pub use Rattle.bz_journal.specs.private.Doing.{EndsAt, GivesAlike, HasMade, IsAtOnce, RunsIn, lines_begun}
 pub use Rattle.bz_journal.specs.Editing.{AreFirstDigests, AreLookupsOf, IsSeenIn, WrittenIsLaidOut}
 pub use Rattle.bz_journal.specs.History.{Acts, Answer, History, IsKept, MakesOrWants, Runs, after_meaning, after_text, changed, most_steps, note_limit, opened, present, unchanged}
@@ -17,6 +17,6 @@ pub use Rattle.bz_journal.specs.Worked.{WorkedHistories}
 pub use Rattle.bz_journal.specs.declared.action.Reply.{Reply}
 pub use Rattle.bz_journal.specs.Words.{AreListed, AreOver, AreSmall, AreThere, Bytes, Edit, Holds256, IsBuild, IsFormatted, IsIndexOf, IsOtherVersion, IsProperItem, IsSmall}
 pub use Rattle.bz_journal.specs.Words.{IsStale, IsTrail, IsTree, IsWritten, Item, Journal, NoJournal, Node, PairFault, Refusal, SetFault, StandsFor, are_even}
-pub use Rattle.bz_journal.specs.Words.{depth_limit, depth_of, effect, fronts, fronts_in, is_node, laid_out, layout, limit, lines_of, newlines, node_parts}
-pub use Rattle.bz_journal.specs.Words.{on_meant, printed, sha256, spell_node, spell_part, steps_back, steps_forward, texts_of, tidied, trail_at, view_of}
+pub use Rattle.bz_journal.specs.Words.{depth_limit, depth_of, effect, fronts, fronts_in, is_node, laid_out, layout, limit, lines_of, marked_places, meant, newlines, node_parts}
+pub use Rattle.bz_journal.specs.Words.{printed, sha256, spell_node, spell_part, steps_back, steps_forward, texts_of, tidied, trail_at, view_of}
 pub use Rattle.bz_journal.specs.Words.{with_windows}

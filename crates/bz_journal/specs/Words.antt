@@ -1,7 +1,7 @@
 -- What the definitions of this crate speak of, from the crates below.
 pub use Rattle.bz_build_format.specs.Fixed.{IsFormatted}
 pub use Rattle.bz_build_format.specs.Meaning.{IsWritten}
-pub use Rattle.bz_command.specs.Effect.{NewItem, effect, on_meant, on_one, printed}
+pub use Rattle.bz_command.specs.Effect.{NewItem, effect, meant, on_meant, on_one, printed}
 pub use Rattle.bz_command.specs.declared.outcome.Ran.{Ran}
 pub use Rattle.bz_command.specs.declared.ruling.Work.{Work}
 pub use Rattle.bz_command_syntax.specs.Printing.{prints}
@@ -41,7 +41,7 @@ pub use Rattle.bz_resume.specs.Resuming.{Holds, OthersStay, Resumes, Survives}
 pub use Rattle.bz_resume.specs.declared.fault.ResumeFault.{ResumeFault}
 pub use Rattle.bz_resume.specs.declared.pair_fault.PairFault.{PairFault}
 pub use Rattle.bz_rule.specs.Held.{held_name}
-pub use Rattle.bz_rule.specs.Index.{Index, IsIndexOf, places_from}
+pub use Rattle.bz_rule.specs.Index.{Index, IsIndexOf, marked_places, places_from}
 pub use Rattle.bz_value.specs.Proper.{IsProper, IsProperItem}
 pub use Rattle.bz_value.specs.Windows.{AreOver}
 pub use Rattle.bz_value.specs.declared.refusal.Refusal.{Refusal}

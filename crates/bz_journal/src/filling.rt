@@ -1,8 +1,8 @@
 //! Whether what a command makes is past the limit of a text, seen rule by rule before all of it is made.
-ghost use Rattle.std.specs.Prelude.{◌≡◌, ◌⊎◌, ◌≤◌, ◌+◌, Err, IfErr, IfOk, IsTrue, length, true};
-ghost use Rattle.bz_journal.specs.Clauses.{AllGrow, AreProperMade, Grows, IsProperItem, Overfills, alone_length, effect, item_made_by, layout, limit, on_meant, one_where};
+ghost use Rattle.std.specs.Prelude.{◌≡◌, ◌⊎◌, ◌≤◌, Err, IfErr, IfOk, IsTrue, length};
+ghost use Rattle.bz_journal.specs.Clauses.{AreProperMade, Grows, IsProperItem, Overfills, alone_length, effect, item_made_by, items_made_by, layout, marked_places, meant};
 
-use bz_command::{Work, changed_copy, copied, marks_if_large};
+use bz_command::{Work, changed_copy, copied, places_if_large};
 use bz_grammar::LENGTH_LIMIT;
 use bz_items::Items;
 use bz_layout::{SetFault, item_text, text_of_file};
@@ -48,41 +48,33 @@ fn length_alone(alloc: Global, counts: bool, item: Item) -> Result<usize, Refusa
     size
 }
 
-/// Whether a command makes another item of one that is marked, and at least how many bytes that has in a file of its own.
+/// Whether a command makes another item of one that it is meant for, and at least how many bytes that has in a file of its own, where it counts.
 /// Errors: the one with which the item is refused; `Memory`.
 #[tactic(auto, unfolding(crate::specs::private::Filling::item_made))]
-fn try_where(
-    work: Work<'_, '_>,
-    mark: bool,
-    counts: bool,
-    item: &Item,
-) -> Result<(bool, usize), Refusal>
+fn try_on(work: Work<'_, '_>, counts: bool, item: &Item) -> Result<(bool, usize), Refusal>
     requires { IfOk (item_made_by work item.now) IsProperItem }
-    ensures ok { IfOk result (λ made. Grows made.1 made.0 mark item.now (one_where (item_made_by work.entry) mark item.now)) }
-    ensures err { IfErr result (λ refusal. (one_where (item_made_by work.entry) mark item.now ≡ Err refusal) ⊎ (refusal ≡ Refusal.Memory)) }
+    ensures ok { IfOk result (λ made. Grows made.1 made.0 item.now (item_made_by work.entry item.now)) }
+    ensures err { IfErr result (λ refusal. (item_made_by work.entry item.now ≡ Err refusal) ⊎ (refusal ≡ Refusal.Memory)) }
 {
-    if !mark {
-        return Ok((false, 0));
-    }
     let new = changed_copy(work, item)?;
     let differs = !new.equals(item);
     let size = length_alone(work.alloc, counts, new)?;
     Ok((differs, size))
 }
 
-/// Whether what a command makes of the items that are marked is something else, and past the limit of a text even one by one. Each is made,
-/// measured and dropped; past the limit they are only made, since the first that refuses decides.
-fn are_past(work: Work<'_, '_>, marks: &[bool], items: &[Item]) -> Result<bool, Refusal>
-    requires count { length marks.now ≡ length items.now }
+/// Whether what a command makes of the items that it is meant for, which are at these places, is something else, and past the limit of a text even
+/// one by one. Each is made, measured and dropped; past the limit they are only made, since the first that refuses decides.
+fn are_past(work: Work<'_, '_>, places: &[usize], items: &[Item]) -> Result<bool, Refusal>
+    requires places { places.now ≡ marked_places 0 (meant work.target.now.which work.lines.now items.now) }
     requires proper { AreProperMade (item_made_by work) items.now }
-    ensures ok { IfOk result (λ past. IsTrue past → AllGrow (limit + 1) true marks.now items.now (on_meant (item_made_by work.entry) marks.now items.now)) }
-    ensures err { IfErr result (λ refusal. (on_meant (item_made_by work.entry) marks.now items.now ≡ Err refusal) ⊎ (refusal ≡ Refusal.Memory)) }
+    ensures ok { IfOk result (λ past. IsTrue past → Overfills items.now (items_made_by work.entry items.now)) }
+    ensures err { IfErr result (λ refusal. (items_made_by work.entry items.now ≡ Err refusal) ⊎ (refusal ≡ Refusal.Memory)) }
 {
     let mut left = LENGTH_LIMIT + 1;
     let mut differs = false;
-    for (mark, item) in marks.iter().zip(items) {
-        let (other, size) = try_where(work, *mark, left > 0, item)?;
-        differs = differs || other;
+    for at in places {
+        let (other, size) = try_on(work, left > 0, &items[*at])?;
+        differs |= other;
         left = left.saturating_sub(size);
     }
     Ok(differs && left == 0)
@@ -101,8 +93,8 @@ pub(crate) fn overfills(work: Work<'_, '_>, len: usize, file: &File) -> Result<b
         found: copied(command, file),
         ..work
     };
-    let Some(marks) = marks_if_large(work, file, len)? else {
+    let Some(places) = places_if_large(work, file, len)? else {
         return Ok(false);
     };
-    are_past(work, marks.as_slice(), file.items.as_slice())
+    are_past(work, places.as_slice(), file.items.as_slice())
 }

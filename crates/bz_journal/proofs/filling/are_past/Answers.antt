@@ -1,34 +1,46 @@
-use Rattle.std.proofs.Common.{rules, ◌≡◌, ◌-◌, ◌∙◌, Bool, ◌||◌, List, ◌∷◌, ap, sym, subst}
+use Rattle.std.proofs.Common.{◌+◌, ◌||◌, arith, drop, inl, inr, subst, sym}
+use Rattle.std.specs.Prelude.{IfOk}
 use Rattle.std.proofs.lemmas.Bool.{eqb-true}
-use Rattle.std.proofs.lemmas.Slice.Zip.{Zip-more, either_empty_from_Zip}
-use Rattle.bz_journal.specs.Clauses.{AreProperMade, Item, item_made_by}
-use Rattle.bz_journal.specs.Words.{NewItem}
-use Rattle.bz_journal.proofs.GrownItems.{AreTried, all_tried, next_tried}
+use Rattle.std.proofs.lemmas.List.{drop_all}
+use Rattle.std.proofs.lemmas.Result.{err_from_is_err_and}
+use Rattle.bz_journal.specs.Clauses.{IsProperItem, Item, item_made_by, items_made_by, meant}
+use Rattle.bz_command.proofs.TargetMarks.{as_many}
+use Rattle.bz_journal.proofs.GrownItems.{AreTried, all_tried, first_tried, next_tried}
 use Rattle.bz_journal.proofs.filling.are_past.Goals as goal
-use Rattle.bz_journal.proofs.filling.are_past.Goals.{else-differs, then-differs}
 
-pub loop-mark-preserved : goal.loop-mark-preserved
-loop-mark-preserved c =
-    let change : Item → NewItem = item_made_by c.args.work in
-    let split = Zip-more c.loop-mark.mark-iterator c.next.new.self c.next.result (c.in-Some.mark, c.in-Some.item) c.in-Some.is c.next.ensures.steps in
-    let proper = subst (AreProperMade change) split.1 c.loop-mark.invariant.proper in
-    let tried = subst (λ (ms : List Bool). AreTried change c.args.marks.now c.args.items.now c.loop-mark.left c.loop-mark.differs ms (c.in-Some.item.now ∷ c.next.new.self.b.rest.now)) split.0
-    (subst (λ (xs : List Item). AreTried change c.args.marks.now c.args.items.now c.loop-mark.left c.loop-mark.differs c.loop-mark.mark-iterator.a.rest.now xs) split.1 c.loop-mark.invariant.tried) in
-    let next = next_tried change c.args.marks.now c.args.items.now c.loop-mark.left c.loop-mark.differs c.in-Some.mark.now c.in-Some.item.now c.next.new.self.a.rest.now c.next.new.self.b.rest.now tried
-    c.in_ok-other.size c.in_ok-other.other c.in_ok-other.ensures.ok in
-    let other : c.if-differs.differs ≡ (c.loop-mark.differs || c.in_ok-other.other) = elim c.if-differs.branch [
-      | then-differs w ↦ w.differs-is ∙ (w.if-differs.true ∙ sym (ap (λ b. b || c.in_ok-other.other) w.if-differs.true))
-      | else-differs w ↦ w.differs-is ∙ sym (ap (λ b. b || c.in_ok-other.other) w.if-differs.false)
-    ] in
-    record {
-      tried =
-          subst (λ left. AreTried change c.args.marks.now c.args.items.now left c.if-differs.differs c.next.new.self.a.rest.now c.next.new.self.b.rest.now) (sym c.saturating_sub-left.ensures)
-          (subst (λ (d : Bool). AreTried change c.args.marks.now c.args.items.now (c.loop-mark.left - c.in_ok-other.size) d c.next.new.self.a.rest.now c.next.new.self.b.rest.now) (sym other) next);
-      proper = proper.1;
-      pairs = search rules;
-    }
+pub loop-at-init : goal.loop-at-init
+loop-at-init c =
+    let work = c.args.work in
+    first_tried (item_made_by work) (meant work.target.now.which work.lines.now c.args.items.now) c.args.items.now c.args.places.now c.requires.places (as_many work.target.now.which work.lines.now c.args.items.now)
 
-pub returns-then-differs-2-clause-ok : goal.returns-then-differs-2-clause-ok
-returns-then-differs-2-clause-ok c = λ past.
-    all_tried (item_made_by c.args.work) c.args.marks.now c.args.items.now c.loop-mark.left c.loop-mark.differs c.loop-mark.mark-iterator.a.rest.now c.loop-mark.mark-iterator.b.rest.now
-    c.loop-mark.invariant.tried (either_empty_from_Zip c.loop-mark.mark-iterator c.next.new.self c.next.result c.in-None.is c.next.ensures.steps) c.if-differs-2.true (eqb-true c.loop-mark.left 0 past)
+pub offset_bounds-items-at : goal.offset_bounds-items-at
+offset_bounds-items-at c =
+    let there = (next_tried _ _ _ _ _ c.args.places.now c.loop-at.at-index c.loop-at-test.true c.loop-at.invariant).0 in
+    omega (arith, there)
+
+pub bounds-items-at : goal.bounds-items-at
+bounds-items-at c = (next_tried _ _ _ _ _ c.args.places.now c.loop-at.at-index c.loop-at-test.true c.loop-at.invariant).0
+
+pub try_on-requires : goal.try_on-requires
+try_on-requires c =
+    let next = next_tried _ _ _ _ _ c.args.places.now c.loop-at.at-index c.loop-at-test.true c.loop-at.invariant in
+    subst (λ (x : Item). IfOk (item_made_by c.args.work x) IsProperItem) (sym c.index-items-at.is) (c.requires.proper _ c.index-items-at.result next.0)
+
+pub returns-in_err-other-clause-err : goal.returns-in_err-other-clause-err
+returns-in_err-other-clause-err c =
+    let p = err_from_is_err_and c.from_residual.result c.from_residual.ensures.1 in
+    let next = next_tried _ _ _ _ _ c.args.places.now c.loop-at.at-index c.loop-at-test.true c.loop-at.invariant in
+    rw (p.1, p.2) (elim c.in_err-other.ensures.err [
+      | inl is ↦ inl (next.1 c.index-items-at.result c.index-items-at.is _ is)
+      | inr memory ↦ inr memory
+    ])
+
+pub loop-at-preserved : goal.loop-at-preserved
+loop-at-preserved c =
+    let next = next_tried _ _ _ _ _ c.args.places.now c.loop-at.at-index c.loop-at-test.true c.loop-at.invariant in
+    subst (λ left. AreTried (item_made_by c.args.work) c.args.items.now (items_made_by c.args.work c.args.items.now) left (c.loop-at.differs || c.in_ok-other.other) (drop (c.loop-at.at-index + 1) c.args.places.now))
+    (sym c.saturating_sub-left.ensures) (next.2 c.index-items-at.result c.index-items-at.is c.in_ok-other.size c.in_ok-other.other c.in_ok-other.ensures.ok)
+
+pub returns-then-differs-clause-ok : goal.returns-then-differs-clause-ok
+returns-then-differs-clause-ok c = λ past.
+    all_tried _ _ _ _ _ (drop c.loop-at.at-index c.args.places.now) (drop_all c.loop-at.at-index c.args.places.now c.loop-at-test.false) c.loop-at.invariant c.if-differs.true (eqb-true c.loop-at.left 0 past)

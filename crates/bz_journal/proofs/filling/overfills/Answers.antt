@@ -1,12 +1,19 @@
-use Rattle.std.proofs.Common.{◌≡◌, ◌∙◌, ⊎_elim, arith, inl, inr, subst}
+use Rattle.std.proofs.Common.{◌≡◌, ◌∙◌, ◌⊎◌, List, Err, ap, arith, subst, sym}
+use Rattle.std.specs.Prelude.{IfErr, IfOk, IsTrue}
 use Rattle.std.specs.Option.{option_copied}
 use Rattle.std.proofs.lemmas.Grind.{common_steps}
-use Rattle.std.proofs.lemmas.Result.{IfErr-weaker, IfOk-weaker}
 use Rattle.bz_value.specs.Proper.{IsProper}
 use Rattle.bz_command_syntax.specs.Proper.{IsProperCommand}
 use Rattle.bz_command.specs.Effect.{effect, on_each}
-use Rattle.bz_journal.proofs.GrownItems.{ones_proper, overfilled, refused_there}
+use Rattle.bz_journal.specs.Clauses.{Item, Overfills, Refusal, marked_places, meant}
+use Rattle.bz_journal.proofs.GrownItems.{ones_proper, one_by_one}
 use Rattle.bz_journal.proofs.filling.overfills.Goals as goal
+
+pub are_past-requires-clause-places : goal.are_past-requires-clause-places
+are_past-requires-clause-places c =
+    let work = c.args.work in
+    let are : c.in-Some.places.items ≡ marked_places 0 (meant work.target.now.which work.lines.now c.args.file.now) = grind (arith, common_steps) in
+    c.as_slice.ensures.value ∙ (are ∙ ap (λ (items : List Item). marked_places 0 (meant work.target.now.which work.lines.now items)) (sym (c.as_slice-2.ensures ∙ c.file.view_is)))
 
 pub are_past-requires-clause-proper : goal.are_past-requires-clause-proper
 are_past-requires-clause-proper c =
@@ -16,15 +23,13 @@ are_past-requires-clause-proper c =
 pub returns-clause-ok : goal.returns-clause-ok
 returns-clause-ok c =
     let work = c.args.work in
-    let each : effect work.command.now work.target.now work.current.now work.lines.now c.args.file.now ≡ on_each work.command.now work.current.now c.in-Some.marks.items c.args.file.now = grind (arith, common_steps) in
-    IfOk-weaker c.are_past.result _ _
-    (λ past grown over. overfilled work.command.now work.current.now (option_copied c.copied.result) c.in-Some.marks.items c.as_slice.result.now c.args.file.now c.as_slice-2.result.now _
-    c.copied.ensures c.as_slice.ensures.value (c.as_slice-2.ensures ∙ c.file.view_is) each (grown over)) c.are_past.ensures.ok
+    let each : effect work.command.now work.target.now work.current.now work.lines.now c.args.file.now ≡ on_each work.command.now work.current.now (meant work.target.now.which work.lines.now c.args.file.now) c.args.file.now = grind (arith, common_steps) in
+    one_by_one work.command.now work.target.now.which work.lines.now work.current.now (option_copied c.copied.result) c.args.file.now c.as_slice-2.result.now _ c.copied.ensures (c.as_slice-2.ensures ∙ c.file.view_is) each
+    (λ items made. IfOk c.are_past.result (λ over. IsTrue over → Overfills items made)) c.are_past.ensures.ok
 
 pub returns-clause-err : goal.returns-clause-err
 returns-clause-err c =
     let work = c.args.work in
-    let each : effect work.command.now work.target.now work.current.now work.lines.now c.args.file.now ≡ on_each work.command.now work.current.now c.in-Some.marks.items c.args.file.now = grind (arith, common_steps) in
-    IfErr-weaker c.are_past.result _ _
-    (λ refusal. ⊎_elim (λ e. inl (refused_there work.command.now work.current.now (option_copied c.copied.result) c.in-Some.marks.items c.as_slice.result.now c.args.file.now c.as_slice-2.result.now _
-    c.copied.ensures c.as_slice.ensures.value (c.as_slice-2.ensures ∙ c.file.view_is) each refusal e)) inr) c.are_past.ensures.err
+    let each : effect work.command.now work.target.now work.current.now work.lines.now c.args.file.now ≡ on_each work.command.now work.current.now (meant work.target.now.which work.lines.now c.args.file.now) c.args.file.now = grind (arith, common_steps) in
+    one_by_one work.command.now work.target.now.which work.lines.now work.current.now (option_copied c.copied.result) c.args.file.now c.as_slice-2.result.now _ c.copied.ensures (c.as_slice-2.ensures ∙ c.file.view_is) each
+    (λ items made. IfErr c.are_past.result (λ refusal. (made ≡ Err refusal) ⊎ (refusal ≡ Refusal.Memory))) c.are_past.ensures.err
