@@ -17,7 +17,7 @@ use Rattle.bz_rule.specs.Index.{marked_places, places_from}
 use Rattle.bz_command.specs.Effect.{NewItem, before_rest, first_mark, item_line, lines_after_item, meant, on_meant, printed_one, printed_rules, unmarked, with_item_first}
 use Rattle.bz_command_syntax.specs.declared.command.Operation.{Operation}
 use Rattle.bz_command.specs.declared.ruling.Work.{Work}
-use Rattle.bz_command.specs.private.Looks.{marks_by, one_made_by, places_by}
+use Rattle.bz_command.specs.private.Looks.{made_by, marks_by, one_made, one_made_by, places_by}
 use Rattle.bz_command.specs.private.Steps.{each_meant, lines_after_items}
 use Rattle.bz_command.proofs.TargetMarks.{as_many}
 use Rattle.bz_command.proofs.RunningItems.{NewItems, with_front, with_next}
@@ -165,6 +165,10 @@ pub by_places : (work : Work) (places : List ℕ) (items : List Item) → places
     → on_meant (one_made_by work) (marks_by work items) items ≡ on_places (one_made_by work) (i.Block []) places items
 by_places work places items is =
     sym (all_by_places (one_made_by work) (i.Block []) (marks_by work items) items (as_many work.target.now.which work.lines.now items)) ∙ ap (λ ps. on_places (one_made_by work) (i.Block []) ps items) (sym is)
+
+pub one_made_is : (work : Work) (operation : Operation) (item : Item) (new : NewItem) → operation ≡ work.command.now → made_by operation work item ≡ new → one_made_by work item ≡ new
+unfolding one_made
+one_made_is work operation item new is made = subst (λ (o : Operation). made_by o work item ≡ new) is made
 
 -- ---- lines
 

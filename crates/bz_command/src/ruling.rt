@@ -12,7 +12,7 @@ ghost use Rattle.bz_load.specs.Paths.{AreListed};
 ghost use Rattle.bz_grammar.specs.Places.{Ascend};
 ghost use Rattle.bz_attribute.specs.Made.{function_of};
 ghost use Rattle.bz_comment.specs.Changes.{changed_by};
-ghost use Rattle.bz_command.specs.Effect.{is_rule, loads_changed, looks_at_rules, on_arguments, on_meant, on_rules, on_each, on_statement, new_rule_place, source, source_of, unmarked, with_function};
+ghost use Rattle.bz_command.specs.Effect.{is_rule, loads_changed, looks_at_rules, on_arguments, on_meant, on_rules, on_statement, new_rule_place, source, source_of, unmarked, with_function};
 ghost use Rattle.bz_command.specs.private.Looks.{arguments_by, made_by, marks_by, one_made_by, places_by};
 ghost use Rattle.bz_command.specs.private.Growing.{IsCompared, IsGrown};
 
@@ -195,28 +195,14 @@ fn has_same_name(one: &Item, other: &Item) -> bool
 }
 
 /// Whether an item is the same as it was, and whether it has the same name.
-fn compared(item: &Item, before: &Item) -> (bool, bool)
-    ensures same { IsTrue result.0 ↔ (item.now ≡ before.now) }
-    ensures names { IsTrue result.1 → (name : Bytes) → has_name name item.now ≡ has_name name before.now }
+fn compared(item: &Item, before: Item) -> (bool, bool)
+    ensures same { IsTrue result.0 ↔ (item.now ≡ before) }
+    ensures names { IsTrue result.1 → (name : Bytes) → has_name name item.now ≡ has_name name before }
 {
-    if item.equals(before) {
+    if item.equals(&before) {
         return (true, true);
     }
-    (false, has_same_name(item, before))
-}
-
-/// What a command makes of an item that it is meant for. Whether the item is the same then, and whether it has the same name.
-#[tactic(auto, unfolding(crate::specs::private::Looks::one_made))]
-fn change_item(work: Work<'_, '_>, item: &mut Item) -> Result<(bool, bool), Refusal>
-    ensures ok { OnOk result (one_made_by work.entry item.old ≡ Ok item.new) }
-    ensures same { IfOk result (λ compared. IsTrue compared.0 ↔ (item.new ≡ item.old)) }
-    ensures names { IfOk result (λ compared. IsTrue compared.1 → (name : Bytes) → has_name name item.new ≡ has_name name item.old) }
-    ensures err { IfErr result (λ refusal. (one_made_by work.entry item.old ≡ Err refusal) ⊎ (refusal ≡ Refusal.Memory)) }
-{
-    let command = work.command;
-    let before = item.copy()?;
-    on_one(work, &command.operation, item)?;
-    Ok(compared(item, &before))
+    (false, has_same_name(item, &before))
 }
 
 /// A window more, unless the item at a place is the same.
@@ -250,10 +236,14 @@ fn on_meant(
     ensures names { IfOk result (λ made. IsTrue made.1 → HaveSameNames items.old items.new) }
     ensures err { IfErr result (λ refusal. (on_meant (one_made_by work.entry) (marks_by work.entry items.old) items.old ≡ Err refusal) ⊎ (refusal ≡ Refusal.Memory)) }
 {
+    let command = work.command;
     let mut growing = Growing::new(work.alloc);
     let mut same_names = true;
     for at in places {
-        let (same, same_name) = change_item(work, &mut items[*at])?;
+        let item = &mut items[*at];
+        let before = item.copy()?;
+        on_one(work, &command.operation, item)?;
+        let (same, same_name) = compared(item, before);
         note(same, *at, &mut growing)?;
         same_names &= same_name;
     }
@@ -314,22 +304,6 @@ fn on_found(
         windows,
         same_names,
     })
-}
-
-/// The same by the value that is copied, as it is before anything changes.
-fn on_each(work: Work<'_, '_>, places: &[usize], items: Items<Item>) -> Result<Changed, Refusal>
-    requires { places.now ≡ places_by work items }
-    ensures ok { IfOk result (λ changed. on_each work.entry.command.now work.entry.current.now (marks_by work.entry items) items ≡ Ok changed.items) }
-    ensures compared { IfOk result (IsCompared items) }
-    ensures err { IfErr result (λ refusal. (on_each work.entry.command.now work.entry.current.now (marks_by work.entry items) items ≡ Err refusal) ⊎ (refusal ≡ Refusal.Memory)) }
-{
-    let command = work.command;
-    let found = copied_source(&command.operation, items.as_slice())?;
-    let work = Work {
-        found: found.as_ref(),
-        ..work
-    };
-    on_found(work, places, items)
 }
 
 /// Appends an item; where it is marked there is a window more, of one item that is there no more.
@@ -504,7 +478,15 @@ pub fn on_rules(
         | Operation::Attribute(_)
         | Operation::Value(_)
         | Operation::Dict(_)
-        | Operation::Comment(_) => on_each(work, places, items),
+        | Operation::Comment(_) => {
+            // The value that is copied is as it is before anything changes.
+            let found = copied_source(&command.operation, items.as_slice())?;
+            let work = Work {
+                found: found.as_ref(),
+                ..work
+            };
+            on_found(work, places, items)
+        }
         Operation::Print { .. } => Ok(Changed {
             items,
             windows: Items::new(alloc),

@@ -1,15 +1,17 @@
-use Rattle.std.proofs.Common.{◌∙◌, ◌<◌, [], ℕ, List, ap, arith, get_or, inl, inr, length, refl, set, subst, sym}
+use Rattle.std.proofs.Common.{◌≡◌, ◌∙◌, ◌<◌, [], ℕ, List, ap, arith, get_or, inl, inr, length, refl, set, subst, sym}
 use Rattle.std.proofs.lemmas.List.{drop_all, length-set}
 use Rattle.std.proofs.lemmas.Bool.{and_parts}
 use Rattle.std.proofs.lemmas.Result.{err_from_is_err_and}
 use Rattle.std.proofs.Math.Seq.{map-set_same}
+use Rattle.std.specs.Prelude.{◌↔◌, IsTrue}
+use Rattle.bz_value.specs.declared.value.Item.{Item}
 use Rattle.bz_value.specs.declared.value.Item.TheVariants as i
 use Rattle.bz_load.proofs.PutSteps.{put_over}
 use Rattle.bz_grammar.specs.Places.{Ascend}
 use Rattle.bz_rule.specs.Rules.{has_name}
 use Rattle.bz_command.specs.private.Looks.{one_made_by}
 use Rattle.bz_command.proofs.OneMore.{left_further, left_next, nothing_grown, same_before, same_put}
-use Rattle.bz_command.proofs.MeantPlaces.{ascend_here, by_places, made, meant_ascend, on_places, refused}
+use Rattle.bz_command.proofs.MeantPlaces.{ascend_here, by_places, made, meant_ascend, on_places, one_made_is, refused}
 use Rattle.bz_command.proofs.ruling.on_meant.Goals as goal
 
 pub loop-at-init : goal.loop-at-init
@@ -33,16 +35,16 @@ offset_bounds-items-at c =
     let h = ascend_here l.growing.past (length c.args.items.now) c.args.places.now l.at-index c.loop-at-test.true l.invariant.order in
     omega (arith, h.1)
 
-pub returns-in_err-same-clause-err : goal.returns-in_err-same-clause-err
-returns-in_err-same-clause-err c =
-    let p = err_from_is_err_and c.from_residual.result c.from_residual.ensures.1 in
+pub returns-in_err-on_one-clause-err : goal.returns-in_err-on_one-clause-err
+returns-in_err-on_one-clause-err c =
+    let p = err_from_is_err_and c.from_residual-in_err-on_one.result c.from_residual-in_err-on_one.ensures.1 in
     let l = c.loop-at in
     let items = c.args.items.now in
     let h = ascend_here l.growing.past (length items) c.args.places.now l.at-index c.loop-at-test.true l.invariant.order in
     let d = c.index-items-at.result in
     let there : get_or c.args.places.now l.at-index 0 < length l.items = omega (arith, h.1, l.invariant.count) in
-    rw (p.1, p.2) (elim c.in_err-same.ensures.err [
-      | inl is ↦ inl (by_places c.args.work c.args.places.now items c.requires ∙ refused (one_made_by c.args.work) (i.Block []) c.args.places.now l.items l.at-index d _ c.loop-at-test.true there l.invariant.made _ is)
+    rw (p.1, p.2) (elim c.in_err-on_one.ensures.err [
+      | inl is ↦ inl (by_places c.args.work c.args.places.now items c.requires ∙ refused (one_made_by c.args.work) (i.Block []) c.args.places.now l.items l.at-index d _ c.loop-at-test.true there l.invariant.made _ (one_made_is c.args.work c.command.inside.operation _ _ c.command.view_is is))
       | inr memory ↦ inr memory
     ])
 
@@ -52,20 +54,21 @@ loop-at-preserved c =
     let h = ascend_here l.growing.past (length c.args.items.now) c.args.places.now l.at-index c.loop-at-test.true l.invariant.order in
     let at = get_or c.args.places.now l.at-index 0 in
     let d = c.index-items-at.result in
-    let new = c.change_item.new.item in
+    let new = c.on_one.new.item in
     let there : at < length l.items = omega (arith, h.1, l.invariant.count) in
-    let same = c.in_ok-same.ensures.same in
+    let was = c.in_ok-before.ensures in
+    let same = subst (λ (x : Item). IsTrue c.compared-same.result.0 ↔ (new ≡ x)) was c.compared-same.ensures.same in
     let long = length-set l.items at new in
     let stays = same_put l.items at d new in
     let left = left_further c.args.items.now l.items l.growing.past at h.0 l.invariant.left in record {
-      made = made (one_made_by c.args.work) (i.Block []) c.args.places.now l.items l.at-index d _ c.loop-at-test.true there l.invariant.made new c.in_ok-same.ensures.ok;
+      made = made (one_made_by c.args.work) (i.Block []) c.args.places.now l.items l.at-index d _ c.loop-at-test.true there l.invariant.made new (one_made_is c.args.work c.command.inside.operation _ _ c.command.view_is c.in_ok-on_one.ensures.ok);
       order = c.in_ok-note.ensures.order _ _ h;
       grown = c.in_ok-note.ensures.grown c.args.items.now l.items (set l.items at new) (omega arith) (omega (arith, long)) l.invariant.grown (λ is. stays (same.0 is)) (put_over at new l.items (set l.items at new) there refl);
       none = λ equal.
           let is = same_before c.args.items.now l.items at d new there left equal in
           c.in_ok-note.ensures.none (same.1 is) ∙ l.invariant.none (sym (stays is) ∙ equal);
       left = c.in_ok-note.ensures.left c.args.items.now l.items (set l.items at new) l.invariant.left (λ is. stays (same.0 is)) (left_next c.args.items.now l.items at new left);
-      names = λ both name. map-set_same (has_name name) l.items at new d (c.in_ok-same.ensures.names (and_parts _ _ both).1 name) ∙ l.invariant.names (and_parts _ _ both).0 name;
+      names = λ both name. map-set_same (has_name name) l.items at new d (c.compared-same.ensures.names (and_parts _ _ both).1 name ∙ ap (has_name name) was) ∙ l.invariant.names (and_parts _ _ both).0 name;
       count = long ∙ l.invariant.count;
     }
 
