@@ -6,6 +6,7 @@ ghost use Rattle.std.specs.Option.{option_copied};
 ghost use Rattle.bz_value.specs.declared.value.Item.{Item};
 ghost use Rattle.bz_value.specs.Windows.{AreOver, IsSpliced};
 ghost use Rattle.bz_rule.specs.Rules.{has_name};
+ghost use Rattle.bz_rule.specs.Held.{held_name};
 ghost use Rattle.bz_rule.specs.Index.{HaveSameNames};
 ghost use Rattle.bz_items.specs.Characters.{Bytes};
 ghost use Rattle.bz_load.specs.Paths.{AreListed};
@@ -13,7 +14,7 @@ ghost use Rattle.bz_grammar.specs.Places.{Ascend};
 ghost use Rattle.bz_attribute.specs.Made.{function_of};
 ghost use Rattle.bz_comment.specs.Changes.{changed_by};
 ghost use Rattle.bz_command.specs.Effect.{is_rule, loads_changed, looks_at_rules, on_arguments, on_meant, on_rules, on_statement, new_rule_place, source, source_of, unmarked, with_function};
-ghost use Rattle.bz_command.specs.private.Looks.{arguments_by, made_by, marks_by, one_made_by, places_by};
+ghost use Rattle.bz_command.specs.private.Looks.{arguments_by, made_by, marks_by, one_made_by, places_by, tells_change};
 ghost use Rattle.bz_command.specs.private.Growing.{IsCompared, IsGrown};
 
 use crate::targets::{arguments_of, is_rule, take_place};
@@ -79,47 +80,66 @@ pub struct Changed {
     pub same_names: bool,
 }
 
-/// What a command makes of the arguments of a rule that it is meant for.
-fn change(work: Work<'_, '_>, operation: &Operation, list: &mut Items<Expr>) -> Result<(), Refusal>
+/// Whether an operation says itself whether it changes a rule.
+fn tells_change(operation: &Operation) -> bool
+    ensures { result ≡ tells_change operation.now }
+{
+    matches!(operation, Operation::Value(operation) if bz_list::tells_change(operation))
+}
+
+/// What a command makes of the arguments of a rule that it is meant for. The answer: whether they are known to stay the same.
+fn change(
+    work: Work<'_, '_>,
+    operation: &Operation,
+    list: &mut Items<Expr>,
+) -> Result<bool, Refusal>
     ensures ok { OnOk result (arguments_by operation.now work.entry list.old ≡ Ok list.new) }
+    ensures same { IsTrue (tells_change operation.now) → IfOk result (λ same. IsTrue same ↔ (list.new ≡ list.old)) }
     ensures err { IfErr result (λ refusal. (arguments_by operation.now work.entry list.old ≡ Err refusal) ⊎ (refusal ≡ Refusal.Memory)) }
 {
     let (alloc, current) = (work.alloc, work.current);
     match operation {
         Operation::Attribute(operation) => {
-            change_attributes(alloc, operation, current, work.found, list)
+            change_attributes(alloc, operation, current, work.found, list)?;
+            Ok(false)
         }
         Operation::Value(operation) => change_values(alloc, operation, current, list),
-        Operation::Dict(operation) => change_dicts(alloc, operation, current, list),
+        Operation::Dict(operation) => {
+            change_dicts(alloc, operation, current, list)?;
+            Ok(false)
+        }
         Operation::Comment(CommentOperation::Add { host, text }) => {
-            change_comments(alloc, current, host, Change::Add(text.as_slice()), list)
+            change_comments(alloc, current, host, Change::Add(text.as_slice()), list)?;
+            Ok(false)
         }
         Operation::Comment(CommentOperation::Remove { host }) => {
-            change_comments(alloc, current, host, Change::Remove, list)
+            change_comments(alloc, current, host, Change::Remove, list)?;
+            Ok(false)
         }
         Operation::Comment(CommentOperation::Print { .. })
         | Operation::Rule(_)
         | Operation::Load(_)
-        | Operation::Print { .. } => Ok(()),
+        | Operation::Print { .. } => Ok(true),
     }
 }
 
-/// What a command makes of a rule by changing its arguments; what is no rule stays.
-fn change_rule(work: Work<'_, '_>, operation: &Operation, item: &mut Item) -> Result<(), Refusal>
+/// What a command makes of a rule by changing its arguments; what is no rule stays. The answer: whether it is known to stay the same.
+fn change_rule(work: Work<'_, '_>, operation: &Operation, item: &mut Item) -> Result<bool, Refusal>
     ensures ok { OnOk result (on_arguments (arguments_by operation.now work.entry) item.old ≡ Ok item.new) }
+    ensures same { IsTrue (tells_change operation.now) → IfOk result (λ same. IsTrue same ↔ (item.new ≡ item.old)) }
     ensures err { IfErr result (λ refusal. (on_arguments (arguments_by operation.now work.entry) item.old ≡ Err refusal) ⊎ (refusal ≡ Refusal.Memory)) }
 {
     if !is_rule(item) {
-        return Ok(());
+        return Ok(true);
     }
     if let Item::Stmt(Expr::Form(form)) = item {
         if let [call, ..] = form.parts.as_mut_slice() {
             if let Expr::Form(call) = call {
-                change(work, operation, &mut call.seq.items)?;
+                return change(work, operation, &mut call.seq.items);
             }
         }
     }
-    Ok(())
+    Ok(true)
 }
 
 /// The rule's kind becomes this one; what is no rule stays.
@@ -153,24 +173,34 @@ fn change_statement(alloc: Global, change: Change<'_>, item: &mut Item) -> Resul
     }
 }
 
-/// What a command makes of a rule that it is meant for.
+/// What a command makes of a rule that it is meant for. The answer: whether it is known to stay the same.
 pub(crate) fn on_one(
     work: Work<'_, '_>,
     operation: &Operation,
     item: &mut Item,
-) -> Result<(), Refusal>
+) -> Result<bool, Refusal>
     ensures ok { OnOk result (made_by operation.now work.entry item.old ≡ Ok item.new) }
+    ensures same { IsTrue (tells_change operation.now) → IfOk result (λ same. IsTrue same ↔ (item.new ≡ item.old)) }
     ensures err { IfErr result (λ refusal. (made_by operation.now work.entry item.old ≡ Err refusal) ⊎ (refusal ≡ Refusal.Memory)) }
 {
     let alloc = work.alloc;
     match operation {
-        Operation::Rule(RuleOperation::SetKind { kind }) => set_kind(alloc, kind, item),
+        Operation::Rule(RuleOperation::SetKind { kind }) => {
+            set_kind(alloc, kind, item)?;
+            Ok(false)
+        }
         Operation::Comment(CommentOperation::Add { host, text }) => match host {
-            Host::Rule => change_statement(alloc, Change::Add(text.as_slice()), item),
+            Host::Rule => {
+                change_statement(alloc, Change::Add(text.as_slice()), item)?;
+                Ok(false)
+            }
             Host::Attribute(_) | Host::Item { .. } => change_rule(work, operation, item),
         },
         Operation::Comment(CommentOperation::Remove { host }) => match host {
-            Host::Rule => change_statement(alloc, Change::Remove, item),
+            Host::Rule => {
+                change_statement(alloc, Change::Remove, item)?;
+                Ok(false)
+            }
             Host::Attribute(_) | Host::Item { .. } => change_rule(work, operation, item),
         },
         Operation::Rule(RuleOperation::New { .. } | RuleOperation::Delete)
@@ -183,26 +213,43 @@ pub(crate) fn on_one(
     }
 }
 
-/// Whether both items have the same name, or none.
-fn has_same_name(one: &Item, other: &Item) -> bool
-    ensures { IsTrue result → (name : Bytes) → has_name name one.now ≡ has_name name other.now }
+/// The same, and exactly whether it stays the same: where the operation doesn't tell, the rule is compared with a copy.
+fn on_one_compared(
+    work: Work<'_, '_>,
+    operation: &Operation,
+    item: &mut Item,
+) -> Result<bool, Refusal>
+    ensures ok { OnOk result (made_by operation.now work.entry item.old ≡ Ok item.new) }
+    ensures same { IfOk result (λ same. IsTrue same ↔ (item.new ≡ item.old)) }
+    ensures err { IfErr result (λ refusal. (made_by operation.now work.entry item.old ≡ Err refusal) ⊎ (refusal ≡ Refusal.Memory)) }
 {
-    match (held_name(one), held_name(other)) {
-        (Some(name), Some(others)) => name == others,
-        (None, None) => true,
-        _ => false,
+    if tells_change(operation) {
+        return on_one(work, operation, item);
+    }
+    let before = item.copy()?;
+    on_one(work, operation, item)?;
+    Ok(item.equals(&before))
+}
+
+/// A copy of the name of an item, where it has one.
+fn copied_name(alloc: Global, item: &Item) -> Result<Option<Text>, Memory>
+    ensures { IfOk result (λ name. name ≡ held_name item.now) }
+{
+    match held_name(item) {
+        Some(name) => Ok(Some(Text::from_slice(alloc, name)?)),
+        None => Ok(None),
     }
 }
 
-/// Whether an item is the same as it was, and whether it has the same name.
-fn compared(item: &Item, before: Item) -> (bool, bool)
-    ensures same { IsTrue result.0 ↔ (item.now ≡ before) }
-    ensures names { IsTrue result.1 → (name : Bytes) → has_name name item.now ≡ has_name name before }
+/// Whether an item has this name, or none where this is none.
+fn has_this_name(name: Option<Text>, item: &Item) -> bool
+    ensures { IsTrue result → held_name item.now ≡ name }
 {
-    if item.equals(&before) {
-        return (true, true);
+    match (held_name(item), &name) {
+        (Some(held), Some(name)) => held == name.as_slice(),
+        (None, None) => true,
+        _ => false,
     }
-    (false, has_same_name(item, &before))
 }
 
 /// A window more, unless the item at a place is the same.
@@ -241,11 +288,10 @@ fn on_meant(
     let mut same_names = true;
     for at in places {
         let item = &mut items[*at];
-        let before = item.copy()?;
-        on_one(work, &command.operation, item)?;
-        let (same, same_name) = compared(item, before);
+        let name = copied_name(work.alloc, item)?;
+        let same = on_one_compared(work, &command.operation, item)?;
+        same_names &= has_this_name(name, item);
         note(same, *at, &mut growing)?;
-        same_names &= same_name;
     }
     Ok((growing.windows, same_names))
 }

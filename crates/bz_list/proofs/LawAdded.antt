@@ -67,7 +67,7 @@ first_that_same test change f (x ∷ xs) =
 list_more_none : (x : Expr) → on_items k.List (λ items. items ++ []) x ≡ x
 list_more_none x = items_same k.List (λ items. items ++ []) x (append-nil (items_of x))
 
-more_none : (value : Expr) → with_more [] value ≡ value
+pub more_none : (value : Expr) → with_more [] value ≡ value
 more_none value =
     let change : Expr → Expr = on_items k.List (λ items. items ++ []) in
     if_either (has_kind k.Sum value) (on_row k.Sum (on_first_that (has_kind k.List) change) value) (change value) value
@@ -239,7 +239,7 @@ none_listed (x ∷ xs) h =
     both (λ ys zs. ys ++ zs) (if_false (has_kind k.List x) (items_of x) [] p.0) (none_listed xs p.1)
 
 -- a sign and a list
-abbrev following : List Expr → List Expr
+abbrev pub following : List Expr → List Expr
 following items = mark (codes "+") ∷ list_of items ∷ []
 
 items_after : (items : List Expr) → flat_map listed (following items) ≡ items

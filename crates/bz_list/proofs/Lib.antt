@@ -4,3 +4,4 @@ pub mod KnownSteps
 pub mod LawAdded
 pub mod ListedForms
 pub mod ProperCommands
+pub mod StayedSame

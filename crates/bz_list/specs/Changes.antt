@@ -1,5 +1,5 @@
 -- What the commands on the values of attributes make of the arguments of a rule.
-use Rattle.std.specs.Prelude.{Bool, true, not, List, [], Ok, Err, map, if◌then◌else◌, bytes_eq}
+use Rattle.std.specs.Prelude.{Bool, true, false, not, List, [], Ok, Err, map, if◌then◌else◌, bytes_eq}
 use Rattle.std.specs.List.{list_any, filter}
 use Rattle.std.specs.Option.{option_map_or}
 use Rattle.bz_value.specs.declared.value.Expr.{Expr}
@@ -107,3 +107,9 @@ values_changed (wv.Remove name words) current arguments = remove_values current 
 values_changed (wv.Replace attributes old new) current arguments = replace current attributes old new arguments
 values_changed (wv.Substitute attributes pattern template) current arguments = substitute current attributes pattern template arguments
 values_changed (wv.Move from to values) current arguments = move current from to values arguments
+
+-- `add` and `remove` know whether they change anything: a list grows or it loses items. Of the others one may give back what it takes away.
+abbrev pub tells_change : ValueOperation → Bool
+tells_change (wv.Add name words) = true
+tells_change (wv.Remove name words) = true
+tells_change _ = false

@@ -7,4 +7,4 @@ mod listed;
 mod replacing;
 
 pub use laws::{added_is_there, adding_again, removing_again};
-pub use listed::change_values;
+pub use listed::{change_values, tells_change};

@@ -1,5 +1,5 @@
 //! Items that are added to the lists of an attribute, removed from them and moved to another one, and the table of all commands on values.
-ghost use Rattle.std.specs.Prelude.{◌≡◌, ◌⊎◌, ◌++◌, ◌∷◌, [], ℕ, List, Ok, Err, IfOk, OnOk, IfErr, map, not};
+ghost use Rattle.std.specs.Prelude.{◌≡◌, ◌⊎◌, ◌↔◌, IsTrue, ◌++◌, ◌∷◌, [], ℕ, List, Ok, Err, IfOk, OnOk, IfErr, map, not};
 ghost use Rattle.std.specs.List.{filter, flat_map, list_any};
 ghost use Rattle.bz_grammar.specs.declared.kind.Kind.TheVariants as kinds;
 ghost use Rattle.bz_value.specs.Empty.{is_empty};
@@ -8,7 +8,7 @@ ghost use Rattle.bz_rule.specs.Values.{has_kind as is_of, on_items, on_lists};
 ghost use Rattle.bz_attribute.specs.Attributes.{on_first_that};
 ghost use Rattle.bz_attribute.specs.Lists.{fresh, is_item as is_item_of, items_in, listed as as_listed, with_more};
 ghost use Rattle.bz_attribute.specs.Made.{string_of as string_made};
-ghost use Rattle.bz_list.specs.Changes.{with_items_added, remove_values, move, values_changed};
+ghost use Rattle.bz_list.specs.Changes.{with_items_added, remove_values, move, tells_change, values_changed};
 ghost use Rattle.bz_list.specs.private.KnownValues.{knows_word};
 ghost use Rattle.bz_list.specs.private.Listing.{added_by, added_to, chooses, chosen_in, is_item_ending, is_left, new_items, new_strings, put_back, value_with, without_chosen};
 
@@ -164,37 +164,40 @@ fn append_to_value(more: &mut Vec<Expr>, value: &mut Expr) -> Done
     Ok(())
 }
 
-/// A value with items at the end of its first list; one that is no list becomes a sum with a new one.
+/// A value with items at the end of its first list, and whether it is the same; one that is no list becomes a sum with a new one.
 #[tactic(auto, using(crate::proofs::ListedForms::no_items))]
-fn grown(slot: Slot<'_>, more: Items<Expr>, mut value: Expr) -> Result<Expr, Memory>
-    ensures { (added : List Expr → List Expr) → more ≡ added (items_in value) → IfOk result (λ new. new ≡ value_with added value) }
+fn grown(slot: Slot<'_>, more: Items<Expr>, mut value: Expr) -> Result<(Expr, bool), Memory>
+    ensures value { (added : List Expr → List Expr) → more ≡ added (items_in value) → IfOk result (λ made. made.0 ≡ value_with added value) }
+    ensures same { IfOk result (λ made. IsTrue made.1 ↔ (made.0 ≡ value)) }
 {
     if has_lists(&value) {
+        let same = more.is_empty();
         append_to_value(&mut more.into_vec(), &mut value)?;
-        return Ok(value);
+        return Ok((value, same));
     }
     let sum = plus(slot.alloc, value, list_of(slot.alloc, more))?;
-    Ok(sum)
+    Ok((sum, false))
 }
 
-/// Adds items to an attribute.
+/// Adds items to an attribute. The answer: whether the arguments stay the same.
 #[tactic(auto, using(crate::proofs::ListedForms::added_found))]
-fn add_items(slot: Slot<'_>, added: Added<'_>, arguments: &mut Items<Expr>) -> Result<(), Refusal>
+fn add_items(slot: Slot<'_>, added: Added<'_>, arguments: &mut Items<Expr>) -> Result<bool, Refusal>
     ensures ok { OnOk result (with_items_added slot.entry.attribute.now (added_by slot.entry.current.now slot.entry.attribute.now added.entry) arguments.old ≡ Ok arguments.new) }
+    ensures same { IfOk result (λ same. IsTrue same ↔ (arguments.new ≡ arguments.old)) }
     ensures err { IfErr result (λ refusal. (with_items_added slot.entry.attribute.now (added_by slot.entry.current.now slot.entry.attribute.now added.entry) arguments.old ≡ Err refusal) ⊎ (refusal ≡ Refusal.Memory)) }
 {
     let Some(value) = take_value(slot.alloc, slot.attribute, arguments) else {
         let list = list_of(slot.alloc, added_beside(slot, added, &[])?);
         add_attribute(slot.alloc, slot.attribute, list, arguments)?;
-        return Ok(());
+        return Ok(false);
     };
     if is_no_list(&value) {
         return Err(Refusal::NotAList);
     }
     let more = added_beside(slot, added, operands_of(&value))?;
-    let value = grown(slot, more, value)?;
+    let (value, same) = grown(slot, more, value)?;
     set_value(slot.attribute, value, arguments);
-    Ok(())
+    Ok(same)
 }
 
 /// Takes the items that the command is meant for.
@@ -282,20 +285,26 @@ fn take_items(
     Ok(taken)
 }
 
-/// Items that are one of the words go; the attribute goes where its whole value is then an empty list.
-fn remove_values(slot: Slot<'_>, words: &[Text], arguments: &mut Items<Expr>) -> Result<(), Refusal>
+/// Items that are one of the words go; the attribute goes where its whole value is then an empty list. The answer: whether the arguments
+/// stay the same.
+fn remove_values(
+    slot: Slot<'_>,
+    words: &[Text],
+    arguments: &mut Items<Expr>,
+) -> Result<bool, Refusal>
     ensures ok { OnOk result (remove_values slot.entry.current.now slot.entry.attribute.now words.now arguments.old ≡ Ok arguments.new) }
+    ensures same { IfOk result (λ same. IsTrue same ↔ (arguments.new ≡ arguments.old)) }
     ensures err { IfErr result (λ refusal. (remove_values slot.entry.current.now slot.entry.attribute.now words.now arguments.old ≡ Err refusal) ⊎ (refusal ≡ Refusal.Memory)) }
 {
     let Some(value) = attribute(slot.attribute, arguments.as_slice()) else {
-        return Ok(());
+        return Ok(true);
     };
     if is_no_list(value) {
         return Err(Refusal::NotAList);
     }
     let chosen = words_chosen(slot, words)?;
-    take_items(slot, &chosen, arguments)?;
-    Ok(())
+    let taken = take_items(slot, &chosen, arguments)?;
+    Ok(taken.is_empty())
 }
 
 /// Items leave one attribute and are added to another.
@@ -323,18 +332,31 @@ fn move_values(
         attribute: to,
         ..from
     };
-    add_items(to, Added::Moved(taken), arguments)
+    add_items(to, Added::Moved(taken), arguments)?;
+    Ok(())
 }
 
-/// What an operation on the values of attributes makes of the arguments of a rule. `current` is the path of the file's package. Errors:
-/// the refusal of the operation; `Memory`: a growth was refused. After an error part of the arguments may be lost.
+/// Whether the answer of `change_values` says exactly whether the arguments stay the same.
+pub fn tells_change(operation: &ValueOperation) -> bool
+    ensures { result ≡ tells_change operation.now }
+{
+    matches!(
+        operation,
+        ValueOperation::Add { .. } | ValueOperation::Remove { .. }
+    )
+}
+
+/// What an operation on the values of attributes makes of the arguments of a rule. `current` is the path of the file's package. The
+/// answer: whether the arguments are known to stay the same. Errors: the refusal of the operation; `Memory`: a growth was refused. After an
+/// error part of the arguments may be lost.
 pub fn change_values(
     alloc: Global,
     operation: &ValueOperation,
     current: &[u8],
     arguments: &mut Items<Expr>,
-) -> Result<(), Refusal>
+) -> Result<bool, Refusal>
     ensures ok { OnOk result (values_changed operation.now current.now arguments.old ≡ Ok arguments.new) }
+    ensures same { IsTrue (tells_change operation.now) → IfOk result (λ same. IsTrue same ↔ (arguments.new ≡ arguments.old)) }
     ensures err { IfErr result (λ refusal. (values_changed operation.now current.now arguments.old ≡ Err refusal) ⊎ (refusal ≡ Refusal.Memory)) }
 {
     match operation {
@@ -352,7 +374,8 @@ pub fn change_values(
             new,
         } => {
             let change = Change::Replace { old, new };
-            Ok(change.on_attributes(alloc, current, attributes, arguments)?)
+            change.on_attributes(alloc, current, attributes, arguments)?;
+            Ok(false)
         }
         ValueOperation::Substitute {
             attributes,
@@ -360,11 +383,13 @@ pub fn change_values(
             template,
         } => {
             let change = Change::Substitute { pattern, template };
-            Ok(change.on_attributes(alloc, current, attributes, arguments)?)
+            change.on_attributes(alloc, current, attributes, arguments)?;
+            Ok(false)
         }
         ValueOperation::Move { from, to, values } => {
             let from = Slot::new(alloc, current, from.as_slice());
-            move_values(from, to.as_slice(), values, arguments)
+            move_values(from, to.as_slice(), values, arguments)?;
+            Ok(false)
         }
     }
 }

@@ -12,6 +12,7 @@ use Rattle.bz_command_syntax.specs.declared.command.RuleOperation.TheVariants as
 use Rattle.bz_command.specs.declared.ruling.Work.{Work}
 use Rattle.bz_attribute.specs.Attributes.{Arguments}
 use Rattle.bz_command.specs.Effect.{NewItem, arguments_of, effect, looks_at_rules, meant, on_one, on_rules, printed}
+use Rattle.bz_list.specs.Changes as values
 use Rattle.bz_rule.specs.Index.{marked_places}
 use Rattle.bz_command.specs.declared.running.Look.{Look}
 use Rattle.bz_command.specs.declared.running.Look.TheVariants as l
@@ -29,6 +30,11 @@ one_made operation current found item = on_one operation current found item
 
 abbrev pub one_made_by : Work → Item → NewItem
 one_made_by work = one_made work.command.now work.current.now (option_copied work.found)
+
+-- an operation that says itself whether it changes a rule
+abbrev pub tells_change : Operation → Bool
+tells_change (w.Value operation) = values.tells_change operation
+tells_change _ = false
 
 -- what a command that is run makes of a file, and what it prints
 abbrev pub effect_by : Work → List Item → Result (List Item) Refusal

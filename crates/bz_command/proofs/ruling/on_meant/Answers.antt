@@ -3,12 +3,11 @@ use Rattle.std.proofs.lemmas.List.{drop_all, length-set}
 use Rattle.std.proofs.lemmas.Bool.{and_parts}
 use Rattle.std.proofs.lemmas.Result.{err_from_is_err_and}
 use Rattle.std.proofs.Math.Seq.{map-set_same}
-use Rattle.std.specs.Prelude.{◌↔◌, IsTrue}
 use Rattle.bz_value.specs.declared.value.Item.{Item}
 use Rattle.bz_value.specs.declared.value.Item.TheVariants as i
 use Rattle.bz_load.proofs.PutSteps.{put_over}
 use Rattle.bz_grammar.specs.Places.{Ascend}
-use Rattle.bz_rule.specs.Rules.{has_name}
+use Rattle.bz_rule.specs.Rules.{has_name, is_text}
 use Rattle.bz_command.specs.private.Looks.{one_made_by}
 use Rattle.bz_command.proofs.OneMore.{left_further, left_next, nothing_grown, same_before, same_put}
 use Rattle.bz_command.proofs.MeantPlaces.{ascend_here, by_places, made, meant_ascend, on_places, one_made_is, refused}
@@ -35,15 +34,15 @@ offset_bounds-items-at c =
     let h = ascend_here l.growing.past (length c.args.items.now) c.args.places.now l.at-index c.loop-at-test.true l.invariant.order in
     omega (arith, h.1)
 
-pub returns-in_err-on_one-clause-err : goal.returns-in_err-on_one-clause-err
-returns-in_err-on_one-clause-err c =
-    let p = err_from_is_err_and c.from_residual-in_err-on_one.result c.from_residual-in_err-on_one.ensures.1 in
+pub returns-in_err-on_one_compared-clause-err : goal.returns-in_err-on_one_compared-clause-err
+returns-in_err-on_one_compared-clause-err c =
+    let p = err_from_is_err_and c.from_residual-in_err-on_one_compared.result c.from_residual-in_err-on_one_compared.ensures.1 in
     let l = c.loop-at in
     let items = c.args.items.now in
     let h = ascend_here l.growing.past (length items) c.args.places.now l.at-index c.loop-at-test.true l.invariant.order in
     let d = c.index-items-at.result in
     let there : get_or c.args.places.now l.at-index 0 < length l.items = omega (arith, h.1, l.invariant.count) in
-    rw (p.1, p.2) (elim c.in_err-on_one.ensures.err [
+    rw (p.1, p.2) (elim c.in_err-on_one_compared.ensures.err [
       | inl is ↦ inl (by_places c.args.work c.args.places.now items c.requires ∙ refused (one_made_by c.args.work) (i.Block []) c.args.places.now l.items l.at-index d _ c.loop-at-test.true there l.invariant.made _ (one_made_is c.args.work c.command.inside.operation _ _ c.command.view_is is))
       | inr memory ↦ inr memory
     ])
@@ -54,21 +53,20 @@ loop-at-preserved c =
     let h = ascend_here l.growing.past (length c.args.items.now) c.args.places.now l.at-index c.loop-at-test.true l.invariant.order in
     let at = get_or c.args.places.now l.at-index 0 in
     let d = c.index-items-at.result in
-    let new = c.on_one.new.item in
+    let new = c.on_one_compared.new.item in
     let there : at < length l.items = omega (arith, h.1, l.invariant.count) in
-    let was = c.in_ok-before.ensures in
-    let same = subst (λ (x : Item). IsTrue c.compared-same.result.0 ↔ (new ≡ x)) was c.compared-same.ensures.same in
+    let same = c.in_ok-same.ensures.same in
     let long = length-set l.items at new in
     let stays = same_put l.items at d new in
     let left = left_further c.args.items.now l.items l.growing.past at h.0 l.invariant.left in record {
-      made = made (one_made_by c.args.work) (i.Block []) c.args.places.now l.items l.at-index d _ c.loop-at-test.true there l.invariant.made new (one_made_is c.args.work c.command.inside.operation _ _ c.command.view_is c.in_ok-on_one.ensures.ok);
+      made = made (one_made_by c.args.work) (i.Block []) c.args.places.now l.items l.at-index d _ c.loop-at-test.true there l.invariant.made new (one_made_is c.args.work c.command.inside.operation _ _ c.command.view_is c.in_ok-same.ensures.ok);
       order = c.in_ok-note.ensures.order _ _ h;
       grown = c.in_ok-note.ensures.grown c.args.items.now l.items (set l.items at new) (omega arith) (omega (arith, long)) l.invariant.grown (λ is. stays (same.0 is)) (put_over at new l.items (set l.items at new) there refl);
       none = λ equal.
           let is = same_before c.args.items.now l.items at d new there left equal in
           c.in_ok-note.ensures.none (same.1 is) ∙ l.invariant.none (sym (stays is) ∙ equal);
       left = c.in_ok-note.ensures.left c.args.items.now l.items (set l.items at new) l.invariant.left (λ is. stays (same.0 is)) (left_next c.args.items.now l.items at new left);
-      names = λ both name. map-set_same (has_name name) l.items at new d (c.compared-same.ensures.names (and_parts _ _ both).1 name ∙ ap (has_name name) was) ∙ l.invariant.names (and_parts _ _ both).0 name;
+      names = λ both name. map-set_same (has_name name) l.items at new d (ap (is_text name) (c.has_this_name.ensures (and_parts _ _ both).1 ∙ c.in_ok-name.ensures)) ∙ l.invariant.names (and_parts _ _ both).0 name;
       count = long ∙ l.invariant.count;
     }
 

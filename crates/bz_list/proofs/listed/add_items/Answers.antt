@@ -1,12 +1,13 @@
-use Rattle.std.proofs.Common.{◌≡◌, List, sym, ap, ◌∙◌, rules}
-use Rattle.std.specs.Prelude.{Some, Ok, Err}
+use Rattle.std.proofs.Common.{◌≡◌, ◌∙◌, false, List, ap, refl, rules, subst, sym}
+use Rattle.std.specs.Prelude.{◌↔◌, IsTrue, Some, Ok, Err}
 use Rattle.bz_value.specs.declared.value.Expr.{Expr}
 use Rattle.bz_value.specs.declared.refusal.Refusal.TheVariants.{NotAList}
 use Rattle.bz_rule.specs.Rules.{attribute}
-use Rattle.bz_attribute.specs.Attributes.{with_value}
+use Rattle.bz_attribute.specs.Attributes.{with_new, with_value}
 use Rattle.bz_attribute.proofs.FormsAgain.{if_false}
 use Rattle.bz_list.specs.private.Listing.{added_by}
 use Rattle.bz_list.proofs.ListedForms.{added_found}
+use Rattle.bz_list.proofs.StayedSame.{never, other_new, put_same}
 use Rattle.bz_list.proofs.listed.add_items.Goals as goal
 
 pub returns-clause-ok : goal.returns-clause-ok
@@ -18,4 +19,19 @@ returns-clause-ok c =
     added_found name added c.args.arguments.now value own
     ∙ (if_false _ (Err NotAList) _ (sym c.if-is_no_list.ensures)
     ∙ ap Ok (sym (c.set_value.ensures
-    ∙ (ap (λ (x : Expr). with_value name x c.take_value.new.arguments) (c.in_ok-value.ensures added (c.in_ok-more.ensures ∙ ap added c.operands_of.ensures)) ∙ c.in-Some.ensures.place _))))
+    ∙ (ap (λ (x : Expr). with_value name x c.take_value.new.arguments) (c.in_ok-value.ensures.value added (c.in_ok-more.ensures ∙ ap added c.operands_of.ensures)) ∙ c.in-Some.ensures.place _))))
+
+pub returns-in_default-clause-same : goal.returns-in_default-clause-same
+returns-in_default-clause-same c =
+    let name = c.args.slot.attribute.now in
+    let xs = c.args.arguments.now in
+    let list = c.list_of-list.result in
+    subst (λ (ys : List Expr). IsTrue false ↔ (ys ≡ xs)) (sym (c.in_ok-add_attribute.ensures ∙ ap (with_new name list) (c.in_default.ensures.none refl))) (never (other_new name list xs))
+
+pub returns-clause-same : goal.returns-clause-same
+returns-clause-same c =
+    let name = c.args.slot.attribute.now in
+    let xs = c.args.arguments.now in
+    let made = c.in_ok-value in
+    let own : attribute name xs ≡ Some c.in-Some.value = search rules in
+    subst (λ (ys : List Expr). IsTrue made.same ↔ (ys ≡ xs)) (sym (c.set_value.ensures ∙ c.in-Some.ensures.place _)) (put_same name c.in-Some.value made.value xs made.same own made.ensures.same)

@@ -1,9 +1,11 @@
-use Rattle.std.proofs.Common.{◌≡◌, false, rules}
-use Rattle.std.specs.Prelude.{Some}
+use Rattle.std.proofs.Common.{◌≡◌, ◌∙◌, Bool, false, List, ap, rules, subst, sym}
+use Rattle.std.specs.Prelude.{◌↔◌, IsTrue, Option, Some}
+use Rattle.bz_value.specs.declared.value.Expr.{Expr}
 use Rattle.bz_rule.specs.Rules.{attribute}
 use Rattle.bz_attribute.specs.Lists.{is_no_list}
-use Rattle.bz_list.specs.private.Listing.{chooses}
+use Rattle.bz_list.specs.private.Listing.{chooses, chosen_in, without_chosen}
 use Rattle.bz_list.proofs.ListedForms.{removed}
+use Rattle.bz_list.proofs.StayedSame.{same_left}
 use Rattle.bz_list.proofs.listed.remove_values.Goals as goal
 
 pub returns-clause-ok : goal.returns-clause-ok
@@ -13,4 +15,15 @@ returns-clause-ok c =
     let value = c.in-Some.value.now in
     let own : attribute name c.args.arguments.now ≡ Some value = search rules in
     let listable : is_no_list value ≡ false = search rules in
-    removed current name c.args.words.now c.args.arguments.now c.take_items.new.arguments (chooses current name c.in_ok-chosen.chosen) value c.in_ok-chosen.ensures own listable c.in_ok-take_items.ensures.left
+    removed current name c.args.words.now c.args.arguments.now c.take_items.new.arguments (chooses current name c.in_ok-chosen.chosen) value c.in_ok-chosen.ensures own listable c.in_ok-taken.ensures.left
+
+pub returns-clause-same : goal.returns-clause-same
+returns-clause-same c =
+    let name = c.args.slot.attribute.now in
+    let xs = c.args.arguments.now in
+    let value = c.in-Some.value.now in
+    let test : Expr → Bool = chooses c.args.slot.current.now name c.in_ok-chosen.chosen in
+    let none = c.is_empty.result in
+    let own : attribute name xs ≡ Some value = search rules in
+    subst (λ (ys : List Expr). IsTrue none ↔ (ys ≡ xs)) (sym (c.in_ok-taken.ensures.left ∙ ap (λ (found : Option Expr). without_chosen name test found xs) own))
+    (same_left test name value xs c.in_ok-taken.taken none own (c.in_ok-taken.ensures.taken ∙ ap (chosen_in test) own) c.is_empty.ensures)
