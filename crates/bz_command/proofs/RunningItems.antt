@@ -1,6 +1,6 @@
 -- What commands make of the items of a file, item by item.
-use Rattle.std.proofs.Common.{◌≡◌, ◌≤◌, Bool, List, [], ◌∷◌, ◌++◌, length, refl, ap, arith, Err, Ok, sym, ◌<◌, ℕ}
-use Rattle.std.specs.Prelude.{Result, IfSome, Option, Some, None}
+use Rattle.std.proofs.Common.{◌≡◌, ◌≤◌, Bool, List, [], ◌∷◌, ◌++◌, length, refl, ap, arith, Err, Ok, sym, ◌<◌, ◌∙◌, ℕ}
+use Rattle.std.specs.Prelude.{◌↔◌, IfOk, IfSome, IsTrue, None, OnOk, Option, Result, Some}
 use Rattle.std.specs.List.{position}
 use Rattle.std.proofs.lemmas.List.{append_assoc}
 use Rattle.bz_value.specs.declared.value.Item.{Item}
@@ -32,3 +32,23 @@ with_front front (Ok items) = Ok (front ++ items)
 pub with_next : (front : List Item) (new : Item) (rest : NewItems) → with_front front (with_item_first (Ok new) rest) ≡ with_front (front ++ new ∷ []) rest
 with_next front new (Err refusal) = refl
 with_next front new (Ok items) = ap Ok (sym (append_assoc front (new ∷ []) items))
+
+-- ---- whether what is made is what was there, by the value that is made
+
+module _ {X : Type 0} (answer : Result Bool Refusal) (made : Result X Refusal) (before after : X) where
+  equal_made : ◌≡◌ {A = Result X Refusal} (Ok after) (Ok before) → after ≡ before
+  equal_made e = cc
+
+  pub same_made : OnOk answer (made ≡ Ok after) → IfOk answer (λ same. IsTrue same ↔ (after ≡ before)) → IfOk answer (λ same. IsTrue same ↔ (made ≡ Ok before))
+  same_made = by answer
+    where
+      by : (answer : Result Bool Refusal) → OnOk answer (made ≡ Ok after) → IfOk answer (λ same. IsTrue same ↔ (after ≡ before)) → IfOk answer (λ same. IsTrue same ↔ (made ≡ Ok before))
+      by (Ok same) ok is = (λ t. ok ∙ ap Ok (is.0 t), λ e. is.1 (equal_made (sym ok ∙ e)))
+      by (Err refusal) ok is = tt
+
+  pub same_after : OnOk answer (made ≡ Ok after) → IfOk answer (λ same. IsTrue same ↔ (made ≡ Ok before)) → IfOk answer (λ same. IsTrue same ↔ (after ≡ before))
+  same_after = by answer
+    where
+      by : (answer : Result Bool Refusal) → OnOk answer (made ≡ Ok after) → IfOk answer (λ same. IsTrue same ↔ (made ≡ Ok before)) → IfOk answer (λ same. IsTrue same ↔ (after ≡ before))
+      by (Ok same) ok is = (λ t. equal_made (sym ok ∙ is.0 t), λ e. is.1 (ok ∙ ap Ok e))
+      by (Err refusal) ok is = tt

@@ -1,17 +1,22 @@
 -- What is in the brackets of a rule are its arguments, and other ones make another rule.
-use Rattle.std.proofs.Common.{◌≡◌, ◌∙◌, Bool, true, List, [], ◌∷◌, absurd, ap, refl, sym, true≢false}
-use Rattle.std.specs.Prelude.{◌↔◌, IsTrue, Option, Some, None, IfSome, is_some, option_map, if◌then◌else◌}
+use Rattle.std.proofs.Common.{◌≡◌, ◌≤◌, ◌∙◌, Bool, true, List, [], ◌∷◌, ap, arith, get_or, length, refl, subst, sym, true≢false}
+use Rattle.std.specs.Prelude.{◌↔◌, IsTrue, Option, Some, None, Ok, Err, IfSome, is_some, option_map, if◌then◌else◌}
 use Rattle.std.specs.Option.{option_and_then}
 use Rattle.bz_grammar.specs.declared.kind.Kind.TheVariants as k
 use Rattle.bz_value.specs.declared.value.Expr.{Expr, Token, Form', items-the_row-Expr, items_hidden-the_row-Expr-0}
+use Rattle.bz_value.specs.declared.value.Expr.TheVariants as e
+use Rattle.bz_value.specs.declared.value.Form.{Form}
+use Rattle.bz_value.specs.declared.refusal.Refusal.{Refusal}
 use Rattle.bz_value.specs.declared.value.Item.{Item}
 use Rattle.bz_value.specs.declared.value.Item.TheVariants as i
 use Rattle.bz_value.specs.Comments.{HostComments}
 use Rattle.bz_items.specs.Characters.{Bytes}
 use Rattle.bz_rule.specs.Rules.{Rule, only, form_in, called, named, rule_of, dotted_name}
 use Rattle.bz_rule.specs.Values.{has_kind, on_first, parts_of, with_items, with_parts}
-use Rattle.bz_attribute.proofs.FormsAgain.{made, own_items, own_parts, parts_filled}
-use Rattle.bz_command.specs.Effect.{is_rule, with_arguments}
+use Rattle.bz_attribute.proofs.FormsAgain.{if_true, made, own_items, own_parts, parts_filled}
+use Rattle.bz_attribute.specs.Attributes.{Arguments}
+use Rattle.bz_attribute.proofs.ArgumentForms.{parts_Form}
+use Rattle.bz_command.specs.Effect.{NewItem, is_rule, made_of, on_arguments, on_rule, with_arguments}
 
 -- what is in the brackets of a call, of the first of a row, and of the call that an item is; where there is none, this list
 abbrev pub before_in_call : List Expr → Expr → List Expr
@@ -92,9 +97,50 @@ item_own list (i.Stmt (Form' k.Bare s parts s' items end split open_break commen
     ap i.Stmt (ap (λ ps. with_parts ps x) (row_own list (items-the_row-Expr _ parts)) ∙ own_parts x)
 item_own list (i.Stmt (Form' _ s parts s' items end split open_break comments)) = refl
 
--- a rule stays the same where its arguments do
-pub same_rule : (item : Item) (before after : List Expr) (same : Bool) → is_rule item ≡ true → before ≡ before_in before item → IsTrue same ↔ (after ≡ before) → IsTrue same ↔ (with_arguments after item ≡ item)
-same_rule item before after same rule own is = (
-  λ t. ap (λ xs. with_arguments xs item) (is.0 t ∙ own) ∙ item_own before item,
-  λ e. is.1 (sym (item_filled before after item rule) ∙ (ap (before_in before) e ∙ sym own))
-)
+-- A rule stays the same where its arguments do.
+module _ (item : Item) (change : List Expr → Arguments) (list : List Expr) (same : Bool) (rule : is_rule item ≡ true) (held : before_in list item ≡ list) (is : IsTrue same ↔ (change list ≡ Ok list)) where
+  no_list : (refusal : Refusal) → ◌≡◌ {A = Arguments} (Err refusal) (Ok list) → ⊥
+  no_list refusal e = cc
+
+  no_item : (refusal : Refusal) → ◌≡◌ {A = NewItem} (Err refusal) (Ok item) → ⊥
+  no_item refusal e = cc
+
+  equal_lists : (new : List Expr) → ◌≡◌ {A = Arguments} (Ok new) (Ok list) → new ≡ list
+  equal_lists new e = cc
+
+  equal_items : (new : Item) → ◌≡◌ {A = NewItem} (Ok new) (Ok item) → new ≡ item
+  equal_items new e = cc
+
+  by_made : (made : Arguments) → made ≡ change list → IsTrue same ↔ (made_of item made ≡ Ok item)
+  by_made (Err refusal) e = (λ t. absurd (no_list refusal (e ∙ is.0 t)), λ equal. absurd (no_item refusal equal))
+  by_made (Ok new) e = (
+    λ t. ap Ok (ap (λ xs. with_arguments xs item) (equal_lists new (e ∙ is.0 t) ∙ sym held) ∙ item_own list item),
+    λ equal. is.1 (sym e ∙ ap Ok (sym (item_filled list new item rule) ∙ (ap (before_in list) (equal_items (with_arguments new item) equal) ∙ held))),
+  )
+
+  by_found : (found : Option Rule) → rule_of item ≡ found → IsTrue same ↔ (on_rule change found item ≡ Ok item)
+  by_found None e = absurd (true≢false (sym rule ∙ ap (λ (o : Option Rule). is_some o) e))
+  by_found (Some r) e =
+      let own : before_in list item ≡ r.arguments = subst (Holds (before_in list item)) e (in_item list item) in
+      by_made (change r.arguments) (ap change (sym own ∙ held))
+
+  pub same_rule : IsTrue same ↔ (on_arguments change item ≡ Ok item)
+  same_rule = by_found (rule_of item) refl
+
+bare : (x : Expr) → is_rule (i.Stmt x) ≡ true → has_kind k.Bare x ≡ true
+bare (Token t) is = absurd (true≢false (sym is))
+bare (Form' k.Bare s parts s' items end split open_break comments) is = refl
+bare (Form' _ s parts s' items end split open_break comments) is = absurd (true≢false (sym is))
+
+first_in : (list row : List Expr) (y : Expr) → y ≡ get_or row 0 y → 1 ≤ length row → before_in_row list row ≡ before_in_call list y
+first_in list [] y first some = absurd (omega (arith, some))
+first_in list (z ∷ row) y first some = ap (before_in_call list) (sym first)
+
+-- the list of the call that a statement begins with
+pub held_in : (list row : List Expr) (item : Item) (x y : Expr) (form call : Form) → is_rule item ≡ true → item ≡ i.Stmt x → x ≡ e.Form form → row ≡ form.parts → y ≡ get_or row 0 y → 1 ≤ length row
+    → y ≡ e.Form call → before_in list item ≡ call.seq.items
+held_in list row item x y form call rule is_item is_form is_row first some is_call =
+    ap (before_in list) is_item
+    ∙ (if_true (has_kind k.Bare x) (before_in_row list (parts_of x)) list (bare x (subst (λ (it : Item). is_rule it ≡ true) is_item rule))
+    ∙ (ap (before_in_row list) (ap parts_of is_form ∙ (parts_Form form ∙ sym is_row))
+    ∙ (first_in list row y first some ∙ (ap (before_in_call list) is_call ∙ items_hidden-the_row-Expr-0 call.seq.items))))

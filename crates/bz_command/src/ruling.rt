@@ -94,7 +94,7 @@ fn change(
     list: &mut Items<Expr>,
 ) -> Result<bool, Refusal>
     ensures ok { OnOk result (arguments_by operation.now work.entry list.old ≡ Ok list.new) }
-    ensures same { IsTrue (tells_change operation.now) → IfOk result (λ same. IsTrue same ↔ (list.new ≡ list.old)) }
+    ensures same { IsTrue (tells_change operation.now) → IfOk result (λ same. IsTrue same ↔ (arguments_by operation.now work.entry list.old ≡ Ok list.old)) }
     ensures err { IfErr result (λ refusal. (arguments_by operation.now work.entry list.old ≡ Err refusal) ⊎ (refusal ≡ Refusal.Memory)) }
 {
     let (alloc, current) = (work.alloc, work.current);
@@ -126,7 +126,7 @@ fn change(
 /// What a command makes of a rule by changing its arguments; what is no rule stays. The answer: whether it is known to stay the same.
 fn change_rule(work: Work<'_, '_>, operation: &Operation, item: &mut Item) -> Result<bool, Refusal>
     ensures ok { OnOk result (on_arguments (arguments_by operation.now work.entry) item.old ≡ Ok item.new) }
-    ensures same { IsTrue (tells_change operation.now) → IfOk result (λ same. IsTrue same ↔ (item.new ≡ item.old)) }
+    ensures same { IsTrue (tells_change operation.now) → IfOk result (λ same. IsTrue same ↔ (on_arguments (arguments_by operation.now work.entry) item.old ≡ Ok item.old)) }
     ensures err { IfErr result (λ refusal. (on_arguments (arguments_by operation.now work.entry) item.old ≡ Err refusal) ⊎ (refusal ≡ Refusal.Memory)) }
 {
     if !is_rule(item) {
@@ -135,7 +135,7 @@ fn change_rule(work: Work<'_, '_>, operation: &Operation, item: &mut Item) -> Re
     if let Item::Stmt(Expr::Form(form)) = item {
         if let [call, ..] = form.parts.as_mut_slice() {
             if let Expr::Form(call) = call {
-                return change(work, operation, &mut call.seq.items);
+                return Ok(change(work, operation, &mut call.seq.items)?);
             }
         }
     }
@@ -180,7 +180,7 @@ pub(crate) fn on_one(
     item: &mut Item,
 ) -> Result<bool, Refusal>
     ensures ok { OnOk result (made_by operation.now work.entry item.old ≡ Ok item.new) }
-    ensures same { IsTrue (tells_change operation.now) → IfOk result (λ same. IsTrue same ↔ (item.new ≡ item.old)) }
+    ensures same { IsTrue (tells_change operation.now) → IfOk result (λ same. IsTrue same ↔ (made_by operation.now work.entry item.old ≡ Ok item.old)) }
     ensures err { IfErr result (λ refusal. (made_by operation.now work.entry item.old ≡ Err refusal) ⊎ (refusal ≡ Refusal.Memory)) }
 {
     let alloc = work.alloc;

@@ -33,7 +33,7 @@ some_equal x y e = cc
 pub put_same : (name : Bytes) (value new : Expr) (xs : List Expr) (same : Bool) → attribute name xs ≡ Some value → IsTrue same ↔ (new ≡ value) → IsTrue same ↔ (with_value name new xs ≡ xs)
 put_same name value new xs same own is = (
   λ t. ap (λ v. with_value name v xs) (is.0 t) ∙ with_value_same name value xs own,
-  λ e. is.1 (some_equal new value (sym (attribute_changed name value new xs own) ∙ (ap (attribute name) e ∙ own)))
+  λ e. is.1 (some_equal new value (sym (attribute_changed name value new xs own) ∙ (ap (attribute name) e ∙ own))),
 )
 
 inserted_length : (argument : Expr) (xs : List Expr) → length (inserted argument xs) ≡ length xs + 1

@@ -34,15 +34,15 @@ offset_bounds-items-at c =
     let h = ascend_here l.growing.past (length c.args.items.now) c.args.places.now l.at-index c.loop-at-test.true l.invariant.order in
     omega (arith, h.1)
 
-pub returns-in_err-on_one_compared-clause-err : goal.returns-in_err-on_one_compared-clause-err
-returns-in_err-on_one_compared-clause-err c =
-    let p = err_from_is_err_and c.from_residual-in_err-on_one_compared.result c.from_residual-in_err-on_one_compared.ensures.1 in
+pub returns-in_err-same-clause-err : goal.returns-in_err-same-clause-err
+returns-in_err-same-clause-err c =
+    let p = err_from_is_err_and c.from_residual-in_err-same.result c.from_residual-in_err-same.ensures.1 in
     let l = c.loop-at in
     let items = c.args.items.now in
     let h = ascend_here l.growing.past (length items) c.args.places.now l.at-index c.loop-at-test.true l.invariant.order in
     let d = c.index-items-at.result in
     let there : get_or c.args.places.now l.at-index 0 < length l.items = omega (arith, h.1, l.invariant.count) in
-    rw (p.1, p.2) (elim c.in_err-on_one_compared.ensures.err [
+    rw (p.1, p.2) (elim c.in_err-same.ensures.err [
       | inl is ↦ inl (by_places c.args.work c.args.places.now items c.requires ∙ refused (one_made_by c.args.work) (i.Block []) c.args.places.now l.items l.at-index d _ c.loop-at-test.true there l.invariant.made _ (one_made_is c.args.work c.command.inside.operation _ _ c.command.view_is is))
       | inr memory ↦ inr memory
     ])
@@ -66,7 +66,7 @@ loop-at-preserved c =
           let is = same_before c.args.items.now l.items at d new there left equal in
           c.in_ok-note.ensures.none (same.1 is) ∙ l.invariant.none (sym (stays is) ∙ equal);
       left = c.in_ok-note.ensures.left c.args.items.now l.items (set l.items at new) l.invariant.left (λ is. stays (same.0 is)) (left_next c.args.items.now l.items at new left);
-      names = λ both name. map-set_same (has_name name) l.items at new d (ap (is_text name) (c.has_this_name.ensures (and_parts _ _ both).1 ∙ c.in_ok-name.ensures)) ∙ l.invariant.names (and_parts _ _ both).0 name;
+      names = λ both name. map-set_same (has_name name) l.items at new d (ap (is_text name) (c.has_this_name-same_names.ensures (and_parts _ _ both).1 ∙ c.in_ok-name.ensures)) ∙ l.invariant.names (and_parts _ _ both).0 name;
       count = long ∙ l.invariant.count;
     }
 

@@ -1,0 +1,12 @@
+use Rattle.std.proofs.Common.{◌≡◌, true, rules, subst}
+use Rattle.std.specs.Prelude.{◌↔◌, IsTrue}
+use Rattle.bz_value.specs.declared.value.Item.{Item}
+use Rattle.bz_command.specs.private.Looks.{made_by, tells_change}
+use Rattle.bz_command.proofs.RunningItems.{same_after}
+use Rattle.bz_command.proofs.ruling.on_one_compared.Goals as goal
+
+pub returns-then-tells_change-clause-same : goal.returns-then-tells_change-clause-same
+returns-then-tells_change-clause-same c =
+    let tells : tells_change c.args.operation.now ≡ true = search rules in
+    let step = c.on_one in
+    same_after step.result (made_by c.args.operation.now c.args.work c.args.item.now) c.args.item.now step.new.item step.ensures.ok (step.ensures.same tells)
