@@ -1,6 +1,4 @@
-use Rattle.std.proofs.Common.{◌≡◌, true, rules, subst}
-use Rattle.std.specs.Prelude.{◌↔◌, IsTrue}
-use Rattle.bz_value.specs.declared.value.Item.{Item}
+use Rattle.std.proofs.Common.{◌≡◌, true, rules}
 use Rattle.bz_command.specs.private.Looks.{made_by, tells_change}
 use Rattle.bz_command.proofs.RunningItems.{same_after}
 use Rattle.bz_command.proofs.ruling.on_one_compared.Goals as goal
