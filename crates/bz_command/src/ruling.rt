@@ -14,7 +14,7 @@ ghost use Rattle.bz_grammar.specs.Places.{Ascend};
 ghost use Rattle.bz_attribute.specs.Made.{function_of};
 ghost use Rattle.bz_comment.specs.Changes.{changed_by};
 ghost use Rattle.bz_command.specs.Effect.{is_rule, loads_changed, looks_at_rules, on_arguments, on_meant, on_rules, on_statement, new_rule_place, source, source_of, unmarked, with_function};
-ghost use Rattle.bz_command.specs.private.Looks.{arguments_by, made_by, marks_by, one_made_by, places_by, tells_change};
+ghost use Rattle.bz_command.specs.private.Looks.{arguments_by, made_by, marks_by, one_made_by, places_by, says_itself};
 ghost use Rattle.bz_command.specs.private.Growing.{IsCompared, IsGrown};
 
 use crate::targets::{arguments_of, is_rule, take_place};
@@ -81,8 +81,8 @@ pub struct Changed {
 }
 
 /// Whether an operation says itself whether it changes a rule.
-fn tells_change(operation: &Operation) -> bool
-    ensures { result ≡ tells_change operation.now }
+fn says_itself(operation: &Operation) -> bool
+    ensures { result ≡ says_itself operation.now }
 {
     matches!(operation, Operation::Value(operation) if bz_list::tells_change(operation))
 }
@@ -94,7 +94,7 @@ fn change(
     list: &mut Items<Expr>,
 ) -> Result<bool, Refusal>
     ensures ok { OnOk result (arguments_by operation.now work.entry list.old ≡ Ok list.new) }
-    ensures same { IsTrue (tells_change operation.now) → IfOk result (λ same. IsTrue same ↔ (arguments_by operation.now work.entry list.old ≡ Ok list.old)) }
+    ensures same { IsTrue (says_itself operation.now) → IfOk result (λ same. IsTrue same ↔ (arguments_by operation.now work.entry list.old ≡ Ok list.old)) }
     ensures err { IfErr result (λ refusal. (arguments_by operation.now work.entry list.old ≡ Err refusal) ⊎ (refusal ≡ Refusal.Memory)) }
 {
     let (alloc, current) = (work.alloc, work.current);
@@ -126,7 +126,7 @@ fn change(
 /// What a command makes of a rule by changing its arguments; what is no rule stays. The answer: whether it is known to stay the same.
 fn change_rule(work: Work<'_, '_>, operation: &Operation, item: &mut Item) -> Result<bool, Refusal>
     ensures ok { OnOk result (on_arguments (arguments_by operation.now work.entry) item.old ≡ Ok item.new) }
-    ensures same { IsTrue (tells_change operation.now) → IfOk result (λ same. IsTrue same ↔ (on_arguments (arguments_by operation.now work.entry) item.old ≡ Ok item.old)) }
+    ensures same { IsTrue (says_itself operation.now) → IfOk result (λ same. IsTrue same ↔ (on_arguments (arguments_by operation.now work.entry) item.old ≡ Ok item.old)) }
     ensures err { IfErr result (λ refusal. (on_arguments (arguments_by operation.now work.entry) item.old ≡ Err refusal) ⊎ (refusal ≡ Refusal.Memory)) }
 {
     if !is_rule(item) {
@@ -180,7 +180,7 @@ pub(crate) fn on_one(
     item: &mut Item,
 ) -> Result<bool, Refusal>
     ensures ok { OnOk result (made_by operation.now work.entry item.old ≡ Ok item.new) }
-    ensures same { IsTrue (tells_change operation.now) → IfOk result (λ same. IsTrue same ↔ (made_by operation.now work.entry item.old ≡ Ok item.old)) }
+    ensures same { IsTrue (says_itself operation.now) → IfOk result (λ same. IsTrue same ↔ (made_by operation.now work.entry item.old ≡ Ok item.old)) }
     ensures err { IfErr result (λ refusal. (made_by operation.now work.entry item.old ≡ Err refusal) ⊎ (refusal ≡ Refusal.Memory)) }
 {
     let alloc = work.alloc;
@@ -213,7 +213,7 @@ pub(crate) fn on_one(
     }
 }
 
-/// The same, and exactly whether it stays the same: where the operation doesn't tell, the rule is compared with a copy.
+/// The same, and exactly whether it stays the same: where the operation doesn't say it, the rule is compared with a copy.
 fn on_one_compared(
     work: Work<'_, '_>,
     operation: &Operation,
@@ -223,7 +223,7 @@ fn on_one_compared(
     ensures same { IfOk result (λ same. IsTrue same ↔ (item.new ≡ item.old)) }
     ensures err { IfErr result (λ refusal. (made_by operation.now work.entry item.old ≡ Err refusal) ⊎ (refusal ≡ Refusal.Memory)) }
 {
-    if tells_change(operation) {
+    if says_itself(operation) {
         return on_one(work, operation, item);
     }
     let before = item.copy()?;

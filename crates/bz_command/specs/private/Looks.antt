@@ -32,9 +32,9 @@ abbrev pub one_made_by : Work → Item → NewItem
 one_made_by work = one_made work.command.now work.current.now (option_copied work.found)
 
 -- an operation that says itself whether it changes a rule
-abbrev pub tells_change : Operation → Bool
-tells_change (w.Value operation) = values.tells_change operation
-tells_change _ = false
+abbrev pub says_itself : Operation → Bool
+says_itself (w.Value operation) = values.tells_change operation
+says_itself _ = false
 
 -- what a command that is run makes of a file, and what it prints
 abbrev pub effect_by : Work → List Item → Result (List Item) Refusal

@@ -2,7 +2,7 @@ use Rattle.std.proofs.Common.{◌≡◌, subst, sym}
 use Rattle.std.specs.Prelude.{◌↔◌, IfOk, IsTrue, Ok}
 use Rattle.bz_command_syntax.specs.declared.command.Operation.{Operation}
 use Rattle.bz_list.specs.Changes.{values_changed}
-use Rattle.bz_command.specs.private.Looks.{arguments_by, tells_change}
+use Rattle.bz_command.specs.private.Looks.{arguments_by, says_itself}
 use Rattle.bz_command.proofs.RunningItems.{same_made}
 use Rattle.bz_command.proofs.ruling.change.Goals as goal
 
@@ -12,4 +12,4 @@ returns-in-Value-clause-same c = λ tells.
     let step = c.change_values in
     subst (λ (operation : Operation). IfOk step.result (λ same. IsTrue same ↔ (arguments_by operation c.args.work list ≡ Ok list))) (sym c.in-Value.is)
     (same_made step.result (values_changed c.in-Value.operation c.args.work.current.now list) list step.new.arguments step.ensures.ok
-    (step.ensures.same (subst (λ (operation : Operation). IsTrue (tells_change operation)) c.in-Value.is tells)))
+    (step.ensures.same (subst (λ (operation : Operation). IsTrue (says_itself operation)) c.in-Value.is tells)))

@@ -1,10 +1,10 @@
 use Rattle.std.proofs.Common.{◌≡◌, true, rules}
-use Rattle.bz_command.specs.private.Looks.{made_by, tells_change}
+use Rattle.bz_command.specs.private.Looks.{made_by, says_itself}
 use Rattle.bz_command.proofs.RunningItems.{same_after}
 use Rattle.bz_command.proofs.ruling.on_one_compared.Goals as goal
 
-pub returns-then-tells_change-clause-same : goal.returns-then-tells_change-clause-same
-returns-then-tells_change-clause-same c =
-    let tells : tells_change c.args.operation.now ≡ true = search rules in
+pub returns-then-says_itself-clause-same : goal.returns-then-says_itself-clause-same
+returns-then-says_itself-clause-same c =
+    let tells : says_itself c.args.operation.now ≡ true = search rules in
     let step = c.on_one in
     same_after step.result (made_by c.args.operation.now c.args.work c.args.item.now) c.args.item.now step.new.item step.ensures.ok (step.ensures.same tells)
