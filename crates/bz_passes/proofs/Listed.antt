@@ -1,10 +1,10 @@
 -- The items of one list, sorted: sorted again they stay; what is kept of them; flags are not seen; where its old first item and the marks go.
-use Rattle.std.proofs.Common.{Bool, true, false, not, ◌&&◌, ◌||◌, List, [], ◌∷◌, ◌++◌, ◌≡◌, codes, refl, sym, ap, subst, ◌∙◌, map, if◌then◌else◌, inl, inr}
+use Rattle.std.proofs.Common.{Bool, true, false, not, ◌&&◌, ◌||◌, List, [], ◌∷◌, ◌++◌, ◌≡◌, ℕ, codes, refl, sym, ap, subst, ◌∙◌, map, if◌then◌else◌, inl, inr, suc, zero}
 use Rattle.std.proofs.lemmas.Bool.{cases_Bool, and_right, false_from_ne_true, true_from_ne_false, true≢false, or_from, or_parts, and_from}
 use Rattle.std.proofs.lemmas.Slice.Eq.{bytes_eq-Decides}
 use Rattle.std.proofs.Math.Path.{fun_ext}
 use Rattle.std.specs.Bool.{beq}
-use Rattle.std.specs.List.{filter, list_any, list_all, AllByRecursion}
+use Rattle.std.specs.List.{filter, list_any, list_all, AllByRecursion, insert}
 use Rattle.std.specs.Ordering.{is_lt}
 use Rattle.bz_label.specs.Keys.{key_order}
 use Rattle.std.specs.Cmp.{IsStrictWeakOrder}
@@ -166,6 +166,35 @@ climbs_fine (x ∷ xs) c = record { rising = climbs_rises (x ∷ xs) c; clean = 
 pub rising_settled : (outside : List Bytes) (b : Bool) (xs : List Expr) → Climbs precedes xs → settled_list outside b xs ≡ xs
 rising_settled outside b xs c = by_test (λ ys. ys ≡ xs) (is_taken outside b xs) (sorted xs) xs (fine_stays xs (climbs_fine xs c)) refl
 
+-- ---- a list in order, and one more item
+
+climbs_over : (x y : Expr) (ys : List Expr) → Climbs precedes (x ∷ y ∷ ys) → Climbs precedes (x ∷ ys)
+climbs_over x y [] c = tt
+climbs_over x y (z ∷ zs) c = (still_before (text_of x) y z c.0 c.1.0, c.1.1)
+
+climbs_rest : (x : Expr) (xs : List Expr) → Climbs precedes (x ∷ xs) → Climbs precedes xs
+climbs_rest x [] c = tt
+climbs_rest x (y ∷ ys) c = c.1
+
+last_raised : (later : List Expr) (x : Expr) → Climbs precedes (x ∷ later) → sort_by precedes (later ++ x ∷ []) ≡ x ∷ later
+last_raised [] x c = refl
+last_raised (y ∷ ys) x c =
+    ap (insert_by precedes y) (last_raised ys x (climbs_over x y ys c))
+    ∙ rw c.0 (ap (λ zs. x ∷ zs) (insert_starts precedes y ys (starts y ys (climbs_rises (y ∷ ys) c.1).0)))
+
+raised : (others : List Expr) (at : ℕ) (x : Expr) → Climbs precedes (insert others at x) → sort_by precedes (others ++ x ∷ []) ≡ insert others at x
+raised others zero x c = last_raised others x c
+raised [] (suc n) x c = refl
+raised (y ∷ others) (suc n) x c =
+    let rest : List Expr = insert others n x in
+    ap (insert_by precedes y) (raised others n x (climbs_rest y rest c)) ∙ insert_starts precedes y rest (starts y rest (climbs_rises (y ∷ rest) c).0)
+
+-- put among the others so that all rise, the last item is in order with them
+pub last_put : (at : ℕ) (others old new : List Expr) (x : Expr) → old ≡ others ++ x ∷ [] → new ≡ insert others at x → Climbs precedes new → new ≡ in_order old
+last_put at others old new x is put c =
+    let ordered : sort_by precedes old ≡ new = ap (sort_by precedes) is ∙ (raised others at x (subst (λ zs. Climbs precedes zs) put c) ∙ sym put) in
+    sym (ap (without_repeats []) ordered ∙ clean_stays [] new (climbs_fine new c).clean)
+
 -- a list that neither the table names nor a comment marks stays
 pub unmarked_stays : (outside : List Bytes) (b : Bool) (xs : List Expr) → b ≡ false → any_marked keep_sorted (outside ++ above_first xs) ≡ false → settled_list outside b xs ≡ xs
 unmarked_stays outside b xs unnamed none =
@@ -185,6 +214,22 @@ as_false false = refl
 pub marks_split : (marked : Bool) (comments : List Bytes) → filter (λ c. beq marked (is_marked keep_sorted c)) comments ≡ (if marked then keep_marks comments else other_comments comments)
 marks_split true comments = ap (λ p. filter p comments) (fun_ext (λ c. as_true (is_marked keep_sorted c)))
 marks_split false comments = ap (λ p. filter p comments) (fun_ext (λ c. as_false (is_marked keep_sorted c)))
+
+own_above : (x : Expr) → with_above (above x) x ≡ x
+own_above (Token t) = refl
+own_above (Form' own s parts s' items end split open_break comments) = refl
+
+marked_by_none : (xs : List Expr) → marked_by [] xs ≡ xs
+marked_by_none [] = refl
+marked_by_none (x ∷ xs) = ap (λ y. y ∷ xs) (own_above x)
+
+-- with no comment above the first item none moves
+pub bare_in_order : (xs : List Expr) → above_first xs ≡ [] → sorted xs ≡ in_order xs
+bare_in_order [] bare = refl
+bare_in_order (x ∷ xs) bare =
+    let first : without_marks x ≡ x = ap (λ a. with_above (other_comments a) x) bare ∙ (ap (λ a. with_above a x) (sym bare) ∙ own_above x) in
+    by_test (λ ys. ys ≡ in_order (x ∷ xs)) (is_passed (x ∷ xs)) (marked_by (keep_marks (above x)) (in_order (without_marks x ∷ xs))) (in_order (x ∷ xs))
+    (both (λ a y. marked_by (keep_marks a) (in_order (y ∷ xs))) bare first ∙ marked_by_none (in_order (x ∷ xs))) refl
 
 pub unpassed_in_order : (xs : List Expr) → is_passed xs ≡ false → sorted xs ≡ in_order xs
 unpassed_in_order [] h = refl

@@ -1,5 +1,5 @@
 -- Double quote marks and labels without a repeated name: given again they change nothing, and a shorter label keeps its quote marks.
-use Rattle.std.proofs.Common.{ℕ, Bool, true, false, not, ◌&&◌, ◌||◌, [], ◌∷◌, ◌++◌, ◌≡◌, refl, sym, ap, ◌∙◌, inl, inr, Option, Some, None, length, codes, take, zero, suc, ◌≤◌, arith, replicate}
+use Rattle.std.proofs.Common.{ℕ, Bool, true, false, not, ◌&&◌, ◌||◌, [], ◌∷◌, ◌++◌, ◌≡◌, refl, sym, ap, ◌∙◌, inl, inr, Option, Some, None, length, codes, if◌then◌else◌, take, zero, suc, ◌≤◌, arith, replicate}
 use Rattle.std.specs.Prelude.{nat_eq, nat_le, bytes_eq}
 use Rattle.std.specs.Option.{option_map_or}
 use Rattle.std.proofs.lemmas.Bool.{cases_Bool, or_from, or_parts, true≢false, and_from, and_parts}
@@ -212,10 +212,26 @@ marked_body text label e =
     let spelled = body_text text label (sym e) in
     ap (λ (mark : Bytes). mark ++ (label ++ mark)) (ap (take 1) spelled.1) ∙ sym spelled.1
 
-pub kept_body : (text label short : Bytes) → Some label ≡ body text → short ≡ unrepeated label → bytes_eq short label ≡ true → shorter_string text ≡ text
+uncut : (label : Bytes) → length (before_colon label) ≡ length label → before_colon label ≡ label
+uncut [] e = refl
+uncut (c ∷ label) e = elim (cases_Bool (is_colon c)) [
+  | inl t ↦ let cut : length (if is_colon c then [] else c ∷ before_colon label) ≡ 0 = rw t refl in absurd (omega (arith, e, cut))
+  | inr f ↦
+      let on : before_colon (c ∷ label) ≡ c ∷ before_colon label = rw f refl in
+      on ∙ ap (λ rest. c ∷ rest) (uncut label (omega (arith, e, ap length on)))
+]
+
+-- a label that is as long without a repeated name has none
+as_long : (label : Bytes) → length (unrepeated label) ≡ length label → unrepeated label ≡ label
+as_long label e = elim (cases_Bool (is_repeated (before_colon label) (after_colon label))) [
+  | inl t ↦ let front : unrepeated label ≡ before_colon label = rw t refl in front ∙ uncut label (ap length (sym front) ∙ e)
+  | inr f ↦ rw f refl
+]
+
+pub kept_body : (text label short : Bytes) → Some label ≡ body text → short ≡ unrepeated label → length short ≡ length label → shorter_string text ≡ text
 kept_body text label short b u e =
     ap (λ found. option_map_or (λ label. take 1 text ++ (unrepeated label ++ take 1 text)) found text) (sym b)
-    ∙ (ap (λ (inside : Bytes). take 1 text ++ (inside ++ take 1 text)) (sym u ∙ (bytes_eq-Decides short label).0 e) ∙ marked_body text label b)
+    ∙ (ap (λ (inside : Bytes). take 1 text ++ (inside ++ take 1 text)) (as_long label (ap length (sym u) ∙ e)) ∙ marked_body text label b)
 
 pub marks_taken : (count : ℕ) → count ≤ 3 → take count (34 ∷ 34 ∷ 34 ∷ []) ≡ replicate count quotation_mark
 marks_taken zero h = refl

@@ -1,5 +1,5 @@
 //! The items of one list: whether they are sorted, and sorting them.
-ghost use Rattle.std.specs.Prelude.{◌≡◌, ◌++◌, false, not, IfOk, IsTrue, OnOk, if◌then◌else◌};
+ghost use Rattle.std.specs.Prelude.{◌≡◌, ◌++◌, not, IfOk, IsTrue, OnOk, if◌then◌else◌};
 ghost use Rattle.std.specs.List.{list_all, list_any};
 ghost use Rattle.bz_label.specs.Keys.{key_order};
 ghost use Rattle.bz_value.specs.Empty.{is_empty};
@@ -39,14 +39,20 @@ fn is_string(x: &Expr) -> bool
     matches!(x, Expr::Token(token) if token.class.number() == Class::String.number())
 }
 
+fn comments_above(items: &[Expr]) -> &[Text]
+    ensures { result.now ≡ above_first items.now }
+{
+    match items {
+        [] => &[],
+        [first, ..] => first.comments().before(),
+    }
+}
+
 /// Whether the mark is above the list or above its first item.
 fn has_mark(mark: &[u8], outside: &[Text], items: &[Expr]) -> bool
     ensures { result ≡ marked_in_any mark.now (outside.now ++ above_first items.now) }
 {
-    any_marked(mark, outside)
-        || items
-            .first()
-            .is_some_and(|first| any_marked(mark, first.comments().before()))
+    any_marked(mark, outside) || any_marked(mark, comments_above(items))
 }
 
 fn are_strings(items: &[Expr]) -> bool
@@ -125,7 +131,25 @@ fn put_marks(alloc: Global, mut marks: Items<Text>, items: &mut [Expr]) -> Resul
     Ok(())
 }
 
-/// Whether another item of the list comes before its first one: comments above that one may move then.
+/// Whether the last item comes after the one before it.
+fn ends_rising(items: &[Expr]) -> bool {
+    match items {
+        [.., x, y] => item_order(x, y).is_lt(),
+        _ => true,
+    }
+}
+
+/// Whether each item comes before the next one: sorted, such a list stays as it is. The last one is looked at first, as it may have been added.
+fn are_rising(items: &[Expr]) -> bool
+    ensures { IsTrue result → Climbs precedes items.now }
+{
+    if !ends_rising(items) {
+        return false;
+    }
+    items.is_sorted_by(|x, y| item_order(x, y).is_lt())
+}
+
+/// Whether another item of the list comes before its first one, so that comments above that one may move.
 fn is_first_passed(items: &[Expr]) -> bool
     ensures { result ≡ is_passed items.now }
 {
@@ -141,33 +165,43 @@ fn is_any_before(x: &Expr, others: &[Expr]) -> bool
     others.iter().any(|other| item_order(other, x).is_lt())
 }
 
-/// The items in their order, without repeats.
-fn put_in_order(alloc: Global, mut items: Vec<Expr>) -> Result<Vec<Expr>, Memory>
+/// The items in their order, without repeats, whatever their order was.
+fn sort_anew(alloc: Global, mut items: Vec<Expr>) -> Result<Vec<Expr>, Memory>
     ensures { IfOk result (λ ordered. ordered.items ≡ in_order items.items) }
 {
     items.sort_by(|x, y| item_order(x, y))?;
     drop_repeats(alloc, items)
 }
 
+/// The items in their order, without repeats. One that was added to a list in order is put in its place, and the others stay.
+fn put_in_order(alloc: Global, mut items: Vec<Expr>) -> Result<Vec<Expr>, Memory>
+    ensures { IfOk result (λ ordered. ordered.items ≡ in_order items.items) }
+{
+    let Some(last) = items.pop() else {
+        return Ok(items);
+    };
+    let at = items.partition_point(|x| item_order(x, &last).is_lt());
+    items.insert(at, last)?;
+    if are_rising(items.as_slice()) {
+        return Ok(items);
+    }
+    let last = items.remove(at);
+    items.push(last)?;
+    sort_anew(alloc, items)
+}
+
 /// The items of a list that is sorted.
-#[tactic(auto, using(crate::proofs::Listed::unpassed_in_order))]
+#[tactic(auto, using(crate::proofs::Listed::bare_in_order, crate::proofs::Listed::unpassed_in_order))]
 fn sort_taken(alloc: Global, mut items: Vec<Expr>) -> Result<Vec<Expr>, Memory>
     ensures { IfOk result (λ taken. taken.items ≡ sorted items.items) }
 {
-    if !is_first_passed(items.as_slice()) {
+    if comments_above(items.as_slice()).is_empty() || !is_first_passed(items.as_slice()) {
         return put_in_order(alloc, items);
     }
     let marks = take_marks(alloc, items.as_mut_slice())?;
     let mut ordered = put_in_order(alloc, items)?;
     put_marks(alloc, marks, ordered.as_mut_slice())?;
     Ok(ordered)
-}
-
-/// Whether each item comes before the next one: sorted, such a list stays as it is.
-fn are_rising(items: &[Expr]) -> bool
-    ensures { IsTrue result → Climbs precedes items.now }
-{
-    items.is_sorted_by(|x, y| item_order(x, y).is_lt())
 }
 
 /// Sorts the items of a list, where it is taken; else it stays as it is. `outside`: the comments above the attribute or the

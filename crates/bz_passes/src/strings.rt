@@ -42,7 +42,7 @@ pub(crate) fn shortened(alloc: Global, text: &mut Text) -> Result<(), Memory>
         return Ok(());
     };
     let short = unrepeated(label);
-    if short != label {
+    if short.len() != label.len() {
         *text = in_marks(alloc, &text.as_slice()[..1], short)?;
     }
     Ok(())
