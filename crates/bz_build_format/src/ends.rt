@@ -4,7 +4,7 @@ ghost use Rattle.bz_items.specs.Characters.{Bytes};
 ghost use Rattle.bz_grammar.specs.Spell.{spell_leaf, spell_part};
 ghost use Rattle.bz_build_format.specs.private.Lines.{at_side, joined_at, spelled_parts};
 
-use bz_grammar::Part;
+use bz_grammar::{Part, length_with};
 use bz_lex::Leaf;
 
 /// The beginning or the end of a text, or of parts.
@@ -76,4 +76,36 @@ pub(crate) fn same<'a>(side: Side, parts: &[Part], text: &'a [u8]) -> (usize, &'
         rest = next;
     }
     (parts.len(), rest)
+}
+
+/// Whether a text may have parts at a side of it. Where these are one line, as of a statement that a command changed, the line is not looked
+/// through unless a line of the text ends where it would end.
+fn may_have(side: Side, parts: &[Part], text: &[u8]) -> bool {
+    if parts.len() != 1 {
+        return true;
+    }
+    let Some(len) = length_with(parts, 0) else {
+        return false;
+    };
+    let Some(others) = text.len().checked_sub(len) else {
+        return false;
+    };
+    let end = match side {
+        Side::Front => len,
+        Side::Back => others,
+    };
+    let (before, _) = text.split_at(end);
+    before.is_empty() || before.ends_with(b"\n")
+}
+
+/// As `same` says, but that a line is looked through only where it may be there.
+#[tactic(auto)]
+pub(crate) fn shared<'a>(side: Side, parts: &[Part], text: &'a [u8]) -> (usize, &'a [u8])
+    ensures within { result.0 ≤ length parts.now }
+    ensures text { text.now ≡ joined_at side (spelled_parts (at_side side result.0 parts.now)) result.1.now }
+{
+    if !may_have(side, parts, text) {
+        return (0, text);
+    }
+    same(side, parts, text)
 }

@@ -9,7 +9,7 @@ ghost use Rattle.bz_edit.specs.declared.part_windows.PartWindow.{PartWindow};
 ghost use Rattle.bz_layout.specs.Windows.{AreTextsOf};
 ghost use Rattle.bz_build_format.specs.private.Lines.{AreAmong, AreRead, IsPushed, IsPutAmong, ReadAsLines, spelled_parts, text_with};
 
-use crate::ends::{Side, rest_of_part, same};
+use crate::ends::{Side, rest_of_part, same, shared};
 use bz_edit::PartWindow;
 use bz_grammar::laws::{lines_join, lines_split, one_reading};
 use bz_grammar::{Kind, LENGTH_LIMIT, Node, Part, ReadFault, Tree, copy_all, length_with};
@@ -84,13 +84,13 @@ fn cut_lines(
 {
     lines_join();
     lines_split();
-    let (at, rest) = same(Side::Front, &parts[from..reach], text);
+    let (at, rest) = shared(Side::Front, &parts[from..reach], text);
     let from = from + at;
     if !are_whole_lines(&parts[..from]) {
         return None;
     }
     let left = &parts[from..reach];
-    let (mut count, mut middle) = same(Side::Back, left, rest);
+    let (mut count, mut middle) = shared(Side::Back, left, rest);
     // comments alone are no lines: they are read with the line below them
     for _ in 0..2 {
         let gone = left.len() - count;
