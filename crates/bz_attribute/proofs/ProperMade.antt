@@ -72,7 +72,7 @@ new_parts binary outer here (x ∷ xs) n = new_part binary outer here x xs n.0 (
 pub row_proper : (here : Spot) (kind : Kind) (ps : List Expr) → frame kind ≡ row → Fits IsNonterminal (shape kind) (row_in (frame kind) (map root ps) []) → AreParts (is_binary kind) here here ps → ProperExpr here (node kind ps)
 row_proper here kind ps is fits parts =
     let f : Form = made kind ps [] [] false false no_comments in
-    form_proper here f fits (subst (λ (g : Frame). in_frame g (AsRow here f) (AsSequence here f)) (sym is) (parts, tt, refl, refl, λ e. absurd (true≢false (sym e))))
+    form_proper here f fits (subst (λ (g : Frame). in_frame g (AsRow here f) (AsSequence here f) ⊥) (sym is) (parts, tt, refl, refl, λ e. absurd (true≢false (sym e))))
 
 list_new : (items : List Expr) → AreOf s.test items → IsNew (list_of items)
 list_new items h = record {

@@ -10,16 +10,14 @@ use Rattle.bz_grammar.specs.Spell.{depth_of, depth_limit, limit}
 use Rattle.bz_value.specs.declared.value.Item.{Item}
 use Rattle.bz_hosts.specs.Joined.{ViewsJoin}
 use Rattle.bz_hosts.specs.View.{view_of}
-use Rattle.bz_bzl_value.specs.declared.value.BzlItem.{BzlItem}
 use Rattle.bz_bzl_value.specs.Joined.{BzlViewsJoin}
 use Rattle.bz_bzl_value.specs.Laws.{BzlViewIsProper}
 use Rattle.bz_layout.specs.Appended.{LayoutsJoin, DepthsJoin}
 use Rattle.bz_passes.specs.Joined.{TidiedApart}
 use Rattle.bz_passes.specs.Passes.{tidied}
-use Rattle.bz_bzl_layout.specs.Joined.{BzlLayoutsJoin, BzlDepthsJoin}
 use Rattle.bz_bzl_layout.specs.Laws.{BzlLayoutIsAccepted, BzlLayoutReadsBack, LevelKeepsLayout, LevelStays}
-use Rattle.bz_bzl_layout.specs.Layout.{bzl_layout}
-use Rattle.bz_bzl_layout.specs.Level.{level, level_item}
+use Rattle.bz_layout.specs.Written.{layout}
+use Rattle.bz_layout.specs.Flags.{flags, item_with_flags}
 use Rattle.bz_build_format.specs.private.Chunks.{SourceKind, build_files, bzl_files, LayersJoin, ReadsAs, IsFormattedAs, IsAppended}
 use Rattle.bz_build_format.specs.Faults.{FormatsBzlTo}
 use Rattle.bz_build_format.specs.Meaning.{gives, Formats}
@@ -35,32 +33,32 @@ build_layers views apart layouts depths = record {
   depths = depths;
 }
 
-pub bzl_layers : BzlViewsJoin → BzlLayoutsJoin → BzlDepthsJoin → LayersJoin bzl_files
+pub bzl_layers : BzlViewsJoin → LayoutsJoin → DepthsJoin → LayersJoin bzl_files
 bzl_layers views layouts depths = record {
   views = views;
-  settled = λ front items is. map-append level_item front items;
+  settled = λ front items is. map-append item_with_flags front items;
   first = λ items. refl;
   layouts = layouts;
   depths = depths;
 }
 
 -- That of a text so far, or nothing yet.
-abbrev pub IsBegun : {I : Type 0} → SourceKind I → Bytes → Bytes → Option I → Bool → Type 0
-IsBegun {I} kind text out above ends = ((text ≡ []) × (out ≡ []) × (above ≡ None)) ⊎ ((item : I) × (above ≡ Some item) × IsFormattedAs kind text out item ends)
+abbrev pub IsBegun : SourceKind → Bytes → Bytes → Option Item → Bool → Type 0
+IsBegun kind text out above ends = ((text ≡ []) × (out ≡ []) × (above ≡ None)) ⊎ ((item : Item) × (above ≡ Some item) × IsFormattedAs kind text out item ends)
 
-module _ {I : Type 0} (kind : SourceKind I) (laws : LayersJoin kind) where
-  apart_below : (above : Option I) (item : I) (items : List I) → above ≡ Some item → (above ≡ None) ⊎ kind.apart items → kind.apart items
+module _ (kind : SourceKind) (laws : LayersJoin kind) where
+  apart_below : (above : Option Item) (item : Item) (items : List Item) → above ≡ Some item → (above ≡ None) ⊎ kind.apart items → kind.apart items
   apart_below above item items is (inl none) = let e : Some item ≡ None = sym is ∙ none in absurd cc
   apart_below above item items is (inr apart) = apart
 
-  first_text : (items : List I) → kind.gap None items ++ kind.text items ≡ kind.text items
+  first_text : (items : List Item) → kind.gap None items ++ kind.text items ≡ kind.text items
   first_text items = ap (λ z. z ++ kind.text items) (laws.first items)
 
-  laid_both : (above : Option I) (item : I) (front items before : List I) → above ≡ Some item → kind.settled front ≡ before ++ item ∷ [] → kind.text (kind.settled front ++ items) ≡ kind.text (kind.settled front) ++ (kind.gap above items ++ kind.text items)
+  laid_both : (above : Option Item) (item : Item) (front items before : List Item) → above ≡ Some item → kind.settled front ≡ before ++ item ∷ [] → kind.text (kind.settled front ++ items) ≡ kind.text (kind.settled front) ++ (kind.gap above items ++ kind.text items)
   laid_both above item front items before there is =
       ap (λ xs. kind.text (xs ++ items)) is ∙ (laws.layouts before item items ∙ sym (ap₂ (λ xs last. kind.text xs ++ (kind.gap last items ++ kind.text items)) is there))
 
-  one_more : (s t before out : Bytes) (above : Option I) (below : I) (items : List I) (first ends : Bool) → is_some above ≡ not first → IsBegun kind s before above true → ReadsAs kind t items first ends → IsAppended kind before above items out below
+  one_more : (s t before out : Bytes) (above : Option Item) (below : Item) (items : List Item) (first ends : Bool) → is_some above ≡ not first → IsBegun kind s before above true → ReadsAs kind t items first ends → IsAppended kind before above items out below
       → length (s ++ t) ≤ limit → IsFormattedAs kind (s ++ t) out below ends
   one_more s t before out above below items first ends at_first (inl (none, empty, is)) (m, reads, says, begins, closes) k le = record {
     items = items;
@@ -86,7 +84,7 @@ module _ {I : Type 0} (kind : SourceKind I) (laws : LayersJoin kind) where
       }
 
   -- the same of a text that is read from its begin on
-  pub next_begun : (text before out : Bytes) (at len : ℕ) (above : Option I) (below : I) (items : List I) (ends first more : Bool) → at ≤ length text → is_some above ≡ not first → IsBegun kind (take at text) before above ends → ends ≡ true
+  pub next_begun : (text before out : Bytes) (at len : ℕ) (above : Option Item) (below : Item) (items : List Item) (ends first more : Bool) → at ≤ length text → is_some above ≡ not first → IsBegun kind (take at text) before above ends → ends ≡ true
       → ReadsAs kind (take len (take (length text - at) (drop at text))) items first more → IsAppended kind before above items out below → length text ≤ limit → IsBegun kind (take (at + len) text) out (Some below) more
   next_begun text before out at len above below items ends first more inside at_first h e r k le =
       let own : ReadsAs kind (take len (drop at text)) items first more = subst (λ z. ReadsAs kind (take len z) items first more) (whole_rest text at inside) r in
@@ -99,9 +97,9 @@ pub still_within : (text : Bytes) (at len : ℕ) → at ≤ length text → len 
 still_within text at len inside h = omega (arith, inside, h, ap length (whole_rest text at inside), length-drop at text)
 
 -- a text that is not empty, up to its end
-pub whole_formatted : {I : Type 0} (kind : SourceKind I) (text out : Bytes) (at : ℕ) (last : Option I) (ends : Bool) → IsBegun kind (take at text) out last ends → at ≤ length text → length text ≤ at → 0 < length text
-    → (item : I) × (b : Bool) × IsFormattedAs kind text out item b
-whole_formatted {I} kind text out at last ends g a b some =
+pub whole_formatted : (kind : SourceKind) (text out : Bytes) (at : ℕ) (last : Option Item) (ends : Bool) → IsBegun kind (take at text) out last ends → at ≤ length text → length text ≤ at → 0 < length text
+    → (item : Item) × (b : Bool) × IsFormattedAs kind text out item b
+whole_formatted kind text out at last ends g a b some =
     let all : at ≡ length text = omega (arith, a, b) in
     elim (subst (λ z. IsBegun kind z out last ends) (ap (λ n. take n text) all ∙ take-length text) g) [
       | inl none ↦ let never = ap length none.0 in absurd omega (arith, never, some)
@@ -113,8 +111,8 @@ build_formatted text out last ends h =
     let (tree, reads, seen, begins, closed) = h.reads in
     (tree, reads, sym (written_given (view_of tree) (tidied h.items) out (ap tidied seen) h.laid_out.formatted (subst (λ t. length t ≤ limit) h.laid_out.formatted h.laid_out.short) h.laid_out.shallow None))
 
-pub bzl_formatted : BzlViewIsProper → LevelKeepsLayout → LevelStays → BzlLayoutIsAccepted → BzlLayoutReadsBack → (text out : Bytes) (last : BzlItem) (ends : Bool) → IsFormattedAs bzl_files text out last ends → FormatsBzlTo text (Ok out)
+pub bzl_formatted : BzlViewIsProper → LevelKeepsLayout → LevelStays → BzlLayoutIsAccepted → BzlLayoutReadsBack → (text out : Bytes) (last : Item) (ends : Bool) → IsFormattedAs bzl_files text out last ends → FormatsBzlTo text (Ok out)
 bzl_formatted proper keeps stays accepted back text out last ends h =
     let (tree, reads, says, begins, closed) = h.reads in
-    let short : length (bzl_layout (level h.items)) ≤ limit = subst (λ t. length t ≤ limit) h.laid_out.formatted h.laid_out.short in
-    laid_out_given proper keeps stays text out tree (level h.items) reads (ap level says) h.laid_out.formatted short (λ good. accepted (level h.items) good short h.laid_out.shallow) (back (level h.items))
+    let short : length (layout (flags h.items)) ≤ limit = subst (λ t. length t ≤ limit) h.laid_out.formatted h.laid_out.short in
+    laid_out_given proper keeps stays text out tree (flags h.items) reads (ap flags says) h.laid_out.formatted short (λ good. accepted (flags h.items) good short h.laid_out.shallow) (back (flags h.items))

@@ -7,27 +7,22 @@ use Rattle.bz_grammar.specs.Spell.{depth_of, limit}
 use Rattle.bz_grammar.specs.Laws.{OneReading, OneBzlReading}
 use Rattle.bz_value.specs.Counted.{times}
 use Rattle.bz_value.specs.declared.value.Item.{Item}
-use Rattle.bz_value.specs.Proper.{IsProper}
+use Rattle.bz_value.specs.Proper.{IsProper, IsProperBzl}
 use Rattle.bz_hosts.specs.Kept.{CommentsKept}
 use Rattle.bz_hosts.specs.View.{view_of}
 use Rattle.bz_hosts.specs.Laws.{ViewsAreProper}
-use Rattle.bz_bzl_value.specs.declared.value.BzlItem.{BzlItem}
-use Rattle.bz_bzl_value.specs.Kept.{BzlCommentsKept, bzl_times}
+use Rattle.bz_bzl_value.specs.Laws.{BzlCommentsKept}
 use Rattle.bz_bzl_value.specs.Laws.{BzlViewIsProper}
-use Rattle.bz_bzl_value.specs.Proper.{IsProperBzl}
-use Rattle.bz_bzl_value.specs.View.{bzl_view_of}
+use Rattle.bz_hosts.specs.Suites.{bzl_view_of}
 use Rattle.bz_layout.specs.LaidOut.{laid_out}
 use Rattle.bz_layout.specs.Laws.{LayoutIsAccepted, LayoutReadsBack}
 use Rattle.bz_layout.specs.Written.{layout}
 use Rattle.bz_passes.specs.Laws.{ProperStays, TidySettles, TidyStays, TidyingKeepsComments}
 use Rattle.bz_passes.specs.Passes.{tidied}
 use Rattle.bz_passes.specs.Programs.{KeepsProgram, KeptProgramsKeepTokens, TidyingKeepsProgram}
-use Rattle.bz_passes.specs.Syntax.{token_times}
-use Rattle.bz_bzl_layout.specs.Laws.{LevelKeepsComments, LevelKeepsLayout, LevelStays}
-use Rattle.bz_bzl_layout.specs.LaidOut.{bzl_laid_out}
-use Rattle.bz_bzl_layout.specs.Layout.{bzl_layout}
-use Rattle.bz_bzl_layout.specs.Level.{level}
-use Rattle.bz_bzl_layout.specs.Syntax.{bzl_program, LevelKeepsProgram}
+use Rattle.bz_passes.specs.Syntax.{program, token_times}
+use Rattle.bz_bzl_layout.specs.Laws.{LevelKeepsComments, LevelKeepsLayout, LevelKeepsProgram, LevelStays}
+use Rattle.bz_layout.specs.Flags.{flags}
 use Rattle.bz_build_format.specs.Meaning.{written, gives}
 use Rattle.bz_build_format.specs.Fixed.{FixedPoint, BzlFixedPoint, WritingKeepsProgram}
 use Rattle.bz_build_format.specs.TreePrograms.{ViewsKeepPrograms, BzlViewsKeepPrograms}
@@ -73,32 +68,32 @@ formatted_again one proper kept accepted back stays settles tidy_stays comments 
 -- ---- .bzl files
 
 -- The layout of what a text says, levelled, is its formatted text where it reads back as a proper value.
-pub laid_out_given : BzlViewIsProper → LevelKeepsLayout → LevelStays → (text formatted : Bytes) (tree : Node) (items : List BzlItem) → ReadsBzl text tree → items ≡ level (bzl_view_of tree)
-    → formatted ≡ bzl_layout items → length (bzl_layout items) ≤ limit → (IsProperBzl items → ReadsBzl (bzl_layout items) (bzl_laid_out items))
-    → (IsProperBzl items → bzl_view_of (bzl_laid_out items) ≡ level items) → FormatsBzlTo text (Ok formatted)
+pub laid_out_given : BzlViewIsProper → LevelKeepsLayout → LevelStays → (text formatted : Bytes) (tree : Node) (items : List Item) → ReadsBzl text tree → items ≡ flags (bzl_view_of tree)
+    → formatted ≡ layout items → length (layout items) ≤ limit → (IsProperBzl items → ReadsBzl (layout items) (laid_out items))
+    → (IsProperBzl items → bzl_view_of (laid_out items) ≡ flags items) → FormatsBzlTo text (Ok formatted)
 laid_out_given proper keeps stays text formatted tree items reads says is short accepted back =
     let good : IsProperBzl items = subst IsProperBzl (sym says) ((keeps (bzl_view_of tree)).1 (proper tree reads.0)) in
-    let lasts : Lasts tree = subst (λ xs. ReadsBzl (bzl_layout xs) (bzl_laid_out xs) × (bzl_view_of (bzl_laid_out xs) ≡ xs)) says (accepted good, back good ∙ (ap level says ∙ (stays (bzl_view_of tree) ∙ sym says))) in
-    (tree, reads, is ∙ ap bzl_layout says, subst (λ t. length t ≤ limit) (sym is) short, lasts)
+    let lasts : Lasts tree = subst (λ xs. ReadsBzl (layout xs) (laid_out xs) × (bzl_view_of (laid_out xs) ≡ xs)) says (accepted good, back good ∙ (ap flags says ∙ (stays (bzl_view_of tree) ∙ sym says))) in
+    (tree, reads, is ∙ ap layout says, subst (λ t. length t ≤ limit) (sym is) short, lasts)
 
 pub bzl_formatted_again : OneBzlReading → BzlCommentsKept → LevelStays → LevelKeepsComments → LevelKeepsProgram → BzlViewsKeepPrograms → BzlFixedPoint
-bzl_formatted_again one kept level_stays level_keeps program trees text formatted formats =
+bzl_formatted_again one kept level_stays level_keeps level_program trees text formatted formats =
     let tree : Node = formats.0 in
     let lasts : Lasts tree = formats.4 in
     let new : Node = formatted_tree tree in
-    let said : bzl_view_of new ≡ level (bzl_view_of tree) = lasts.1 in
+    let said : bzl_view_of new ≡ flags (bzl_view_of tree) = lasts.1 in
     let reads : ReadsBzl formatted new = subst (λ (t : Bytes). ReadsBzl t new) (sym formats.2) lasts.0 in
-    let stays : level (bzl_view_of new) ≡ bzl_view_of new = ap level said ∙ level_stays (bzl_view_of tree) ∙ sym said in
-    let same : formatted ≡ bzl_formatted new = formats.2 ∙ sym (ap bzl_layout (stays ∙ said)) in
-    let laid_out : formatted_tree new ≡ new = ap bzl_laid_out (stays ∙ said) in
+    let stays : flags (bzl_view_of new) ≡ bzl_view_of new = ap flags said ∙ level_stays (bzl_view_of tree) ∙ sym said in
+    let same : formatted ≡ bzl_formatted new = formats.2 ∙ sym (ap layout (stays ∙ said)) in
+    let laid_out : formatted_tree new ≡ new = ap laid_out (stays ∙ said) in
     let lasts_again : Lasts new = (subst (λ (n : Node). ReadsBzl (bzl_formatted new) n) (sym laid_out) (subst (λ (t : Bytes). ReadsBzl t new) same reads), ap bzl_view_of laid_out ∙ sym stays) in
-    let valued : (t u : Node) → ReadsBzl text t → ReadsBzl formatted u → bzl_view_of u ≡ level (bzl_view_of t) =
-    λ t u h i. ap bzl_view_of (one formatted u new i reads) ∙ said ∙ ap (λ (n : Node). level (bzl_view_of n)) (one text tree t formats.1 h) in
+    let valued : (t u : Node) → ReadsBzl text t → ReadsBzl formatted u → bzl_view_of u ≡ flags (bzl_view_of t) =
+    λ t u h i. ap bzl_view_of (one formatted u new i reads) ∙ said ∙ ap (λ (n : Node). flags (bzl_view_of n)) (one text tree t formats.1 h) in
     record {
       given = formats;
       again = (new, reads, same, formats.3, lasts_again);
       value = valued;
       comments = λ t u h i comment.
-          sym (kept u i.0 comment) ∙ ap (bzl_times comment) (valued t u h i) ∙ level_keeps comment (bzl_view_of t) ∙ kept t h.0 comment;
-      program = λ t u h i. sym (trees u) ∙ ap bzl_program (valued t u h i) ∙ program (bzl_view_of t) ∙ trees t;
+          sym (kept u i.0 comment) ∙ ap (times comment) (valued t u h i) ∙ level_keeps comment (bzl_view_of t) ∙ kept t h.0 comment;
+      program = λ t u h i. sym (trees u) ∙ ap program (valued t u h i) ∙ level_program (bzl_view_of t) ∙ trees t;
     }

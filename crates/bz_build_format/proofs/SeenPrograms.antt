@@ -13,23 +13,17 @@ use Rattle.bz_value.specs.declared.value.Expr.TheVariants as e
 use Rattle.bz_value.specs.declared.value.Item.{Item}
 use Rattle.bz_value.specs.declared.value.Item.TheVariants as i
 use Rattle.bz_value.specs.Comments.{HostComments, no_comments}
-use Rattle.bz_value.specs.Frames.{Frame, row, sequence, frame, lead, is_binary, is_comprehension}
+use Rattle.bz_value.specs.Frames.{Frame, sequence, frame, lead, is_binary, is_comprehension, is_header}
 use Rattle.bz_value.specs.Gaps.{GapLine, has_newline, lines_of, after_first_line, groups_of, all_but_last, last_group, all_in, others_in, comments_in}
 use Rattle.bz_items.specs.Characters.{Bytes}
 use Rattle.bz_value.specs.Proper.{is_operator}
+use Rattle.bz_hosts.specs.Suites.{bzl_items, branches, exprs_in, indented_lines_before, put_header, statement_read, stated, stated_row, suite_form, suite_in, walked, with_suite, Stated}
 use Rattle.bz_hosts.specs.View.{Seen, plain, row_exprs, items_in, item_in, is_split, is_open, first_seen_gap, seen_node, seen, seen_row, blocks, statements_in as seen_statements, statement_before, last_gap, line_items, file_items}
 use Rattle.bz_passes.specs.Syntax.{syntax_of, program}
 use Rattle.bz_passes.proofs.Keeping.{both}
 use Rattle.bz_passes.proofs.Parts.{made}
 use Rattle.bz_passes.proofs.SameSyntax.{syntax_Form}
-use Rattle.bz_bzl_value.specs.declared.value.Statement.{Statement}
-use Rattle.bz_bzl_value.specs.declared.value.Statement.TheVariants as s
-use Rattle.bz_bzl_value.specs.declared.value.BzlItem.{BzlItem}
-use Rattle.bz_bzl_value.specs.declared.value.BzlItem.TheVariants as b
-use Rattle.bz_bzl_value.specs.View.{bzl_items, block_items, branches, compound_read, head, indented_lines_before, is_compound, simple_statements, statement_read, stated, stated_row, suite_in, walked, with_suite, Stated}
-use Rattle.bz_bzl_layout.specs.Syntax.{head_syntax, statement_syntax, bzl_program}
-use Rattle.bz_bzl_layout.proofs.SameSyntax.{branch_syntax, syntax_Compound}
-use Rattle.bz_build_format.specs.TreePrograms.{before_marks, bare_head, node_syntax, part_syntax, row_syntax, lines_program, head_in, headers_in, node_statements, Parsed, parsed, parsed_row, statements_in, suite_statements, suites_in, BzlViewsKeepPrograms, ViewsKeepPrograms}
+use Rattle.bz_build_format.specs.TreePrograms.{before_marks, bare_form, node_syntax, part_syntax, row_syntax, lines_program, headers_in, node_statements, Parsed, parsed, parsed_row, statements_in, suite_statements, suite_syntax, suites_in, BzlViewsKeepPrograms, ViewsKeepPrograms}
 
 -- whatever comments and break it is given, a part that was read has this syntax
 abbrev Says : Seen → Expr → Type 0
@@ -79,14 +73,14 @@ mutual
 -- ---- nodes
 
 node_says : (f : Frame) (kind : Kind) (ss : List Seen) (xs : List Expr) → EachSays ss xs → Says (seen_node f kind ss) (node_syntax f kind xs)
-node_says row kind ss xs h comments break =
-    syntax_Form (made kind (row_exprs (is_binary kind) false false ss) [] [] false (is_comprehension kind && is_open ss) comments)
-    ∙ ap (λ ps. e.Form (bare_head kind ps [])) (row_says (is_binary kind) false false h)
 node_says (sequence opener closer) kind ss xs h comments break =
     let body : List Seen = drop (suc (lead kind)) ss in
     let found : List Expr × List Bytes = items_in (all_in (first_seen_gap body)) body in
     syntax_Form (made kind (map plain (take (lead kind) ss)) found.0 found.1 (is_split body) false comments)
-    ∙ both (λ ps items. e.Form (bare_head kind ps items)) (plain_says (each_taken (lead kind) h)) (items_say (all_in (first_seen_gap body)) (each_dropped (suc (lead kind)) h))
+    ∙ both (λ ps items. e.Form (bare_form kind ps items)) (plain_says (each_taken (lead kind) h)) (items_say (all_in (first_seen_gap body)) (each_dropped (suc (lead kind)) h))
+node_says _ kind ss xs h comments break =
+    syntax_Form (made kind (row_exprs (is_binary kind) false false ss) [] [] false (is_comprehension kind && is_open ss) comments)
+    ∙ ap (λ ps. e.Form (bare_form kind ps [])) (row_says (is_binary kind) false false h)
 
 mutual
   part_says : (x : Part) → Says (seen x) (part_syntax x)
@@ -141,8 +135,8 @@ views_keep_programs tree = items_program [] tree.parts
 record Agrees (x : Stated) (y : Parsed) : Type 0 where
   part : Says x.part y.part
   colon : x.is_colon ≡ y.is_colon
-  statements : (above : List Bytes) (after : List GapLine) → map statement_syntax (x.statement above after).0 ≡ y.statements
-  suite : (after : List GapLine) → map statement_syntax (x.suite after).0.0 ≡ y.suite
+  statements : (above : List Bytes) (after : List GapLine) → map syntax_of (x.statement above after).0 ≡ y.statements
+  suite : (after : List GapLine) → map syntax_of (x.suite after).0.0 ≡ y.suite
 
 abbrev EachAgrees : List Stated → List Parsed → Type 0
 EachAgrees xs ys = Each Agrees xs ys
@@ -153,67 +147,69 @@ parts_agree (step x y xs ys a h) = step _ _ _ _ a.part (parts_agree h)
 
 -- ---- statements one after the other
 
-simple_syntax : (items : List Item) → map statement_syntax (simple_statements items) ≡ map s.Simple (program items)
-simple_syntax [] = refl
-simple_syntax (i.Block texts ∷ items) = simple_syntax items
-simple_syntax (i.Stmt x ∷ items) = ap (λ z. s.Simple (syntax_of x) ∷ z) (simple_syntax items)
+exprs_syntax : (items : List Item) → map syntax_of (exprs_in items) ≡ program items
+exprs_syntax [] = refl
+exprs_syntax (i.Block texts ∷ items) = exprs_syntax items
+exprs_syntax (i.Stmt x ∷ items) = ap (λ z. syntax_of x ∷ z) (exprs_syntax items)
 
-line_agrees : (above : List Bytes) {ss : List Seen} {xs : List Expr} → EachSays ss xs → map statement_syntax (simple_statements (seen_statements above ss)) ≡ map s.Simple (before_marks xs)
-line_agrees above {ss} h = simple_syntax (seen_statements above ss) ∙ ap (map s.Simple) (statements_say above h)
+line_agrees : (above : List Bytes) {ss : List Seen} {xs : List Expr} → EachSays ss xs → map syntax_of (exprs_in (seen_statements above ss)) ≡ before_marks xs
+line_agrees above {ss} h = exprs_syntax (seen_statements above ss) ∙ statements_say above h
 
-walk_agrees : (above : List GapLine) {xs : List Stated} {ys : List Parsed} (after : List GapLine) → EachAgrees xs ys → map statement_syntax (walked above xs after).0 ≡ statements_in ys
+walk_agrees : (above : List GapLine) {xs : List Stated} {ys : List Parsed} (after : List GapLine) → EachAgrees xs ys → map syntax_of (walked above xs after).0 ≡ statements_in ys
 walk_agrees above after over = refl
 walk_agrees above after (step x y xs ys a h) =
     let one = x.statement (comments_in above) (indented_lines_before xs after) in
-    map-append statement_syntax one.0 (walked one.1 xs after).0
+    map-append syntax_of one.0 (walked one.1 xs after).0
     ∙ both (λ us vs. us ++ vs) (a.statements (comments_in above) (indented_lines_before xs after)) (walk_agrees one.1 after h)
 
 -- ---- headers
-
-head_agrees : (kind : Kind) {ss : List Seen} {xs : List Expr} (above : List Bytes) (suffix : Option Bytes) → EachSays ss xs → head_syntax (head kind ss above suffix) ≡ head_in kind xs
-head_agrees kind {ss} above suffix h = elim (cases_Bool (is_kind kind k.Def)) [
-  | inl w ↦ rw w (both (λ parts items. bare_head k.Def parts items) (plain_says (each_taken 2 h)) (items_say (all_in (first_seen_gap (drop 3 ss))) (each_dropped 3 h)))
-  | inr w ↦ rw w (ap (λ parts. bare_head kind parts []) (row_says false false false h))
-]
 
 one_more : {ss : List Seen} {xs : List Expr} (s : Seen) (x : Expr) → EachSays ss xs → Says s x → EachSays (ss ++ s ∷ []) (xs ++ x ∷ [])
 one_more s x over a = step s x [] [] a over
 one_more s x (step t y ss xs b h) a = step t y _ _ b (one_more s x h a)
 
+-- a suite, with its header
+suite_says : (kind : Kind) {ss : List Seen} {ps : List Expr} (above : List Bytes) (suffix : Option Bytes) (own : List Expr × List Bytes) (others : List Expr) (own' others' : List Expr)
+    → EachSays ss ps → map syntax_of own.0 ≡ own' → map syntax_of others ≡ others' → syntax_of (suite_form kind ss above suffix own others) ≡ suite_syntax kind ps own' others'
+suite_says kind {ss} {ps} above suffix own others own' others' h d g =
+    let s : Seen = seen_node (frame kind) kind ss in
+    syntax_Form (made k.Suite (plain s ∷ others) own.0 own.1 false false (record { before = above ++ s.loose; suffix = suffix }))
+    ∙ both (λ zs us. e.Form (bare_form k.Suite zs us)) (both (λ z zs. z ∷ zs) (node_says (frame kind) kind ss ps h no_comments false) g) d
+
+put_says : (first : Bool) (kind : Kind) {ss : List Seen} {ps : List Expr} (above : List Bytes) (suffix : Option Bytes) (own : List Expr × List Bytes) (others : List Expr) (own' others' : List Expr)
+    → EachSays ss ps → map syntax_of own.0 ≡ own' → map syntax_of others ≡ others' → map syntax_of (put_header first (suite_form kind ss above suffix own) others) ≡ put_header first (suite_syntax kind ps own') others'
+put_says true kind above suffix own others own' others' h d g = ap (λ z. z ∷ []) (suite_says kind above suffix own others own' others' h d g)
+put_says false kind above suffix own others own' others' h d g = both (λ z zs. z ∷ zs) (suite_says kind above suffix own [] own' [] h d refl) g
+
 mutual
-  headers_agree : (kind : Kind) {ss : List Seen} {ps : List Expr} (above : List Bytes) (left : List GapLine) {xs : List Stated} {ys : List Parsed} (after : List GapLine)
-      → EachSays ss ps → EachAgrees xs ys → map branch_syntax (branches kind ss above left xs after).0 ≡ headers_in kind ps ys
-  headers_agree kind above left after h over = refl
-  headers_agree kind above left after h (step x y xs ys a hs) = elim (cases_Bool y.is_colon) [
-    | inl w ↦ let v : x.is_colon ≡ true = a.colon ∙ w in rw (v, w) (suites_agree kind above left after h hs)
-    | inr w ↦ let v : x.is_colon ≡ false = a.colon ∙ w in rw (v, w) (headers_agree kind above left after (one_more x.part y.part h a.part) hs)
+  headers_agree : (first : Bool) (kind : Kind) {ss : List Seen} {ps : List Expr} (above : List Bytes) (left : List GapLine) {xs : List Stated} {ys : List Parsed} (after : List GapLine)
+      → EachSays ss ps → EachAgrees xs ys → map syntax_of (branches first kind ss above left xs after).0 ≡ headers_in first kind ps ys
+  headers_agree first kind above left after h over = refl
+  headers_agree first kind above left after h (step x y xs ys a hs) = elim (cases_Bool y.is_colon) [
+    | inl w ↦ let v : x.is_colon ≡ true = a.colon ∙ w in rw (v, w) (suites_agree first kind above left after h hs)
+    | inr w ↦ let v : x.is_colon ≡ false = a.colon ∙ w in rw (v, w) (headers_agree first kind above left after (one_more x.part y.part h a.part) hs)
   ]
 
-  suites_agree : (kind : Kind) {ss : List Seen} {ps : List Expr} (above : List Bytes) (left : List GapLine) {xs : List Stated} {ys : List Parsed} (after : List GapLine)
-      → EachSays ss ps → EachAgrees xs ys → map branch_syntax (with_suite kind ss above left xs after).0 ≡ suites_in kind ps ys
-  suites_agree kind above left after h over = refl
-  suites_agree kind above left after h (step x y xs ys a hs) =
+  suites_agree : (first : Bool) (kind : Kind) {ss : List Seen} {ps : List Expr} (above : List Bytes) (left : List GapLine) {xs : List Stated} {ys : List Parsed} (after : List GapLine)
+      → EachSays ss ps → EachAgrees xs ys → map syntax_of (with_suite first kind ss above left xs after).0 ≡ suites_in first kind ps ys
+  suites_agree first kind above left after h over = refl
+  suites_agree first kind above left after h (step x y xs ys a hs) =
       let own = x.suite (indented_lines_before xs after) in
-      both (λ z zs. z ∷ zs)
-      (both (λ f own. record { head = f; statements = own; end = [] }) (head_agrees kind above x.suffix h) (a.suite (indented_lines_before xs after)))
-      (headers_agree kind (comments_in own.1) own.1 after over hs)
+      put_says first kind above x.suffix own.0 (branches false kind [] (comments_in own.1) own.1 xs after).0 y.suite (headers_in false kind [] ys)
+      h (a.suite (indented_lines_before xs after)) (headers_agree false kind (comments_in own.1) own.1 after over hs)
 
 -- ---- parts of each kind
 
-compound_agrees : (kind : Kind) (xs : List Stated) (ys : List Parsed) (above : List Bytes) (after : List GapLine) → EachAgrees xs ys → map statement_syntax (compound_read kind xs above after).0 ≡ s.Compound (headers_in kind [] ys) ∷ []
-compound_agrees kind xs ys above after h =
-    ap (λ z. z ∷ []) (syntax_Compound (branches kind [] above after xs after).0 ∙ ap (λ z. s.Compound z) (headers_agree kind above after after over h))
-
-statement_agrees : (kind : Kind) (xs : List Stated) (ys : List Parsed) (above : List Bytes) (after : List GapLine) → EachAgrees xs ys → map statement_syntax (statement_read kind xs above after).0 ≡ node_statements kind ys
+statement_agrees : (kind : Kind) (xs : List Stated) (ys : List Parsed) (above : List Bytes) (after : List GapLine) → EachAgrees xs ys → map syntax_of (statement_read kind xs above after).0 ≡ node_statements kind ys
 statement_agrees kind xs ys above after h = elim (cases_Bool (is_kind kind k.Line)) [
   | inl w ↦ rw w (line_agrees above (parts_agree h))
-  | inr w ↦ elim (cases_Bool (is_compound kind)) [
-    | inl v ↦ rw (w, v) (compound_agrees kind xs ys above after h)
+  | inr w ↦ elim (cases_Bool (is_header kind)) [
+    | inl v ↦ rw (w, v) (headers_agree true kind above after after over h)
     | inr v ↦ rw (w, v) refl
   ]
 ]
 
-suite_agrees : (kind : Kind) (xs : List Stated) (ys : List Parsed) (after : List GapLine) → EachAgrees xs ys → map statement_syntax (suite_in kind xs after).0.0 ≡ suite_statements kind ys
+suite_agrees : (kind : Kind) (xs : List Stated) (ys : List Parsed) (after : List GapLine) → EachAgrees xs ys → map syntax_of (suite_in kind xs after).0.0 ≡ suite_statements kind ys
 suite_agrees kind xs ys after h = elim (cases_Bool (is_kind kind k.Line)) [
   | inl w ↦ rw w (line_agrees [] (parts_agree h))
   | inr w ↦ elim (cases_Bool (is_kind kind k.Suite)) [
@@ -238,28 +234,18 @@ mutual
 
 -- ---- the file
 
-bzl_program_append : (xs ys : List BzlItem) → bzl_program (xs ++ ys) ≡ bzl_program xs ++ bzl_program ys
-bzl_program_append [] ys = refl
-bzl_program_append (b.Block texts ∷ xs) ys = bzl_program_append xs ys
-bzl_program_append (b.Statement x ∷ xs) ys = ap (λ zs. statement_syntax x ∷ zs) (bzl_program_append xs ys)
-
-no_bzl_program : (groups : List (List Bytes)) (ys : List BzlItem) → bzl_program (block_items groups ++ ys) ≡ bzl_program ys
-no_bzl_program [] ys = refl
-no_bzl_program ([] ∷ groups) ys = no_bzl_program groups ys
-no_bzl_program ((text ∷ group) ∷ groups) ys = no_bzl_program groups ys
-
-as_items : (xs : List Statement) → bzl_program (map b.Statement xs) ≡ map statement_syntax xs
+as_items : (xs : List Expr) → program (map i.Stmt xs) ≡ map syntax_of xs
 as_items [] = refl
-as_items (x ∷ xs) = ap (λ z. statement_syntax x ∷ z) (as_items xs)
+as_items (x ∷ xs) = ap (λ z. syntax_of x ∷ z) (as_items xs)
 
-items_agree : (lines : List GapLine) (xs : List Part) → bzl_program (bzl_items lines xs) ≡ statements_in (map parsed xs)
+items_agree : (lines : List GapLine) (xs : List Part) → program (bzl_items lines xs) ≡ statements_in (map parsed xs)
 items_agree lines [] = refl
-items_agree lines (p.Leaf l ∷ xs) = no_bzl_program (groups_of lines) (bzl_items [] xs) ∙ items_agree [] xs
+items_agree lines (p.Leaf l ∷ xs) = no_program (groups_of lines) (bzl_items [] xs) ∙ items_agree [] xs
 items_agree lines (Node' kind size parts ∷ xs) =
     let groups : List (List Bytes) = groups_of lines in
     let own = (stated (Node' kind size parts)).statement (last_group groups) (indented_lines_before (map stated xs) []) in
-    no_bzl_program (all_but_last groups) (map b.Statement own.0 ++ bzl_items own.1 xs)
-    ∙ bzl_program_append (map b.Statement own.0) (bzl_items own.1 xs)
+    no_program (all_but_last groups) (map i.Stmt own.0 ++ bzl_items own.1 xs)
+    ∙ program_append (map i.Stmt own.0) (bzl_items own.1 xs)
     ∙ both (λ us vs. us ++ vs)
     (as_items own.0 ∙ (part_agrees (Node' kind size parts)).statements (last_group groups) (indented_lines_before (map stated xs) []))
     (items_agree own.1 xs)

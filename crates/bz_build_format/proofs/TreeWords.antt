@@ -1,5 +1,5 @@
 -- The tokens of a legal tree, in their order, are those of its program, but for separators; so each is there as often.
-use Rattle.std.proofs.Common.{ℕ, zero, suc, ◌+◌, Bool, true, false, not, ◌&&◌, List, [], ◌∷◌, ◌++◌, ◌≡◌, refl, sym, ap, ◌∙◌, map, take, drop, length, subst, inl, inr, append_assoc, append-nil, length-append, true≢false, if◌then◌else◌}
+use Rattle.std.proofs.Common.{ℕ, zero, suc, ◌+◌, Bool, true, false, not, ◌&&◌, List, [], ◌∷◌, ◌++◌, ◌≡◌, refl, sym, ap, ◌∙◌, map, take, drop, length, subst, inl, inr, append_assoc, append-nil, length-append, true≢false, if◌then◌else◌, arith}
 use Rattle.std.specs.Prelude.{bytes_eq}
 use Rattle.std.specs.List.{flat_map, AllByRecursion}
 use Rattle.std.proofs.lemmas.Bool.{cases_Bool, and_parts, or_left, or_right, eqb-true, cond-true, cond-false}
@@ -17,7 +17,7 @@ use Rattle.bz_grammar.specs.Legal.{IsNonterminal, LegalBuild, Legal, LegalPart, 
 use Rattle.bz_grammar.specs.Shapes as s
 use Rattle.bz_grammar.specs.Shapes.{Nonterminal, Terminal, Shape, Fits, Several, bzl_shape, nonterminal_has_kind, tok, done, has_token, is_class, is_one_of}
 use Rattle.bz_grammar.specs.Spell.{leaves_of, leaves_part, leaves_row}
-use Rattle.bz_grammar.proofs.Balance.{leaves_rows, no_such, same_class}
+use Rattle.bz_grammar.proofs.Balance.{inner_nonterminal, leaves_rows, no_such, same_class}
 use Rattle.bz_grammar.proofs.Numbers.{same_kind}
 use Rattle.bz_grammar.proofs.Terminals.{subset, subset-one_of}
 use Rattle.bz_items.specs.Characters.{Bytes}
@@ -25,19 +25,19 @@ use Rattle.bz_value.specs.declared.value.Form.{Form}
 use Rattle.bz_value.specs.declared.value.Expr.{Expr, Token, Form', Row_of-Expr, end_of-Expr, more_of-Expr, items-the_row-Expr}
 use Rattle.bz_value.specs.declared.value.Expr.TheVariants as e
 use Rattle.bz_value.specs.Counted.{total}
-use Rattle.bz_value.specs.Frames.{Frame, row, sequence, frame, lead}
+use Rattle.bz_value.specs.Frames.{Frame, row, sequence, compound, frame, is_header, is_inner_frame, lead}
+use Rattle.bz_value.specs.LineShapes.{line_shape}
+use Rattle.bz_value.proofs.LegalBy.{LegalBy, LegalRowBy}
+use Rattle.bz_hosts.specs.Suites.{put_header, stated}
+use Rattle.bz_hosts.proofs.InnerParts.{InLine, in_line, inner_legal, line_framed, nonterminal_inner}
+use Rattle.bz_hosts.proofs.QuietGaps.{in_statements, legal_statements}
 use Rattle.bz_hosts.proofs.SeenParts.{all_mapped}
 use Rattle.bz_passes.specs.Syntax.{token_sum, row_token_sum, one_if_token, token_times}
 use Rattle.bz_passes.proofs.Keeping.{both}
 use Rattle.bz_passes.proofs.Parts.{parts_after, items_after, parts_are, items_are}
-use Rattle.bz_bzl_value.specs.declared.value.Branch.{Branch}
-use Rattle.bz_bzl_value.specs.declared.value.Statement.{Statement, Simple, Compound', Row_of-Branch, end_of-Branch, more_of-Branch, Row_of-Statement, end_of-Statement, more_of-Statement, items-the_row-Branch, items-the_row-Statement, items_shown-the_row-Statement-0}
-use Rattle.bz_bzl_value.specs.declared.value.Statement.TheVariants as st
-use Rattle.bz_bzl_value.specs.View.{stated}
-use Rattle.bz_bzl_value.proofs.KeptGaps.{NoColon, no_colons, nonterminal_plain, token_plain}
-use Rattle.bz_bzl_layout.proofs.Rows.{branches_after, branches_are}
+use Rattle.bz_hosts.proofs.Colons.{NoColon, no_colons, nonterminal_plain, token_plain}
 use Rattle.bz_build_format.specs.Fixed.{BzlFixedPoint, FixedPoint, FormattingKeepsTokens, FormattingKeepsWords, TreeProgramsKeepTokens, is_bzl_separator, is_mark_between, leaf_times, leaf_words, marks_between}
-use Rattle.bz_build_format.specs.TreePrograms.{bare_head, before_marks, node_syntax, part_syntax, row_syntax, lines_program, tree_program, bzl_tree_program, head_in, headers_in, suites_in, line_statements, node_statements, parsed, parsed_row, statements_in, suite_statements}
+use Rattle.bz_build_format.specs.TreePrograms.{bare_form, before_marks, node_syntax, part_syntax, row_syntax, lines_program, tree_program, bzl_tree_program, headers_in, suite_syntax, suites_in, line_statements, node_statements, parsed, parsed_row, statements_in, suite_statements}
 use Rattle.bz_build_format.proofs.ShapeWalks.{leads, led}
 
 -- ---- where separators are
@@ -81,10 +81,10 @@ abbrev on_sort : Turn → Nonterminal → Turn
 on_sort t q = turned t false
 
 abbrev first_turn : Frame → Kind → Turn
-first_turn row kind = anywhere
 first_turn (sequence opener closer) kind = opening_after (lead kind)
+first_turn _ kind = anywhere
 
-kind_leads : (kind : Kind) → leads on_token on_sort is_turn may_end (bzl_shape kind) (first_turn (frame kind) kind) ≡ true
+kind_leads : (kind : Kind) → leads on_token on_sort is_turn may_end (line_shape kind) (first_turn (frame kind) kind) ≡ true
 kind_leads k.Call = refl
 kind_leads _ = refl
 
@@ -104,9 +104,14 @@ spot_after start begins ts = in_header (no_colons ts) (subset ts s.colon_mark) (
 spot_after start (header t) ts = in_header (no_colons ts) (subset ts s.colon_mark) (may_end t) (on_token t ts)
 spot_after start _ ts = nowhere
 
+-- only what may be inside a line is in a header
+abbrev past_sort : Bool → Turn → Spot
+past_sort true t = header t
+past_sort false t = nowhere
+
 abbrev spot_past : Turn → Spot → Nonterminal → Spot
-spot_past start begins q = header (on_sort start q)
-spot_past start (header t) q = header (on_sort t q)
+spot_past start begins q = past_sort (inner_nonterminal q) (on_sort start q)
+spot_past start (header t) q = past_sort (inner_nonterminal q) (on_sort t q)
 spot_past start owner s.suite = begins
 spot_past start _ q = nowhere
 
@@ -134,14 +139,27 @@ abbrev Words : Type 0
 Words = List (Class × Bytes)
 
 module _ (silent : Class → Bytes → Bool) (quiet : (l : Leaf) → is_one_of marks_between l ≡ true → silent l.class l.token ≡ true) where
+  -- of a suite, its header is before its statements, and its alternatives are after them
+  abbrev in_order : Frame → Words → Words → Words → Words → Words
+  in_order compound parts first others items = first ++ (items ++ others)
+  in_order _ parts first others items = parts ++ items
+
   abbrev mutual
     expr_words : Expr → Words
     expr_words (Token t) = if silent t.class t.text then [] else ((t.class, t.text) ∷ [])
-    expr_words (Form' kind n parts m items end split open_break comments) = row_words parts ++ row_words items
+    expr_words (Form' kind n parts m items end split open_break comments) = in_order (frame kind) (row_words parts) (first_words parts) (others_words parts) (row_words items)
 
     row_words : {m : _} → Row_of-Expr m → Words
     row_words end_of-Expr = []
     row_words (more_of-Expr x rest) = expr_words x ++ row_words rest
+
+    first_words : {m : _} → Row_of-Expr m → Words
+    first_words end_of-Expr = []
+    first_words (more_of-Expr x rest) = expr_words x
+
+    others_words : {m : _} → Row_of-Expr m → Words
+    others_words end_of-Expr = []
+    others_words (more_of-Expr x rest) = row_words rest
 
   abbrev all_words : List Expr → Words
   all_words xs = flat_map expr_words xs
@@ -150,11 +168,40 @@ module _ (silent : Class → Bytes → Bool) (quiet : (l : Leaf) → is_one_of m
   row_all m end_of-Expr = refl
   row_all m (more_of-Expr x rest) = ap (λ ws. expr_words x ++ ws) (row_all _ rest)
 
-  form_words : (f : Form) → expr_words (e.Form f) ≡ all_words f.parts ++ all_words f.seq.items
-  form_words f =
-      both (λ us vs. us ++ vs)
+  inner_order : (f : Frame) (parts first others items : Words) → is_inner_frame f ≡ true → in_order f parts first others items ≡ parts ++ items
+  inner_order row parts first others items q = refl
+  inner_order (sequence opener closer) parts first others items q = refl
+  inner_order compound parts first others items q = no_such q
+
+  form_words : (f : Form) → is_inner_frame (frame f.kind) ≡ true → expr_words (e.Form f) ≡ all_words f.parts ++ all_words f.seq.items
+  form_words f q =
+      inner_order (frame f.kind) _ _ _ _ q
+      ∙ both (λ us vs. us ++ vs)
       (row_all _ (parts_after (e.Form f)).1 ∙ ap all_words (parts_are f))
       (row_all _ (items_after (e.Form f)).1 ∙ ap all_words (items_are f))
+
+  abbrev first_all : List Expr → Words
+  first_all [] = []
+  first_all (x ∷ xs) = expr_words x
+
+  abbrev others_all : List Expr → Words
+  others_all [] = []
+  others_all (x ∷ xs) = all_words xs
+
+  first_row : (m : _) (r : Row_of-Expr m) → first_words r ≡ first_all (items-the_row-Expr m r)
+  first_row m end_of-Expr = refl
+  first_row m (more_of-Expr x rest) = refl
+
+  others_row : (m : _) (r : Row_of-Expr m) → others_words r ≡ others_all (items-the_row-Expr m r)
+  others_row m end_of-Expr = refl
+  others_row m (more_of-Expr x rest) = row_all _ rest
+
+  suite_words : (kind : Kind) (ps own others : List Expr) → expr_words (suite_syntax kind ps own others) ≡ expr_words (node_syntax (frame kind) kind ps) ++ (all_words own ++ all_words others)
+  suite_words kind ps own others =
+      let f : Form = bare_form k.Suite (node_syntax (frame kind) kind ps ∷ others) own in
+      both (λ us vs. us ++ vs)
+      (first_row _ (parts_after (e.Form f)).1 ∙ ap first_all (parts_are f))
+      (both (λ us vs. us ++ vs) (row_all _ (items_after (e.Form f)).1 ∙ ap all_words (items_are f)) (others_row _ (parts_after (e.Form f)).1 ∙ ap others_all (parts_are f)))
 
   abbrev part_words : Part → Words
   part_words x = flat_map (leaf_words silent) (leaves_part x)
@@ -218,19 +265,19 @@ module _ (silent : Class → Bytes → Bool) (quiet : (l : Leaf) → is_one_of m
       (λ u q y ys i known. one_more u false y (map part_syntax ys) (parts_words ys) no_such known)
       r may_end t w none_left xs g h
 
-  node_kept : (f : Frame) (kind : Kind) (xs : List Expr) (ws : Words) → Left (first_turn f kind) xs ws → expr_words (node_syntax f kind xs) ≡ ws
-  node_kept row kind xs ws h = form_words (bare_head kind xs []) ∙ (append-nil (all_words xs) ∙ h)
-  node_kept (sequence opener closer) kind xs ws h = form_words (bare_head kind (take (lead kind) xs) (before_marks (drop (suc (lead kind)) xs))) ∙ h
+  node_kept : (f : Frame) (kind : Kind) → is_inner_frame (frame kind) ≡ true → (xs : List Expr) (ws : Words) → Left (first_turn f kind) xs ws → expr_words (node_syntax f kind xs) ≡ ws
+  node_kept (sequence opener closer) kind q xs ws h = form_words (bare_form kind (take (lead kind) xs) (before_marks (drop (suc (lead kind)) xs))) q ∙ h
+  node_kept _ kind q xs ws h = form_words (bare_form kind xs []) q ∙ (append-nil (all_words xs) ∙ h)
 
   mutual
-    part_kept : (x : Part) → LegalPart x → Kept x
+    part_kept : (x : Part) → LegalBy line_shape x → Kept x
     part_kept (p.Leaf l) h = sym (append-nil (leaf_words silent l))
     part_kept (Node' kind m r) h =
         let xs : List Part = items-the_row-Part _ r in
         ap (λ ys. expr_words (node_syntax (frame kind) kind ys)) (syntax_map _ r)
-        ∙ (node_kept (frame kind) kind (map part_syntax xs) (parts_words xs) (row_left (bzl_shape kind) (first_turn (frame kind) kind) (kind_leads kind) xs (row_kept _ r h.1) h.0) ∙ sym (row_leaves _ r))
+        ∙ (node_kept (frame kind) kind (line_framed kind xs h.0) (map part_syntax xs) (parts_words xs) (row_left (line_shape kind) (first_turn (frame kind) kind) (kind_leads kind) xs (row_kept _ r h.1) h.0) ∙ sym (row_leaves _ r))
 
-    row_kept : (m : _) (r : Row_of-Part m) → LegalRow r → AllByRecursion Kept (items-the_row-Part m r)
+    row_kept : (m : _) (r : Row_of-Part m) → LegalRowBy line_shape r → AllByRecursion Kept (items-the_row-Part m r)
     row_kept m end_of-Part h = tt
     row_kept m (more_of-Part x rest) h = (part_kept x h.0, row_kept _ rest h.1)
 
@@ -251,61 +298,17 @@ module _ (silent : Class → Bytes → Bool) (quiet : (l : Leaf) → is_one_of m
       let is : kind ≡ k.Line = same_kind kind k.Line (eqb-true _ _ h.0) in
       let fits : Fits IsNonterminal (bzl_shape k.Line) ys = subst (λ kd. Fits IsNonterminal (bzl_shape kd) ys) is g.0.0 in
       flat_map-append expr_words (before_marks (row_syntax r)) (lines_program xs)
-      ∙ both (λ us vs. us ++ vs) (ap (λ zs. all_words (before_marks zs)) (syntax_map _ r) ∙ (line_words ys fits (row_kept _ r g.0.1) ∙ sym (row_leaves _ r))) (lines_kept xs h.1 g.1)
+      ∙ both (λ us vs. us ++ vs) (ap (λ zs. all_words (before_marks zs)) (syntax_map _ r) ∙ (line_words ys fits (row_kept _ r (legal_statements _ r fits g.0.1)) ∙ sym (row_leaves _ r))) (lines_kept xs h.1 g.1)
 
   -- ---- .bzl files
 
   module _ (colons : (l : Leaf) → is_one_of s.colon_mark l ≡ true → silent l.class l.token ≡ true) where
-    abbrev head_words : Form → Words
-    head_words f = all_words f.parts ++ all_words f.seq.items
-
-    mutual
-      statement_words : Statement → Words
-      statement_words (Simple x) = expr_words x
-      statement_words (Compound' size own) = branches_words own
-
-      branches_words : {m : _} → Row_of-Branch m → Words
-      branches_words end_of-Branch = []
-      branches_words (more_of-Branch head size statements end rest) = (head_words head ++ statements_words statements) ++ branches_words rest
-
-      statements_words : {m : _} → Row_of-Statement m → Words
-      statements_words end_of-Statement = []
-      statements_words (more_of-Statement x rest) = statement_words x ++ statements_words rest
-
-    abbrev program_words : List Statement → Words
-    program_words xs = flat_map statement_words xs
-
-    abbrev branch_words : Branch → Words
-    branch_words x = head_words x.head ++ program_words x.statements
-
-    statements_all : (m : _) (r : Row_of-Statement m) → statements_words r ≡ program_words (items-the_row-Statement m r)
-    unfolding statement_words branches_words statements_words
-    statements_all m end_of-Statement = refl
-    statements_all m (more_of-Statement x rest) = ap (λ ws. statement_words x ++ ws) (statements_all _ rest)
-
-    branches_all : (m : _) (r : Row_of-Branch m) → branches_words r ≡ flat_map branch_words (items-the_row-Branch m r)
-    unfolding statement_words branches_words statements_words
-    branches_all m end_of-Branch = refl
-    branches_all m (more_of-Branch head size statements end rest) =
-        both (λ us vs. (head_words head ++ us) ++ vs)
-        (statements_all _ statements ∙ ap program_words (sym (items_shown-the_row-Statement-0 size statements)))
-        (branches_all _ rest)
-
-    compound_words : (own : List Branch) → statement_words (st.Compound own) ≡ flat_map branch_words own
-    unfolding statement_words branches_words statements_words
-    compound_words own = branches_all _ (branches_after (st.Compound own)).1 ∙ ap (flat_map branch_words) (branches_are own)
-
-    simple_words : (xs : List Expr) → program_words (map st.Simple xs) ≡ all_words xs
-    unfolding statement_words branches_words statements_words
-    simple_words [] = refl
-    simple_words (x ∷ xs) = ap (λ ws. expr_words x ++ ws) (simple_words xs)
-
     -- ---- what is known of parts
 
     record Known (x : Part) : Type 0 where
-      kept : Kept x
-      statement : IsNonterminal s.stmt x → program_words (parsed x).statements ≡ part_words x
-      suite : IsNonterminal s.suite x → program_words (parsed x).suite ≡ part_words x
+      kept : InLine x → Kept x
+      statement : IsNonterminal s.stmt x → all_words (parsed x).statements ≡ part_words x
+      suite : IsNonterminal s.suite x → all_words (parsed x).suite ≡ part_words x
 
     part_parsed : (x : Part) → (parsed x).part ≡ part_syntax x
     part_parsed (p.Leaf l) = refl
@@ -329,111 +332,131 @@ module _ (silent : Class → Bytes → Bool) (quiet : (l : Leaf) → is_one_of m
     is_colon_mark (p.Leaf l) h = h
     is_colon_mark (Node' kind m r) h = no_such h
 
-    -- opened: what a header of this kind is made of, whose parts begin at this turn
-    module _ (kind : Kind) (start : Turn) (opened : (xs : List Expr) (ws : Words) → Left start xs ws → head_words (head_in kind xs) ≡ ws) where
-      -- of headers that begin here; after parts of a header; after its colon
-      abbrev Ahead : Spot → List Part → Type 0
-      Ahead begins xs = flat_map branch_words (headers_in kind [] (map parsed xs)) ≡ parts_words xs
-      Ahead (header t) xs =
-          (ps : List Expr) (ws : Words) → ((es : List Expr) (vs : Words) → Left t es vs → head_words (head_in kind (ps ++ es)) ≡ ws ++ vs) → flat_map branch_words (headers_in kind ps (map parsed xs)) ≡ ws ++ parts_words xs
-      Ahead owner xs = (ps : List Expr) (ws : Words) → head_words (head_in kind ps) ≡ ws → flat_map branch_words (suites_in kind ps (map parsed xs)) ≡ ws ++ parts_words xs
-      Ahead nowhere xs = ⊥
+    -- the first header has the others as its alternatives
+    put_words : (first : Bool) (kind : Kind) (ps own others : List Expr) → all_words (put_header first (suite_syntax kind ps own) others) ≡ expr_words (node_syntax (frame kind) kind ps) ++ (all_words own ++ all_words others)
+    put_words true kind ps own others = append-nil (expr_words (suite_syntax kind ps own others)) ∙ suite_words kind ps own others
+    put_words false kind ps own others =
+        let head : Words = expr_words (node_syntax (frame kind) kind ps) in
+        ap (λ ws. ws ++ all_words others) (suite_words kind ps own [] ∙ ap (λ ws. head ++ ws) (append-nil (all_words own))) ∙ append_assoc head (all_words own) (all_words others)
 
-      plain_more : (t : Turn) (b : Bool) (x : Part) (xs : List Part) → (b ≡ true → part_words x ≡ []) → NoColon x → Known x → Ahead (header (turned t b)) xs → Ahead (header t) (x ∷ xs)
-      plain_more t b x xs q n g h ps ws f =
-          ap (flat_map branch_words) (cond-false (parsed x).is_colon _ _ (same_colon x ∙ n))
-          ∙ (h (ps ++ (parsed x).part ∷ []) (ws ++ part_words x) (λ es vs l. ap (λ zs. head_words (head_in kind zs)) (append_assoc ps ((parsed x).part ∷ []) es ∙ ap (λ y. ps ++ y ∷ es) (part_parsed x))
-          ∙ (f (part_syntax x ∷ es) (part_words x ++ vs) (one_more t b x es vs q g.kept l) ∙ sym (append_assoc ws (part_words x) vs)))
+    module _ (kind : Kind) (inner : is_inner_frame (frame kind) ≡ true) where
+      abbrev start : Turn
+      start = first_turn (frame kind) kind
+
+      abbrev head_words : List Expr → Words
+      head_words ps = expr_words (node_syntax (frame kind) kind ps)
+
+      -- of headers that begin here; after parts of a header; after its colon. first: whether the first of them takes the others
+      abbrev Ahead : Bool → Spot → List Part → Type 0
+      Ahead first begins xs = all_words (headers_in first kind [] (map parsed xs)) ≡ parts_words xs
+      Ahead first (header t) xs =
+          (ps : List Expr) (ws : Words) → ((es : List Expr) (vs : Words) → Left t es vs → head_words (ps ++ es) ≡ ws ++ vs) → all_words (headers_in first kind ps (map parsed xs)) ≡ ws ++ parts_words xs
+      Ahead first owner xs = (ps : List Expr) (ws : Words) → head_words ps ≡ ws → all_words (suites_in first kind ps (map parsed xs)) ≡ ws ++ parts_words xs
+      Ahead first nowhere xs = ⊥
+
+      abbrev Both : Spot → List Part → Type 0
+      Both z xs = (first : Bool) → Ahead first z xs
+
+      plain_more : (first : Bool) (t : Turn) (b : Bool) (x : Part) (xs : List Part) → (b ≡ true → part_words x ≡ []) → NoColon x → Kept x → Ahead first (header (turned t b)) xs → Ahead first (header t) (x ∷ xs)
+      plain_more first t b x xs q n g h ps ws f =
+          ap all_words (cond-false (parsed x).is_colon _ _ (same_colon x ∙ n))
+          ∙ (h (ps ++ (parsed x).part ∷ []) (ws ++ part_words x) (λ es vs l. ap head_words (append_assoc ps ((parsed x).part ∷ []) es ∙ ap (λ y. ps ++ y ∷ es) (part_parsed x))
+          ∙ (f (part_syntax x ∷ es) (part_words x ++ vs) (one_more t b x es vs q g l) ∙ sym (append_assoc ws (part_words x) vs)))
           ∙ append_assoc ws (part_words x) (parts_words xs))
 
-      colon_more : (t : Turn) (x : Part) (xs : List Part) → may_end t ≡ true → has_token s.colon_mark x ≡ true → Ahead owner xs → Ahead (header t) (x ∷ xs)
-      colon_more t x xs e m h ps ws f =
-          ap (flat_map branch_words) (cond-true (parsed x).is_colon _ _ (is_colon_mark x m))
-          ∙ (h ps ws (ap (λ zs. head_words (head_in kind zs)) (sym (append-nil ps)) ∙ (f [] [] (none_left t e) ∙ append-nil ws)) ∙ ap (λ vs. ws ++ vs) (sym (nothing_before (part_words x) (parts_words xs) (no_words s.colon_mark x colons m))))
+      colon_more : (first : Bool) (t : Turn) (x : Part) (xs : List Part) → may_end t ≡ true → has_token s.colon_mark x ≡ true → Ahead first owner xs → Ahead first (header t) (x ∷ xs)
+      colon_more first t x xs e m h ps ws f =
+          ap all_words (cond-true (parsed x).is_colon _ _ (is_colon_mark x m))
+          ∙ (h ps ws (ap head_words (sym (append-nil ps)) ∙ (f [] [] (none_left t e) ∙ append-nil ws)) ∙ ap (λ vs. ws ++ vs) (sym (nothing_before (part_words x) (parts_words xs) (no_words s.colon_mark x colons m))))
 
-      token_more : (plain colon end : Bool) (t : Turn) (ts : List Terminal) (x : Part) (xs : List Part) → no_colons ts ≡ plain → subset ts s.colon_mark ≡ colon → may_end t ≡ end → has_token ts x ≡ true → Known x
-          → Ahead (in_header plain colon end (on_token t ts)) xs → Ahead (header t) (x ∷ xs)
-      token_more true colon end t ts x xs p c e m g h = plain_more t (subset ts marks_between) x xs (λ b. quiet_part ts x b m) (token_plain ts x p m) g h
-      token_more false true true t ts x xs p c e m g h = colon_more t x xs e (token_within ts x c m) h
-      token_more false true false t ts x xs p c e m g h = absurd h
-      token_more false false end t ts x xs p c e m g h = absurd h
+      token_more : (first plain colon end : Bool) (t : Turn) (ts : List Terminal) (x : Part) (xs : List Part) → no_colons ts ≡ plain → subset ts s.colon_mark ≡ colon → may_end t ≡ end → has_token ts x ≡ true → Kept x
+          → Ahead first (in_header plain colon end (on_token t ts)) xs → Ahead first (header t) (x ∷ xs)
+      token_more first true colon end t ts x xs p c e m g h = plain_more first t (subset ts marks_between) x xs (λ b. quiet_part ts x b m) (token_plain ts x p m) g h
+      token_more first false true true t ts x xs p c e m g h = colon_more first t x xs e (token_within ts x c m) h
+      token_more first false true false t ts x xs p c e m g h = absurd h
+      token_more first false false end t ts x xs p c e m g h = absurd h
 
-      from_start : (x : Part) (xs : List Part) → Ahead (header start) (x ∷ xs) → Ahead begins (x ∷ xs)
-      from_start x xs h = h [] [] opened
+      sort_more : (first inner_sort : Bool) (t : Turn) (q : Nonterminal) (x : Part) (xs : List Part) → inner_nonterminal q ≡ inner_sort → IsNonterminal q x → Known x → Ahead first (past_sort inner_sort (on_sort t q)) xs → Ahead first (header t) (x ∷ xs)
+      sort_more first true t q x xs o i g h = plain_more first t false x xs no_such (nonterminal_plain q x i) (g.kept (in_line x (nonterminal_inner q x o i))) h
+      sort_more first false t q x xs o i g h = absurd h
 
-      token_ahead : (z : Spot) (ts : List Terminal) (x : Part) (xs : List Part) → has_token ts x ≡ true → Known x → Ahead (spot_after start z ts) xs → Ahead z (x ∷ xs)
-      token_ahead begins ts x xs m g h = from_start x xs (token_more (no_colons ts) (subset ts s.colon_mark) (may_end start) start ts x xs refl refl refl m g h)
-      token_ahead (header t) ts x xs m g h = token_more (no_colons ts) (subset ts s.colon_mark) (may_end t) t ts x xs refl refl refl m g h
-      token_ahead owner ts x xs m g h = absurd h
-      token_ahead nowhere ts x xs m g h = absurd h
+      from_start : (first : Bool) (x : Part) (xs : List Part) → Ahead first (header start) (x ∷ xs) → Ahead first begins (x ∷ xs)
+      from_start first x xs h = h [] [] (node_kept (frame kind) kind inner)
 
-      sort_ahead : (z : Spot) (q : Nonterminal) (x : Part) (xs : List Part) → IsNonterminal q x → Known x → Ahead (spot_past start z q) xs → Ahead z (x ∷ xs)
-      sort_ahead begins q x xs i g h = from_start x xs (plain_more start false x xs no_such (nonterminal_plain q x i) g h)
-      sort_ahead (header t) q x xs i g h = plain_more t false x xs no_such (nonterminal_plain q x i) g h
-      sort_ahead owner s.suite x xs i g h = λ ps ws f. both (λ us vs. us ++ vs) (both (λ us vs. us ++ vs) f (g.suite i)) h ∙ append_assoc ws (part_words x) (parts_words xs)
-      sort_ahead owner _ x xs i g h = absurd h
-      sort_ahead nowhere q x xs i g h = absurd h
+      token_known : (ts : List Terminal) (x : Part) → has_token ts x ≡ true → Known x → Kept x
+      token_known ts (p.Leaf l) m g = g.kept tt
+      token_known ts (Node' kd n r) m g = no_such m
 
-      none_ahead : (z : Spot) → is_spot begins z ≡ true → Ahead z []
-      none_ahead begins h = refl
-      none_ahead _ h = no_such h
+      token_ahead : (z : Spot) (ts : List Terminal) (x : Part) (xs : List Part) → has_token ts x ≡ true → Known x → Both (spot_after start z ts) xs → Both z (x ∷ xs)
+      token_ahead begins ts x xs m g h first = from_start first x xs (token_more first (no_colons ts) (subset ts s.colon_mark) (may_end start) start ts x xs refl refl refl m (token_known ts x m g) (h first))
+      token_ahead (header t) ts x xs m g h first = token_more first (no_colons ts) (subset ts s.colon_mark) (may_end t) t ts x xs refl refl refl m (token_known ts x m g) (h first)
+      token_ahead owner ts x xs m g h first = absurd (h first)
+      token_ahead nowhere ts x xs m g h first = absurd (h first)
 
-      compound_kept : leads (spot_after start) (spot_past start) is_spot (is_spot begins) (bzl_shape kind) begins ≡ true → (xs : List Part) → Fits IsNonterminal (bzl_shape kind) xs → AllByRecursion Known xs
-          → program_words (st.Compound (headers_in kind [] (map parsed xs)) ∷ []) ≡ parts_words xs
-      compound_kept w xs h g =
-          append-nil (statement_words (st.Compound (headers_in kind [] (map parsed xs))))
-          ∙ (compound_words (headers_in kind [] (map parsed xs)) ∙ led (spot_after start) (spot_past start) is_spot same_spot Known Ahead token_ahead sort_ahead (bzl_shape kind) (is_spot begins) begins w none_ahead xs g h)
+      sort_ahead : (z : Spot) (q : Nonterminal) (x : Part) (xs : List Part) → IsNonterminal q x → Known x → Both (spot_past start z q) xs → Both z (x ∷ xs)
+      sort_ahead begins q x xs i g h first = from_start first x xs (sort_more first (inner_nonterminal q) start q x xs refl i g (h first))
+      sort_ahead (header t) q x xs i g h first = sort_more first (inner_nonterminal q) t q x xs refl i g (h first)
+      sort_ahead owner s.suite x xs i g h first = λ ps ws f.
+          put_words first kind ps (parsed x).suite (headers_in false kind [] (map parsed xs)) ∙ both (λ us vs. us ++ vs) f (both (λ us vs. us ++ vs) (g.suite i) (h false))
+      sort_ahead owner _ x xs i g h first = absurd (h first)
+      sort_ahead nowhere q x xs i g h first = absurd (h first)
 
-    -- of a header that is no def
-    row_head : (kind : Kind) → s.is_kind kind k.Def ≡ false → (xs : List Expr) (ws : Words) → all_words xs ≡ ws → head_words (head_in kind xs) ≡ ws
-    row_head kind f xs ws h = ap head_words (cond-false (s.is_kind kind k.Def) _ _ f) ∙ (append-nil (all_words xs) ∙ h)
+      none_ahead : (z : Spot) → is_spot begins z ≡ true → Both z []
+      none_ahead begins h first = refl
+      none_ahead _ h first = no_such h
+
+      headers_kept : leads (spot_after start) (spot_past start) is_spot (is_spot begins) (bzl_shape kind) begins ≡ true → (xs : List Part) → Fits IsNonterminal (bzl_shape kind) xs → AllByRecursion Known xs
+          → all_words (headers_in true kind [] (map parsed xs)) ≡ parts_words xs
+      headers_kept w xs h g = led (spot_after start) (spot_past start) is_spot same_spot Known Both token_ahead sort_ahead (bzl_shape kind) (is_spot begins) begins w none_ahead xs g h true
 
     -- ---- nodes
 
-    line_kept : (xs : List Part) → Fits IsNonterminal (bzl_shape k.Line) xs → AllByRecursion Known xs → program_words (line_statements (map parsed xs)) ≡ parts_words xs
-    line_kept xs h g =
-        simple_words (before_marks (map (λ x. x.part) (map parsed xs)))
-        ∙ (ap (λ zs. all_words (before_marks zs)) (parts_parsed xs) ∙ line_words xs h (all_mapped Known Kept (λ x known. known.kept) xs g))
+    known_kept : (xs : List Part) → AllByRecursion InLine xs → AllByRecursion Known xs → AllByRecursion Kept xs
+    known_kept [] i g = tt
+    known_kept (x ∷ xs) i g = (g.0.kept i.0, known_kept xs i.1 g.1)
 
-    node_statement : (kind : Kind) (xs : List Part) → nonterminal_has_kind s.stmt kind ≡ true → Fits IsNonterminal (bzl_shape kind) xs → AllByRecursion Known xs → program_words (node_statements kind (map parsed xs)) ≡ parts_words xs
+    line_kept : (xs : List Part) → Fits IsNonterminal (bzl_shape k.Line) xs → AllByRecursion Known xs → all_words (line_statements (map parsed xs)) ≡ parts_words xs
+    line_kept xs h g = ap (λ zs. all_words (before_marks zs)) (parts_parsed xs) ∙ line_words xs h (known_kept xs (in_statements xs h) g)
+
+    node_statement : (kind : Kind) (xs : List Part) → nonterminal_has_kind s.stmt kind ≡ true → Fits IsNonterminal (bzl_shape kind) xs → AllByRecursion Known xs → all_words (node_statements kind (map parsed xs)) ≡ parts_words xs
     node_statement k.Line xs i h g = line_kept xs h g
-    node_statement k.Def xs i h g = compound_kept k.Def (opening_after 2) (λ ys ws l. l) refl xs h g
-    node_statement k.IfStmt xs i h g = compound_kept k.IfStmt anywhere (row_head k.IfStmt refl) refl xs h g
-    node_statement k.ForStmt xs i h g = compound_kept k.ForStmt anywhere (row_head k.ForStmt refl) refl xs h g
+    node_statement k.Def xs i h g = headers_kept k.Def refl refl xs h g
+    node_statement k.IfStmt xs i h g = headers_kept k.IfStmt refl refl xs h g
+    node_statement k.ForStmt xs i h g = headers_kept k.ForStmt refl refl xs h g
     node_statement _ xs i h g = no_such i
 
     -- statements one after the other, and then what K says
-    several_kept : (K : List Part → Type 0) → ((xs : List Part) → K xs → program_words (statements_in (map parsed xs)) ≡ parts_words xs) → (xs : List Part) → Several (IsNonterminal s.stmt) K xs → AllByRecursion Known xs
-        → program_words (statements_in (map parsed xs)) ≡ parts_words xs
+    several_kept : (K : List Part → Type 0) → ((xs : List Part) → K xs → all_words (statements_in (map parsed xs)) ≡ parts_words xs) → (xs : List Part) → Several (IsNonterminal s.stmt) K xs → AllByRecursion Known xs
+        → all_words (statements_in (map parsed xs)) ≡ parts_words xs
     several_kept K f [] h g = f [] h
     several_kept K f (x ∷ xs) (inl h) g = f (x ∷ xs) h
     several_kept K f (x ∷ xs) (inr h) g =
-        flat_map-append statement_words (parsed x).statements (statements_in (map parsed xs)) ∙ both (λ us vs. us ++ vs) (g.0.statement h.0) (several_kept K f xs h.1 g.1)
+        flat_map-append expr_words (parsed x).statements (statements_in (map parsed xs)) ∙ both (λ us vs. us ++ vs) (g.0.statement h.0) (several_kept K f xs h.1 g.1)
 
-    done_kept : (xs : List Part) → Fits IsNonterminal done xs → program_words (statements_in (map parsed xs)) ≡ parts_words xs
+    done_kept : (xs : List Part) → Fits IsNonterminal done xs → all_words (statements_in (map parsed xs)) ≡ parts_words xs
     done_kept [] h = refl
     done_kept (x ∷ xs) h = absurd h
 
-    suite_kept : (xs : List Part) → Fits IsNonterminal (bzl_shape k.Suite) xs → AllByRecursion Known xs → program_words (statements_in (drop 1 (map parsed xs))) ≡ parts_words xs
+    suite_kept : (xs : List Part) → Fits IsNonterminal (bzl_shape k.Suite) xs → AllByRecursion Known xs → all_words (statements_in (drop 1 (map parsed xs))) ≡ parts_words xs
     suite_kept [] h g = absurd h
     suite_kept (x ∷ []) h g = absurd h.1
     suite_kept (x ∷ y ∷ xs) h g =
         several_kept (Fits IsNonterminal done) done_kept (y ∷ xs) (inr h.1) g.1 ∙ sym (nothing_before (part_words x) (parts_words (y ∷ xs)) (quiet_part s.newline x refl h.0))
 
-    node_suite : (kind : Kind) (xs : List Part) → nonterminal_has_kind s.suite kind ≡ true → Fits IsNonterminal (bzl_shape kind) xs → AllByRecursion Known xs → program_words (suite_statements kind (map parsed xs)) ≡ parts_words xs
+    node_suite : (kind : Kind) (xs : List Part) → nonterminal_has_kind s.suite kind ≡ true → Fits IsNonterminal (bzl_shape kind) xs → AllByRecursion Known xs → all_words (suite_statements kind (map parsed xs)) ≡ parts_words xs
     node_suite k.Line xs i h g = line_kept xs h g
     node_suite k.Suite xs i h g = suite_kept xs h g
     node_suite _ xs i h g = no_such i
 
     mutual
       part_known : (x : Part) → LegalPart x → Known x
-      part_known (p.Leaf l) h = record { kept = part_kept (p.Leaf l) h; statement = λ i. no_such i; suite = λ i. no_such i }
+      part_known (p.Leaf l) h = record { kept = λ i. part_kept (p.Leaf l) tt; statement = λ i. no_such i; suite = λ i. no_such i }
       part_known (Node' kind m r) h =
           let known : AllByRecursion Known (items-the_row-Part _ r) = row_known _ r h.1 in
           record {
-            kept = part_kept (Node' kind m r) h;
-            statement = λ i. ap (λ xs. program_words (node_statements kind xs)) (parsed_rows _ r) ∙ (node_statement kind (items-the_row-Part _ r) i h.0 known ∙ sym (row_leaves _ r));
-            suite = λ i. ap (λ xs. program_words (suite_statements kind xs)) (parsed_rows _ r) ∙ (node_suite kind (items-the_row-Part _ r) i h.0 known ∙ sym (row_leaves _ r));
+            kept = λ i. part_kept (Node' kind m r) (inner_legal (Node' kind m r) i h);
+            statement = λ i. ap (λ xs. all_words (node_statements kind xs)) (parsed_rows _ r) ∙ (node_statement kind (items-the_row-Part _ r) i h.0 known ∙ sym (row_leaves _ r));
+            suite = λ i. ap (λ xs. all_words (suite_statements kind xs)) (parsed_rows _ r) ∙ (node_suite kind (items-the_row-Part _ r) i h.0 known ∙ sym (row_leaves _ r));
           }
 
       row_known : (m : _) (r : Row_of-Part m) → LegalRow r → AllByRecursion Known (items-the_row-Part m r)
@@ -443,14 +466,14 @@ module _ (silent : Class → Bytes → Bool) (quiet : (l : Leaf) → is_one_of m
     -- ---- the file
 
     -- the end of a file is no statement
-    end_kept : (xs : List Part) → Fits IsNonterminal (tok s.end done) xs → program_words (statements_in (map parsed xs)) ≡ parts_words xs
+    end_kept : (xs : List Part) → Fits IsNonterminal (tok s.end done) xs → all_words (statements_in (map parsed xs)) ≡ parts_words xs
     end_kept [] h = absurd h
     end_kept (p.Leaf l ∷ []) h = sym (nothing_before (part_words (p.Leaf l)) [] (quiet_part s.end (p.Leaf l) refl h.0))
     end_kept (Node' kind m r ∷ xs) h = no_such h.0
     end_kept (p.Leaf l ∷ y ∷ xs) h = absurd h.1
 
     -- the tokens of a tree are those of its program
-    tree_kept : (tree : Node) → Legal tree → flat_map (leaf_words silent) (leaves_of tree) ≡ program_words (bzl_tree_program tree)
+    tree_kept : (tree : Node) → Legal tree → flat_map (leaf_words silent) (leaves_of tree) ≡ all_words (bzl_tree_program tree)
     tree_kept tree h =
         let fits : Fits IsNonterminal (bzl_shape k.File) tree.parts = subst (λ kd. Fits IsNonterminal (bzl_shape kd) tree.parts) h.file.root h.file.shapes.0 in
         parts_leaves tree.parts ∙ sym (several_kept (Fits IsNonterminal (tok s.end done)) end_kept tree.parts fits (all_mapped LegalPart Known part_known tree.parts h.file.shapes.1))
@@ -477,10 +500,23 @@ module _ (class : Class) (token : Bytes) (other : is_mark_between class token �
   joined : (a b : ℕ) (us vs : Words) → length us ≡ a → length vs ≡ b → length (us ++ vs) ≡ a + b
   joined a b us vs h g = length-append us vs ∙ both (λ m n. m + n) h g
 
+  order_count : (f : Frame) (parts first others items : Words) (a b : ℕ) → length parts ≡ a → length first + length others ≡ a → length items ≡ b → length (in_order silent quiet f parts first others items) ≡ a + b
+  order_count compound parts first others items a b h i j =
+      let all = length-append first (items ++ others) in
+      let two = length-append items others in
+      omega arith
+  order_count row parts first others items a b h i j = joined a b parts items h j
+  order_count (sequence opener closer) parts first others items a b h i j = joined a b parts items h j
+
   mutual
     expr_count : (x : Expr) → length (expr_words silent quiet x) ≡ token_sum (one_if_token class token) x
     expr_count (Token t) = word_count (is_class t.class class && bytes_eq t.text token) (t.class, t.text)
-    expr_count (Form' kind n parts m items end split open_break comments) = joined _ _ (row_words silent quiet parts) (row_words silent quiet items) (row_count _ parts) (row_count _ items)
+    expr_count (Form' kind n parts m items end split open_break comments) =
+        order_count (frame kind) _ _ _ _ _ _ (row_count _ parts) (parts_count _ parts) (row_count _ items)
+
+    parts_count : (m : _) (r : Row_of-Expr m) → length (first_words silent quiet r) + length (others_words silent quiet r) ≡ row_token_sum (one_if_token class token) r
+    parts_count m end_of-Expr = refl
+    parts_count m (more_of-Expr x rest) = both (λ a b. a + b) (expr_count x) (row_count _ rest)
 
     row_count : (m : _) (r : Row_of-Expr m) → length (row_words silent quiet r) ≡ row_token_sum (one_if_token class token) r
     row_count m end_of-Expr = refl
@@ -509,5 +545,5 @@ formatted_tokens fixed text formatted formats tree new h i class token string se
 pub formatted_words : BzlFixedPoint → FormattingKeepsWords
 formatted_words fixed text formatted formats tree new h i =
     tree_kept is_bzl_separator (λ l m. or_left _ _ m) (λ l m. or_right _ _ m) new i.0
-    ∙ (ap (program_words is_bzl_separator (λ l m. or_left _ _ m) (λ l m. or_right _ _ m)) ((fixed text formatted formats).program tree new h i)
+    ∙ (ap (all_words is_bzl_separator (λ l m. or_left _ _ m)) ((fixed text formatted formats).program tree new h i)
     ∙ sym (tree_kept is_bzl_separator (λ l m. or_left _ _ m) (λ l m. or_right _ _ m) tree h.0))

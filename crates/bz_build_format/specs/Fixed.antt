@@ -17,8 +17,8 @@ use Rattle.bz_hosts.specs.View.{view_of}
 use Rattle.bz_passes.specs.Passes.{tidied}
 use Rattle.bz_passes.specs.Programs.{KeepsProgram}
 use Rattle.bz_passes.specs.Syntax.{one_if_token, token_times}
-use Rattle.bz_bzl_value.specs.View.{bzl_view_of}
-use Rattle.bz_bzl_layout.specs.Level.{level}
+use Rattle.bz_hosts.specs.Suites.{bzl_view_of}
+use Rattle.bz_layout.specs.Flags.{flags}
 use Rattle.bz_build_format.specs.Faults.{FormatsBzlTo}
 use Rattle.bz_build_format.specs.Meaning.{gives, written, Formats}
 use Rattle.bz_build_format.specs.TreePrograms.{tree_program, bzl_tree_program}
@@ -44,7 +44,7 @@ FixedPoint = (text formatted : Bytes) → Formats text (gives formatted None) �
 pub record IsFormattedBzl (text formatted : Bytes) : Type 0 where
   pub given : FormatsBzlTo text (Ok formatted)
   pub again : FormatsBzlTo formatted (Ok formatted)
-  pub value : (tree new : Node) → ReadsBzl text tree → ReadsBzl formatted new → bzl_view_of new ≡ level (bzl_view_of tree)
+  pub value : (tree new : Node) → ReadsBzl text tree → ReadsBzl formatted new → bzl_view_of new ≡ flags (bzl_view_of tree)
   pub comments : (tree new : Node) → ReadsBzl text tree → ReadsBzl formatted new → (comment : Bytes) → occurrences comment new ≡ occurrences comment tree
   pub program : (tree new : Node) → ReadsBzl text tree → ReadsBzl formatted new → bzl_tree_program new ≡ bzl_tree_program tree
 

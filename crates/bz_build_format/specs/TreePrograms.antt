@@ -1,6 +1,6 @@
 -- What a compiler reads of the tree of a text: no gaps, no brackets, and no commas, semicolons and newlines between the parts that
 -- they separate.
-use Rattle.std.specs.Prelude.{◌≡◌, suc, Bool, false, List, [], ◌∷◌, ◌++◌, drop, if◌then◌else◌, map, take}
+use Rattle.std.specs.Prelude.{◌≡◌, suc, Bool, true, false, List, [], ◌∷◌, ◌++◌, drop, if◌then◌else◌, map, take}
 use Rattle.bz_grammar.specs.declared.kind.Kind.{Kind}
 use Rattle.bz_grammar.specs.declared.kind.Kind.TheVariants as k
 use Rattle.bz_grammar.specs.declared.tree.Node.{Node}
@@ -11,14 +11,10 @@ use Rattle.bz_value.specs.declared.value.Expr.{Expr}
 use Rattle.bz_value.specs.declared.value.Expr.TheVariants as e
 use Rattle.bz_value.specs.declared.value.Form.{Form}
 use Rattle.bz_value.specs.Comments.{no_comments}
-use Rattle.bz_value.specs.Frames.{Frame, row, sequence, frame, lead}
+use Rattle.bz_value.specs.Frames.{Frame, sequence, frame, is_header, lead}
+use Rattle.bz_hosts.specs.Suites.{bzl_view_of, put_header}
 use Rattle.bz_hosts.specs.View.{view_of}
 use Rattle.bz_passes.specs.Syntax.{program}
-use Rattle.bz_bzl_value.specs.declared.value.Branch.{Branch}
-use Rattle.bz_bzl_value.specs.declared.value.Statement.{Statement}
-use Rattle.bz_bzl_value.specs.declared.value.Statement.TheVariants as s
-use Rattle.bz_bzl_value.specs.View.{bzl_view_of, is_compound}
-use Rattle.bz_bzl_layout.specs.Syntax.{bzl_program}
 
 -- the parts in front of each comma, semicolon or newline, and of the closing bracket: every other one
 abbrev pub before_marks : {X : Type 0} → List X → List X
@@ -26,13 +22,13 @@ before_marks [] = []
 before_marks (x ∷ []) = []
 before_marks (x ∷ mark ∷ xs) = x ∷ before_marks xs
 
-abbrev pub bare_head : Kind → List Expr → List Expr → Form
-bare_head kind parts items = record { kind = kind; parts = parts; seq = record { items = items; end = []; split = false }; open_break = false; comments = no_comments }
+abbrev pub bare_form : Kind → List Expr → List Expr → Form
+bare_form kind parts items = record { kind = kind; parts = parts; seq = record { items = items; end = []; split = false }; open_break = false; comments = no_comments }
 
 -- a row of parts; or what is before the opening bracket, and the items after it
 abbrev pub node_syntax : Frame → Kind → List Expr → Expr
-node_syntax row kind xs = e.Form (bare_head kind xs [])
-node_syntax (sequence opener closer) kind xs = e.Form (bare_head kind (take (lead kind) xs) (before_marks (drop (suc (lead kind)) xs)))
+node_syntax (sequence opener closer) kind xs = e.Form (bare_form kind (take (lead kind) xs) (before_marks (drop (suc (lead kind)) xs)))
+node_syntax _ kind xs = e.Form (bare_form kind xs [])
 
 abbrev mutual
   pub part_syntax : Part → Expr
@@ -62,39 +58,39 @@ ViewsKeepPrograms = (tree : Node) → program (view_of tree) ≡ tree_program tr
 pub record Parsed : Type 0 where
   pub part : Expr
   pub is_colon : Bool
-  pub statements : List Statement
-  pub suite : List Statement
+  pub statements : List Expr
+  pub suite : List Expr
 
 -- the statements of a line
-abbrev pub line_statements : List Parsed → List Statement
-line_statements xs = map s.Simple (before_marks (map (λ x. x.part) xs))
+abbrev pub line_statements : List Parsed → List Expr
+line_statements xs = before_marks (map (λ x. x.part) xs)
 
 -- those of all these parts
-abbrev pub statements_in : List Parsed → List Statement
+abbrev pub statements_in : List Parsed → List Expr
 statements_in [] = []
 statements_in (x ∷ xs) = x.statements ++ statements_in xs
 
--- The parts of a header up to its colon. Of a Def: the word and the name, and the parameters after the bracket.
-abbrev pub head_in : Kind → List Expr → Form
-head_in kind xs = if is_kind kind k.Def then bare_head k.Def (take 2 xs) (before_marks (drop 3 xs)) else bare_head kind xs []
+-- a suite, with its header of these parts, its statements, and its alternatives
+abbrev pub suite_syntax : Kind → List Expr → List Expr → List Expr → Expr
+suite_syntax kind parts own others = e.Form (bare_form k.Suite (node_syntax (frame kind) kind parts ∷ others) own)
 
--- The headers of a statement, each with its suite. parts: those of the header so far.
+-- The headers of a statement, each with its suite; the first one has the others. parts: those of the header so far.
 abbrev mutual
-  pub headers_in : Kind → List Expr → List Parsed → List Branch
-  headers_in kind parts [] = []
-  headers_in kind parts (x ∷ xs) = if x.is_colon then suites_in kind parts xs else headers_in kind (parts ++ x.part ∷ []) xs
+  pub headers_in : Bool → Kind → List Expr → List Parsed → List Expr
+  headers_in first kind parts [] = []
+  headers_in first kind parts (x ∷ xs) = if x.is_colon then suites_in first kind parts xs else headers_in first kind (parts ++ x.part ∷ []) xs
 
-  pub suites_in : Kind → List Expr → List Parsed → List Branch
-  suites_in kind parts [] = []
-  suites_in kind parts (x ∷ xs) = record { head = head_in kind parts; statements = x.suite; end = [] } ∷ headers_in kind [] xs
+  pub suites_in : Bool → Kind → List Expr → List Parsed → List Expr
+  suites_in first kind parts [] = []
+  suites_in first kind parts (x ∷ xs) = put_header first (suite_syntax kind parts x.suite) (headers_in false kind [] xs)
 
-abbrev pub node_statements : Kind → List Parsed → List Statement
+abbrev pub node_statements : Kind → List Parsed → List Expr
 node_statements kind xs =
     if is_kind kind k.Line then line_statements xs
-    else (if is_compound kind then s.Compound (headers_in kind [] xs) ∷ [] else [])
+    else (if is_header kind then headers_in true kind [] xs else [])
 
 -- a line in the place of a suite, or the statements after a suite's newline
-abbrev pub suite_statements : Kind → List Parsed → List Statement
+abbrev pub suite_statements : Kind → List Parsed → List Expr
 suite_statements kind xs =
     if is_kind kind k.Line then line_statements xs
     else (if is_kind kind k.Suite then statements_in (drop 1 xs) else [])
@@ -113,9 +109,9 @@ abbrev mutual
   parsed_row end_of-Part = []
   parsed_row (more_of-Part x rest) = parsed x ∷ parsed_row rest
 
-abbrev pub bzl_tree_program : Node → List Statement
+abbrev pub bzl_tree_program : Node → List Expr
 bzl_tree_program n = statements_in (map parsed n.parts)
 
 -- The program of what a tree says is that of the tree.
 abbrev pub BzlViewsKeepPrograms : Type 0
-BzlViewsKeepPrograms = (tree : Node) → bzl_program (bzl_view_of tree) ≡ bzl_tree_program tree
+BzlViewsKeepPrograms = (tree : Node) → program (bzl_view_of tree) ≡ bzl_tree_program tree

@@ -1,10 +1,11 @@
 //! The formatted text of a long text, made chunk by chunk: its tree and its value are never in memory as a whole.
 ghost use Rattle.std.specs.Prelude.{◌≤◌, ◌<◌, Bool, List, Option, IfOk, IfSome, length, take};
+ghost use Rattle.bz_value.specs.declared.value.Item.{Item};
 ghost use Rattle.bz_build_format.specs.private.Chunks.{SourceKind, build_files, bzl_files, IsAppended, IsFormattedAs, LayersJoin, ReadsAs};
 
 use crate::cut::{CHUNK, TRIES, chunk_end, may_go_on};
 use bz_bzl_layout::{append_bzl, level};
-use bz_bzl_value::{BzlFile, BzlItem, begins_bare, view_bzl_front};
+use bz_bzl_value::{BzlFile, begins_bare, view_bzl_front};
 use bz_grammar::{LENGTH_LIMIT, ReadFault};
 use bz_hosts::{ends_with_line, into_view};
 use bz_items::Text;
@@ -16,14 +17,12 @@ use std::alloc::Global;
 
 /// What a text of one kind of files says.
 pub(crate) trait Source: Drop + Sized {
-    type Item: Drop;
-
     /// Whether no comment may be between two chunks.
     const BARE: bool;
 
-    ghost kind: { SourceKind Self.Item };
+    ghost kind: { SourceKind };
 
-    ghost items: { Self → List Self.Item };
+    ghost items: { Self → List Item };
 
     /// What a text says, and whether it ends so that another one may follow it. None: it may not follow another one, and isn't the first. The
     /// error: it is not read, or memory was refused.
@@ -32,13 +31,11 @@ pub(crate) trait Source: Drop + Sized {
 
     /// Appends the formatted text of what a chunk says, below the item above it. Its last item; none: it has no items, or is not formatted
     /// apart from those above, a limit is passed, or memory was refused.
-    fn append(self, out: &mut Vec<u8>, above: &Option<Self::Item>) -> Option<Self::Item>
+    fn append(self, out: &mut Vec<u8>, above: &Option<Item>) -> Option<Item>
         ensures { IfSome result (λ last. IsAppended kind out.old.items above.now (items self) out.new.items last) };
 }
 
 impl Source for File {
-    type Item = Item;
-
     const BARE: bool = false;
 
     ghost kind = { build_files };
@@ -69,8 +66,6 @@ impl Source for File {
 }
 
 impl Source for BzlFile {
-    type Item = BzlItem;
-
     const BARE: bool = true;
 
     ghost kind = { bzl_files };
@@ -90,7 +85,7 @@ impl Source for BzlFile {
         Ok(Some(front))
     }
 
-    fn append(mut self, out: &mut Vec<u8>, above: &Option<BzlItem>) -> Option<BzlItem> {
+    fn append(mut self, out: &mut Vec<u8>, above: &Option<Item>) -> Option<Item> {
         level(&mut self);
         append_bzl(out, above, &self)?;
         let BzlFile { mut items } = self;
@@ -123,7 +118,7 @@ fn first_chunk<F: Source>(alloc: Global, text: &[u8], is_first: bool) -> Option<
 /// it is not as simple as most, or memory was refused.
 pub(crate) fn chunks_formatted<F: Source>(alloc: Global, text: &[u8]) -> Option<Text>
     requires { LayersJoin F.kind }
-    ensures { IfSome result (λ formatted. (last : F.Item) × (ends : Bool) × IsFormattedAs F.kind text.now formatted last ends) }
+    ensures { IfSome result (λ formatted. (last : Item) × (ends : Bool) × IsFormattedAs F.kind text.now formatted last ends) }
 {
     if text.len() <= CHUNK || text.len() > LENGTH_LIMIT {
         return None;

@@ -7,8 +7,7 @@ use crate::chunks::chunks_formatted;
 use crate::laws::{formatted_bzl_once, formatted_once};
 use crate::writing::written_text;
 use bz_bzl_layout::{
-    bzl_layout_is_accepted, bzl_layout_reads_back, bzl_layouts_join, level, level_keeps_layout,
-    level_stays, set_bzl,
+    bzl_layout_is_accepted, bzl_layout_reads_back, level, level_keeps_layout, level_stays, set_bzl,
 };
 use bz_bzl_value::{BzlFile, bzl_view_is_proper, bzl_views_join, view_bzl};
 use bz_grammar::ReadFault;
@@ -86,7 +85,7 @@ pub fn format_bzl(alloc: Global, text: &[u8]) -> Result<Text, FormatFault>
     formatted_bzl_once();
     bzl_views_join();
     bzl_view_is_proper();
-    bzl_layouts_join();
+    layouts_join();
     bzl_layout_is_accepted();
     bzl_layout_reads_back();
     level_keeps_layout();

@@ -6,7 +6,7 @@ use Rattle.std.proofs.lemmas.List.Elements.{recursion_from_All}
 use Rattle.bz_token.specs.declared.class.Class.TheVariants as c
 use Rattle.bz_grammar.specs.declared.tree.Part.{Part}
 use Rattle.bz_grammar.specs.Shapes as s
-use Rattle.bz_grammar.specs.Shapes.{Shape, Fits, is_kind, one_keyword}
+use Rattle.bz_grammar.specs.Shapes.{Shape, Fits, one_keyword}
 use Rattle.bz_grammar.specs.Suites.{def_header}
 use Rattle.bz_grammar.specs.Legal.{IsNonterminal}
 use Rattle.bz_grammar.specs.Spots.{Spot, Begins, Within, Along, AtParts}
@@ -17,16 +17,14 @@ use Rattle.bz_value.specs.Empty.{is_empty}
 use Rattle.bz_value.specs.Proper.{IsComment, has_break, after_expr}
 use Rattle.bz_value.specs.Roots.{root, mark_leaf, each_with_comma}
 use Rattle.bz_items.specs.Characters.{Bytes}
-use Rattle.bz_layout.specs.Layout.{rowed, is_broken, is_tuple}
-use Rattle.bz_layout.specs.LaidOut.{part_of, piece_part, layouts, laid_out_body}
+use Rattle.bz_layout.specs.Layout.{rowed, body, is_broken, is_tuple, firsts}
+use Rattle.bz_layout.specs.LaidOut.{part_of, piece_part, layouts}
 use Rattle.bz_layout.proofs.Fitted.{rooted, roots_of_list}
 use Rattle.bz_layout.proofs.Elements.{AreValues, enclosed_values}
 use Rattle.bz_layout.proofs.Margins.{FitsAt, coded_byte, none_fits}
 use Rattle.bz_layout.proofs.Spots.{value_within, RowBreaks}
 use Rattle.bz_layout.proofs.Standing.{Placed, placed, RowLaysOut, ItemsLayOut, LaysOut, lays_out, laid_out_stands, after_row, rowed_at, body_at, round}
-use Rattle.bz_bzl_value.specs.Proper.{AreHeaderParts, AreParameters, header_end}
-use Rattle.bz_bzl_layout.specs.Layout.{is_def}
-use Rattle.bz_bzl_layout.specs.LaidOut.{header_parts}
+use Rattle.bz_bzl_layout.proofs.Headers.{is_def, AreHeaderParts, AreParameters, header_end, header_parts}
 use Rattle.bz_bzl_layout.proofs.Headings.{Heading, some_part}
 use Rattle.bz_bzl_layout.proofs.HeaderSpots.{after_both, after_rowed, header_onward, after_body}
 
@@ -71,20 +69,20 @@ colon_at = (placed c.Mark [] (58 ∷ []) Along refl (coded_byte 58 (omega arith)
 
 -- the brackets, and the colon
 brackets_at : (brackets : Bool) (m : ℕ) (f : Form) → (brackets ≡ true → ItemsLayOut Begins (layouts f.seq.items)) → AllByRecursion IsComment f.seq.end →
-    AtParts Placed Begins Along ((if brackets then mark_leaf 40 ∷ map piece_part (laid_out_body f m 41) else []) ++ mark_leaf 58 ∷ [])
+    AtParts Placed Begins Along ((if brackets then mark_leaf 40 ∷ map piece_part (body f.kind f.seq.split m 41 (layouts f.seq.items) f.seq.end) else []) ++ mark_leaf 58 ∷ [])
 brackets_at true m f d e =
-    let broken : Bool = is_broken f.kind f.seq.split f.seq.items f.seq.end in
-    let one : Bool = is_tuple f.kind && nat_eq (length f.seq.items) 1 in (
+    let broken : Bool = is_broken f.kind f.seq.split (firsts (layouts f.seq.items)) f.seq.end in
+    let one : Bool = is_tuple f.kind && nat_eq (length (layouts f.seq.items)) 1 in (
       placed c.Mark [] (40 ∷ []) Along refl (coded_byte 40 (omega arith)) (none_fits Along refl),
       body_at Begins 40 41 round.0 round.1 broken one m f.seq.end (layouts f.seq.items) (mark_leaf 58 ∷ []) e (d refl) colon_at,
     )
 brackets_at false m f d e = colon_at
 
-after_brackets : (brackets : Bool) (m : ℕ) (f : Form) → (brackets ≡ true → ItemsLayOut Begins (layouts f.seq.items)) → spot_after Begins Along ((if brackets then mark_leaf 40 ∷ map piece_part (laid_out_body f m 41) else []) ++ mark_leaf 58 ∷ []) ≡ Along
+after_brackets : (brackets : Bool) (m : ℕ) (f : Form) → (brackets ≡ true → ItemsLayOut Begins (layouts f.seq.items)) → spot_after Begins Along ((if brackets then mark_leaf 40 ∷ map piece_part (body f.kind f.seq.split m 41 (layouts f.seq.items) f.seq.end) else []) ++ mark_leaf 58 ∷ []) ≡ Along
 after_brackets true m f d =
-    let broken : Bool = is_broken f.kind f.seq.split f.seq.items f.seq.end in
-    let one : Bool = is_tuple f.kind && nat_eq (length f.seq.items) 1 in
-    after_both Begins Within (map piece_part (laid_out_body f m 41)) (mark_leaf 58 ∷ [])
+    let broken : Bool = is_broken f.kind f.seq.split (firsts (layouts f.seq.items)) f.seq.end in
+    let one : Bool = is_tuple f.kind && nat_eq (length (layouts f.seq.items)) 1 in
+    after_both Begins Within (map piece_part (body f.kind f.seq.split m 41 (layouts f.seq.items) f.seq.end)) (mark_leaf 58 ∷ [])
     ∙ ap (λ z. spot_after Begins z (mark_leaf 58 ∷ [])) (after_body broken one m f.seq.end Begins (layouts f.seq.items) (d refl))
 after_brackets false m f d = refl
 
@@ -96,7 +94,7 @@ pub record Leads (xs : List Part) : Type 0 where
 pub header_leads : (m : ℕ) (gap : Bytes) (f : Form) → Heading f → FitsAt Begins gap → Leads (header_parts m gap f)
 header_leads m gap f h g =
     let front : List Part = map piece_part (rowed f.kind f.open_break m gap m (layouts f.parts)) in
-    let back : List Part = (if is_def f then mark_leaf 40 ∷ map piece_part (laid_out_body f m 41) else []) ++ mark_leaf 58 ∷ [] in
+    let back : List Part = (if is_def f then mark_leaf 40 ∷ map piece_part (body f.kind f.seq.split m 41 (layouts f.seq.items) f.seq.end) else []) ++ mark_leaf 58 ∷ [] in
     let lay_out : RowLaysOut Begins Begins (layouts f.parts) = parts_lay_out Begins f.parts h.proper.parts in
     let items : is_def f ≡ true → ItemsLayOut Begins (layouts f.seq.items) = λ e. parameters_lay_out Begins f.seq.items h.proper.parameters (parameter_values f h e) in
     let roots : Fits IsNonterminal (s.tok (one_keyword h.word) h.rest) (rooted (layouts f.parts) ++ header_end f) = subst (λ z. Fits IsNonterminal (s.tok (one_keyword h.word) h.rest) (z ++ header_end f)) (sym (roots_of_list f.parts)) h.proper.fits in

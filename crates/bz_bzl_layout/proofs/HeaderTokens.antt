@@ -12,8 +12,8 @@ use Rattle.bz_value.specs.declared.value.Form.{Form}
 use Rattle.bz_value.specs.LineShapes.{line_shape}
 use Rattle.bz_value.proofs.LegalBy.{LegalBy}
 use Rattle.bz_items.specs.Characters.{Bytes}
-use Rattle.bz_layout.specs.Layout.{rowed, is_broken, is_tuple}
-use Rattle.bz_layout.specs.LaidOut.{piece_part, layouts, laid_out_body}
+use Rattle.bz_layout.specs.Layout.{rowed, body, is_broken, is_tuple, firsts}
+use Rattle.bz_layout.specs.LaidOut.{piece_part, layouts}
 use Rattle.bz_layout.proofs.Neighbours.{passes, neighbours, finals, is_primary_kind}
 use Rattle.bz_layout.proofs.Elements.{AreValues}
 use Rattle.bz_layout.proofs.Fitted.{roots_of_list}
@@ -23,8 +23,7 @@ use Rattle.bz_layout.proofs.Margins.{FitsAt}
 use Rattle.bz_layout.proofs.Standing.{Placed}
 use Rattle.bz_layout.proofs.LegalFiles.{parts_hold}
 use Rattle.bz_layout.proofs.LegalParts.{laid_out_good}
-use Rattle.bz_bzl_layout.specs.Layout.{is_def}
-use Rattle.bz_bzl_layout.specs.LaidOut.{header_parts}
+use Rattle.bz_bzl_layout.proofs.Headers.{is_def, header_parts}
 use Rattle.bz_bzl_layout.proofs.Headings.{Heading, parts_all, parameters_all}
 use Rattle.bz_bzl_layout.proofs.Shaped.{header_each, header_fits}
 use Rattle.bz_bzl_layout.proofs.HeaderGaps.{header_leads, parameter_values}
@@ -32,11 +31,11 @@ use Rattle.bz_bzl_layout.proofs.HeaderGaps.{header_leads, parameter_values}
 -- ---- a header
 
 apart_by : (brackets : Bool) (m : ℕ) (f : Form) (front : List Part) → Apart f.kind front → (brackets ≡ true → AreItems (layouts f.seq.items)) →
-    Apart f.kind (front ++ ((if brackets then mark_leaf 40 ∷ map piece_part (laid_out_body f m 41) else []) ++ mark_leaf 58 ∷ []))
+    Apart f.kind (front ++ ((if brackets then mark_leaf 40 ∷ map piece_part (body f.kind f.seq.split m 41 (layouts f.seq.items) f.seq.end) else []) ++ mark_leaf 58 ∷ []))
 apart_by true m f front h i =
-    apart_then f.kind 40 round.0 front (map piece_part (laid_out_body f m 41) ++ mark_leaf 58 ∷ []) h
-    (apart_then f.kind 58 colon_alone (mark_leaf 40 ∷ map piece_part (laid_out_body f m 41)) []
-    (body_between f.kind 41 round.1 40 round.0 refl (is_broken f.kind f.seq.split f.seq.items f.seq.end) (is_tuple f.kind && nat_eq (length f.seq.items) 1) [] m f.seq.end (layouts f.seq.items) (i refl)) tt)
+    apart_then f.kind 40 round.0 front (map piece_part (body f.kind f.seq.split m 41 (layouts f.seq.items) f.seq.end) ++ mark_leaf 58 ∷ []) h
+    (apart_then f.kind 58 colon_alone (mark_leaf 40 ∷ map piece_part (body f.kind f.seq.split m 41 (layouts f.seq.items) f.seq.end)) []
+    (body_between f.kind 41 round.1 40 round.0 refl (is_broken f.kind f.seq.split (firsts (layouts f.seq.items)) f.seq.end) (is_tuple f.kind && nat_eq (length (layouts f.seq.items)) 1) [] m f.seq.end (layouts f.seq.items) (i refl)) tt)
 apart_by false m f front h i = apart_then f.kind 58 colon_alone front [] h tt
 
 header_apart : (m : ℕ) (gap : Bytes) (f : Form) → Heading f → Apart f.kind (header_parts m gap f)

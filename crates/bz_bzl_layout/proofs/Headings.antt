@@ -1,5 +1,5 @@
 -- The headers of statements, whatever their kinds.
-use Rattle.std.proofs.Common.{◌≡◌, ℕ, Bool, true, false, List, [], ◌∷◌, ◌++◌, inl, inr, if◌then◌else◌, map, refl, sym, ap, ◌∙◌, subst, true≢false}
+use Rattle.std.proofs.Common.{◌≡◌, ℕ, Bool, true, false, List, [], ◌∷◌, ◌++◌, inl, inr, if◌then◌else◌, map, refl, sym, ap, ◌∙◌, true≢false}
 use Rattle.std.specs.Prelude.{None, codes}
 use Rattle.std.specs.List.{AllByRecursion}
 use Rattle.bz_grammar.specs.declared.kind.Kind.{Kind}
@@ -24,12 +24,10 @@ use Rattle.bz_layout.specs.LaidOut.{part_of, layouts}
 use Rattle.bz_layout.proofs.Elements.{any_last}
 use Rattle.bz_layout.proofs.Neighbours.{passes, neighbours, finals}
 use Rattle.bz_layout.proofs.PlainRows.{plain_first}
-use Rattle.bz_bzl_value.specs.Proper.{AreHeaderParts, AreParameters, IsHeader, AreAlternatives, AreHeaders}
-use Rattle.bz_bzl_layout.proofs.BackColons.{plain_front}
+use Rattle.bz_bzl_layout.proofs.Headers.{AreHeaderParts, AreParameters, IsHeader, HasSort}
 
--- A header of some kind: its shape begins with a keyword, and only that of a function has brackets. After the keyword come
--- no elif, no else and no suite, and no colon but the last part. Its neighbours may touch, or are set apart. But for that of a
--- function, it opens no brackets.
+-- A header of some kind: its shape begins with a keyword, and only that of a function has brackets. After the keyword come no
+-- elif, no else and no suite. Its neighbours may touch, or are set apart. But for that of a function, it opens no brackets.
 pub record Heading (f : Form) : Type 0 where
   pub kind : Kind
   pub word : Bytes
@@ -37,12 +35,8 @@ pub record Heading (f : Form) : Type 0 where
   pub proper : IsHeader kind (tok (one_keyword word) rest) f
   pub function : is_kind f.kind k.Def ≡ true → tok (one_keyword word) rest ≡ def_header
   pub plain : (i : List ℕ) (d : ℕ) (ps : List Part) → Fits (At d) rest ps → AllByRecursion (Owned i) ps
-  pub colon_last : plain_front (tok (one_keyword word) rest) ≡ true
   pub touches : passes (neighbours kind) (finals kind) None (tok (one_keyword word) rest) ≡ true
   pub no_brackets : is_kind f.kind k.Def ≡ false → passes plain_first any_last None (tok (one_keyword word) rest) ≡ true
-
-abbrev pub Headings : List Form → Type 0
-Headings fs = AllByRecursion Heading fs
 
 -- a kind that is none of a function
 pub no_function : (f : Form) (kind : Kind) (shape : Shape) → is_kind kind k.Def ≡ false → f.kind ≡ kind → is_kind f.kind k.Def ≡ true → shape ≡ def_header
@@ -58,7 +52,7 @@ abbrev after_test : Shape
 after_test = sub test (tok colon_mark done)
 
 abbrev pub of_function : (f : Form) → IsHeader k.Def def_header f → Heading f
-of_function f h = record { kind = k.Def; word = codes "def"; rest = after_def; proper = h; function = λ e. refl; plain = λ i d ps g. owned_shape i d after_def refl ps g; colon_last = refl; touches = refl; no_brackets = λ e. absurd (true≢false (sym (ap (λ z. is_kind z k.Def) h.kinds) ∙ e)) }
+of_function f h = record { kind = k.Def; word = codes "def"; rest = after_def; proper = h; function = λ e. refl; plain = λ i d ps g. owned_shape i d after_def refl ps g; touches = refl; no_brackets = λ e. absurd (true≢false (sym (ap (λ z. is_kind z k.Def) h.kinds) ∙ e)) }
 
 abbrev pub of_loop : (f : Form) → IsHeader k.ForStmt for_header f → Heading f
 of_loop f h = record {
@@ -68,7 +62,6 @@ of_loop f h = record {
   proper = h;
   function = no_function f k.ForStmt for_header refl h.kinds;
   plain = λ i d ps g. owned_shape i d after_for refl ps g;
-  colon_last = refl;
   touches = refl;
   no_brackets = λ e. refl;
 }
@@ -82,7 +75,6 @@ of_test word t f h = record {
   proper = h;
   function = no_function f k.IfStmt (test_header (one_keyword word)) refl h.kinds;
   plain = λ i d ps g. owned_shape i d after_test refl ps g;
-  colon_last = refl;
   touches = t;
   no_brackets = λ e. refl;
 }
@@ -101,21 +93,16 @@ of_else f h = record {
   proper = h;
   function = no_function f k.IfStmt else_header refl h.kinds;
   plain = λ i d ps g. owned_shape i d (tok colon_mark done) refl ps g;
-  colon_last = refl;
   touches = refl;
   no_brackets = λ e. refl;
 }
 
-alternatives_are : (fs : List Form) → AreAlternatives fs → Headings fs
-alternatives_are [] h = tt
-alternatives_are (f ∷ fs) (inl h) = (of_elif f h.0, alternatives_are fs h.1)
-alternatives_are (f ∷ fs) (inr h) = (of_else f h.0, subst Headings (sym h.1) tt)
-
-pub headings : (fs : List Form) → AreHeaders fs → Headings fs
-headings [] h = absurd h
-headings (f ∷ fs) (inl h) = (of_function f h.0, subst Headings (sym h.1) tt)
-headings (f ∷ fs) (inr (inl h)) = (of_loop f h.0, subst Headings (sym h.1) tt)
-headings (f ∷ fs) (inr (inr h)) = (of_if f h.0, alternatives_are fs h.1)
+pub heading : (word : Bytes) (f : Form) → HasSort word f → Heading f
+heading word f (inl (e, inl h)) = of_function f h
+heading word f (inl (e, inr h)) = of_loop f h
+heading word f (inr (inl (e, h))) = of_if f h
+heading word f (inr (inr (inl (e, h)))) = of_elif f h
+heading word f (inr (inr (inr (e, h)))) = of_else f h
 
 -- ---- a header has a part before its bracket or colon
 

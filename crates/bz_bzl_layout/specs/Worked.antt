@@ -2,16 +2,15 @@
 use Rattle.std.specs.Prelude.{◌≡◌, Bool, true, false, List, [], ◌∷◌, codes}
 use Rattle.bz_grammar.specs.declared.kind.Kind.TheVariants as k
 use Rattle.bz_value.specs.declared.value.Expr.{Expr}
+use Rattle.bz_value.specs.declared.value.Expr.TheVariants as e
+use Rattle.bz_value.specs.declared.value.Item.{Item}
+use Rattle.bz_value.specs.declared.value.Item.TheVariants as i
 use Rattle.bz_value.specs.Comments.{no_comments}
 use Rattle.bz_items.specs.Characters.{Bytes}
 use Rattle.bz_hosts.specs.Worked.{worked_sequence}
-use Rattle.bz_bzl_value.specs.declared.value.Statement.{Statement}
-use Rattle.bz_bzl_value.specs.declared.value.Statement.TheVariants as s
-use Rattle.bz_bzl_value.specs.declared.value.BzlItem.{BzlItem}
-use Rattle.bz_bzl_value.specs.declared.value.BzlItem.TheVariants as b
 use Rattle.bz_bzl_value.specs.Worked.{name_expr, mark_expr, keyword_expr, number_expr, bare_row, name_statement, header, function_header, branch, one_header, documented, alternative_items, ended_items, one_line, tabbed, parameters, defined}
-use Rattle.bz_bzl_layout.specs.Layout.{bzl_layout}
-use Rattle.bz_bzl_layout.specs.Level.{level}
+use Rattle.bz_layout.specs.Flags.{flags}
+use Rattle.bz_layout.specs.Written.{layout}
 
 -- ---- values
 
@@ -20,11 +19,11 @@ abbrev equated : Bytes → Expr → Expr
 equated left value = bare_row k.Named (name_expr left ∷ mark_expr (codes "=") ∷ value ∷ [])
 
 -- x = VALUE
-abbrev assigned : Expr → Statement
-assigned value = s.Simple (bare_row k.Assign (name_expr (codes "x") ∷ mark_expr (codes "=") ∷ value ∷ []))
+abbrev assigned : Expr → Expr
+assigned value = bare_row k.Assign (name_expr (codes "x") ∷ mark_expr (codes "=") ∷ value ∷ [])
 
 -- def f with these parameters, and a name in its suite
-abbrev taking : Bool → List Expr → List BzlItem
+abbrev taking : Bool → List Expr → List Item
 taking split items = one_header (function_header no_comments (codes "f") split items []) (name_statement no_comments (codes "y") ∷ []) [] ∷ []
 
 -- a and b, as a list and as named arguments of a call
@@ -35,16 +34,16 @@ abbrev calling : Bool → Expr
 calling split = worked_sequence k.Call (name_expr (codes "g") ∷ []) split (equated (codes "a") (number_expr (codes "1")) ∷ equated (codes "b") (number_expr (codes "2")) ∷ []) []
 
 -- a function whose suite has a list, and an if of a call
-abbrev nested : Bool → List BzlItem
+abbrev nested : Bool → List Item
 nested split =
     one_header (function_header no_comments (codes "f") false [] []) (
     assigned (listing split)
-    ∷ s.Compound (branch (header no_comments k.IfStmt (keyword_expr (codes "if") ∷ calling split ∷ [])) (s.Simple (bare_row k.Return (keyword_expr (codes "return") ∷ [])) ∷ []) [] ∷ []) ∷ []) [] ∷ []
+    ∷ e.Form (branch (header no_comments k.IfStmt (keyword_expr (codes "if") ∷ calling split ∷ [])) (bare_row k.Return (keyword_expr (codes "return") ∷ []) ∷ []) []) ∷ []) [] ∷ []
 
 -- ---- rows
 
-abbrev Row : List BzlItem → Bytes → Type 0
-Row items text = bzl_layout items ≡ text
+abbrev Row : List Item → Bytes → Type 0
+Row items text = layout items ≡ text
 
 -- headers at their margin, suites four further with their end comments last, and no blank line in them; one between two items
 abbrev Suites : Type 0
@@ -72,8 +71,8 @@ Margins = Row (nested false) (codes "def f():\n    x = [\n        a,\n        b,
 -- lambdas without parameters and with some; two assignments are close together, as in a BUILD file
 abbrev Lambdas : Type 0
 Lambdas =
-    Row (b.Statement (assigned (bare_row k.Lambda (keyword_expr (codes "lambda") ∷ mark_expr (codes ":") ∷ name_expr (codes "e") ∷ [])))
-    ∷ b.Statement (assigned (bare_row k.Lambda (keyword_expr (codes "lambda") ∷ name_expr (codes "a") ∷ mark_expr (codes ",")
+    Row (i.Stmt (assigned (bare_row k.Lambda (keyword_expr (codes "lambda") ∷ mark_expr (codes ":") ∷ name_expr (codes "e") ∷ [])))
+    ∷ i.Stmt (assigned (bare_row k.Lambda (keyword_expr (codes "lambda") ∷ name_expr (codes "a") ∷ mark_expr (codes ",")
     ∷ bare_row k.Param (name_expr (codes "b") ∷ mark_expr (codes "=") ∷ number_expr (codes "1") ∷ []) ∷ mark_expr (codes ",")
     ∷ bare_row k.Param (mark_expr (codes "**") ∷ name_expr (codes "c") ∷ []) ∷ mark_expr (codes ":") ∷ name_expr (codes "e") ∷ []))) ∷ [])
     (codes "x = lambda: e\nx = lambda a, b = 1, **c: e\n")
@@ -81,9 +80,9 @@ Lambdas =
 -- Each sequence is split exactly where the layout breaks it.
 abbrev Levelled : Type 0
 Levelled =
-    (level documented ≡ documented) × (level ended_items ≡ ended_items) × (level (parameters false) ≡ parameters true)
-    × (level (taking true (name_expr (codes "a") ∷ [])) ≡ taking true (name_expr (codes "a") ∷ [])) × (level (taking true []) ≡ taking false [])
-    × (level (nested false) ≡ nested true)
+    (flags documented ≡ documented) × (flags ended_items ≡ ended_items) × (flags (parameters false) ≡ parameters true)
+    × (flags (taking true (name_expr (codes "a") ∷ [])) ≡ taking true (name_expr (codes "a") ∷ [])) × (flags (taking true []) ≡ taking false [])
+    × (flags (nested false) ≡ nested true)
 
 abbrev pub WorkedBzlLayouts : Type 0
 WorkedBzlLayouts = Suites × Parameters × Margins × Lambdas × Levelled

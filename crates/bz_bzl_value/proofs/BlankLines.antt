@@ -9,13 +9,10 @@ use Rattle.bz_grammar.specs.declared.kind.Kind.TheVariants as k
 use Rattle.bz_grammar.specs.declared.tree.Part.{Part, Row_of-Part, end_of-Part, more_of-Part, Node'}
 use Rattle.bz_grammar.specs.declared.tree.Part.TheVariants as p
 use Rattle.bz_grammar.specs.Shapes.{is_kind}
-use Rattle.bz_value.specs.declared.value.Form.{Form}
+use Rattle.bz_value.specs.Frames.{is_header}
 use Rattle.bz_value.specs.Gaps.{as_list, comments_in, GapLine, lines_of, after_first_line}
 use Rattle.bz_hosts.specs.View.{Seen, last_gap}
-use Rattle.bz_bzl_value.specs.declared.value.Statement.{Statement}
-use Rattle.bz_bzl_value.specs.declared.value.Statement.TheVariants as s
-use Rattle.bz_bzl_value.specs.declared.value.Branch.{Branch}
-use Rattle.bz_bzl_value.specs.View.{ReadStatements, Stated, stated, stated_row, indented_lines_before, end_comments, after_end, is_taken_line, line_read, walked, margin_of, suite_read, head, branches, with_suite, is_compound, compound_read, statement_read, suite_in}
+use Rattle.bz_hosts.specs.Suites.{ReadStatements, Stated, stated, stated_row, indented_lines_before, end_comments, after_end, is_taken_line, line_read, walked, margin_of, suite_read, suite_form, put_header, branches, with_suite, statement_read, suite_in}
 use Rattle.bz_bzl_value.proofs.SuiteLines.{Lines}
 
 abbrev pub Blank : Lines → Type 0
@@ -118,28 +115,22 @@ suite_alike xs a b h i =
     let ends = ends_alike (margin_of xs) (walked first xs a).1 (walked first xs b).1 all.1 in
     (ap₂ pair all.0 ends.0, ends.1)
 
-abbrev branch_of : Form → (List Statement × List Bytes) → Branch
-branch_of f own = record { head = f; statements = own.0; end = own.1 }
-
 mutual
-  branches_alike : (kind : Kind) (ps : List Seen) (above : List Bytes) (l m : Lines) (xs : List Stated) (a b : Lines) → AllCalm xs → More l m → More a b → Alike (branches kind ps above l xs a) (branches kind ps above m xs b)
-  branches_alike kind ps above l m [] a b h i j = (refl, i)
-  branches_alike kind ps above l m (x ∷ xs) a b h i j =
-      alike_by x.is_colon (with_suite kind ps above l xs a) (branches kind (ps ++ x.part ∷ []) above l xs a) (with_suite kind ps above m xs b) (branches kind (ps ++ x.part ∷ []) above m xs b)
-      (suites_alike kind ps above l m xs a b h.1 i j) (branches_alike kind (ps ++ x.part ∷ []) above l m xs a b h.1 i j)
+  branches_alike : (first : Bool) (kind : Kind) (ps : List Seen) (above : List Bytes) (l m : Lines) (xs : List Stated) (a b : Lines) → AllCalm xs → More l m → More a b → Alike (branches first kind ps above l xs a) (branches first kind ps above m xs b)
+  branches_alike first kind ps above l m [] a b h i j = (refl, i)
+  branches_alike first kind ps above l m (x ∷ xs) a b h i j =
+      alike_by x.is_colon (with_suite first kind ps above l xs a) (branches first kind (ps ++ x.part ∷ []) above l xs a) (with_suite first kind ps above m xs b) (branches first kind (ps ++ x.part ∷ []) above m xs b)
+      (suites_alike first kind ps above l m xs a b h.1 i j) (branches_alike first kind (ps ++ x.part ∷ []) above l m xs a b h.1 i j)
 
-  suites_alike : (kind : Kind) (ps : List Seen) (above : List Bytes) (l m : Lines) (xs : List Stated) (a b : Lines) → AllCalm xs → More l m → More a b → Alike (with_suite kind ps above l xs a) (with_suite kind ps above m xs b)
-  suites_alike kind ps above l m [] a b h i j = (refl, i)
-  suites_alike kind ps above l m (x ∷ xs) a b h i j =
+  suites_alike : (first : Bool) (kind : Kind) (ps : List Seen) (above : List Bytes) (l m : Lines) (xs : List Stated) (a b : Lines) → AllCalm xs → More l m → More a b → Alike (with_suite first kind ps above l xs a) (with_suite first kind ps above m xs b)
+  suites_alike first kind ps above l m [] a b h i j = (refl, i)
+  suites_alike first kind ps above l m (x ∷ xs) a b h i j =
       let c : Lines = (x.suite (indented_lines_before xs a)).1 in
       let d : Lines = (x.suite (indented_lines_before xs b)).1 in
       let own = h.0.suite (indented_lines_before xs a) (indented_lines_before xs b) (before_alike xs a b j) in
-      let more : Alike (branches kind [] (comments_in c) c xs a) (branches kind [] (comments_in d) d xs b) =
-      subst (λ t. Alike (branches kind [] t c xs a) (branches kind [] (comments_in d) d xs b)) (sym (more_comments c d own.1)) (branches_alike kind [] (comments_in d) c d xs a b h.1 own.1 j) in
-      (ap₂ (λ o rest. branch_of (head kind ps above x.suffix) o ∷ rest) own.0 more.0, more.1)
-
-compound_alike : (kind : Kind) (xs : List Stated) (above : List Bytes) (a b : Lines) → AllCalm xs → More a b → Alike (compound_read kind xs above a) (compound_read kind xs above b)
-compound_alike kind xs above a b h i = let all = branches_alike kind [] above a b xs a b h i i in (ap (λ r. s.Compound r ∷ []) all.0, all.1)
+      let more : Alike (branches false kind [] (comments_in c) c xs a) (branches false kind [] (comments_in d) d xs b) =
+      subst (λ t. Alike (branches false kind [] t c xs a) (branches false kind [] (comments_in d) d xs b)) (sym (more_comments c d own.1)) (branches_alike false kind [] (comments_in d) c d xs a b h.1 own.1 j) in
+      (ap₂ (λ o rest. put_header first (suite_form kind ps above x.suffix o) rest) own.0 more.0, more.1)
 
 calm_after : (xs : List Stated) → AllCalm xs → AllCalm (drop 1 xs)
 calm_after [] h = tt
@@ -150,7 +141,7 @@ calm_after (x ∷ xs) h = h.1
 statement_alike : (kind : Kind) (xs : List Stated) → AllCalm xs → (above : List Bytes) (a b : Lines) → More a b → Alike (statement_read kind xs above a) (statement_read kind xs above b)
 statement_alike kind xs h above a b i =
     alike_by (is_kind kind k.Line) _ _ _ _ (line_alike (map (λ x. x.part) xs) above a b i)
-    (alike_by (is_compound kind) (compound_read kind xs above a) ([], a) (compound_read kind xs above b) ([], b) (compound_alike kind xs above a b h i) (refl, i))
+    (alike_by (is_header kind) (branches true kind [] above a xs a) ([], a) (branches true kind [] above b xs b) ([], b) (branches_alike true kind [] above a b xs a b h i i) (refl, i))
 
 suite_in_alike : (kind : Kind) (xs : List Stated) → AllCalm xs → (a b : Lines) → More a b → Alike (suite_in kind xs a) (suite_in kind xs b)
 suite_in_alike kind xs h a b i =

@@ -1,7 +1,7 @@
--- The items of a BUILD file as those of a .bzl file: they are proper exactly where those are and have none of the newer kinds,
--- and have each comment as often.
-use Rattle.std.proofs.Common.{Bool, ◌≡◌, ◌<◌, List, [], ◌∷◌, true, inl, inr, refl, map, arith}
+-- The items of a BUILD file are proper exactly where they are proper, as those of a .bzl file, and have none of the newer kinds.
+use Rattle.std.proofs.Common.{Bool, ◌≡◌, ◌<◌, ◌&&◌, ◌||◌, List, [], ◌∷◌, true, inl, inr, refl, arith}
 use Rattle.std.specs.List.{AllByRecursion}
+use Rattle.std.proofs.lemmas.Bool.{or_left}
 use Rattle.std.proofs.lemmas.List.Elements.{All-from_recursion, recursion_from_All}
 use Rattle.bz_grammar.specs.declared.kind.Kind.{Kind}
 use Rattle.bz_grammar.specs.declared.kind.Kind.TheVariants as k
@@ -18,18 +18,14 @@ use Rattle.bz_grammar.proofs.Newer.{AllBuild, build_node}
 use Rattle.bz_value.specs.declared.value.Expr.{Expr, Token, Form', Row_of-Expr, end_of-Expr, more_of-Expr}
 use Rattle.bz_value.specs.declared.value.Item.{Item}
 use Rattle.bz_value.specs.declared.value.Item.TheVariants as i
-use Rattle.bz_value.specs.Counted.{one_if}
-use Rattle.bz_value.specs.Frames.{Frame, row, sequence, frame, is_binary, is_statement}
-use Rattle.bz_value.specs.LineShapes.{line_shape}
-use Rattle.bz_value.specs.Proper.{IsEmptyRow, IsProperItem, ProperBy, ProperHeadBy, ProperItemsBy, ProperRowBy, after_expr, has_statement_kind, in_frame, roots}
+use Rattle.bz_value.specs.Frames.{Frame, row, sequence, compound, frame, is_binary, is_compound, is_inner_frame, is_simple, is_statement}
+use Rattle.bz_value.specs.LineShapes.{value_shape}
+use Rattle.bz_value.specs.Proper.{IsEmptyRow, IsProperItem, IsProperItemBy, ProperBy, ProperHeadBy, ProperItemsBy, ProperRowBy, after_expr, in_frame, roots}
 use Rattle.bz_value.specs.Roots.{root, row_in}
-use Rattle.bz_value.proofs.FormParts.{framed}
-use Rattle.bz_value.proofs.Wider.{line_expr}
+use Rattle.bz_value.specs.Statements.{has_simple_kind, has_statement_kind, is_whole_statement}
+use Rattle.bz_value.proofs.Wider.{build_wider, wider_expr}
 use Rattle.bz_bzl_value.specs.BuildValues.{AreBuildExprs, IsBuildExpr, IsBuildItem}
-use Rattle.bz_bzl_value.specs.Laws.{BuildItemsAreProper, BuildItemsHaveTheSameComments}
-use Rattle.bz_bzl_value.specs.Proper.{IsProperBzlItem, has_simple_kind, is_simple}
-use Rattle.bz_bzl_value.specs.View.{bzl_item}
-use Rattle.bz_bzl_value.proofs.KeptValues.{items_amount}
+use Rattle.bz_bzl_value.specs.Laws.{BuildItemsAreProper}
 
 -- ---- shapes
 
@@ -53,13 +49,13 @@ line_kind k.IfStmt e lt = absurd (omega (arith, lt))
 line_kind k.ForStmt e lt = absurd (omega (arith, lt))
 line_kind _ e lt = no_such e
 
-file_narrow : (xs : List Part) → AllBuild xs → Fits IsNonterminal (line_shape k.File) xs → Fits IsNonterminal (shape k.File) xs
+file_narrow : (xs : List Part) → AllBuild xs → Fits IsNonterminal (value_shape k.File) xs → Fits IsNonterminal (shape k.File) xs
 file_narrow [] u h = h
 file_narrow (x ∷ xs) u (inl h) = inl h
 file_narrow (p.Leaf l ∷ xs) u (inr h) = no_such h.0
 file_narrow (Node' kind size own ∷ xs) u (inr h) = inr (line_kind kind h.0 u.0.0, file_narrow xs u.1 h.1)
 
-shape_narrow : (kind : Kind) (parts items : List Part) → kind_number kind < kind_number k.Def → AllBuild parts → Fits IsNonterminal (line_shape kind) (row_in (frame kind) parts items) → Fits IsNonterminal (shape kind) (row_in (frame kind) parts items)
+shape_narrow : (kind : Kind) (parts items : List Part) → kind_number kind < kind_number k.Def → AllBuild parts → Fits IsNonterminal (value_shape kind) (row_in (frame kind) parts items) → Fits IsNonterminal (shape kind) (row_in (frame kind) parts items)
 shape_narrow k.File parts items lt u h = file_narrow parts u h
 shape_narrow k.Def parts items lt u h = absurd (omega (arith, lt))
 shape_narrow k.Param parts items lt u h = absurd (omega (arith, lt))
@@ -70,6 +66,23 @@ shape_narrow k.Return parts items lt u h = absurd (omega (arith, lt))
 shape_narrow k.Flow parts items lt u h = absurd (omega (arith, lt))
 shape_narrow k.Lambda parts items lt u h = absurd (omega (arith, lt))
 shape_narrow _ parts items lt u h = h
+
+-- ---- frames
+
+-- of these kinds none is a suite
+no_suite : (kind : Kind) → kind_number kind < kind_number k.Def → is_inner_frame (frame kind) ≡ true
+no_suite k.Suite lt = absurd (omega (arith, lt))
+no_suite _ lt = refl
+
+inner_framed : (f : Frame) {A A' B B' : Type 0} (C C' : Type 0) → is_inner_frame f ≡ true → (A → A') → (B → B') → in_frame f A B C → in_frame f A' B' C'
+inner_framed row C C' i a b h = a h
+inner_framed (sequence opener closer) C C' i a b h = b h
+inner_framed compound C C' i a b h = no_such i
+
+of_all : (f : Frame) (A : Type 0) → in_frame f A A A → A
+of_all row A h = h
+of_all (sequence opener closer) A h = h
+of_all compound A h = h
 
 -- ---- roots
 
@@ -83,36 +96,32 @@ roots_build : (m : _) (r : Row_of-Expr m) → AreBuildExprs r → AllBuild (root
 roots_build m end_of-Expr b = tt
 roots_build m (more_of-Expr x rest) b = (root_build x b.0, roots_build _ rest b.1)
 
--- ---- proper by the grammar of lines and without newer kinds is proper by that of BUILD files
+-- ---- proper by the grammar of values and without newer kinds is proper by that of BUILD files
 
 mutual
-  narrow_expr : (here : Spot) (x : Expr) → ProperBy line_shape here x → IsBuildExpr x → ProperBy shape here x
+  narrow_expr : (here : Spot) (x : Expr) → ProperBy value_shape here x → IsBuildExpr x → ProperBy shape here x
   narrow_expr here (Token t) h b = h
   narrow_expr here (Form' kind s parts s' items end split open_break comments) h b = (
     shape_narrow kind (roots parts) (roots items) b.0 (roots_build _ parts b.1) h.0,
-    framed (frame kind)
+    inner_framed (frame kind) _ _ (no_suite kind b.0)
         (λ g. (narrow_row (is_binary kind) here here _ parts g.0 b.1, g.1, g.2, g.3, g.4))
         (λ g. (narrow_head here _ parts g.0 b.1, narrow_items _ items g.1 b.2, g.2, g.3))
         h.1,
   )
 
-  narrow_row : (binary : Bool) (outer here : Spot) (m : _) (r : Row_of-Expr m) → ProperRowBy line_shape binary outer here r → AreBuildExprs r → ProperRowBy shape binary outer here r
+  narrow_row : (binary : Bool) (outer here : Spot) (m : _) (r : Row_of-Expr m) → ProperRowBy value_shape binary outer here r → AreBuildExprs r → ProperRowBy shape binary outer here r
   narrow_row binary outer here m end_of-Expr h b = tt
   narrow_row binary outer here m (more_of-Expr x rest) h b = (narrow_expr here x h.0 b.0, h.1, h.2, narrow_row binary outer (after_expr outer here x) _ rest h.3 b.1)
 
-  narrow_head : (here : Spot) (m : _) (r : Row_of-Expr m) → ProperHeadBy line_shape here r → AreBuildExprs r → ProperHeadBy shape here r
+  narrow_head : (here : Spot) (m : _) (r : Row_of-Expr m) → ProperHeadBy value_shape here r → AreBuildExprs r → ProperHeadBy shape here r
   narrow_head here m end_of-Expr h b = tt
   narrow_head here m (more_of-Expr x rest) h b = (narrow_expr here x h.0 b.0, h.1, narrow_head here _ rest h.2 b.1)
 
-  narrow_items : (m : _) (r : Row_of-Expr m) → ProperItemsBy line_shape r → AreBuildExprs r → ProperItemsBy shape r
+  narrow_items : (m : _) (r : Row_of-Expr m) → ProperItemsBy value_shape r → AreBuildExprs r → ProperItemsBy shape r
   narrow_items m end_of-Expr h b = tt
   narrow_items m (more_of-Expr x rest) h b = (narrow_expr Within x h.0 b.0, h.1, h.2, narrow_items _ rest h.3 b.1)
 
 -- ---- and the other way
-
-of_both : (f : Frame) (C : Type 0) → in_frame f C C → C
-of_both row C h = h
-of_both (sequence opener closer) C h = h
 
 none_build : (m : _) (r : Row_of-Expr m) → IsEmptyRow r → AreBuildExprs r
 none_build m end_of-Expr h = tt
@@ -122,8 +131,8 @@ mutual
   build_expr : (here : Spot) (x : Expr) → ProperBy shape here x → IsBuildExpr x
   build_expr here (Token t) h = tt
   build_expr here (Form' kind s parts s' items end split open_break comments) h =
-      let w : AreBuildExprs parts × AreBuildExprs items = of_both (frame kind) (AreBuildExprs parts × AreBuildExprs items) (
-      framed (frame kind)
+      let w : AreBuildExprs parts × AreBuildExprs items = of_all (frame kind) (AreBuildExprs parts × AreBuildExprs items) (
+      inner_framed (frame kind) _ _ (no_suite kind (older kind _ h.0))
       (λ g. (build_row (is_binary kind) here here _ parts g.0, none_build _ items g.1))
       (λ g. (build_head here _ parts g.0, build_items _ items g.1))
       h.1) in
@@ -149,37 +158,41 @@ simple_kind k.Assign e = refl
 simple_kind k.Load e = refl
 simple_kind _ e = no_such e
 
-statement_kind : (kind : Kind) → is_simple kind ≡ true → kind_number kind < kind_number k.Def → is_statement kind ≡ true
-statement_kind k.Bare e lt = refl
-statement_kind k.Assign e lt = refl
-statement_kind k.Load e lt = refl
-statement_kind k.Return e lt = absurd (omega (arith, lt))
-statement_kind k.Flow e lt = absurd (omega (arith, lt))
-statement_kind _ e lt = no_such e
+statement_kind : (kind : Kind) (alone : Bool) → (is_simple kind || (is_compound (frame kind) && alone)) ≡ true → kind_number kind < kind_number k.Def → is_statement kind ≡ true
+statement_kind k.Bare alone e lt = refl
+statement_kind k.Assign alone e lt = refl
+statement_kind k.Load alone e lt = refl
+statement_kind k.Return alone e lt = absurd (omega (arith, lt))
+statement_kind k.Flow alone e lt = absurd (omega (arith, lt))
+statement_kind k.Suite alone e lt = absurd (omega (arith, lt))
+statement_kind _ alone e lt = no_such e
 
 is_simple_one : (x : Expr) → has_statement_kind x ≡ true → has_simple_kind x ≡ true
 is_simple_one (Token t) e = no_such e
 is_simple_one (Form' kind s parts s' items end split open_break comments) e = simple_kind kind e
 
-is_statement_one : (x : Expr) → has_simple_kind x ≡ true → IsBuildExpr x → has_statement_kind x ≡ true
+is_statement_one : (x : Expr) → is_whole_statement x ≡ true → IsBuildExpr x → has_statement_kind x ≡ true
 is_statement_one (Token t) e b = no_such e
-is_statement_one (Form' kind s parts s' items end split open_break comments) e b = statement_kind kind e b.0
+is_statement_one (Form' kind s parts s' items end split open_break comments) e b = statement_kind kind _ e b.0
 
 -- ---- items
 
-wide_item : (item : Item) → IsProperItem item → IsProperBzlItem (bzl_item item) × IsBuildItem item
-wide_item (i.Block lines) h = (h, tt)
-wide_item (i.Stmt x) h = ((is_simple_one x h.0, line_expr Begins x h.1, h.2), build_expr Begins x h.1)
+abbrev pub IsProperBzlItem : Item → Type 0
+IsProperBzlItem item = IsProperItemBy is_whole_statement value_shape item
 
-narrow_item : (item : Item) → IsProperBzlItem (bzl_item item) → IsBuildItem item → IsProperItem item
+wide_item : (item : Item) → IsProperItem item → IsProperBzlItem item × IsBuildItem item
+wide_item (i.Block lines) h = (h, tt)
+wide_item (i.Stmt x) h = ((or_left (has_simple_kind x) _ (is_simple_one x h.0), wider_expr shape value_shape build_wider Begins x h.1, h.2), build_expr Begins x h.1)
+
+narrow_item : (item : Item) → IsProperBzlItem item → IsBuildItem item → IsProperItem item
 narrow_item (i.Block lines) h b = h
 narrow_item (i.Stmt x) h b = (is_statement_one x h.0 b, narrow_expr Begins x h.1 b, h.2)
 
-pub all_wide : (items : List Item) → AllByRecursion IsProperItem items → AllByRecursion IsProperBzlItem (map bzl_item items) × AllByRecursion IsBuildItem items
+pub all_wide : (items : List Item) → AllByRecursion IsProperItem items → AllByRecursion IsProperBzlItem items × AllByRecursion IsBuildItem items
 all_wide [] h = (tt, tt)
 all_wide (item ∷ items) h = let one = wide_item item h.0 in let more = all_wide items h.1 in ((one.0, more.0), (one.1, more.1))
 
-all_narrow : (items : List Item) → AllByRecursion IsProperBzlItem (map bzl_item items) → AllByRecursion IsBuildItem items → AllByRecursion IsProperItem items
+all_narrow : (items : List Item) → AllByRecursion IsProperBzlItem items → AllByRecursion IsBuildItem items → AllByRecursion IsProperItem items
 all_narrow [] h b = tt
 all_narrow (item ∷ items) h b = (narrow_item item h.0 b.0, all_narrow items h.1 b.1)
 
@@ -187,11 +200,6 @@ pub build_items_proper : BuildItemsAreProper
 build_items_proper items = (
   (λ h.
       let w = all_wide items (recursion_from_All IsProperItem items h) in
-      (All-from_recursion IsProperBzlItem (map bzl_item items) w.0, All-from_recursion IsBuildItem items w.1)),
-  (λ h. All-from_recursion IsProperItem items (all_narrow items (recursion_from_All IsProperBzlItem (map bzl_item items) h.0) (recursion_from_All IsBuildItem items h.1))),
+      (All-from_recursion IsProperBzlItem items w.0, All-from_recursion IsBuildItem items w.1)),
+  (λ h. All-from_recursion IsProperItem items (all_narrow items (recursion_from_All IsProperBzlItem items h.0) (recursion_from_All IsBuildItem items h.1))),
 )
-
--- ---- comments
-
-pub build_items_comments : BuildItemsHaveTheSameComments
-build_items_comments text items = items_amount (one_if text) items

@@ -1,22 +1,91 @@
 -- Where headers are among the parts of a statement: parts up to a colon, the colon, a suite, and what follows that.
-use Rattle.std.proofs.Common.{◌≡◌, Bool, true, false, List, [], ◌∷◌, ◌++◌, inl, inr, refl, sym, ap, ◌∙◌, subst, codes}
+use Rattle.std.proofs.Common.{◌≡◌, Bool, true, false, ◌&&◌, List, [], ◌∷◌, ◌++◌, inl, inr, refl, sym, ap, ◌∙◌, subst, append_assoc, codes}
 use Rattle.std.specs.List.{AllByRecursion}
+use Rattle.std.proofs.lemmas.Bool.{and_parts}
 use Rattle.bz_grammar.specs.declared.kind.Kind.{Kind}
 use Rattle.bz_grammar.specs.declared.kind.Kind.TheVariants as k
 use Rattle.bz_grammar.specs.declared.tree.Part.{Part, Node'}
 use Rattle.bz_grammar.specs.declared.tree.Part.TheVariants as p
 use Rattle.bz_grammar.specs.Shapes as s
-use Rattle.bz_grammar.specs.Shapes.{Nonterminal, Terminal, Shape, Fits, Listed, After, tok, sub, owned, enclosed, done, nonterminal_has_kind, has_token}
+use Rattle.bz_grammar.specs.Shapes.{Terminal, Shape, Fits, Listed, After, Several, Times, no_more, once_more, nonterminal_has_kind, has_token}
 use Rattle.bz_grammar.specs.Legal.{IsNonterminal}
-use Rattle.bz_grammar.specs.Spots.{Spot, Begins, Within, Along, onward, after_node, after_part, Stands, AtLeaves, AtParts}
-use Rattle.bz_grammar.proofs.Balance.{no_such, inner_nonterminal}
-use Rattle.bz_value.specs.Roots.{each_with_comma}
-use Rattle.bz_value.specs.Roots as r
-use Rattle.bz_value.proofs.Rooted.{places}
-use Rattle.bz_hosts.proofs.Alternating.{IsItem, IsMark, Alternating}
-use Rattle.bz_hosts.proofs.Cuts.{nonterminal_item, separator_mark, closing_mark}
-use Rattle.bz_hosts.proofs.InnerParts.{is_inner, inner_tokens, token_inner, nonterminal_inner, token_goes, token_opens, token_closes, nonterminal_goes}
-use Rattle.bz_bzl_value.proofs.KeptGaps.{NoColon, no_colons, token_plain, nonterminal_plain}
+use Rattle.bz_grammar.specs.Spots.{Spot, Begins, Along, after_node, after_part, Stands, AtLeaves, AtParts}
+use Rattle.bz_grammar.proofs.Balance.{no_such, inner_nonterminal, spot_after, parts_split}
+use Rattle.bz_items.specs.Characters.{Bytes}
+use Rattle.bz_value.specs.LineShapes.{value_shape}
+use Rattle.bz_hosts.proofs.InnerParts.{is_inner, inner_tokens, plain_tokens, every, every_part, GoesOn, token_inner, nonterminal_inner, token_goes, token_closes, nonterminal_goes}
+use Rattle.bz_hosts.proofs.Colons.{NoColon, no_colons, token_plain, nonterminal_plain}
+
+-- ---- one shape after another
+
+-- a shape, and where nothing more follows in it another one
+abbrev pub followed : Shape → Shape → Shape
+followed s.none t = s.none
+followed s.done t = t
+followed (s.tok ts r) t = s.tok ts (followed r t)
+followed (s.sub a r) t = s.sub a (followed r t)
+followed (s.alt left right) t = s.alt (followed left t) (followed right t)
+followed (s.list a ts last r) t = s.list a ts last (followed r t)
+followed (s.each a r) t = s.each a (followed r t)
+followed (s.times group r) t = s.times group (followed r t)
+
+-- parts of which F holds, and after them those of which G does
+abbrev pub Both : (List Part → Type 0) → (List Part → Type 0) → List Part → Type 0
+Both F G xs = (front : List Part) × (back : List Part) × (xs ≡ front ++ back) × F front × G back
+
+module _ (G : List Part → Type 0) where
+  weaker : (F F' : List Part → Type 0) → ((xs : List Part) → F xs → F' xs) → (xs : List Part) → Both F G xs → Both F' G xs
+  weaker F F' f xs w = (w.0, w.1, w.2, f w.0 w.3, w.4)
+
+  more : (F F' : List Part → Type 0) (x : Part) → ((xs : List Part) → F xs → F' (x ∷ xs)) → (xs : List Part) → Both F G xs → Both F' G (x ∷ xs)
+  more F F' x f xs w = (x ∷ w.0, w.1, ap (λ (zs : List Part). x ∷ zs) w.2, f w.0 w.3, w.4)
+
+  module _ (K K' : List Part → Type 0) (cut : (xs : List Part) → K' xs → Both K G xs) where
+    module _ (P : Part → Type 0) where
+      several_of : (xs : List Part) → K xs → Several P K xs
+      several_of [] h = h
+      several_of (x ∷ xs) h = inl h
+
+      several_cut : (xs : List Part) → Several P K' xs → Both (Several P K) G xs
+      several_cut [] h = weaker K (Several P K) several_of [] (cut [] h)
+      several_cut (x ∷ xs) (inl h) = weaker K (Several P K) several_of (x ∷ xs) (cut (x ∷ xs) h)
+      several_cut (x ∷ xs) (inr h) = more (Several P K) (Several P K) x (λ ys i. inr (h.0, i)) xs (several_cut xs h.1)
+
+      module _ (ts : List Terminal) (last : Bool) where
+        after_of : (xs : List Part) → K xs → After P ts last K xs
+        after_of [] h = h
+        after_of (x ∷ xs) h = inl h
+
+        mutual
+          listed_cut : (xs : List Part) → Listed P ts last K' xs → Both (Listed P ts last K) G xs
+          listed_cut [] h = absurd h
+          listed_cut (x ∷ xs) h = more (After P ts last K) (Listed P ts last K) x (λ ys i. (h.0, i)) xs (after_cut xs h.1)
+
+          after_cut : (xs : List Part) → After P ts last K' xs → Both (After P ts last K) G xs
+          after_cut [] h = weaker K (After P ts last K) after_of [] (cut [] h)
+          after_cut (x ∷ xs) (inl h) = weaker K (After P ts last K) after_of (x ∷ xs) (cut (x ∷ xs) h)
+          after_cut (x ∷ xs) (inr (m, inl h)) = more (Listed P ts last K) (After P ts last K) x (λ ys i. inr (m, inl i)) xs (listed_cut xs h)
+          after_cut (x ∷ xs) (inr (m, inr h)) = more K (After P ts last K) x (λ ys i. inr (m, inr (h.0, i))) xs (cut xs h.1)
+
+    times_cut : (F : List Part → Type 0) (xs : List Part) → Times F K' xs → Both (Times F K) G xs
+    times_cut F xs (no_more h) = weaker K (Times F K) (λ ys i. no_more i) xs (cut xs h)
+    times_cut F xs (once_more front back e h t) =
+        let w = times_cut F back t in
+        (front ++ w.0, w.1, e ∙ (ap (λ (zs : List Part). front ++ zs) w.2 ∙ sym (append_assoc front w.0 w.1)), once_more front w.0 refl h w.3, w.4)
+
+-- the parts of the one shape, and those of the other
+pub fits_cut : (r t : Shape) (xs : List Part) → Fits IsNonterminal (followed r t) xs → Both (Fits IsNonterminal r) (Fits IsNonterminal t) xs
+fits_cut s.none t xs h = absurd h
+fits_cut s.done t xs h = ([], xs, refl, tt, h)
+fits_cut (s.tok ts r) t [] h = absurd h
+fits_cut (s.tok ts r) t (x ∷ xs) h = more (Fits IsNonterminal t) (Fits IsNonterminal r) (Fits IsNonterminal (s.tok ts r)) x (λ ys i. (h.0, i)) xs (fits_cut r t xs h.1)
+fits_cut (s.sub a r) t [] h = absurd h
+fits_cut (s.sub a r) t (x ∷ xs) h = more (Fits IsNonterminal t) (Fits IsNonterminal r) (Fits IsNonterminal (s.sub a r)) x (λ ys i. (h.0, i)) xs (fits_cut r t xs h.1)
+fits_cut (s.alt left right) t xs (inl h) = weaker (Fits IsNonterminal t) (Fits IsNonterminal left) (Fits IsNonterminal (s.alt left right)) (λ ys i. inl i) xs (fits_cut left t xs h)
+fits_cut (s.alt left right) t xs (inr h) = weaker (Fits IsNonterminal t) (Fits IsNonterminal right) (Fits IsNonterminal (s.alt left right)) (λ ys i. inr i) xs (fits_cut right t xs h)
+fits_cut (s.list a ts last r) t xs h = listed_cut (Fits IsNonterminal t) (Fits IsNonterminal r) (Fits IsNonterminal (followed r t)) (λ ys i. fits_cut r t ys i) (IsNonterminal a) ts last xs h
+fits_cut (s.each a r) t xs h = several_cut (Fits IsNonterminal t) (Fits IsNonterminal r) (Fits IsNonterminal (followed r t)) (λ ys i. fits_cut r t ys i) (IsNonterminal a) xs h
+fits_cut (s.times group r) t xs h = times_cut (Fits IsNonterminal t) (Fits IsNonterminal r) (Fits IsNonterminal (followed r t)) (λ ys i. fits_cut r t ys i) (Fits IsNonterminal group) xs h
 
 -- ---- after a suite and after a statement a line begins
 
@@ -40,229 +109,127 @@ pub after_stmt : (x : Part) (outer here : Spot) → IsNonterminal s.stmt x → a
 after_stmt (p.Leaf l) outer here h = no_such h
 after_stmt (Node' kind n r) outer here h = stmt_ends kind here h
 
--- ---- parts of a header
+-- ---- after the parts of a header the line goes on
+
+goes_along : (xs : List Part) → AllByRecursion GoesOn xs → spot_after Begins Along xs ≡ Along
+goes_along [] h = refl
+goes_along (x ∷ xs) h = ap (λ z. spot_after Begins z xs) (h.0 Begins Along) ∙ goes_along xs h.1
+
+plain_along : (ts : List Terminal) (r : Shape) → every plain_tokens inner_nonterminal (s.tok ts r) ≡ true → (xs : List Part) → Fits IsNonterminal (s.tok ts r) xs → spot_after Begins Begins xs ≡ Along
+plain_along ts r e [] h = absurd h
+plain_along ts r e (x ∷ xs) h =
+    let g : AllByRecursion GoesOn (x ∷ xs) = every_part GoesOn plain_tokens inner_nonterminal token_goes nonterminal_goes (s.tok ts r) e (x ∷ xs) h in
+    ap (λ z. spot_after Begins z xs) (g.0 Begins Begins) ∙ goes_along xs g.1
+
+closes_along : (here : Spot) (xs ys : List Part) → Fits IsNonterminal (s.tok s.close_round s.done) ys → spot_after Begins here (xs ++ ys) ≡ Along
+closes_along here [] [] h = absurd h
+closes_along here [] (y ∷ []) h = token_closes s.close_round y Begins here refl h.0
+closes_along here [] (y ∷ z ∷ ys) h = absurd h.1
+closes_along here (x ∷ xs) ys h = closes_along (after_part Begins here x) xs ys h
+
+def_along : (xs : List Part) → Fits IsNonterminal (value_shape k.Def) xs → spot_after Begins Begins xs ≡ Along
+def_along xs h =
+    let w = fits_cut (s.tok (s.one_keyword (codes "def")) (s.tok s.name (s.tok s.open_round (s.alt s.done (s.list s.param s.comma_mark true s.done))))) (s.tok s.close_round s.done) xs h in
+    ap (spot_after Begins Begins) w.2 ∙ closes_along Begins w.0 w.1 w.4
+
+-- ---- headers
 
 -- no colon, and neither the end of a line nor a line
 abbrev pub InHeader : Part → Type 0
 InHeader x = NoColon x × (is_inner x ≡ true)
 
-pub token_in : (ts : List Terminal) (x : Part) → no_colons ts ≡ true → inner_tokens ts ≡ true → has_token ts x ≡ true → InHeader x
-token_in ts x n i h = (token_plain ts x n h, token_inner ts x i h)
+abbrev in_header : List Terminal → Bool
+in_header ts = no_colons ts && inner_tokens ts
 
-nonterminal_in : (q : Nonterminal) (x : Part) → inner_nonterminal q ≡ true → IsNonterminal q x → InHeader x
-nonterminal_in q x i h = (nonterminal_plain q x h, nonterminal_inner q x i h)
+token_in : (ts : List Terminal) (x : Part) → in_header ts ≡ true → has_token ts x ≡ true → InHeader x
+token_in ts x i h = let w = and_parts (no_colons ts) (inner_tokens ts) i in (token_plain ts x w.0 h, token_inner ts x w.1 h)
 
--- ---- headers
+-- the first part is this word
+abbrev pub BeginsWith : Bytes → List Part → Type 0
+BeginsWith word [] = ⊥
+BeginsWith word (x ∷ xs) = has_token (s.one_keyword word) x ≡ true
 
--- a colon along the line, a suite, and these parts
-pub record Ending (back : List Part) : Type 0 where
+-- a header of a kind that begins with this word, along the line a colon and a suite, and then these parts
+pub record Headed (kind : Kind) (word : Bytes) (back xs : List Part) : Type 0 where
+  pub front : List Part
   pub mark : Part
   pub own : Part
+  pub cut : xs ≡ front ++ mark ∷ own ∷ back
+  pub fits : Fits IsNonterminal (value_shape kind) front
+  pub begins : BeginsWith word front
+  pub plain : AllByRecursion InHeader front
+  pub here : AtParts Stands Begins Begins front
   pub colon : has_token s.colon_mark mark ≡ true
   pub gap : AtLeaves Stands Along mark
   pub suite : IsNonterminal s.suite own
   pub there : AtLeaves Stands Along own
   pub following : AtParts Stands Begins Begins back
 
--- parts of a header of which P holds, and such an ending
-pub record Headed (P : List Part → Type 0) (back xs : List Part) : Type 0 where
-  pub front : List Part
-  pub ending : Ending back
-  pub cut : xs ≡ front ++ ending.mark ∷ ending.own ∷ back
-  pub such : P front
-  pub plain : AllByRecursion InHeader front
-
 moved : {here there : Spot} (xs : List Part) → here ≡ there → AtParts Stands Begins here xs → AtParts Stands Begins there xs
 moved xs e h = subst (λ z. AtParts Stands Begins z xs) e h
 
--- one part more
-cons : (P Q : List Part → Type 0) (back : List Part) (y : Part) (xs : List Part) → InHeader y → ((front : List Part) → P front → Q (y ∷ front)) → Headed P back xs → Headed Q back (y ∷ xs)
-cons P Q back y xs n f h = record { front = y ∷ h.front; ending = h.ending; cut = ap (λ (zs : List Part). y ∷ zs) h.cut; such = f h.front h.such; plain = (n, h.plain) }
+-- of a header with this shape
+module _ (kind : Kind) (word : Bytes) (rest : Shape) (wider : (xs : List Part) → Fits IsNonterminal (s.tok (s.one_keyword word) rest) xs → Fits IsNonterminal (value_shape kind) xs) (inner : every in_header inner_nonterminal (s.tok (s.one_keyword word) rest) ≡ true)
+    (along : (xs : List Part) → Fits IsNonterminal (s.tok (s.one_keyword word) rest) xs → spot_after Begins Begins xs ≡ Along) where
+  abbrev its : Shape
+  its = s.tok (s.one_keyword word) rest
 
-pub weaker : (P Q : List Part → Type 0) (back xs : List Part) → ((front : List Part) → P front → Q front) → Headed P back xs → Headed Q back xs
-weaker P Q back xs f h = record { front = h.front; ending = h.ending; cut = h.cut; such = f h.front h.such; plain = h.plain }
+  begun : (xs : List Part) → Fits IsNonterminal its xs → BeginsWith word xs
+  begun [] h = absurd h
+  begun (x ∷ xs) h = h.0
 
-abbrev pub None_before : List Part → Type 0
-None_before front = front ≡ []
+  ended : (xs front own back : List Part) → xs ≡ front ++ (own ++ back) → Fits IsNonterminal its front → Fits IsNonterminal s.owned own → AtParts Stands Begins Begins xs → Headed kind word back xs
+  ended xs front [] back e f h at_ = absurd h
+  ended xs front (mark ∷ []) back e f h at_ = absurd h.1
+  ended xs front (mark ∷ own ∷ x ∷ ys) back e f h at_ = absurd h.1.1
+  ended xs front (mark ∷ own ∷ []) back e f h at_ =
+      let both = parts_split Stands Begins Begins front (mark ∷ own ∷ back) (subst (AtParts Stands Begins Begins) e at_) in
+      let there = moved (mark ∷ own ∷ back) (along front f) both.1 in
+      let after = moved (own ∷ back) (token_goes s.colon_mark mark refl h.0 Begins Along) there.1 in record {
+        front = front;
+        mark = mark;
+        own = own;
+        cut = e;
+        fits = wider front f;
+        begins = begun front f;
+        plain = every_part InHeader in_header inner_nonterminal token_in (λ a x i j. (nonterminal_plain a x j, nonterminal_inner a x i j)) its inner front f;
+        here = both.0;
+        colon = h.0;
+        gap = there.0;
+        suite = h.1.0;
+        there = after.0;
+        following = moved back (after_suite own Begins Along h.1.0) after.1;
+      }
 
--- a colon and a suite
-pub colon_headed : (mark own : Part) (back : List Part) → has_token s.colon_mark mark ≡ true → IsNonterminal s.suite own → AtParts Stands Begins Along (mark ∷ own ∷ back) → Headed None_before back (mark ∷ own ∷ back)
-colon_headed mark own back h i at_ =
-    let first : after_part Begins Along mark ≡ Along = token_goes s.colon_mark mark refl h Begins Along in
-    let second : after_part Begins (after_part Begins Along mark) own ≡ Begins = after_suite own Begins (after_part Begins Along mark) i in
-    record {
-      front = [];
-      ending = record { mark = mark; own = own; colon = h; gap = at_.0; suite = i; there = subst (λ z. AtLeaves Stands z own) first at_.1.0; following = moved back second at_.1.1 };
-      cut = refl;
-      such = refl;
-      plain = tt;
-    }
+  headed : (xs front back : List Part) → xs ≡ front ++ back → Fits IsNonterminal (followed its s.owned) front → AtParts Stands Begins Begins xs → Headed kind word back xs
+  headed xs front back e h at_ = let w = fits_cut its s.owned front h in ended xs w.0 w.1 back (e ∙ (ap (λ (zs : List Part). zs ++ back) w.2 ∙ append_assoc w.0 w.1 back)) w.3 w.4 at_
 
-pub owned_headed : (xs : List Part) → Fits IsNonterminal owned xs → AtParts Stands Begins Along xs → Headed None_before [] xs
-owned_headed [] h at_ = absurd h
-owned_headed (mark ∷ []) h at_ = absurd h.1
-owned_headed (mark ∷ own ∷ []) h at_ = colon_headed mark own [] h.0 h.1.0 at_
-owned_headed (mark ∷ own ∷ x ∷ xs) h at_ = absurd h.1.1
+-- ---- the headers of each kind
 
--- ---- with its colon a header has this shape
+abbrev for_rest : Shape
+for_rest = s.list s.primary s.comma_mark false (s.tok (s.one_keyword (codes "in")) (s.sub s.expr s.done))
 
--- a colon after these parts
-abbrev pub with_colon : List Part → List Part
-with_colon front = front ++ r.mark_leaf 58 ∷ []
+abbrev test_rest : Shape
+test_rest = s.sub s.test s.done
 
-abbrev pub FitsHeader : Shape → List Part → Type 0
-FitsHeader shape front = Fits IsNonterminal shape (with_colon front)
+-- a header with its suite, and what follows them
+abbrev Begun : Kind → Bytes → Shape → Type 0
+Begun kind word shape = (xs front back : List Part) → xs ≡ front ++ back → Fits IsNonterminal shape front → AtParts Stands Begins Begins xs → Headed kind word back xs
 
-pub colon_alone : (front : List Part) → None_before front → FitsHeader (tok s.colon_mark done) front
-colon_alone front e = subst (λ zs. FitsHeader (tok s.colon_mark done) zs) (sym e) (refl, tt)
+pub def_headed : Begun k.Def (codes "def") (s.bzl_shape k.Def)
+def_headed = headed k.Def (codes "def") (s.tok s.name (s.tok s.open_round (s.enclosed s.param s.close_round s.done))) (λ xs h. h) refl def_along
 
--- after if or elif
-pub test_headed : (x mark own : Part) (back : List Part) → IsNonterminal s.test x → has_token s.colon_mark mark ≡ true → IsNonterminal s.suite own → AtParts Stands Begins Along (x ∷ mark ∷ own ∷ back) → Headed (FitsHeader (sub s.test (tok s.colon_mark done))) back (x ∷ mark ∷ own ∷ back)
-test_headed x mark own back h i j at_ =
-    cons None_before (FitsHeader (sub s.test (tok s.colon_mark done))) back x (mark ∷ own ∷ back) (nonterminal_in s.test x refl h) (λ front e. (h, colon_alone front e))
-    (colon_headed mark own back i j (moved (mark ∷ own ∷ back) (nonterminal_goes s.test x refl h Begins Along) at_.1))
+pub for_headed : Begun k.ForStmt (codes "for") (s.bzl_shape k.ForStmt)
+for_headed = headed k.ForStmt (codes "for") for_rest (λ xs h. h) refl (plain_along (s.one_keyword (codes "for")) for_rest refl)
 
--- ---- lists
+abbrev pub tested : Bytes → Shape
+tested word = s.tok (s.one_keyword word) (s.sub s.test s.owned)
 
--- P: of what begins with an item; Q: of what follows one; R: of what follows all
-module _ (q : Nonterminal) (inner : inner_nonterminal q ≡ true) (here : Spot) (stays : onward here ≡ here) (last : Bool) (K P Q R : List Part → Type 0)
-    (item : (x : Part) (front : List Part) → IsNonterminal q x → Q front → P (x ∷ front))
-    (comma : (x : Part) (front : List Part) → has_token s.comma_mark x ≡ true → P front → Q (x ∷ front))
-    (trailing : (x : Part) (front : List Part) → last ≡ true → has_token s.comma_mark x ≡ true → R front → Q (x ∷ front))
-    (over : (front : List Part) → R front → Q front)
-    (rest : (xs : List Part) → K xs → AtParts Stands Begins here xs → Headed R [] xs) where
-  mutual
-    listed_headed : (xs : List Part) → Listed (IsNonterminal q) s.comma_mark last K xs → AtParts Stands Begins here xs → Headed P [] xs
-    listed_headed [] h at_ = absurd h
-    listed_headed (x ∷ xs) h at_ = cons Q P [] x xs (nonterminal_in q x inner h.0) (λ front w. item x front h.0 w) (after_headed xs h.1 (moved xs (nonterminal_goes q x inner h.0 Begins here ∙ stays) at_.1))
+pub if_headed : Begun k.IfStmt (codes "if") (tested (codes "if"))
+if_headed = headed k.IfStmt (codes "if") test_rest (λ xs h. inl h) refl (plain_along (s.one_keyword (codes "if")) test_rest refl)
 
-    after_headed : (xs : List Part) → After (IsNonterminal q) s.comma_mark last K xs → AtParts Stands Begins here xs → Headed Q [] xs
-    after_headed [] h at_ = weaker R Q [] [] over (rest [] h at_)
-    after_headed (x ∷ xs) (inl h) at_ = weaker R Q [] (x ∷ xs) over (rest (x ∷ xs) h at_)
-    after_headed (x ∷ xs) (inr (m, inl h)) at_ =
-        cons P Q [] x xs (token_in s.comma_mark x refl refl m) (λ front w. comma x front m w) (listed_headed xs h (moved xs (token_goes s.comma_mark x refl m Begins here ∙ stays) at_.1))
-    after_headed (x ∷ xs) (inr (m, inr h)) at_ =
-        cons R Q [] x xs (token_in s.comma_mark x refl refl m) (λ front w. trailing x front h.0 m w) (rest xs h.1 (moved xs (token_goes s.comma_mark x refl m Begins here ∙ stays) at_.1))
+pub elif_headed : Begun k.IfStmt (codes "elif") (tested (codes "elif"))
+elif_headed = headed k.IfStmt (codes "elif") test_rest (λ xs h. inr (inl h)) refl (plain_along (s.one_keyword (codes "elif")) test_rest refl)
 
--- ---- for
-
-abbrev pub in_shape : Shape
-in_shape = tok (s.one_keyword (codes "in")) (sub s.expr (tok s.colon_mark done))
-
-in_headed : (xs : List Part) → Fits IsNonterminal (tok (s.one_keyword (codes "in")) (sub s.expr owned)) xs → AtParts Stands Begins Along xs → Headed (FitsHeader in_shape) [] xs
-in_headed [] h at_ = absurd h
-in_headed (x ∷ []) h at_ = absurd h.1
-in_headed (x ∷ y ∷ xs) h at_ =
-    let first : after_part Begins Along x ≡ Along = token_goes (s.one_keyword (codes "in")) x refl h.0 Begins Along in
-    let there : AtParts Stands Begins Along (y ∷ xs) = moved (y ∷ xs) first at_.1 in
-    let following : Headed None_before [] xs = owned_headed xs h.1.1 (moved xs (nonterminal_goes s.expr y refl h.1.0 Begins Along) there.1) in
-    cons (FitsHeader (sub s.expr (tok s.colon_mark done))) (FitsHeader in_shape) [] x (y ∷ xs) (token_in (s.one_keyword (codes "in")) x refl refl h.0) (λ front w. (h.0, w))
-    (cons None_before (FitsHeader (sub s.expr (tok s.colon_mark done))) [] y xs (nonterminal_in s.expr y refl h.1.0) (λ front e. (h.1.0, colon_alone front e)) following)
-
-abbrev AfterName : List Part → Type 0
-AfterName front = After (IsNonterminal s.primary) s.comma_mark false (Fits IsNonterminal in_shape) (with_colon front)
-
-no_names : (front : List Part) → FitsHeader in_shape front → AfterName front
-no_names [] h = inl h
-no_names (x ∷ front) h = inl h
-
--- after for
-pub for_headed : (xs : List Part) → Fits IsNonterminal (s.list s.primary s.comma_mark false (tok (s.one_keyword (codes "in")) (sub s.expr owned))) xs → AtParts Stands Begins Along xs → Headed (FitsHeader (s.list s.primary s.comma_mark false in_shape)) [] xs
-for_headed xs h at_ =
-    listed_headed s.primary refl Along refl false (Fits IsNonterminal (tok (s.one_keyword (codes "in")) (sub s.expr owned))) (FitsHeader (s.list s.primary s.comma_mark false in_shape)) AfterName (FitsHeader in_shape)
-    (λ x front q w. (q, w)) (λ x front m w. inr (m, inl w)) (λ x front e m w. no_such e) no_names in_headed xs h at_
-
--- ---- def
-
--- the items among these parts, each with a comma after it, then the closing bracket and a colon
-abbrev pub closed_row : List Part → List Part
-closed_row front = each_with_comma (places front) ++ r.mark_leaf 41 ∷ r.mark_leaf 58 ∷ []
-
-abbrev close_shape : Shape
-close_shape = tok s.close_round (tok s.colon_mark done)
-
--- parameters, commas and the closing bracket
-pub record AreParameterParts (shape : Shape) (front : List Part) : Type 0 where
-  pub alternating : Alternating s.comma_mark front
-  pub fits : Fits IsNonterminal shape (closed_row front)
-
-abbrev Parameters : List Part → Type 0
-Parameters front = AreParameterParts (s.list s.param s.comma_mark true close_shape) front
-
--- after a parameter
-abbrev Closing : List Part → Type 0
-Closing front = (x : Part) → IsNonterminal s.param x → Parameters (x ∷ front)
-
-abbrev Close : List Part → Type 0
-Close front = (y : Part) × (front ≡ y ∷ []) × (has_token s.close_round y ≡ true)
-
-alternating_more : (x y : Part) (front : List Part) → IsItem x → IsMark s.comma_mark true y → Alternating s.comma_mark front → Alternating s.comma_mark (x ∷ y ∷ front)
-alternating_more x y [] i j h = absurd h
-alternating_more x y (z ∷ front) i j h = (i, j, h)
-
-comma_at : (y : Part) → has_token s.comma_mark y ≡ true → IsMark s.comma_mark true y
-comma_at y m = separator_mark s.comma_mark s.close_round refl refl refl y m
-
-close_at : (y : Part) → has_token s.close_round y ≡ true → IsMark s.comma_mark false y
-close_at y m = closing_mark s.comma_mark s.close_round refl refl refl y m
-
-comma_before : (y : Part) (front : List Part) → has_token s.comma_mark y ≡ true → Parameters front → Closing (y ∷ front)
-comma_before y front m w x h = record {
-  alternating = alternating_more x y front (nonterminal_item s.param x refl h) (comma_at y m) w.alternating;
-  fits = (h, inr (refl, inl w.fits));
-}
-
-comma_last : (y : Part) (front : List Part) → has_token s.comma_mark y ≡ true → Close front → Closing (y ∷ front)
-comma_last y front m w x h = subst (λ zs. Parameters (x ∷ y ∷ zs)) (sym w.1) (record {
-  alternating = (nonterminal_item s.param x refl h, comma_at y m, close_at w.0 w.2);
-  fits = (h, inr (refl, inr (refl, (refl, (refl, tt)))));
-})
-
-close_after : (front : List Part) → Close front → Closing front
-close_after front w x h = subst (λ zs. Parameters (x ∷ zs)) (sym w.1) (record {
-  alternating = (nonterminal_item s.param x refl h, close_at w.0 w.2);
-  fits = (h, inr (refl, inr (refl, (refl, (refl, tt)))));
-})
-
-close_headed : (xs : List Part) → Fits IsNonterminal (tok s.close_round owned) xs → AtParts Stands Begins Within xs → Headed Close [] xs
-close_headed [] h at_ = absurd h
-close_headed (y ∷ xs) h at_ =
-    let following : Headed None_before [] xs = owned_headed xs h.1 (moved xs (token_closes s.close_round y Begins Within refl h.0) at_.1) in
-    cons None_before Close [] y xs (token_in s.close_round y refl refl h.0) (λ front e. (y, ap (λ (zs : List Part). y ∷ zs) e, h.0)) following
-
-abbrev Enclosed : List Part → Type 0
-Enclosed front = AreParameterParts (enclosed s.param s.close_round (tok s.colon_mark done)) front
-
-no_parameters : (front : List Part) → Close front → Enclosed front
-no_parameters front w = subst Enclosed (sym w.1) (record { alternating = close_at w.0 w.2; fits = inl (refl, (refl, tt)) })
-
-params_headed : (xs : List Part) → Fits IsNonterminal (enclosed s.param s.close_round owned) xs → AtParts Stands Begins Within xs → Headed Enclosed [] xs
-params_headed xs (inl h) at_ = weaker Close Enclosed [] xs no_parameters (close_headed xs h at_)
-params_headed xs (inr h) at_ =
-    weaker Parameters Enclosed [] xs (λ front w. record { alternating = w.alternating; fits = inr w.fits })
-    (listed_headed s.param refl Within refl true (Fits IsNonterminal (tok s.close_round owned)) Parameters Closing Close (λ x front q w. w x q) comma_before (λ y front e m w. comma_last y front m w) close_after close_headed xs h at_)
-
--- a name, an opening bracket and parameters
-pub record Named (front : List Part) : Type 0 where
-  pub name : Part
-  pub opener : Part
-  pub following : List Part
-  pub cut : front ≡ name ∷ opener ∷ following
-  pub named : has_token s.name name ≡ true
-  pub opens : has_token s.open_round opener ≡ true
-  pub parameters : AreParameterParts (enclosed s.param s.close_round (tok s.colon_mark done)) following
-
--- after a name
-abbrev InBrackets : List Part → Type 0
-InBrackets front = (x : Part) → has_token s.name x ≡ true → Named (x ∷ front)
-
--- after def
-pub def_headed : (xs : List Part) → Fits IsNonterminal (tok s.name (tok s.open_round (enclosed s.param s.close_round owned))) xs → AtParts Stands Begins Along xs → Headed Named [] xs
-def_headed [] h at_ = absurd h
-def_headed (x ∷ []) h at_ = absurd h.1
-def_headed (x ∷ y ∷ xs) h at_ =
-    let first : after_part Begins Along x ≡ Along = token_goes s.name x refl h.0 Begins Along in
-    let there : AtParts Stands Begins Along (y ∷ xs) = moved (y ∷ xs) first at_.1 in
-    let following : Headed Enclosed [] xs = params_headed xs h.1.1 (moved xs (token_opens s.open_round y Begins Along refl h.1.0) there.1) in
-    cons InBrackets Named [] x (y ∷ xs) (token_in s.name x refl refl h.0) (λ front w. w x h.0)
-    (cons Enclosed InBrackets [] y xs (token_in s.open_round y refl refl h.1.0) (λ front w name is. record { name = name; opener = y; following = front; cut = refl; named = is; opens = h.1.0; parameters = w }) following)
+pub else_headed : Begun k.IfStmt (codes "else") (s.tok (s.one_keyword (codes "else")) s.owned)
+else_headed = headed k.IfStmt (codes "else") s.done (λ xs h. inr (inr h)) refl (plain_along (s.one_keyword (codes "else")) s.done refl)

@@ -1,19 +1,19 @@
 -- Pieces of a .bzl file: what is read of leaves that follow each other, with the hosts in it, and the hosts by their places.
 use Rattle.std.proofs.Common.{◌≡◌, ◌≢◌, ℕ, ◌+◌, ◌<◌, ◌≤◌, false, ◌||◌, List, [], ◌∷◌, ◌++◌, None, length, refl, sym, ap, ◌∙◌, subst, append_assoc, append-nil, length-append, nat_eq, arith}
 use Rattle.std.specs.List.{AllByRecursion, flat_map}
-use Rattle.std.proofs.lemmas.Bool.{cond-false, ne_eqb}
+use Rattle.std.proofs.lemmas.Bool.{ne_eqb}
 use Rattle.std.proofs.lemmas.Grind.{flat_map-append}
 use Rattle.bz_lex.specs.declared.leaf.Leaf.{Leaf}
 use Rattle.bz_items.specs.Characters.{Bytes}
-use Rattle.bz_value.specs.Gaps.{all_in, comments_in, lines_of, after_first_line}
-use Rattle.bz_hosts.specs.Hosts.{Region, Comment, CommentPlace, Hosted, comments_from, texts_at, leaf_gap, lines_before}
+use Rattle.bz_value.specs.Gaps.{comments_in, lines_of, after_first_line}
+use Rattle.bz_hosts.specs.Hosts.{Region, Comment, CommentPlace, Hosted, comments_from, texts_at, lines_before}
 use Rattle.bz_hosts.proofs.Alternating.{inside_joined}
 use Rattle.bz_hosts.proofs.Around as r
 use Rattle.bz_hosts.proofs.Gathered.{key, texts_joined}
 use Rattle.bz_hosts.proofs.Parts.{comments_joined}
 use Rattle.bz_hosts.proofs.Sequences.{From}
 use Rattle.bz_hosts.proofs.Walked.{gap_of, last_gap}
-use Rattle.bz_bzl_value.specs.BzlHosts.{Suite, Stretch, SuitesAndLeaves, regions_in, suites_in, first_leaf, left_by, begins_suite, left_above, lines_of_leaf, stretch_hosts, statement_hosts}
+use Rattle.bz_bzl_value.specs.BzlHosts.{Suite, Stretch, SuitesAndLeaves, regions_in, suites_in, first_leaf, left_by, begins_suite, lines_of_leaf, stretch_hosts, statement_hosts}
 use Rattle.bz_bzl_value.proofs.SuiteLines.{Lines, Between, AllBetween, all_wider, left_joined, past, beyond, gap_joined}
 use Rattle.bz_bzl_value.proofs.SuitePieces.{last_joined, suites_joined, PieceRead, with_left, lines_there}
 use Rattle.bz_hosts.proofs.SeenParts.{all_mapped}
@@ -100,9 +100,7 @@ module _ (page : SuitesAndLeaves) where
     length_there = length-append ls ls'
 
     pub mine : (q : CommentPlace) → texts_at page.regions q (comments_from n (ls ++ ls')) ≡ texts_at page.regions q (comments_from n ls) ++ texts_at page.regions q (comments_from m ls')
-    mine q =
-        ap (texts_at page.regions q) (comments_joined n ls ls')
-        ∙ (texts_joined page.regions q (comments_from n ls) (comments_from (n + length ls) ls') ∙ ap (λ (z : ℕ). texts_at page.regions q (comments_from n ls) ++ texts_at page.regions q (comments_from z ls')) h.up)
+    mine q = rw (comments_joined n ls ls', h.up, texts_joined page.regions q (comments_from n ls) (comments_from m ls')) refl
 
     module _ (s : r.SeesAt page.regions None n e (regions_of (sts ++ sts'))) where
       apart : r.SeesAt page.regions None n e (regions_of sts ++ regions_of sts')
@@ -124,8 +122,7 @@ module _ (page : SuitesAndLeaves) where
               (all_joined (Between n e) (suites_in sts) (suites_in sts') (all_wider n m n e (omega arith) (omega arith) (suites_in sts) h.bounds) (all_wider m e n e (omega arith) (omega arith) (suites_in sts') h'.bounds));
           within = subst (r.AllInside n e) (sym (flat_map-append regions_in sts sts'))
               (inside_joined n e (regions_of sts) (regions_of sts') (r.all_wider n m n e (omega arith) (omega arith) (regions_of sts) h.within) (r.all_wider m e n e (omega arith) (omega arith) (regions_of sts') h'.within));
-          outer = λ s q d o.
-              mine q ∙ (ap (λ (z : List Bytes). z ++ texts_at page.regions q (comments_from m ls')) (h.outer (regions_first s) q d (λ j. o (j.0, omega (arith, j.1)))) ∙ h'.outer (regions_second s) q d (λ j. o (omega (arith, j.0), j.1)));
+          outer = λ s q d o. mine q ∙ rw (h.outer (regions_first s) q d (λ j. o (j.0, omega (arith, j.1))), h'.outer (regions_second s) q d (λ j. o (omega (arith, j.0), j.1))) refl;
         }
 
     module _ (x : At n e (ls ++ ls') (sts ++ sts')) where
@@ -144,8 +141,7 @@ module _ (page : SuitesAndLeaves) where
             counted = x.counted;
             sees = sees_first n m e (suites_in sts) (suites_in sts') (omega arith) h'.bounds seen_suites;
             regions = regions_first x.regions;
-            texts = λ q f.
-                x.texts q (omega arith, omega arith) ∙ (mine q ∙ (ap (λ (z : List Bytes). texts_at page.regions q (comments_from n ls) ++ z) (h'.outer (regions_second x.regions) q (omega arith) (λ j. omega (arith, j.0))) ∙ append-nil (texts_at page.regions q (comments_from n ls))));
+            texts = λ q f. x.texts q (omega arith, omega arith) ∙ (mine q ∙ rw (h'.outer (regions_second x.regions) q (omega arith) (λ j. omega (arith, j.0)), append-nil (texts_at page.regions q (comments_from n ls))) refl);
           }
 
       abbrev pub at_second : At m e ls' sts'
@@ -158,8 +154,7 @@ module _ (page : SuitesAndLeaves) where
             counted = omega arith;
             sees = sees_second n m e (suites_in sts) (suites_in sts') (omega arith) h.bounds seen_suites;
             regions = regions_second x.regions;
-            texts = λ q f.
-                x.texts q (omega arith, omega arith) ∙ (mine q ∙ ap (λ (z : List Bytes). z ++ texts_at page.regions q (comments_from m ls')) (h.outer (regions_first x.regions) q (omega arith) (λ j. omega (arith, j.1))));
+            texts = λ q f. x.texts q (omega arith, omega arith) ∙ (mine q ∙ rw (h.outer (regions_first x.regions) q (omega arith) (λ j. omega (arith, j.1))) refl);
           }
 
   -- what is read of the leaves, where these comment lines are above them
@@ -184,11 +179,13 @@ module _ (page : SuitesAndLeaves) where
     left_there =
         let y : At n m ls sts = at_first n m e ls ls' sts sts' h.extent h' x in
         let s : Sees n e (suites_in sts ++ suites_in sts') = seen_suites n m e ls ls' sts sts' h.extent h' x in
-        let there : lines_before page.leaves m ≡ after_first_line (lines_of (last_gap ls)) ++ lines_of (gap_of ls') =
-        lines_there page n m y.front ls y.back h.extent.some h.extent.up y.leaves y.counted ∙ ap (λ (g : Bytes). after_first_line (lines_of (last_gap ls)) ++ lines_of g) (gap_joined ls' x.back h'.some) in
-        h.left 0 (omega arith) (lines_of (gap_of ls'))
-        ∙ (ap (left_by 0 m (suites_in sts)) (sym there)
-        ∙ sym (s.inner 0 m (omega arith) (omega arith) (lines_before page.leaves m) ∙ (left_joined 0 m (suites_in sts) (suites_in sts') (lines_before page.leaves m) ∙ ap (left_by 0 m (suites_in sts)) (beyond 0 m m e (suites_in sts') (lines_before page.leaves m) (omega arith) h'.bounds))))
+        rw (
+          s.inner 0 m (omega arith) (omega arith) (lines_before page.leaves m),
+          left_joined 0 m (suites_in sts) (suites_in sts') (lines_before page.leaves m),
+          beyond 0 m m e (suites_in sts') (lines_before page.leaves m) (omega arith) h'.bounds,
+          lines_there page n m y.front ls y.back h.extent.some h.extent.up y.leaves y.counted,
+          gap_joined ls' x.back h'.some,
+        ) (h.left 0 (omega arith) (lines_of (gap_of ls')))
 
     -- and the comment lines above that
     group_there : comments_in (read (lines_of (gap_of ls'))).1 ≡ lines_of_leaf page m
@@ -196,7 +193,7 @@ module _ (page : SuitesAndLeaves) where
         let s : Sees n e (suites_in sts ++ suites_in sts') = seen_suites n m e ls ls' sts sts' h.extent h' x in
         let begins : begins_suite m page.suites ≡ false =
         s.begins m (omega arith) (omega arith) ∙ (begins_second m (suites_in sts) (suites_in sts') (first_before n m m (suites_in sts) (omega arith) h.extent.bounds) ∙ none_begin m (suites_in sts') (first_after m e m (suites_in sts') (omega arith) h'.bounds)) in
-        ap comments_in left_there ∙ sym (cond-false (begins_suite m page.suites) (all_in (leaf_gap page.leaves m)) (comments_in (left_above page m)) begins)
+        rw (begins, left_there) refl
 
   pub along_first : (m : ℕ) (b : List Stretch) → Starts m b → along b ≡ statement_hosts page (lines_of_leaf page m) b
   along_first m [] h = absurd h
@@ -204,28 +201,18 @@ module _ (page : SuitesAndLeaves) where
 
   statement_joined : (n m : ℕ) (group : List Bytes) (a b : List Stretch) → Starts n a → Starts m b → statement_hosts page group (a ++ b) ≡ statement_hosts page group a ++ statement_hosts page (lines_of_leaf page m) b
   statement_joined n m group [] b h i = absurd h
-  statement_joined n m group (x ∷ a) b h i =
-      ap (λ (z : List Hosted). stretch_hosts page group x ++ z) (flat_map-append (λ (x : Stretch). stretch_hosts page (lines_of_leaf page (first_leaf x)) x) a b ∙ ap (λ (z : List Hosted). along a ++ z) (along_first m b i))
-      ∙ sym (append_assoc (stretch_hosts page group x) (along a) (statement_hosts page (lines_of_leaf page m) b))
+  statement_joined n m group (x ∷ a) b h i = rw (flat_map-append (λ (x : Stretch). stretch_hosts page (lines_of_leaf page (first_leaf x)) x) a b, along_first m b i) (sym (append_assoc (stretch_hosts page group x) (along a) (statement_hosts page (lines_of_leaf page m) b)))
 
   -- one after the other
   pub both_pieces : (n m e : ℕ) (ls ls' : List Leaf) (sts sts' : List Stretch) (group : List Bytes) (read read' : PieceRead) → Piece n m ls sts group read → Piece m e ls' sts' (comments_in (read (lines_of (gap_of ls'))).1) read'
       → Piece n e (ls ++ ls') (sts ++ sts') group (λ after. with_left ((read (lines_of (gap_of ls'))).0 ++ (read' after).0) (read' after).1)
-  both_pieces n m e ls ls' sts sts' group read read' h h' =
-      let joined : suites_in (sts ++ sts') ≡ suites_in sts ++ suites_in sts' = suites_joined sts sts' in
-      record {
-        extent = both_extents n m e ls ls' sts sts' h.extent h'.extent;
-        starts = starts_joined n sts sts' h.starts;
-        left = λ a l after.
-            let lines : Lines = after_first_line (lines_of (last_gap (ls ++ ls'))) ++ after in
-            h'.left a (omega arith) after
-            ∙ (ap (λ (g : Bytes). left_by a e (suites_in sts') (after_first_line (lines_of g) ++ after)) (sym (last_joined ls ls' h'.extent.some))
-            ∙ (sym (past a e n m (suites_in sts) (left_by a e (suites_in sts') lines) (omega arith) h.extent.bounds)
-            ∙ (sym (left_joined a e (suites_in sts) (suites_in sts') lines) ∙ ap (λ z. left_by a e z lines) (sym joined))));
-        hosts = λ x.
-            ap (λ (g : Bytes). (read (lines_of g)).0 ++ (read' (lines_of (gap_of x.back))).0) (sym (gap_joined ls' x.back h'.extent.some))
-            ∙ (ap (λ (z : List Hosted). z ++ (read' (lines_of (gap_of x.back))).0) (h.hosts (at_first n m e ls ls' sts sts' h.extent h'.extent x))
-            ∙ (ap (λ (z : List Hosted). statement_hosts page group sts ++ z) (h'.hosts (at_second n m e ls ls' sts sts' h.extent h'.extent x)
-            ∙ ap (λ (z : List Bytes). statement_hosts page z sts') (group_there n m e ls ls' sts sts' group read h h'.extent x))
-            ∙ sym (statement_joined n m group sts sts' h.starts h'.starts)));
-      }
+  both_pieces n m e ls ls' sts sts' group read read' h h' = record {
+    extent = both_extents n m e ls ls' sts sts' h.extent h'.extent;
+    starts = starts_joined n sts sts' h.starts;
+    left = λ a l after.
+        let lines : Lines = after_first_line (lines_of (last_gap ls')) ++ after in
+        rw (last_joined ls ls' h'.extent.some, suites_joined sts sts', left_joined a e (suites_in sts) (suites_in sts') lines, past a e n m (suites_in sts) (left_by a e (suites_in sts') lines) (omega arith) h.extent.bounds) (h'.left a (omega arith) after);
+    hosts = λ x.
+        let first : (read (lines_of (gap_of ls'))).0 ≡ statement_hosts page group sts = rw (sym (gap_joined ls' x.back h'.extent.some)) (h.hosts (at_first n m e ls ls' sts sts' h.extent h'.extent x)) in
+        rw (statement_joined n m group sts sts' h.starts h'.starts, first, h'.hosts (at_second n m e ls ls' sts sts' h.extent h'.extent x), group_there n m e ls ls' sts sts' group read h h'.extent x) refl;
+  }

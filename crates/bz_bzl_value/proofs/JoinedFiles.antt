@@ -2,7 +2,7 @@
 use Rattle.std.proofs.Common.{◌≡◌, ◌<◌, ◌≤◌, List, [], ◌∷◌, ◌++◌, refl, sym, ap, ap₂, ◌∙◌, subst, map, length, append_assoc, arith}
 use Rattle.std.specs.List.{AllByRecursion, flat_map}
 use Rattle.std.proofs.lemmas.Grind.{flat_map-append}
-use Rattle.std.proofs.lemmas.List.{append-nil, map-append}
+use Rattle.std.proofs.lemmas.List.{append-nil}
 use Rattle.bz_items.specs.Characters.{Bytes}
 use Rattle.bz_lex.specs.declared.leaf.Leaf.{Leaf}
 use Rattle.bz_grammar.specs.declared.tree.Node.{Node}
@@ -11,18 +11,16 @@ use Rattle.bz_grammar.specs.declared.tree.Part.TheVariants as p
 use Rattle.bz_grammar.specs.Spell.{leaves_part}
 use Rattle.bz_grammar.proofs.Spells.{leaves_Node}
 use Rattle.bz_grammar.specs.Joined.{last_token, AreWholeLines, file_with, BzlLinesJoin}
+use Rattle.bz_value.specs.declared.value.Expr.{Expr}
 use Rattle.bz_value.specs.declared.value.Item.{Item}
+use Rattle.bz_value.specs.declared.value.Item.TheVariants as item
 use Rattle.bz_value.specs.Gaps.{before_groups, comments_in, all_in, groups_of, all_but_last, last_group, lines_of}
 use Rattle.bz_hosts.specs.View.{blocks, seen, first_seen_gap}
-use Rattle.bz_hosts.proofs.GroupSteps.{all_pushed}
 use Rattle.bz_hosts.proofs.JoinedLines.{last_after, whole_both}
-use Rattle.bz_bzl_value.specs.declared.value.BzlItem.{BzlItem}
-use Rattle.bz_bzl_value.specs.declared.value.BzlItem.TheVariants as b
-use Rattle.bz_bzl_value.specs.declared.value.Statement.{Statement}
 use Rattle.bz_bzl_value.specs.Joined.{lines_after, lines_at_end, first_lines, EndsWithStatement, BeginsBare, EndsInNewline, EndsInLine, BzlViewsJoin}
-use Rattle.bz_bzl_value.specs.View.{ReadStatements, stated, indented_lines_before, bzl_item, block_items, bzl_items, bzl_view_of}
+use Rattle.bz_hosts.specs.Suites.{ReadStatements, stated, indented_lines_before, bzl_items, bzl_view_of}
 use Rattle.bz_bzl_value.proofs.BlankLines.{Blank, Alike, before_blank, none_blank}
-use Rattle.bz_bzl_value.proofs.Parts.{lines_first}
+use Rattle.bz_hosts.proofs.Stated.{lines_first}
 use Rattle.bz_bzl_value.proofs.SuiteLines.{Lines}
 
 -- ---- groups of blank lines
@@ -52,12 +50,12 @@ before xs = indented_lines_before (map stated xs) []
 
 same_items : (l m : Lines) (xs : List Part) → Blank l → Blank m → bzl_items l xs ≡ bzl_items m xs
 same_items l m [] h i = refl
-same_items l m (p.Leaf e ∷ xs) h i = ap (λ own. map bzl_item own ++ bzl_items [] xs) ((none_grouped l h).all ∙ sym (none_grouped m i).all)
+same_items l m (p.Leaf e ∷ xs) h i = ap (λ own. own ++ bzl_items [] xs) ((none_grouped l h).all ∙ sym (none_grouped m i).all)
 same_items l m (Node' kind size row ∷ xs) h i =
     let v = none_grouped l h in
     let w = none_grouped m i in
-    let read : List Bytes → ReadStatements (List Statement) = λ above. (stated (Node' kind size row)).statement above (before xs) in
-    ap₂ (λ front above. map bzl_item front ++ (map b.Statement (read above).0 ++ bzl_items (read above).1 xs)) (v.front ∙ sym w.front) (v.last ∙ sym w.last)
+    let read : List Bytes → ReadStatements (List Expr) = λ above. (stated (Node' kind size row)).statement above (before xs) in
+    ap₂ (λ front above. front ++ (map item.Stmt (read above).0 ++ bzl_items (read above).1 xs)) (v.front ∙ sym w.front) (v.last ∙ sym w.last)
 
 same_after : (l m : Lines) (x : Part) (after : Lines) → Blank l → Blank m → lines_after l x after ≡ lines_after m x after
 same_after l m (p.Leaf e) after h i = refl
@@ -79,17 +77,17 @@ nothing_left lines e n = ap (λ z. bzl_items z (p.Leaf e ∷ [])) n
 one_joined : (lines : Lines) (x : Part) (e : Leaf) (ys : List Part) → e.gap ≡ [] → lines_after lines x (lines_of e.gap) ≡ [] → Blank (before ys)
     → bzl_items lines (x ∷ ys) ≡ bzl_items lines (x ∷ p.Leaf e ∷ []) ++ bzl_items (before ys) ys
 one_joined lines (p.Leaf l) e ys n left h =
-    let own : List BzlItem = block_items (groups_of lines) in
+    let own : List Item = blocks (groups_of lines) in
     ap (λ z. own ++ z) (same_items [] (before ys) ys tt h) ∙ ap (λ z. z ++ bzl_items (before ys) ys) (sym (append-nil own))
 one_joined lines (Node' kind size row) e ys n left h =
-    let front : List BzlItem = block_items (all_but_last (groups_of lines)) in
+    let front : List Item = blocks (all_but_last (groups_of lines)) in
     let above : List Bytes = last_group (groups_of lines) in
-    let read : Lines → ReadStatements (List Statement) = λ after. (stated (Node' kind size row)).statement above after in
-    let own : List BzlItem = map b.Statement (read (lines_of e.gap)).0 in
+    let read : Lines → ReadStatements (List Expr) = λ after. (stated (Node' kind size row)).statement above after in
+    let own : List Item = map item.Stmt (read (lines_of e.gap)).0 in
     let w : Alike (read (before ys)) (read (lines_of e.gap)) = before_blank (Node' kind size row) above (before ys) (lines_of e.gap) h (ap lines_of n) in
     let blank : Blank (read (before ys)).1 = after_blank lines (Node' kind size row) (before ys) (lines_of e.gap) h (ap lines_of n) left in
     let bare : own ++ bzl_items (read (lines_of e.gap)).1 (p.Leaf e ∷ []) ≡ own = ap (λ z. own ++ z) (nothing_left (read (lines_of e.gap)).1 e left) ∙ append-nil own in
-    ap₂ (λ own z. front ++ (map b.Statement own ++ z)) w.0 (same_items (read (before ys)).1 (before ys) ys blank h)
+    ap₂ (λ own z. front ++ (map item.Stmt own ++ z)) w.0 (same_items (read (before ys)).1 (before ys) ys blank h)
     ∙ (sym (append_assoc front own (bzl_items (before ys) ys)) ∙ ap (λ z. (front ++ z) ++ bzl_items (before ys) ys) (sym bare))
 
 -- ---- files
@@ -98,14 +96,14 @@ items_joined : (lines : Lines) (x : Part) (xs : List Part) (e : Leaf) (ys : List
     → bzl_items lines (x ∷ (xs ++ ys)) ≡ bzl_items lines (x ∷ (xs ++ p.Leaf e ∷ [])) ++ bzl_items (before ys) ys
 items_joined lines x [] e ys n left h = one_joined lines x e ys n left h
 items_joined lines (p.Leaf l) (x ∷ xs) e ys n left h =
-    let own : List BzlItem = block_items (groups_of lines) in
+    let own : List Item = blocks (groups_of lines) in
     ap (λ z. own ++ z) (items_joined [] x xs e ys n left h) ∙ sym (append_assoc own (bzl_items [] (x ∷ (xs ++ p.Leaf e ∷ []))) (bzl_items (before ys) ys))
 items_joined lines (Node' kind size row) (x ∷ xs) e ys n left h =
-    let front : List BzlItem = block_items (all_but_last (groups_of lines)) in
-    let read : ReadStatements (List Statement) = (stated (Node' kind size row)).statement (last_group (groups_of lines)) (before (x ∷ (xs ++ ys))) in
-    let own : List BzlItem = map b.Statement read.0 in
-    let one : List BzlItem = bzl_items read.1 (x ∷ (xs ++ p.Leaf e ∷ [])) in
-    let two : List BzlItem = bzl_items (before ys) ys in
+    let front : List Item = blocks (all_but_last (groups_of lines)) in
+    let read : ReadStatements (List Expr) = (stated (Node' kind size row)).statement (last_group (groups_of lines)) (before (x ∷ (xs ++ ys))) in
+    let own : List Item = map item.Stmt read.0 in
+    let one : List Item = bzl_items read.1 (x ∷ (xs ++ p.Leaf e ∷ [])) in
+    let two : List Item = bzl_items (before ys) ys in
     ap (λ z. front ++ (own ++ z)) (items_joined read.1 x xs e ys n left h) ∙ (ap (λ z. front ++ z) (sym (append_assoc own one two)) ∙ sym (append_assoc front (own ++ one) two))
 
 left_both : (lines : Lines) (x : Part) (xs : List Part) (e : Leaf) (y : Part) (ys : List Part) → e.gap ≡ [] → lines_at_end lines (x ∷ (xs ++ p.Leaf e ∷ [])) ≡ [] → Blank (before (y ∷ ys))
@@ -170,19 +168,10 @@ pub bare_so : (n : Node) (ps : List Part) (gap : Bytes) → ps ≡ n.parts → g
 bare_so n ps gap i j h =
     ap (λ qs. comments_in (before qs)) (sym i) ∙ (ap comments_in (sym (lines_first ps)) ∙ (ap (λ g. comments_in (lines_of g)) (sym j) ∙ h))
 
--- groups of comment lines but for the last one, after these items
-pub blocks_pushed : (old new : List BzlItem) (own none made : List Item) → new ≡ old ++ map bzl_item made → made ≡ none ++ own → none ≡ [] → new ≡ old ++ map bzl_item own
-blocks_pushed old new own none made h i j = h ∙ ap (λ z. old ++ map bzl_item z) (i ∙ ap (λ z. z ++ own) j)
-
--- and all of them, at the end of a file
-pub end_pushed : (lines left : Lines) (x : Part) (l : Leaf) (xs : List Part) (old front new : List BzlItem) (last : List Bytes) → x ≡ p.Leaf l → left ≡ [] → front ≡ old ++ block_items (all_but_last (groups_of lines)) → last ≡ last_group (groups_of lines)
-    → new ≡ front ++ block_items (last ∷ []) → new ++ bzl_items left xs ≡ old ++ bzl_items lines (x ∷ xs)
-end_pushed lines left x l xs old front new last is none h i j =
-    let one : List (List Bytes) = all_but_last (groups_of lines) in
-    let two : List (List Bytes) = last_group (groups_of lines) ∷ [] in
-    let all : block_items one ++ block_items two ≡ block_items (groups_of lines) = sym (map-append bzl_item (blocks one) (blocks two)) ∙ ap (map bzl_item) (all_pushed [] (blocks one) _ _ lines refl refl refl) in
-    ap₂ (λ z m. z ++ bzl_items m xs) (j ∙ (ap₂ (λ z g. z ++ block_items (g ∷ [])) h i ∙ (append_assoc old (block_items one) (block_items two) ∙ ap (λ z. old ++ z) all))) none
-    ∙ (append_assoc old (block_items (groups_of lines)) (bzl_items [] xs) ∙ ap (λ y. old ++ bzl_items lines (y ∷ xs)) (sym is))
+-- the end of a file, after these items
+pub end_pushed : (lines left : Lines) (x : Part) (l : Leaf) (xs : List Part) (old new : List Item) → x ≡ p.Leaf l → left ≡ [] → new ≡ old ++ blocks (groups_of lines) → new ++ bzl_items left xs ≡ old ++ bzl_items lines (x ∷ xs)
+end_pushed lines left x l xs old new is none h =
+    ap₂ (λ z m. z ++ bzl_items m xs) h none ∙ (append_assoc old (blocks (groups_of lines)) (bzl_items [] xs) ∙ ap (λ y. old ++ bzl_items lines (y ∷ xs)) (sym is))
 
 -- one statement further
 pub goes_on : (x : Part) (xs : List Part) (lines left all : Lines) → 0 < length xs → left ≡ lines_after lines x (before xs) → lines_at_end lines (x ∷ xs) ≡ all → lines_at_end left xs ≡ all

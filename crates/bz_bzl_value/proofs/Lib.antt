@@ -1,6 +1,5 @@
 pub mod BlankLines
 pub mod Branches
-pub mod BuildFiles
 pub mod BuildItems
 pub mod Colons
 pub mod Compounds
@@ -17,7 +16,6 @@ pub mod KeptValues
 pub mod Parts
 pub mod ProperBranches
 pub mod ProperBzl
-pub mod ProperHeads
 pub mod ProperSuites
 pub mod ProperValues
 pub mod SuiteHeaders

@@ -1,53 +1,90 @@
 -- Headers of a legal .bzl file with their suites are proper, and no comment of them is lost or doubled.
-use Rattle.std.proofs.Common.{◌≡◌, ℕ, ◌+◌, true, List, [], ◌∷◌, ◌++◌, inl, inr, Option, refl, sym, ap, ◌∙◌, subst, map, arith}
+use Rattle.std.proofs.Common.{◌≡◌, ℕ, ◌+◌, Bool, true, false, List, [], ◌∷◌, ◌++◌, inl, inr, Option, refl, sym, ap, ◌∙◌, subst, map, codes, arith}
 use Rattle.std.specs.List.{AllByRecursion}
+use Rattle.std.proofs.lemmas.Bool.{and_parts, or_cases}
+use Rattle.std.proofs.lemmas.Slice.Eq.{bytes_eq-Decides}
 use Rattle.std.proofs.lemmas.List.Elements.{All-from_recursion}
 use Rattle.bz_items.specs.Characters.{Bytes}
+use Rattle.bz_token.specs.declared.class.Class.TheVariants as c
+use Rattle.bz_lex.specs.declared.leaf.Leaf.{Leaf}
 use Rattle.bz_grammar.specs.declared.kind.Kind.{Kind}
-use Rattle.bz_grammar.specs.declared.tree.Part.{Part}
+use Rattle.bz_grammar.specs.declared.kind.Kind.TheVariants as k
+use Rattle.bz_grammar.specs.declared.tree.Part.{Part, Node'}
+use Rattle.bz_grammar.specs.declared.tree.Part.TheVariants as p
 use Rattle.bz_grammar.specs.Shapes as s
-use Rattle.bz_grammar.specs.Shapes.{Shape, has_token}
+use Rattle.bz_grammar.specs.Shapes.{Fits, has_token}
 use Rattle.bz_grammar.specs.Legal.{IsNonterminal}
 use Rattle.bz_grammar.specs.Spots.{Begins, Along, Stands, AtLeaves, AtParts}
-use Rattle.bz_grammar.proofs.Balance.{parts_split}
-use Rattle.bz_value.specs.declared.value.Form.{Form}
-use Rattle.bz_value.specs.Counted.{total, suffix_amount}
-use Rattle.bz_value.specs.LineShapes.{line_shape}
-use Rattle.bz_value.specs.Proper.{IsComment, MaybeComment}
-use Rattle.bz_value.proofs.GapComments.{AreFine, Group, fine_lines, fine_comments}
+use Rattle.bz_grammar.proofs.Balance.{no_such}
+use Rattle.bz_value.specs.declared.value.Expr.{Expr}
+use Rattle.bz_value.specs.declared.value.Expr.TheVariants as e
+use Rattle.bz_value.specs.Comments.{HostComments, no_comments}
+use Rattle.bz_value.specs.Counted.{total, suffix_amount, amount}
+use Rattle.bz_value.specs.Frames.{frame, is_header, is_inner_frame}
 use Rattle.bz_value.specs.Gaps.{lines_of, comments_in}
-use Rattle.bz_value.proofs.Totals.{append_total}
-use Rattle.bz_hosts.specs.View.{seen}
-use Rattle.bz_hosts.proofs.Cuts.{token}
-use Rattle.bz_hosts.proofs.InnerParts.{is_inner, token_inner}
-use Rattle.bz_hosts.proofs.KeptParts.{KeptPart, AllKept, token_part}
+use Rattle.bz_value.specs.LineShapes.{value_shape}
+use Rattle.bz_value.specs.Proper.{IsComment, MaybeComment, AreComments, ProperBy}
+use Rattle.bz_value.specs.Statements.{first_token_text, header_word, is_alternative, else_last, alternatives_fit}
+use Rattle.bz_value.proofs.FormParts.{AreLinesBy}
+use Rattle.bz_value.proofs.GapComments.{AreFine, Group, all_joined, fine_lines, fine_comments}
+use Rattle.bz_value.proofs.Rooted.{value_fits}
+use Rattle.bz_value.proofs.Totals.{append_total, form_amount}
+use Rattle.bz_hosts.specs.Suites.{ReadStatements, SuiteRead, stated, put_header, branches, indented_lines_before}
+use Rattle.bz_hosts.specs.View.{Seen, seen, seen_node, first_seen_gap, plain, form_of_frame}
+use Rattle.bz_hosts.proofs.Cuts.{token, kind_cut}
+use Rattle.bz_hosts.proofs.InnerParts.{is_inner, InLine, in_line, token_inner}
+use Rattle.bz_hosts.proofs.KeptParts.{KeptPart, AllKept, held, node_kept, token_part}
+use Rattle.bz_hosts.proofs.ProperParts.{node_proper}
 use Rattle.bz_hosts.proofs.QuietGaps.{Silent}
 use Rattle.bz_hosts.proofs.RowParts.{Fit, AllFit}
-use Rattle.bz_hosts.proofs.SeenParts.{Decoded, AllDecoded, all_mapped, all_parted}
+use Rattle.bz_hosts.proofs.SeenParts.{Decoded, AllDecoded, all_mapped, node_decoded}
 use Rattle.bz_hosts.proofs.Sums.{gap_amount, part_amount}
-use Rattle.bz_bzl_value.specs.declared.value.Branch.{Branch}
-use Rattle.bz_bzl_value.specs.declared.value.Statement.{Statement}
-use Rattle.bz_bzl_value.specs.Proper.{IsHeader, AreAlternatives, AreHeaders}
-use Rattle.bz_bzl_value.specs.View.{ReadStatements, SuiteRead, stated, branches, indented_lines_before}
 use Rattle.bz_bzl_value.proofs.Colons.{header_ends}
-use Rattle.bz_bzl_value.proofs.Compounds.{Header, function, loop, branch, condition, alternative, otherwise, kind_of, shape_of, IsHead, Turn, first, further, over, turn_of, next_of, Further, Headers}
-use Rattle.bz_bzl_value.proofs.HeadParts.{Headed, InHeader}
+use Rattle.bz_bzl_value.proofs.Compounds.{First, function, loop, condition, Further, KnownOf, statement}
+use Rattle.bz_bzl_value.proofs.HeadParts.{BeginsWith, Headed, InHeader}
 use Rattle.bz_bzl_value.proofs.KeptGaps.{colon_is}
-use Rattle.bz_bzl_value.proofs.KeptValues.{stated_amount, branch_amount, lines_amount}
-use Rattle.bz_bzl_value.proofs.Parts.{part_of}
-use Rattle.bz_bzl_value.proofs.ProperHeads.{HeadProper, HeadKnown, head_proper}
-use Rattle.bz_bzl_value.proofs.ProperValues.{AreSome, HasSuite}
+use Rattle.bz_bzl_value.proofs.KeptValues.{stated_amount, lines_amount}
+use Rattle.bz_hosts.proofs.Stated.{stated_part}
+use Rattle.bz_bzl_value.proofs.ProperValues.{AreSome, of_parts, branch_word, others_fit, last_further, suite, suite_line, suite_alternative, suite_begins, suite_proper}
 use Rattle.bz_bzl_value.proofs.SuiteLines.{Lines}
+
+-- ---- what is read of the parts of a header
+
+abbrev head_seen : Kind → List Part → Seen
+head_seen kind hs = seen_node (frame kind) kind (map seen hs)
+
+word_text : (word : Bytes) (l : Leaf) → has_token (s.one_keyword word) (p.Leaf l) ≡ true → l.token ≡ word
+word_text word l h = elim (or_cases (s.is_terminal (s.this c.Keyword word) l) false h) [ inl i ↦ (bytes_eq-Decides l.token word).0 (and_parts _ _ i).1 | inr i ↦ no_such i ]
+
+if_word : (word : Bytes) (hs : List Part) → BeginsWith word hs → header_word (plain (head_seen k.IfStmt hs)) ≡ word
+if_word word [] h = absurd h
+if_word word (Node' kind n r ∷ hs) h = no_such h
+if_word word (p.Leaf l ∷ hs) h = of_parts first_token_text (form_of_frame (frame k.IfStmt) k.IfStmt (map seen (p.Leaf l ∷ hs)) no_comments) ∙ word_text word l h
+
+first_word : {kind : Kind} {word : Bytes} {back : List Part} → First kind word back → (hs : List Part) → BeginsWith word hs → header_word (plain (head_seen kind hs)) ≡ branch_word kind word
+first_word function hs h = refl
+first_word loop hs h = refl
+first_word (condition back) hs h = if_word (codes "if") hs h
+
+first_header : {kind : Kind} {word : Bytes} {back : List Part} → First kind word back → is_header kind ≡ true
+first_header function = refl
+first_header loop = refl
+first_header (condition back) = refl
+
+header_framed : (kind : Kind) → is_header kind ≡ true → is_inner_frame (frame kind) ≡ true
+header_framed k.Suite h = no_such h
+header_framed _ h = refl
 
 module _ (number : Bytes → ℕ) where
   -- ---- what is read of a part
 
-  -- As a statement: there is at least one, all are proper, and what the lines left say is comments. In both is what is above it,
-  -- in its gaps, the first one aside, and in the lines after it.
-  abbrev pub Reads : ℕ → ℕ → (List Bytes → Lines → ReadStatements (List Statement)) → Type 0
-  Reads gap own read =
-      (above : List Bytes) (after : Lines) → Group above → AreFine after
-      → AreSome (read above after).0 × AreFine (read above after).1 × (gap + (stated_amount number (read above after).0 + lines_amount number (read above after).1) ≡ total number above + (own + lines_amount number after))
+  -- at least one statement, all of them proper, and what the lines left say is comments; with those of the gap before it these are all
+  abbrev IsRead : ℕ → ℕ → ReadStatements (List Expr) → Type 0
+  IsRead gap all read = AreSome read.0 × AreFine read.1 × (gap + (stated_amount number read.0 + lines_amount number read.1) ≡ all)
+
+  -- as a statement: all is what is above it, in its gaps, and in the lines after it
+  abbrev pub Reads : ℕ → ℕ → (List Bytes → Lines → ReadStatements (List Expr)) → Type 0
+  Reads gap own read = (above : List Bytes) (after : Lines) → Group above → AreFine after → IsRead gap (total number above + (own + lines_amount number after)) (read above after)
 
   -- as a suite, with the suffix of its header
   abbrev pub Ends : Option Bytes → ℕ → (Lines → SuiteRead) → Type 0
@@ -66,8 +103,8 @@ module _ (number : Bytes → ℕ) where
   -- what is known of a part
   pub record Known (x : Part) : Type 0 where
     pub decoded : Decoded (seen x)
-    pub fit : is_inner x ≡ true → Fit line_shape x
-    pub kept : KeptPart number x
+    pub fit : is_inner x ≡ true → Fit value_shape x
+    pub kept : InLine x → KeptPart number x
     pub silent : Silent x
     pub statement : AsStatement x
     pub suite : AsSuite x
@@ -79,115 +116,149 @@ module _ (number : Bytes → ℕ) where
   all_decoded [] g = tt
   all_decoded (x ∷ xs) g = (g.0.decoded, all_decoded xs g.1)
 
-  pub all_kept : (xs : List Part) → AllKnown xs → AllKept number xs
-  all_kept xs g = all_mapped Known (KeptPart number) (λ x w. w.kept) xs g
+  pub all_kept : (xs : List Part) → AllKnown xs → AllByRecursion InLine xs → AllKept number xs
+  all_kept [] g h = tt
+  all_kept (x ∷ xs) g h = (g.0.kept h.0, all_kept xs g.1 h.1)
 
-  all_fit : (xs : List Part) → AllKnown xs → AllByRecursion InHeader xs → AllFit line_shape xs
+  all_fit : (xs : List Part) → AllKnown xs → AllByRecursion InHeader xs → AllFit value_shape xs
   all_fit [] g n = tt
   all_fit (x ∷ xs) g n = (g.0.fit n.0.1, all_fit xs g.1 n.1)
 
   -- the lines before the first of these parts, or after all
   pub before_lines : (xs : List Part) (after : Lines) → AllKnown xs → AreFine after → AreFine (indented_lines_before (map stated xs) after)
   before_lines [] after g f = f
-  before_lines (x ∷ xs) after g f = subst (λ y. AreFine (lines_of y.gap)) (sym (part_of x)) (fine_lines (seen x).gap g.0.decoded.coded)
+  before_lines (x ∷ xs) after g f = subst (λ y. AreFine (lines_of y.gap)) (sym (stated_part x)) (fine_lines (seen x).gap g.0.decoded.coded)
 
   abbrev pub before_amount : List Part → Lines → ℕ
   before_amount xs after = lines_amount number (indented_lines_before (map stated xs) after)
 
   -- ---- headers with their suites
 
-  -- these are the headers, each suite and the lines left are proper, and no comment is lost or doubled
-  abbrev pub Branched : (List Form → Type 0) → ℕ → ℕ → ReadStatements (List Branch) → Type 0
-  Branched P gap all read = P (map (λ x. x.head) read.0) × AllByRecursion HasSuite read.0 × AreFine read.1 × (gap + (total (branch_amount number) read.0 + lines_amount number read.1) ≡ all)
+  -- alternatives, all of them proper, of which the last may be an else; the same of the lines left and of all comments
+  abbrev AreOthers : ℕ → ℕ → ReadStatements (List Expr) → Type 0
+  AreOthers gap all read = AreLinesBy value_shape is_alternative read.0 × (else_last read.0 ≡ true) × AreFine read.1 × (gap + (stated_amount number read.0 + lines_amount number read.1) ≡ all)
 
-  -- what is above the first header; or left, where there is none
-  abbrev above_amount : List Part → List Bytes → Lines → ℕ
-  above_amount [] above left = lines_amount number left
-  above_amount (x ∷ xs) above left = total number above
+  -- of what is read of these parts after a header
+  abbrev OthersOf : Kind → List Part → Type 0
+  OthersOf kind xs =
+      (left after : Lines) → AreFine left → AreFine after
+      → AreOthers (before_amount xs after) (lines_amount number left + (total (part_amount number) xs + lines_amount number after)) (branches false kind [] (comments_in left) left (map stated xs) after)
 
-  above_left : (xs : List Part) (left : Lines) → above_amount xs (comments_in left) left ≡ lines_amount number left
-  above_left [] left = refl
-  above_left (x ∷ xs) left = refl
+  nothing : (kind : Kind) → OthersOf kind []
+  nothing kind left after l f = (tt, refl, l, omega arith)
 
-  -- of what is read of these parts
-  abbrev pub Branches : (List Form → Type 0) → Kind → List Part → Type 0
-  Branches P kind xs =
-      (above : List Bytes) (left after : Lines) → Group above → AreFine left → AreFine after
-      → Branched P (before_amount xs after) (above_amount xs above left + (total (part_amount number) xs + lines_amount number after)) (branches kind [] above left (map stated xs) after)
+  after_first : {kind : Kind} {word : Bytes} {back : List Part} → First kind word back → OthersOf k.IfStmt back → OthersOf kind back
+  after_first function b = nothing k.Def
+  after_first loop b = nothing k.ForStmt
+  after_first (condition back) b = b
 
-  -- a header, and after it what P says
-  abbrev pub HeadThen : Kind → Shape → (List Form → Type 0) → List Form → Type 0
-  HeadThen kind shape P [] = ⊥
-  HeadThen kind shape P (f ∷ fs) = IsHeader kind shape f × P fs
+  -- the gap before these parts is that before a header
+  abbrev GapsAt : List Part → List Part → Lines → Type 0
+  GapsAt hs xs after = (before_amount xs after ≡ gap_amount number (first_seen_gap (map seen hs))) × (first_seen_gap (map seen xs) ≡ first_seen_gap (map seen hs))
 
-  one_branch : (kind : Kind) (shape : Shape) (P : List Form → Type 0) (x : Part) (xs : List Part) (mark own : Part) (back : List Part) → AllByRecursion InHeader (x ∷ xs) → (stated mark).is_colon ≡ true → part_amount number mark ≡ 0
-      → HeadProper number kind shape (x ∷ xs) → Ends (stated own).suffix (part_amount number own) (stated own).suite → AllKnown back → Branches P kind back → Branches (HeadThen kind shape P) kind (x ∷ xs ++ mark ∷ own ∷ back)
-  one_branch kind shape P x xs mark own back n c m w o g b above left after a l f =
-      let lines : Lines = indented_lines_before (map stated back) after in
-      let read : SuiteRead = (stated own).suite lines in
-      let suite = o.1 lines (before_lines back after g f) in
-      let following = b (comments_in read.1) read.1 after (fine_comments read.1 suite.2) suite.2 f in
-      let here = w above (stated own).suffix a o.0 in
-      subst (Branched (HeadThen kind shape P) (before_amount (x ∷ xs ++ mark ∷ own ∷ back) after) (total number above + (total (part_amount number) (x ∷ xs ++ mark ∷ own ∷ back) + lines_amount number after)))
-      (sym (header_ends kind above left (x ∷ xs) mark own back after n c))
-      ((here.0, following.0), ((suite.0, All-from_recursion IsComment read.0.1 suite.1), following.1), following.2, omega (arith, ap (λ s. gap_amount number s.gap) (part_of x), above_left back read.1, append_total (part_amount number) xs (mark ∷ own ∷ back)))
+  gaps_there : (word : Bytes) (hs back : List Part) (after : Lines) → BeginsWith word hs → GapsAt hs (hs ++ back) after
+  gaps_there word [] back after h = absurd h
+  gaps_there word (x ∷ hs) back after h = (ap (λ s. gap_amount number s.gap) (stated_part x), refl)
 
   silent_mark : (mark : Part) → has_token s.colon_mark mark ≡ true → Silent mark → AtLeaves Stands Along mark → part_amount number mark ≡ 0
   silent_mark mark h i at_ = token_part number mark (token s.colon_mark mark h) ∙ ap (total number) (i (token_inner s.colon_mark mark refl h) at_)
 
-  -- where the parts of a header are
-  headed_branch : (kind : Kind) (shape : Shape) (P : List Form → Type 0) (F : List Part → Type 0) (word : Part) (back xs : List Part) (h : Headed F back xs) → InHeader word → AllKnown (word ∷ xs) → AtParts Stands Begins Begins (word ∷ xs)
-      → (HeadKnown number (word ∷ h.front) → HeadProper number kind shape (word ∷ h.front)) → Branches P kind back → Branches (HeadThen kind shape P) kind (word ∷ xs)
-  headed_branch kind shape P F word back xs h n g at_ w b =
-      let front : List Part = word ∷ h.front in
-      let following : List Part = h.ending.mark ∷ h.ending.own ∷ back in
-      let same : word ∷ xs ≡ front ++ following = ap (λ (zs : List Part). word ∷ zs) h.cut in
-      let known : AllKnown front × AllKnown following = all_parted Known front following (subst AllKnown same g) in
-      let there : AtParts Stands Begins Begins front = (parts_split Stands Begins Begins front following (subst (AtParts Stands Begins Begins) same at_)).0 in
-      let head : HeadProper number kind shape front = w (record { decoded = all_decoded front known.0; fit = all_fit front known.0 (n, h.plain); kept = all_kept front known.0; there = there }) in
-      subst (Branches (HeadThen kind shape P) kind) (sym same)
-      (one_branch kind shape P word h.front h.ending.mark h.ending.own back (n, h.plain) (colon_is h.ending.mark h.ending.colon) (silent_mark h.ending.mark h.ending.colon known.1.0.silent h.ending.gap) head (known.1.1.0.suite h.ending.suite h.ending.there) known.1.1.1 b)
+  module _ (kind : Kind) (word : Bytes) (back xs : List Part) (is : is_header kind ≡ true) (h : Headed kind word back xs) (known : KnownOf Known h) (b : OthersOf kind back) (above : List Bytes) (left after : Lines) (a : Group above) (f : AreFine after) where
+    abbrev head : Expr
+    head = plain (head_seen kind h.front)
 
-  branches_as : (kind : Kind) (P Q : List Form → Type 0) (xs : List Part) → ((fs : List Form) → P fs → Q fs) → Branches P kind xs → Branches Q kind xs
-  branches_as kind P Q xs f h above left after a l b = let w = h above left after a l b in (f (map (λ x. x.head) (branches kind [] above left (map stated xs) after).0) w.0, w.1, w.2, w.3)
+    abbrev read : SuiteRead
+    read = (stated h.own).suite (indented_lines_before (map stated back) after)
 
-  -- ---- the headers of a statement
+    abbrev comments : HostComments
+    comments = record { before = above ++ (head_seen kind h.front).loose; suffix = (stated h.own).suffix }
 
-  -- the headers from one that is here on
-  abbrev HeadsAt : Turn → List Form → Type 0
-  HeadsAt first fs = AreHeaders fs
-  HeadsAt further fs = AreAlternatives fs
-  HeadsAt over fs = fs ≡ []
+    abbrev made : List Expr → Expr
+    made others = e.Form (suite head read.0.0 read.0.1 comments others)
 
-  in_order : (h : Header) (fs : List Form) → HeadThen (kind_of h) (shape_of h) (HeadsAt (next_of h)) fs → HeadsAt (turn_of h) fs
-  in_order h [] w = absurd w
-  in_order function (f ∷ fs) w = inl w
-  in_order loop (f ∷ fs) w = inr (inl w)
-  in_order (branch condition) (f ∷ fs) w = inr (inr w)
-  in_order (branch alternative) (f ∷ fs) w = inl w
-  in_order (branch otherwise) (f ∷ fs) w = inr w
+    abbrev more : ReadStatements (List Expr)
+    more = branches false kind [] (comments_in read.1) read.1 (map stated back) after
 
-  none_next : (h : Header) → HeadsAt (next_of h) []
-  none_next function = refl
-  none_next loop = refl
-  none_next (branch condition) = tt
-  none_next (branch alternative) = tt
-  none_next (branch otherwise) = refl
+    -- what is above the header, in its parts and those after it, and in the lines after these
+    abbrev all : ℕ
+    all = total number above + (total (part_amount number) xs + lines_amount number after)
 
-  abbrev pub BranchesFrom : Turn → Kind → Part → List Part → Type 0
-  BranchesFrom turn kind x xs = Branches (HeadsAt turn) kind (x ∷ xs)
+    decoded : AllDecoded (map seen h.front)
+    decoded = all_decoded h.front known.0
 
-  further_branches : (h : Header) (xs : List Part) → Further (BranchesFrom (next_of h)) (kind_of h) xs → Branches (HeadsAt (next_of h)) (kind_of h) xs
-  further_branches h [] b = λ above left after a l f. (none_next h, tt, l, omega arith)
-  further_branches h (x ∷ xs) b = b
+    header_proper : ProperBy value_shape Begins head
+    header_proper = node_proper value_shape (λ kind' ys i. i) value_fits kind (frame kind) refl (header_framed kind is) Begins h.front h.fits decoded (all_fit h.front known.0 h.plain) h.here no_comments false
 
-  pub header_branch : (h : Header) (word : Part) (back xs : List Part) → Headed (λ front. IsHead h (word ∷ front)) back xs → InHeader word → AllKnown (word ∷ xs) → AtParts Stands Begins Begins (word ∷ xs) → Further (BranchesFrom (next_of h)) (kind_of h) back
-      → BranchesFrom (turn_of h) (kind_of h) word xs
-  header_branch h word back xs headed n g at_ b =
-      branches_as (kind_of h) (HeadThen (kind_of h) (shape_of h) (HeadsAt (next_of h))) (HeadsAt (turn_of h)) (word ∷ xs) (in_order h)
-      (headed_branch (kind_of h) (shape_of h) (HeadsAt (next_of h)) (λ front. IsHead h (word ∷ front)) word back xs headed n g at_ (λ w. head_proper number h (word ∷ headed.front) headed.such w) (further_branches h back b))
+    header_kept : gap_amount number (head_seen kind h.front).gap + held number (head_seen kind h.front) ≡ total (part_amount number) h.front
+    header_kept = node_kept number (frame kind) kind h.front (all_kept h.front known.0 (all_mapped InHeader InLine (λ x i. in_line x i.1) h.front h.plain)) (kind_cut kind h.front h.fits)
 
-  -- ---- statements with suites
+    own : Ends (stated h.own).suffix (part_amount number h.own) (stated h.own).suite
+    own = known.1.1.0.suite h.suite h.there
 
-  abbrev pub Compound : Kind → List Part → Type 0
-  Compound kind xs = Headers (BranchesFrom first) kind xs
+    its_suite : AreSome read.0.0 × Group read.0.1 × AreFine read.1 × (suffix_amount number (stated h.own).suffix + (stated_amount number read.0.0 + (total number read.0.1 + lines_amount number read.1)) ≡ part_amount number h.own + before_amount back after)
+    its_suite = own.1 (indented_lines_before (map stated back) after) (before_lines back after known.1.1.1 f)
+
+    gaps : GapsAt h.front xs after
+    gaps = subst (λ zs. GapsAt h.front zs after) (sym h.cut) (gaps_there word h.front (h.mark ∷ h.own ∷ back) after h.begins)
+
+    made_is : (first : Bool) → branches first kind [] above left (map stated xs) after ≡ (put_header first made more.0, more.1)
+    made_is first =
+        ap (λ zs. branches first kind [] above left (map stated zs) after) h.cut
+        ∙ header_ends first kind above left h.front h.mark h.own back after h.plain (colon_is h.mark h.colon)
+
+    made_proper : (others : List Expr) → AreLinesBy value_shape is_alternative others → alternatives_fit head others ≡ true → ProperBy value_shape Begins (made others) × AreComments comments
+    made_proper others i j = (
+      suite_proper head read.0.0 read.0.1 comments others (is, header_proper, refl, i, j) its_suite.0 (All-from_recursion IsComment read.0.1 its_suite.1),
+      (All-from_recursion IsComment comments.before (all_joined IsComment above (head_seen kind h.front).loose a (node_decoded (frame kind) kind (map seen h.front) decoded).loose), own.0),
+    )
+
+    made_amount : (others : List Expr) → before_amount xs after + (amount number (made others) + (lines_amount number read.1 + total (part_amount number) back)) ≡ total number above + (stated_amount number others + (total (part_amount number) xs + before_amount back after))
+    made_amount others =
+        let following : List Part = h.mark ∷ h.own ∷ back in
+        omega (
+          arith,
+          form_amount number (suite head read.0.0 read.0.1 comments others),
+          append_total number above (head_seen kind h.front).loose,
+          header_kept,
+          its_suite.3,
+          silent_mark h.mark h.colon known.1.0.silent h.gap,
+          gaps.0,
+          ap (total (part_amount number)) h.cut ∙ append_total (part_amount number) h.front following,
+        )
+
+    others : AreOthers (before_amount back after) (lines_amount number read.1 + (total (part_amount number) back + lines_amount number after)) more
+    others = b read.1 after its_suite.2 f
+
+    as_alternative : Further word back → header_word head ≡ word → AreOthers (before_amount xs after) all (branches false kind [] above left (map stated xs) after)
+    as_alternative w e =
+        let one = made_proper [] tt refl in
+        subst (AreOthers (before_amount xs after) all) (sym (made_is false)) (
+          (suite_alternative head read.0.0 read.0.1 comments w e, one.0, one.1, others.0),
+          last_further (λ zs. (branches false kind [] (comments_in read.1) read.1 (map stated zs) after).0) refl (made []) w (suite_begins head read.0.0 read.0.1 comments (codes "elif") e) others.1,
+          others.2,
+          omega (arith, made_amount [], others.3),
+        )
+
+    as_first : First kind word back → header_word head ≡ branch_word kind word → IsRead (gap_amount number (first_seen_gap (map seen xs))) all (branches true kind [] above left (map stated xs) after)
+    as_first w e =
+        let one = made_proper more.0 others.0 (others_fit (λ zs. (branches false kind [] (comments_in read.1) read.1 (map stated zs) after).0) refl head w e others.1) in
+        subst (IsRead (gap_amount number (first_seen_gap (map seen xs))) all) (sym (made_is true)) (
+          (refl, (suite_line head read.0.0 read.0.1 comments more.0 w e, one.0, one.1, tt)),
+          others.2,
+          omega (arith, made_amount more.0, others.3, gaps.0, ap (gap_amount number) gaps.1),
+        )
+
+  -- ---- all headers of a statement
+
+  -- what is read of parts as a statement
+  abbrev pub StatementOf : List Part → (List Bytes → Lines → ReadStatements (List Expr)) → Type 0
+  StatementOf xs read = Reads (gap_amount number (first_seen_gap (map seen xs))) (total (part_amount number) xs) read
+
+  further : (word : Bytes) (back xs : List Part) → Further word back → (h : Headed k.IfStmt word back xs) → KnownOf Known h → OthersOf k.IfStmt back → OthersOf k.IfStmt xs
+  further word back xs w h known b left after l f = as_alternative k.IfStmt word back xs refl h known b (comments_in left) left after (fine_comments left l) f w (if_word word h.front h.begins)
+
+  whole : (kind : Kind) (word : Bytes) (back xs : List Part) → First kind word back → (h : Headed kind word back xs) → KnownOf Known h → OthersOf k.IfStmt back → StatementOf xs (λ above after. branches true kind [] above after (map stated xs) after)
+  whole kind word back xs w h known b above after a f = as_first kind word back xs (first_header w) h known (after_first w b) above after after a f w (first_word w h.front h.begins)
+
+  pub header_statement : (kind : Kind) → is_header kind ≡ true → (xs : List Part) → Fits IsNonterminal (s.bzl_shape kind) xs → AllKnown xs → AtParts Stands Begins Begins xs → StatementOf xs (λ above after. branches true kind [] above after (map stated xs) after)
+  header_statement kind i xs f g at_ = statement Known (OthersOf k.IfStmt) (λ kind' ys. StatementOf ys (λ above after. branches true kind' [] above after (map stated ys) after)) (nothing k.IfStmt) further whole kind i xs f g at_

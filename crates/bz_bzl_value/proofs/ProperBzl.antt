@@ -14,43 +14,47 @@ use Rattle.bz_grammar.specs.Legal.{IsNonterminal, Legal, LegalPart}
 use Rattle.bz_grammar.specs.Spell.{leaves_part, leaves_of}
 use Rattle.bz_grammar.specs.Spots.{Begins, Stands, AtParts}
 use Rattle.bz_grammar.proofs.Balance.{no_such}
-use Rattle.bz_value.specs.Counted.{total, one_if}
+use Rattle.bz_value.specs.declared.value.Expr.{Expr}
+use Rattle.bz_value.specs.declared.value.Item.{Item}
+use Rattle.bz_value.specs.declared.value.Item.TheVariants as i
+use Rattle.bz_value.specs.Counted.{total, item_amount, one_if}
 use Rattle.bz_value.specs.Gaps.{groups_of, all_but_last, last_group}
+use Rattle.bz_value.specs.LineShapes.{value_shape}
+use Rattle.bz_value.specs.Statements.{is_whole_statement}
+use Rattle.bz_value.proofs.FormParts.{AreLinesBy}
 use Rattle.bz_value.proofs.GapComments.{AreFine, Groups, all_joined, groups_fine, groups_front, groups_last}
 use Rattle.bz_value.proofs.Totals.{append_total}
+use Rattle.bz_hosts.specs.Suites.{ReadStatements, stated, indented_lines_before, bzl_items, bzl_view_of}
 use Rattle.bz_hosts.specs.View.{blocks}
 use Rattle.bz_hosts.proofs.ProperFiles.{blocks_proper, lexed}
 use Rattle.bz_hosts.proofs.ProperParts.{IsLexed}
 use Rattle.bz_hosts.proofs.SeenParts.{all_parted}
 use Rattle.bz_hosts.proofs.Sums.{all_blocks, front_blocks, part_amount, leaf_amount, parts_leaves}
-use Rattle.bz_bzl_value.specs.declared.value.Statement.{Statement}
-use Rattle.bz_bzl_value.specs.declared.value.BzlItem.{BzlItem}
-use Rattle.bz_bzl_value.specs.declared.value.BzlItem.TheVariants as b
-use Rattle.bz_bzl_value.specs.Kept.{bzl_item_amount, BzlCommentsKept}
-use Rattle.bz_bzl_value.specs.Laws.{BzlViewIsProper}
-use Rattle.bz_bzl_value.specs.Proper.{IsProperBzlItem}
-use Rattle.bz_bzl_value.specs.View.{ReadStatements, stated, indented_lines_before, block_items, bzl_items, bzl_view_of}
+use Rattle.bz_bzl_value.specs.Laws.{BzlViewIsProper, BzlCommentsKept}
 use Rattle.bz_bzl_value.proofs.HeadParts.{after_stmt}
-use Rattle.bz_bzl_value.proofs.KeptValues.{lines_amount, block_amount, statements_as_items}
+use Rattle.bz_bzl_value.proofs.KeptValues.{lines_amount, statements_as_items}
 use Rattle.bz_bzl_value.proofs.ProperBranches.{AllKnown, before_lines, before_amount}
 use Rattle.bz_bzl_value.proofs.ProperSuites.{part_known}
-use Rattle.bz_bzl_value.proofs.ProperValues.{statements_proper}
 use Rattle.bz_bzl_value.proofs.SuiteLines.{Lines}
-use Rattle.bz_bzl_value.proofs.BuildItems.{all_wide}
+use Rattle.bz_bzl_value.proofs.BuildItems.{IsProperBzlItem, all_wide}
 
 -- ---- the file
 
-abbrev AreProperItems : List BzlItem → Type 0
+abbrev AreProperItems : List Item → Type 0
 AreProperItems items = AllByRecursion IsProperBzlItem items
 
 -- comment lines on their own
-alone_proper : (groups : List (List Bytes)) → Groups groups → AreProperItems (block_items groups)
+alone_proper : (groups : List (List Bytes)) → Groups groups → AreProperItems (blocks groups)
 alone_proper groups h = (all_wide (blocks groups) (blocks_proper groups h)).0
+
+statements_proper : (xs : List Expr) → AreLinesBy value_shape is_whole_statement xs → AreProperItems (map i.Stmt xs)
+statements_proper [] h = tt
+statements_proper (x ∷ xs) h = ((h.0, h.1, h.2), statements_proper xs h.3)
 
 module _ (number : Bytes → ℕ) where
   -- the items are proper, and keep all comments
-  abbrev Keep : ℕ → ℕ → List BzlItem → Type 0
-  Keep gap all items = AreProperItems items × (gap + total (bzl_item_amount number) items ≡ all)
+  abbrev Keep : ℕ → ℕ → List Item → Type 0
+  Keep gap all items = AreProperItems items × (gap + total (item_amount number) items ≡ all)
 
   -- statements and the end, where these lines are before the first of them
   items_proper : (lines : Lines) (xs : List Part) → AreFine lines → Several (IsNonterminal s.stmt) (Fits IsNonterminal (tok s.end done)) xs → AllKnown number xs → AtParts Stands Begins Begins xs
@@ -58,8 +62,8 @@ module _ (number : Bytes → ℕ) where
   items_proper lines [] f h g at_ = absurd h
   items_proper lines (p.Leaf l ∷ []) f (inl h) g at_ =
       let groups : List (List Bytes) = groups_of lines in (
-        all_joined IsProperBzlItem (block_items groups) [] (alone_proper groups (groups_fine lines f)) tt,
-        omega (arith, append_total (bzl_item_amount number), block_amount number groups, all_blocks number lines, leaf_amount number l),
+        all_joined IsProperBzlItem (blocks groups) [] (alone_proper groups (groups_fine lines f)) tt,
+        omega (arith, append_total (item_amount number), all_blocks number lines, leaf_amount number l),
       )
   items_proper lines (p.Leaf l ∷ y ∷ xs) f (inl h) g at_ = absurd h.1
   items_proper lines (p.Leaf l ∷ xs) f (inr h) g at_ = no_such h.0
@@ -68,15 +72,15 @@ module _ (number : Bytes → ℕ) where
       let groups : List (List Bytes) = groups_of lines in
       let fine : Groups groups = groups_fine lines f in
       let after : Lines = indented_lines_before (map stated xs) [] in
-      let read : ReadStatements (List Statement) = (stated (Node' kind n r)).statement (last_group groups) after in
+      let read : ReadStatements (List Expr) = (stated (Node' kind n r)).statement (last_group groups) after in
       let there : AtParts Stands Begins Begins xs = subst (λ z. AtParts Stands Begins z xs) (after_stmt (Node' kind n r) Begins Begins h.0) at_.1 in
       let one = g.0.statement h.0 at_.0 (last_group groups) after (groups_last groups fine) (before_lines number xs [] g.1 tt) in
       let more = items_proper read.1 xs one.1 h.1 g.1 there in
-      let alone : List BzlItem = block_items (all_but_last groups) in
-      let statements : List BzlItem = map b.Statement read.0 in
-      let following : List BzlItem = bzl_items read.1 xs in (
+      let alone : List Item = blocks (all_but_last groups) in
+      let statements : List Item = map i.Stmt read.0 in
+      let following : List Item = bzl_items read.1 xs in (
         all_joined IsProperBzlItem alone (statements ++ following) (alone_proper (all_but_last groups) (groups_front groups fine)) (all_joined IsProperBzlItem statements following (statements_proper read.0 one.0.1) more.0),
-        omega (arith, append_total (bzl_item_amount number), block_amount number (all_but_last groups), front_blocks number lines, statements_as_items number read.0),
+        omega (arith, append_total (item_amount number), front_blocks number lines, statements_as_items number read.0),
       )
 
   all_known : (xs : List Part) → AllByRecursion LegalPart xs → AllByRecursion IsLexed (flat_map leaves_part xs) → AllByRecursion IsCodedLeaf (flat_map leaves_part xs) → AllKnown number xs

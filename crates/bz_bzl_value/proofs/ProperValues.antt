@@ -1,61 +1,89 @@
--- Statements and headers are proper where the lists that they hold are.
-use Rattle.std.proofs.Common.{◌≡◌, List, [], ◌∷◌, ◌++◌, refl, sym, ap, ◌∙◌, subst, map}
-use Rattle.std.specs.List.{All, AllByRecursion}
+-- A suite is a statement or an alternative by the word of its header, and proper where its header, its statements and its
+-- alternatives are.
+use Rattle.std.proofs.Common.{◌≡◌, Bool, true, false, not, ◌&&◌, ◌||◌, List, [], ◌∷◌, ◌++◌, refl, ap, ◌∙◌, codes, bytes_eq, if◌then◌else◌}
+use Rattle.std.specs.List.{All}
+use Rattle.std.proofs.lemmas.Bool.{or_right}
+use Rattle.bz_grammar.specs.declared.kind.Kind.{Kind}
+use Rattle.bz_grammar.specs.declared.kind.Kind.TheVariants as k
+use Rattle.bz_grammar.specs.declared.tree.Part.{Part}
+use Rattle.bz_grammar.specs.Shapes.{is_kind}
+use Rattle.bz_grammar.specs.Spots.{Begins}
+use Rattle.bz_items.specs.Characters.{Bytes}
+use Rattle.bz_value.specs.declared.value.Expr.{Expr, items-the_row-Expr, items_hidden-the_row-Expr-0}
+use Rattle.bz_value.specs.declared.value.Expr.TheVariants as e
 use Rattle.bz_value.specs.declared.value.Form.{Form}
-use Rattle.bz_value.specs.Proper.{IsComment}
-use Rattle.bz_bzl_value.specs.declared.value.Statement.{Statement, Row_of-Statement, end_of-Statement, more_of-Statement, Row_of-Branch, end_of-Branch, more_of-Branch, items-the_row-Branch, items_hidden-the_row-Branch-1, items-the_row-Statement, items_shown-the_row-Statement-0}
-use Rattle.bz_bzl_value.specs.declared.value.Statement.TheVariants as s
-use Rattle.bz_bzl_value.specs.declared.value.Branch.{Branch}
-use Rattle.bz_bzl_value.specs.declared.value.BzlItem.TheVariants as b
-use Rattle.bz_bzl_value.specs.Proper.{IsProperStatement, AreProperStatements, AreProperBranches, AreHeaders, IsSome, heads, IsProperBzlItem}
-use Rattle.bz_bzl_value.proofs.KeptValues.{branches_in}
+use Rattle.bz_value.specs.Comments.{HostComments}
+use Rattle.bz_value.specs.Empty.{is_empty}
+use Rattle.bz_value.specs.LineShapes.{value_shape}
+use Rattle.bz_value.specs.Proper.{IsComment, ProperBy}
+use Rattle.bz_value.specs.Statements.{header_word, headed_by, is_headed_by, is_branch, is_alternative, is_whole_statement, else_last, alternatives_fit}
+use Rattle.bz_value.proofs.FormParts.{AreLinesBy, AreHeaderBy, form_proper_by, parts_in}
+use Rattle.bz_bzl_value.proofs.Compounds.{First, function, loop, condition, Further, alternative, otherwise}
 
--- ---- lists that aren't empty
+-- ---- statements
 
-abbrev pub HasSome : {X : Type 0} → List X → Type 0
-HasSome [] = ⊥
-HasSome (x ∷ xs) = Unit {0}
+-- at least one
+abbrev pub AreSome : List Expr → Type 0
+AreSome xs = (is_empty xs ≡ false) × AreLinesBy value_shape is_whole_statement xs
 
-pub some_joined : {X : Type 0} (xs ys : List X) → HasSome xs → HasSome (xs ++ ys)
-some_joined [] ys h = absurd h
-some_joined (x ∷ xs) ys h = tt
+pub some_joined : (xs ys : List Expr) → AreSome xs → AreLinesBy value_shape is_whole_statement ys → AreSome (xs ++ ys)
+some_joined xs ys h i = (some xs ys h.0, joined xs ys h.1 i)
+  where
+    some : (xs ys : List Expr) → is_empty xs ≡ false → is_empty (xs ++ ys) ≡ false
+    some [] ys h = cc
+    some (x ∷ xs) ys h = refl
 
--- ---- statements and headers
+    joined : (xs ys : List Expr) → AreLinesBy value_shape is_whole_statement xs → AreLinesBy value_shape is_whole_statement ys → AreLinesBy value_shape is_whole_statement (xs ++ ys)
+    joined [] ys h i = i
+    joined (x ∷ xs) ys h i = (h.0, h.1, h.2, joined xs ys h.3 i)
 
--- the statements of a suite, or of a line
-abbrev pub AreSome : List Statement → Type 0
-AreSome xs = HasSome xs × AllByRecursion IsProperStatement xs
+-- ---- by the word of a header
 
--- a header's suite
-abbrev pub HasSuite : Branch → Type 0
-HasSuite x = AreSome x.statements × All IsComment x.end
+-- the word that begins a branch
+abbrev pub branch_word : Kind → Bytes → Bytes
+branch_word kind word = if is_kind kind k.IfStmt then word else []
 
-some_row : (m : _) (r : Row_of-Statement m) → HasSome (items-the_row-Statement m r) → IsSome r
-some_row m end_of-Statement h = absurd h
-some_row m (more_of-Statement x rest) h = tt
+abbrev is_further : Bytes → Bool
+is_further word = bytes_eq word (codes "elif") || bytes_eq word (codes "else")
 
-statements_row : (m : _) (r : Row_of-Statement m) → AllByRecursion IsProperStatement (items-the_row-Statement m r) → AreProperStatements r
-statements_row m end_of-Statement h = tt
-statements_row m (more_of-Statement x rest) h = (h.0, statements_row _ rest h.1)
+no_further : {kind : Kind} {word : Bytes} {back : List Part} → First kind word back → not (is_further (branch_word kind word)) ≡ true
+no_further function = refl
+no_further loop = refl
+no_further (condition back) = refl
 
-branches_row : (m : _) (r : Row_of-Branch m) → AllByRecursion HasSuite (items-the_row-Branch m r) → AreProperBranches r
-branches_row m end_of-Branch h = tt
-branches_row m (more_of-Branch head size statements end rest) h =
-    let own : AreSome (items-the_row-Statement _ statements) = subst AreSome (items_shown-the_row-Statement-0 size statements) h.0.0 in
-    (some_row _ statements own.0, statements_row _ statements own.1, h.0.1, branches_row _ rest h.1)
+further : {word : Bytes} {back : List Part} → Further word back → is_further word ≡ true
+further (alternative back) = refl
+further otherwise = refl
 
-heads_row : (m : _) (r : Row_of-Branch m) → heads r ≡ map (λ x. x.head) (items-the_row-Branch m r)
-heads_row m end_of-Branch = refl
-heads_row m (more_of-Branch head size statements end rest) = ap (λ (fs : List Form). head ∷ fs) (heads_row _ rest)
+-- what is read of the parts after a header: nothing where there are none
+module _ (read : List Part → List Expr) (none : read [] ≡ []) where
+  pub others_fit : {kind : Kind} {word : Bytes} {back : List Part} (head : Expr) → First kind word back → header_word head ≡ branch_word kind word → else_last (read back) ≡ true → alternatives_fit head (read back) ≡ true
+  others_fit head function h l = ap (alternatives_fit head) none
+  others_fit head loop h l = ap (alternatives_fit head) none
+  others_fit head (condition back) h l = or_right (is_empty (read back)) (bytes_eq (header_word head) (codes "if") && else_last (read back)) (rw (h, l) refl)
 
-pub compound_proper : (xs : List Branch) → AreHeaders (map (λ x. x.head) xs) → AllByRecursion HasSuite xs → IsProperStatement (s.Compound xs)
-compound_proper xs h i =
-    let row = branches_in (s.Compound xs) in
-    let same : items-the_row-Branch row.0 row.1 ≡ xs = items_hidden-the_row-Branch-1 xs in
-    (subst AreHeaders (sym (heads_row row.0 row.1 ∙ ap (map (λ x. x.head)) same)) h, branches_row row.0 row.1 (subst (AllByRecursion HasSuite) (sym same) i))
+  pub last_further : {word : Bytes} {back : List Part} (x : Expr) → Further word back → is_headed_by (codes "elif") x ≡ bytes_eq word (codes "elif") → else_last (read back) ≡ true → else_last (x ∷ read back) ≡ true
+  last_further x (alternative back) h l = rw (h, l) (ap (λ z. z && true) (or_right (is_empty (read back)) true refl))
+  last_further x otherwise h l = ap (λ xs. else_last (x ∷ xs)) none
 
--- ---- items of a file
+-- ---- suites
 
-pub statements_proper : (xs : List Statement) → AllByRecursion IsProperStatement xs → AllByRecursion IsProperBzlItem (map b.Statement xs)
-statements_proper [] h = tt
-statements_proper (x ∷ xs) h = (h.0, statements_proper xs h.1)
+-- what is read of the parts of a form
+pub of_parts : {A : Type 0} (read : List Expr → A) (f : Form) → read (items-the_row-Expr (parts_in (e.Form f)).0 (parts_in (e.Form f)).1) ≡ read f.parts
+of_parts read f = ap read (items_hidden-the_row-Expr-0 f.parts)
+
+module _ (head : Expr) (statements : List Expr) (end : List Bytes) (comments : HostComments) where
+  abbrev pub suite : List Expr → Form
+  suite others = record { kind = k.Suite; parts = head ∷ others; seq = record { items = statements; end = end; split = false }; open_break = false; comments = comments }
+
+  pub suite_line : {kind : Kind} {word : Bytes} {back : List Part} (others : List Expr) → First kind word back → header_word head ≡ branch_word kind word → is_whole_statement (e.Form (suite others)) ≡ true
+  suite_line others w h = of_parts (λ ps. not (headed_by (codes "elif") ps || headed_by (codes "else") ps)) (suite others) ∙ (ap (λ z. not (is_further z)) h ∙ no_further w)
+
+  pub suite_alternative : {word : Bytes} {back : List Part} → Further word back → header_word head ≡ word → is_alternative (e.Form (suite [])) ≡ true
+  suite_alternative w h = of_parts is_branch (suite []) ∙ (ap is_further h ∙ further w)
+
+  pub suite_begins : {word : Bytes} (other : Bytes) → header_word head ≡ word → is_headed_by other (e.Form (suite [])) ≡ bytes_eq word other
+  suite_begins other h = of_parts (headed_by other) (suite []) ∙ ap (λ z. bytes_eq z other) h
+
+  pub suite_proper : (others : List Expr) → AreHeaderBy value_shape (head ∷ others) → AreSome statements → All IsComment end → ProperBy value_shape Begins (e.Form (suite others))
+  suite_proper others h i j = form_proper_by value_shape Begins (suite others) tt (h, i.0, i.1, j, refl, refl)

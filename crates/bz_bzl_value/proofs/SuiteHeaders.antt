@@ -1,7 +1,7 @@
 -- Where a header and its suite are among the parts of a statement.
-use Rattle.std.proofs.Common.{◌≡◌, ℕ, suc, ◌+◌, true, false, List, [], ◌∷◌, ◌++◌, Option, length, refl, sym, ap, ◌∙◌, map, append-nil, append_assoc, length-append, arith}
+use Rattle.std.proofs.Common.{◌≡◌, ℕ, suc, ◌+◌, true, false, List, [], ◌∷◌, ◌++◌, length, refl, sym, ap, ◌∙◌, map, append-nil, append_assoc, length-append, arith}
 use Rattle.std.specs.List.{AllByRecursion, flat_map}
-use Rattle.std.proofs.lemmas.Bool.{cond-true, cond-false}
+use Rattle.std.proofs.lemmas.Bool.{cond-false}
 use Rattle.std.proofs.lemmas.List.{map-append}
 use Rattle.bz_grammar.specs.declared.kind.Kind.{Kind}
 use Rattle.bz_grammar.specs.declared.tree.Part.{Part, Node'}
@@ -9,10 +9,11 @@ use Rattle.bz_grammar.specs.declared.tree.Part.TheVariants as p
 use Rattle.bz_grammar.specs.Shapes as s
 use Rattle.bz_grammar.specs.Shapes.{has_token}
 use Rattle.bz_grammar.specs.Spell.{leaves_part}
-use Rattle.bz_hosts.specs.Hosts.{Measured, sizes, measured}
+use Rattle.bz_value.specs.Frames.{frame}
+use Rattle.bz_hosts.specs.Hosts.{Measured, sizes, measured, in_node}
+use Rattle.bz_hosts.specs.Suites.{stated}
 use Rattle.bz_hosts.proofs.Parts.{size, size_leaves, measured_part}
-use Rattle.bz_bzl_value.specs.BzlHosts.{Suite, header, Placed, placed, in_header, in_compound, suite_there}
-use Rattle.bz_bzl_value.specs.View.{stated}
+use Rattle.bz_bzl_value.specs.BzlHosts.{header, Placed, placed, in_compound, suite_there}
 use Rattle.bz_bzl_value.proofs.HeadParts.{InHeader}
 use Rattle.bz_bzl_value.proofs.KeptGaps.{colon_is}
 use Rattle.bz_bzl_value.proofs.SuiteReads.{placed_measured}
@@ -38,15 +39,7 @@ over_parts kind n ms (x ∷ y ∷ hs) mark ys h =
     next_part kind n ms x y (map placed hs ++ placed mark ∷ ys) h.0.0
     ∙ (over_parts kind n (ms ++ measured x ∷ []) (y ∷ hs) mark ys h.1 ∙ ap (λ (z : List Measured). in_compound kind n z (placed mark ∷ ys)) (append_assoc ms (measured x ∷ []) (map measured (y ∷ hs))))
 
-own_there : (f : ℕ) (own : Part) → suite_there f (placed own).measured (placed own).measured.part ≡ suite_there f (measured own) own
-own_there f own = ap (λ (z : Measured). suite_there f z z.part) (placed_measured own) ∙ ap (suite_there f (measured own)) (measured_part own)
-
 pub header_placed : (kind : Kind) (n f : ℕ) (hs : List Part) (mark own : Part) (back : List Part) → f ≡ suc (n + sizes (map measured hs)) → AllByRecursion InHeader hs → has_token s.colon_mark mark ≡ true
-    → in_compound kind n [] (map placed (hs ++ mark ∷ own ∷ back)) ≡ header n f (in_header kind n (map measured hs)) (suite_there f (measured own) own) ∷ ((placed own).stretches f ++ in_compound kind (f + size own) [] (map placed back))
+    → in_compound kind n [] (map placed (hs ++ mark ∷ own ∷ back)) ≡ header n f (in_node (frame kind) kind n (map measured hs)) (suite_there f (measured own) own) ∷ ((placed own).stretches f ++ in_compound kind (f + size own) [] (map placed back))
 header_placed kind n f hs mark own back e h i =
-    ap (in_compound kind n []) (map-append placed hs (mark ∷ own ∷ back))
-    ∙ (over_parts kind n [] hs mark (map placed (own ∷ back)) h
-    ∙ (cond-true _ _ _ (sym (stated_colon mark) ∙ colon_is mark i)
-    ∙ (ap (λ (z : ℕ). header n z (in_header kind n (map measured hs)) (suite_there z (placed own).measured (placed own).measured.part) ∷ ((placed own).stretches z ++ in_compound kind (z + (placed own).measured.size) [] (map placed back))) (sym e)
-    ∙ (ap (λ (z : Option Suite). header n f (in_header kind n (map measured hs)) z ∷ ((placed own).stretches f ++ in_compound kind (f + (placed own).measured.size) [] (map placed back))) (own_there f own)
-    ∙ ap (λ (z : Measured). header n f (in_header kind n (map measured hs)) (suite_there f (measured own) own) ∷ ((placed own).stretches f ++ in_compound kind (f + z.size) [] (map placed back))) (placed_measured own)))))
+    ap (in_compound kind n []) (map-append placed hs (mark ∷ own ∷ back)) ∙ (over_parts kind n [] hs mark (map placed (own ∷ back)) h ∙ rw (sym (stated_colon mark) ∙ colon_is mark i, e, placed_measured own, measured_part own) refl)

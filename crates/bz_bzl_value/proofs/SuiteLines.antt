@@ -9,7 +9,7 @@ use Rattle.bz_value.specs.Gaps.{GapLine, as_list, comments_in, lines_of, after_f
 use Rattle.bz_hosts.specs.Hosts.{leaf_gap, lines_before}
 use Rattle.bz_hosts.proofs.Walked.{gap_of, last_gap}
 use Rattle.bz_bzl_value.specs.BzlHosts.{Suite, is_further_out, reach, left_by}
-use Rattle.bz_bzl_value.specs.View.{is_taken_line, end_comments, after_end}
+use Rattle.bz_hosts.specs.Suites.{is_taken_line, end_comments, after_end}
 use Rattle.bz_hosts.proofs.SeenParts.{all_mapped}
 
 abbrev pub Lines : Type 0

@@ -15,14 +15,14 @@ use Rattle.bz_hosts.proofs.Parts.{Solid}
 use Rattle.bz_hosts.proofs.QuietGaps.{Statements, line_alternating}
 use Rattle.bz_hosts.proofs.Walked.{gap_of, last_gap}
 use Rattle.bz_bzl_value.specs.BzlHosts.{placed}
-use Rattle.bz_bzl_value.specs.View.{stated, line_read}
-use Rattle.bz_bzl_value.proofs.Parts.{part_of, parts_seen}
+use Rattle.bz_hosts.specs.Suites.{stated, line_read}
+use Rattle.bz_hosts.proofs.Stated.{stated_part, parts_seen}
 use Rattle.bz_bzl_value.proofs.SuiteLines.{Lines}
 
 -- ---- the first leaf of a part
 
 pub stated_gap : (x : Part) (ls : List Leaf) → Solid x → (stated x).part.gap ≡ gap_of (leaves_part x ++ ls)
-stated_gap x ls h = ap (λ s. s.gap) (part_of x) ∙ (h.gap ∙ ap (λ (z : List Leaf). gap_of (z ++ ls)) (sym h.leaves))
+stated_gap x ls h = ap (λ s. s.gap) (stated_part x) ∙ (h.gap ∙ ap (λ (z : List Leaf). gap_of (z ++ ls)) (sym h.leaves))
 
 -- ---- parts by their sizes
 

@@ -1,15 +1,16 @@
 -- Worked rows: a tree, what it says, and its comments with their hosts, in the order in which the hosts begin.
 use Rattle.std.specs.Prelude.{◌≡◌, List, [], ◌∷◌, codes}
+use Rattle.std.specs.List.{flat_map}
 use Rattle.bz_grammar.specs.declared.kind.Kind.TheVariants as k
 use Rattle.bz_grammar.specs.declared.tree.Node.{Node}
-use Rattle.bz_hosts.specs.Hosts.{Hosted, block, hosted, ended}
+use Rattle.bz_hosts.specs.Hosts.{Hosted, block, hosted, ended, inside_item}
+use Rattle.bz_hosts.specs.Suites.{bzl_view_of}
 use Rattle.bz_hosts.specs.Worked.{name, word, worked_mark, worked_node, worked_line, worked_file}
-use Rattle.bz_bzl_value.specs.BzlHosts.{bzl_hosted_in, bzl_hosts_of}
-use Rattle.bz_bzl_value.specs.View.{bzl_view_of}
+use Rattle.bz_bzl_value.specs.BzlHosts.{bzl_hosted_in}
 use Rattle.bz_bzl_value.specs.Worked.{suite, line_named, documented_tree, alternative_tree, ended_tree, ended_once_tree, one_line_tree, parameters_tree}
 
 abbrev Row : Node → List Hosted → Type 0
-Row tree hosts = (bzl_hosted_in tree ≡ hosts) × (bzl_hosts_of (bzl_view_of tree) ≡ hosts)
+Row tree hosts = (bzl_hosted_in tree ≡ hosts) × (flat_map inside_item (bzl_view_of tree) ≡ hosts)
 
 abbrev without : Hosted
 without = hosted [] []

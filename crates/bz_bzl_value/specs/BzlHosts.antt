@@ -12,16 +12,11 @@ use Rattle.bz_grammar.specs.declared.tree.Part.TheVariants as p
 use Rattle.bz_grammar.specs.Indents.{first_indent}
 use Rattle.bz_grammar.specs.Spell.{leaves_row, leaves_of}
 use Rattle.bz_grammar.specs.Shapes as s
-use Rattle.bz_grammar.specs.Shapes.{has_token, is_kind}
-use Rattle.bz_value.specs.declared.value.Expr.{Expr}
-use Rattle.bz_value.specs.declared.value.Form.{Form}
+use Rattle.bz_grammar.specs.Shapes.{has_token}
 use Rattle.bz_items.specs.Characters.{Bytes}
+use Rattle.bz_value.specs.Frames.{frame}
 use Rattle.bz_value.specs.Gaps.{GapLine, all_in, comments_in}
-use Rattle.bz_value.specs.Proper.{comments_of}
-use Rattle.bz_hosts.specs.Hosts.{Comment, comments_from, Region, host, between, Measured, sizes, measured, in_row, hosts_from, above, texts_at, Hosted, block, hosted, ended, hosted_at, hosts_alone, with_group, leaf_gap, lines_before, right_above, bare_lines, hosted_by, inside_expr}
-use Rattle.bz_bzl_value.specs.declared.value.Statement.{Statement, Simple, Compound', Row_of-Statement, end_of-Statement, more_of-Statement, Row_of-Branch, end_of-Branch, more_of-Branch}
-use Rattle.bz_bzl_value.specs.declared.value.BzlItem.{BzlItem}
-use Rattle.bz_bzl_value.specs.declared.value.BzlItem.TheVariants as b
+use Rattle.bz_hosts.specs.Hosts.{Comment, comments_from, Region, host, Measured, sizes, measured, in_node, hosts_from, above, texts_at, Hosted, block, hosted, hosted_at, hosts_alone, with_group, leaf_gap, lines_before, right_above, bare_lines}
 
 -- ---- lines, headers and suites
 
@@ -43,24 +38,20 @@ pub record Placed : Type 0 where
   pub measured : Measured
   pub stretches : ℕ → List Stretch
 
--- of a function: its word, its name, and its parameters in brackets
-abbrev pub in_header : Kind → ℕ → List Measured → List Region
-in_header k.Def n xs = between (2 + n) (n + sizes xs) ∷ hosts_from s.comma_mark (3 + n) (drop 3 xs)
-in_header _ n xs = in_row n xs
-
 -- the newline of a suite has this number
 abbrev pub suite_there : ℕ → Measured → Part → Option Suite
 suite_there n x (Node' k.Suite size row) = Some (record { first = suc n; following = n + x.size; margin = length (first_indent (drop 1 (leaves_row row))) })
 suite_there n x _ = None
 
--- Headers, each with the part after its colon. n: the first leaf of a header; front: its parts so far.
+-- Headers, each with the part after its colon. A header is a node of the statement's kind that ends before the colon. n: its first
+-- leaf; front: its parts so far.
 abbrev pub in_compound : Kind → ℕ → List Measured → List Placed → List Stretch
 in_compound kind n front [] = []
 in_compound kind n front (x ∷ []) = []
 in_compound kind n front (x ∷ own ∷ xs) =
     let following : ℕ = suc (n + sizes front) in
     if has_token s.colon_mark x.measured.part
-    then header n following (in_header kind n front) (suite_there following own.measured own.measured.part) ∷ (own.stretches following ++ in_compound kind (following + own.measured.size) [] xs)
+    then header n following (in_node (frame kind) kind n front) (suite_there following own.measured own.measured.part) ∷ (own.stretches following ++ in_compound kind (following + own.measured.size) [] xs)
     else in_compound kind n (front ++ x.measured ∷ []) (own ∷ xs)
 
 abbrev pub one_by_one : ℕ → List Placed → List Stretch
@@ -179,28 +170,3 @@ abbrev pub bzl_hosted_in : Node → List Hosted
 bzl_hosted_in n =
     let sts : List Stretch = one_by_one 0 (map placed n.parts) in
     bzl_hosted_from (record { leaves = leaves_of n; regions = flat_map regions_in sts; suites = suites_in sts }) 0 n.parts
-
--- ---- the comments in what a file says, in the same order
-
-abbrev pub inside_head : Form → List Hosted
-inside_head f = if is_kind f.kind k.Def then ended f.seq.end ∷ flat_map (λ (x : Expr). hosted_by (comments_of x) ∷ inside_expr x) f.seq.items else flat_map inside_expr f.parts
-
-abbrev mutual
-  pub inside_statement : Statement → List Hosted
-  inside_statement (Simple x) = hosted_by (comments_of x) ∷ inside_expr x
-  inside_statement (Compound' size branches) = inside_branches branches
-
-  pub inside_branches : {m : _} → Row_of-Branch m → List Hosted
-  inside_branches end_of-Branch = []
-  inside_branches (more_of-Branch head size statements end rest) = (hosted_by head.comments ∷ (inside_head head ++ block end ∷ inside_statements statements)) ++ inside_branches rest
-
-  pub inside_statements : {m : _} → Row_of-Statement m → List Hosted
-  inside_statements end_of-Statement = []
-  inside_statements (more_of-Statement x rest) = inside_statement x ++ inside_statements rest
-
-abbrev pub inside_bzl_item : BzlItem → List Hosted
-inside_bzl_item (b.Block texts) = block texts ∷ []
-inside_bzl_item (b.Statement x) = inside_statement x
-
-abbrev pub bzl_hosts_of : List BzlItem → List Hosted
-bzl_hosts_of items = flat_map inside_bzl_item items

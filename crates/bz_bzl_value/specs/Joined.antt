@@ -9,7 +9,7 @@ use Rattle.bz_grammar.specs.Spell.{leaves_part, limit}
 use Rattle.bz_grammar.specs.Legal.{ReadsBzl}
 use Rattle.bz_grammar.specs.Joined.{AreWholeLines}
 use Rattle.bz_value.specs.Gaps.{groups_of, last_group, GapLine, comments_in}
-use Rattle.bz_bzl_value.specs.View.{stated, indented_lines_before, bzl_view_of}
+use Rattle.bz_hosts.specs.Suites.{stated, indented_lines_before, bzl_view_of}
 
 -- What a statement of a file takes neither of the lines before it nor of those after it.
 abbrev pub lines_after : List GapLine → Part → List GapLine → List GapLine

@@ -2,8 +2,6 @@ pub mod BuildValues
 pub mod BzlHostRows
 pub mod BzlHosts
 pub mod Joined
-pub mod Kept
 pub mod Laws
-pub mod Proper
-pub mod View
 pub mod Worked
+pub mod private

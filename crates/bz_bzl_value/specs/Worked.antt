@@ -1,5 +1,5 @@
 -- Worked rows of .bzl files: a text, its tree, and what it says.
-use Rattle.std.specs.Prelude.{◌≡◌, Bool, true, false, List, [], ◌∷◌, Some, None, codes}
+use Rattle.std.specs.Prelude.{◌≡◌, Bool, true, false, List, [], ◌∷◌, ◌++◌, Some, None, map, codes}
 use Rattle.bz_token.specs.declared.class.Class.TheVariants as c
 use Rattle.bz_grammar.specs.declared.kind.Kind.{Kind}
 use Rattle.bz_grammar.specs.declared.kind.Kind.TheVariants as k
@@ -7,16 +7,14 @@ use Rattle.bz_grammar.specs.declared.tree.Node.{Node}
 use Rattle.bz_grammar.specs.declared.tree.Part.{Part}
 use Rattle.bz_grammar.specs.Spell.{spell_node}
 use Rattle.bz_value.specs.declared.value.Expr.{Expr}
+use Rattle.bz_value.specs.declared.value.Expr.TheVariants as e
 use Rattle.bz_value.specs.declared.value.Form.{Form}
+use Rattle.bz_value.specs.declared.value.Item.{Item}
+use Rattle.bz_value.specs.declared.value.Item.TheVariants as i
 use Rattle.bz_value.specs.Comments.{HostComments, no_comments}
 use Rattle.bz_items.specs.Characters.{Bytes}
 use Rattle.bz_hosts.specs.Worked.{worked_leaf, name, worked_mark, word, worked_node, worked_line, worked_bare, worked_file, with, token, plain, worked_row, worked_sequence}
-use Rattle.bz_bzl_value.specs.declared.value.Statement.{Statement}
-use Rattle.bz_bzl_value.specs.declared.value.Statement.TheVariants as s
-use Rattle.bz_bzl_value.specs.declared.value.Branch.{Branch}
-use Rattle.bz_bzl_value.specs.declared.value.BzlItem.{BzlItem}
-use Rattle.bz_bzl_value.specs.declared.value.BzlItem.TheVariants as b
-use Rattle.bz_bzl_value.specs.View.{bzl_view_of}
+use Rattle.bz_hosts.specs.Suites.{bzl_view_of}
 
 -- ---- trees
 
@@ -47,10 +45,10 @@ abbrev pub bare_row : Kind → List Expr → Expr
 bare_row kind parts = worked_row no_comments kind false parts
 
 -- a simple statement of a name
-abbrev pub name_statement : HostComments → Bytes → Statement
-name_statement comments text = s.Simple (worked_row comments k.Bare false (name_expr text ∷ []))
+abbrev pub name_statement : HostComments → Bytes → Expr
+name_statement comments text = worked_row comments k.Bare false (name_expr text ∷ [])
 
--- a header without parameters, up to its colon
+-- a header without parameters, up to its colon, with the comments of its suite
 abbrev pub header : HostComments → Kind → List Expr → Form
 header comments kind parts = record { kind = kind; parts = parts; seq = record { items = []; end = []; split = false }; open_break = false; comments = comments }
 
@@ -58,75 +56,83 @@ header comments kind parts = record { kind = kind; parts = parts; seq = record {
 abbrev pub function_header : HostComments → Bytes → Bool → List Expr → List Bytes → Form
 function_header comments text split parameters end = record { kind = k.Def; parts = keyword_expr (codes "def") ∷ name_expr text ∷ []; seq = record { items = parameters; end = end; split = split }; open_break = false; comments = comments }
 
--- a header, the statements of its suite, and the comments below the last one
-abbrev pub branch : Form → List Statement → List Bytes → Branch
-branch head statements end = record { head = head; statements = statements; end = end }
+-- a suite: its header, whose comments are its own, its statements, and the comments below the last one
+abbrev pub branch : Form → List Expr → List Bytes → Form
+branch head statements end = record {
+  kind = k.Suite;
+  parts = e.Form (record head { comments = no_comments }) ∷ [];
+  seq = record { items = statements; end = end; split = false };
+  open_break = false;
+  comments = head.comments;
+}
+
+-- a suite and its alternatives
+abbrev pub with_alternatives : Form → List Form → Expr
+with_alternatives first others = e.Form (record first { parts = first.parts ++ map e.Form others })
 
 -- a statement of one header, as an item
-abbrev pub one_header : Form → List Statement → List Bytes → BzlItem
-one_header head statements end = b.Statement (s.Compound (branch head statements end ∷ []))
+abbrev pub one_header : Form → List Expr → List Bytes → Item
+one_header head statements end = i.Stmt (e.Form (branch head statements end))
 
 -- ---- values that are laid out too
 
 -- def f(a, b = 1, *c) with its suffix; an if in its suite, a comment above what follows, and one below that; an assignment
-abbrev pub documented : List BzlItem
+abbrev pub documented : List Item
 documented =
     one_header (function_header (with [] (Some (codes "# doc"))) (codes "f") false (
     name_expr (codes "a") ∷ bare_row k.Param (name_expr (codes "b") ∷ mark_expr (codes "=") ∷ number_expr (codes "1") ∷ [])
     ∷ bare_row k.Param (mark_expr (codes "*") ∷ name_expr (codes "c") ∷ []) ∷ []) []) (
-    s.Compound (branch (header no_comments k.IfStmt (keyword_expr (codes "if") ∷ name_expr (codes "a") ∷ [])) (s.Simple (bare_row k.Return (keyword_expr (codes "return") ∷ name_expr (codes "b") ∷ [])) ∷ []) [] ∷ [])
-    ∷ s.Simple (worked_row (with (codes "# none" ∷ []) None) k.Return false (keyword_expr (codes "return")
-    ∷ bare_row k.Lambda (keyword_expr (codes "lambda") ∷ name_expr (codes "x") ∷ mark_expr (codes ":") ∷ bare_row k.Sum (name_expr (codes "x") ∷ mark_expr (codes "+") ∷ number_expr (codes "1") ∷ []) ∷ []) ∷ [])) ∷ []) (codes "# end" ∷ [])
-    ∷ b.Statement (s.Simple (bare_row k.Assign (name_expr (codes "x") ∷ mark_expr (codes "=")
+    e.Form (branch (header no_comments k.IfStmt (keyword_expr (codes "if") ∷ name_expr (codes "a") ∷ [])) (bare_row k.Return (keyword_expr (codes "return") ∷ name_expr (codes "b") ∷ []) ∷ []) [])
+    ∷ worked_row (with (codes "# none" ∷ []) None) k.Return false (keyword_expr (codes "return")
+    ∷ bare_row k.Lambda (keyword_expr (codes "lambda") ∷ name_expr (codes "x") ∷ mark_expr (codes ":") ∷ bare_row k.Sum (name_expr (codes "x") ∷ mark_expr (codes "+") ∷ number_expr (codes "1") ∷ []) ∷ []) ∷ []) ∷ []) (codes "# end" ∷ [])
+    ∷ i.Stmt (bare_row k.Assign (name_expr (codes "x") ∷ mark_expr (codes "=")
     ∷ bare_row k.ListComp (mark_expr (codes "[") ∷ worked_sequence k.Call (name_expr (codes "f") ∷ []) false (name_expr (codes "i") ∷ []) []
-    ∷ bare_row k.For (keyword_expr (codes "for") ∷ name_expr (codes "i") ∷ keyword_expr (codes "in") ∷ name_expr (codes "c") ∷ []) ∷ mark_expr (codes "]") ∷ []) ∷ []))) ∷ []
+    ∷ bare_row k.For (keyword_expr (codes "for") ∷ name_expr (codes "i") ∷ keyword_expr (codes "in") ∷ name_expr (codes "c") ∷ []) ∷ mark_expr (codes "]") ∷ []) ∷ [])) ∷ []
 
 -- if, elif and else with comments below a suite, above a header, after it, and above the first statement of a suite
-abbrev pub alternative_items : List BzlItem
+abbrev pub alternative_items : List Item
 alternative_items =
-    b.Statement (s.Compound (
-    branch (header no_comments k.IfStmt (keyword_expr (codes "if") ∷ name_expr (codes "a") ∷ [])) (name_statement no_comments (codes "b") ∷ []) (codes "# in" ∷ [])
-    ∷ branch (header (with (codes "# above" ∷ []) (Some (codes "# why"))) k.IfStmt (keyword_expr (codes "elif") ∷ name_expr (codes "c") ∷ [])) (name_statement no_comments (codes "d") ∷ []) []
+    i.Stmt (with_alternatives (branch (header no_comments k.IfStmt (keyword_expr (codes "if") ∷ name_expr (codes "a") ∷ [])) (name_statement no_comments (codes "b") ∷ []) (codes "# in" ∷ [])) (
+    branch (header (with (codes "# above" ∷ []) (Some (codes "# why"))) k.IfStmt (keyword_expr (codes "elif") ∷ name_expr (codes "c") ∷ [])) (name_statement no_comments (codes "d") ∷ []) []
     ∷ branch (header (with (codes "# last" ∷ []) None) k.IfStmt (keyword_expr (codes "else") ∷ [])) (name_statement (with (codes "# first" ∷ []) None) (codes "e") ∷ []) [] ∷ [])) ∷ []
 
 -- two suites that end together, with comments below both; a Block; a name
-abbrev pub ended_items : List BzlItem
+abbrev pub ended_items : List Item
 ended_items =
     one_header (function_header no_comments (codes "f") false [] []) (
-    s.Compound (branch (header no_comments k.IfStmt (keyword_expr (codes "if") ∷ name_expr (codes "a") ∷ [])) (name_statement no_comments (codes "b") ∷ []) (codes "# 4" ∷ []) ∷ []) ∷ [])
+    e.Form (branch (header no_comments k.IfStmt (keyword_expr (codes "if") ∷ name_expr (codes "a") ∷ [])) (name_statement no_comments (codes "b") ∷ []) (codes "# 4" ∷ [])) ∷ [])
     (codes "# 3" ∷ codes "# 2" ∷ [])
-    ∷ b.Block (codes "# 1" ∷ codes "# 0" ∷ []) ∷ b.Statement (name_statement no_comments (codes "x")) ∷ []
+    ∷ i.Block (codes "# 1" ∷ codes "# 0" ∷ []) ∷ i.Stmt (name_statement no_comments (codes "x")) ∷ []
 
 -- if x: y = 1, whose comment is that of the statement; else with two statements
-abbrev pub one_line : List BzlItem
+abbrev pub one_line : List Item
 one_line =
-    b.Statement (s.Compound (
-    branch (header no_comments k.IfStmt (keyword_expr (codes "if") ∷ name_expr (codes "x") ∷ [])) (s.Simple (worked_row (with [] (Some (codes "# c"))) k.Assign false (name_expr (codes "y") ∷ mark_expr (codes "=") ∷ number_expr (codes "1") ∷ [])) ∷ []) []
-    ∷ branch (header no_comments k.IfStmt (keyword_expr (codes "else") ∷ [])) (s.Simple (bare_row k.Flow (keyword_expr (codes "pass") ∷ [])) ∷ name_statement no_comments (codes "z") ∷ []) [] ∷ [])) ∷ []
+    i.Stmt (with_alternatives (branch (header no_comments k.IfStmt (keyword_expr (codes "if") ∷ name_expr (codes "x") ∷ [])) (worked_row (with [] (Some (codes "# c"))) k.Assign false (name_expr (codes "y") ∷ mark_expr (codes "=") ∷ number_expr (codes "1") ∷ []) ∷ []) []) (
+    branch (header no_comments k.IfStmt (keyword_expr (codes "else") ∷ [])) (bare_row k.Flow (keyword_expr (codes "pass") ∷ []) ∷ name_statement no_comments (codes "z") ∷ []) [] ∷ [])) ∷ []
 
 -- for a, b in c
-abbrev pub tabbed : List BzlItem
+abbrev pub tabbed : List Item
 tabbed =
     one_header (header no_comments k.ForStmt (keyword_expr (codes "for") ∷ name_expr (codes "a") ∷ mark_expr (codes ",") ∷ name_expr (codes "b") ∷ keyword_expr (codes "in") ∷ name_expr (codes "c") ∷ [])) (
-    s.Compound (branch (header no_comments k.IfStmt (keyword_expr (codes "if") ∷ name_expr (codes "d") ∷ [])) (s.Simple (bare_row k.Flow (keyword_expr (codes "break") ∷ [])) ∷ []) [] ∷ [])
-    ∷ s.Simple (worked_row (with (codes "# one" ∷ []) None) k.Flow false (keyword_expr (codes "continue") ∷ [])) ∷ []) (codes "# two" ∷ codes "# three" ∷ []) ∷ []
+    e.Form (branch (header no_comments k.IfStmt (keyword_expr (codes "if") ∷ name_expr (codes "d") ∷ [])) (bare_row k.Flow (keyword_expr (codes "break") ∷ []) ∷ []) [])
+    ∷ worked_row (with (codes "# one" ∷ []) None) k.Flow false (keyword_expr (codes "continue") ∷ []) ∷ []) (codes "# two" ∷ codes "# three" ∷ []) ∷ []
 
 -- parameters with comments, split or not
-abbrev pub parameters : Bool → List BzlItem
+abbrev pub parameters : Bool → List Item
 parameters split =
     one_header (function_header no_comments (codes "f") split (
     token (with (codes "# above" ∷ []) (Some (codes "# a"))) c.Name (codes "a") ∷ bare_row k.Param (mark_expr (codes "*") ∷ [])
-    ∷ worked_row (with (codes "# last" ∷ []) None) k.Param false (mark_expr (codes "**") ∷ name_expr (codes "b") ∷ []) ∷ []) (codes "# end" ∷ [])) (s.Simple (bare_row k.Flow (keyword_expr (codes "pass") ∷ [])) ∷ []) [] ∷ []
+    ∷ worked_row (with (codes "# last" ∷ []) None) k.Param false (mark_expr (codes "**") ∷ name_expr (codes "b") ∷ []) ∷ []) (codes "# end" ∷ [])) (bare_row k.Flow (keyword_expr (codes "pass") ∷ []) ∷ []) [] ∷ []
 
 -- two statements in the suite of a function, and another function
-abbrev pub defined : List BzlItem
+abbrev pub defined : List Item
 defined =
     one_header (function_header no_comments (codes "f") false [] []) (name_statement no_comments (codes "a") ∷ name_statement (with (codes "# c" ∷ []) None) (codes "b") ∷ []) []
-    ∷ one_header (function_header (with (codes "# g" ∷ []) None) (codes "g") false [] []) (s.Simple (bare_row k.Flow (keyword_expr (codes "pass") ∷ [])) ∷ []) [] ∷ []
+    ∷ one_header (function_header (with (codes "# g" ∷ []) None) (codes "g") false [] []) (bare_row k.Flow (keyword_expr (codes "pass") ∷ []) ∷ []) [] ∷ []
 
 -- ---- rows
 
-abbrev Row : Bytes → Node → List BzlItem → Type 0
+abbrev Row : Bytes → Node → List Item → Type 0
 Row text tree items = (spell_node tree ≡ text) × (bzl_view_of tree ≡ items)
 
 abbrev pub documented_tree : Node
@@ -197,8 +203,8 @@ EndedSuites =
     (codes "if a:\n  if b:\n    c\n  # 2\n    # 4\n# 0\n    # 4\nd\n")
     ended_once_tree
     (one_header (header no_comments k.IfStmt (keyword_expr (codes "if") ∷ name_expr (codes "a") ∷ [])) (
-    s.Compound (branch (header no_comments k.IfStmt (keyword_expr (codes "if") ∷ name_expr (codes "b") ∷ [])) (name_statement no_comments (codes "c") ∷ []) [] ∷ []) ∷ []) (codes "# 2" ∷ codes "# 4" ∷ [])
-    ∷ b.Statement (name_statement (with (codes "# 0" ∷ codes "# 4" ∷ []) None) (codes "d")) ∷ [])
+    e.Form (branch (header no_comments k.IfStmt (keyword_expr (codes "if") ∷ name_expr (codes "b") ∷ [])) (name_statement no_comments (codes "c") ∷ []) []) ∷ []) (codes "# 2" ∷ codes "# 4" ∷ [])
+    ∷ i.Stmt (name_statement (with (codes "# 0" ∷ codes "# 4" ∷ []) None) (codes "d")) ∷ [])
 
 abbrev pub one_line_tree : Node
 one_line_tree =

@@ -1,15 +1,16 @@
 //! Headers: what is before a suite, up to the colon.
-ghost use Rattle.std.specs.Prelude.{◌≡◌, ◌≤◌, ◌<◌, ◌-◌, ◌+◌, [], List, map, take, drop, length, MatchOption, IfOk};
+ghost use Rattle.std.specs.Prelude.{◌≡◌, ◌≤◌, ◌<◌, ◌-◌, ◌+◌, ◌++◌, ◌∷◌, [], List, map, take, drop, length, MatchOption, IfOk, Bool, false};
 ghost use Rattle.bz_grammar.specs.Shapes.{is_kind};
 ghost use Rattle.bz_items.specs.Characters.{Bytes};
 ghost use Rattle.bz_value.specs.Gaps.{GapLine};
-ghost use Rattle.bz_hosts.specs.View.{seen};
+ghost use Rattle.bz_value.specs.Frames.{frame};
+ghost use Rattle.bz_hosts.specs.View.{plain, seen, seen_node};
 ghost use Rattle.bz_grammar.specs.declared.kind.Kind.{Kind};
-ghost use Rattle.bz_bzl_value.specs.View.{branches, with_suite, head, is_compound, stated};
+ghost use Rattle.bz_hosts.specs.Suites.{branches, with_suite, stated};
 
 use crate::rest::comment_in;
 use bz_grammar::{Class, Kind, Part};
-use bz_hosts::{gap_before, head_of, row_of, seq_of};
+use bz_hosts::{gap_before, push_parts};
 use bz_items::{Items, Memory, Text};
 use bz_value::{Comments, EndComments, Form, Seq};
 use std::alloc::Global;
@@ -19,13 +20,6 @@ pub fn is_kind(kind: Kind, other: Kind) -> bool
     ensures { result ≡ is_kind kind other }
 {
     kind.number() == other.number()
-}
-
-/// Whether a statement of this kind has suites.
-pub fn is_compound(kind: Kind) -> bool
-    ensures { result ≡ is_compound kind }
-{
-    is_kind(kind, Kind::Def) || is_kind(kind, Kind::IfStmt) || is_kind(kind, Kind::ForStmt)
 }
 
 /// Whether a part is a colon.
@@ -43,10 +37,10 @@ fn is_colon(part: &Part) -> bool
 pub fn colon_from(parts: &[Part], from: usize) -> Option<usize>
     requires { from ≤ length parts.now }
     ensures { MatchOption result
-        ((kind : Kind) → (above : List Bytes) → (left after : List GapLine) → branches kind [] above left (map stated (drop from parts.now)) after ≡ ([], left))
+        ((first : Bool) (kind : Kind) → (above : List Bytes) → (left after : List GapLine) → branches first kind [] above left (map stated (drop from parts.now)) after ≡ ([], left))
         (λ at. (from ≤ at) × (at < length parts.now)
-        × ((kind : Kind) → (above : List Bytes) → (left after : List GapLine) → branches kind [] above left (map stated (drop from parts.now)) after
-        ≡ with_suite kind (map seen (take (at - from) (drop from parts.now))) above left (map stated (drop (at + 1) parts.now)) after)) }
+        × ((first : Bool) (kind : Kind) → (above : List Bytes) → (left after : List GapLine) → branches first kind [] above left (map stated (drop from parts.now)) after
+        ≡ with_suite first kind (map seen (take (at - from) (drop from parts.now))) above left (map stated (drop (at + 1) parts.now)) after)) }
 {
     for at in from..parts.len() {
         if is_colon(&parts[at]) {
@@ -58,7 +52,7 @@ pub fn colon_from(parts: &[Part], from: usize) -> Option<usize>
 
 /// The comment on the line of a header, which is in the gap of its suite's newline. The error: memory was refused.
 #[tactic(auto, using(crate::proofs::Parts::suffix_of))]
-pub fn suffix_before(alloc: Global, suite: &Part) -> Result<Option<Text>, Memory>
+fn suffix_before(alloc: Global, suite: &Part) -> Result<Option<Text>, Memory>
     ensures { IfOk result (λ suffix. suffix ≡ (stated suite.now).suffix) }
 {
     let Part::Node(node) = suite else {
@@ -73,50 +67,37 @@ pub fn suffix_before(alloc: Global, suite: &Part) -> Result<Option<Text>, Memory
     Ok(Some(Text::from_slice(alloc, comment)?))
 }
 
-/// The parts after the first.
-pub fn after_first_part(parts: &[Part]) -> &[Part]
-    ensures { result.now ≡ drop 1 parts.now }
-{
-    match parts {
-        [] => &[],
-        [_, rest @ ..] => rest,
-    }
-}
-
-/// The header of a statement of this kind with these parts up to the colon, the comments above it and the one on its line: of a
-/// function the word, the name, and the parameters as a sequence; of the others the row of their parts. The error: memory was
-/// refused.
-pub fn head(
+/// A suite with nothing in it yet but its header, of these parts up to the colon, with the comments above it and the one on its
+/// line. The error: memory was refused.
+#[inline(never)]
+pub fn headed_suite(
     alloc: Global,
     kind: Kind,
     parts: &[Part],
     above: Items<Text>,
-    suffix: Option<Text>,
+    suite: &Part,
 ) -> Result<Form, Memory>
-    ensures { IfOk result (λ form. form ≡ head kind (map seen parts.now) above suffix) }
+    ensures { IfOk result (λ form. form ≡ record {
+      kind = Kind.Suite;
+      parts = plain (seen_node (frame kind) kind (map seen parts.now)) ∷ [];
+      seq = record { items = []; end = []; split = false };
+      open_break = false;
+      comments = record { before = above ++ (seen_node (frame kind) kind (map seen parts.now)).loose; suffix = (stated suite.now).suffix };
+    }) }
 {
-    let mut before = above;
-    if is_kind(kind, Kind::Def) {
-        let words = head_of(alloc, parts, 2, &mut before)?;
-        let seq = seq_of(alloc, after_first_part(parts), 2)?;
-        return Ok(Form {
-            kind: Kind::Def,
-            parts: words,
-            seq,
-            open_break: false,
-            comments: Comments::new(alloc, before, suffix)?,
-        });
-    }
-    let row = row_of(alloc, parts, false, &mut before)?;
+    let suffix = suffix_before(alloc, suite)?;
+    let mut above = above;
+    let mut header = Vec::new(alloc);
+    push_parts(alloc, kind, parts, &mut above, &mut header)?;
     Ok(Form {
-        kind,
-        parts: row,
+        kind: Kind::Suite,
+        parts: Items::from_vec(header),
         seq: Seq {
             items: Items::new(alloc),
             end: EndComments::empty(),
             split: false,
         },
         open_break: false,
-        comments: Comments::new(alloc, before, suffix)?,
+        comments: Comments::new(alloc, above, suffix)?,
     })
 }

@@ -1,11 +1,10 @@
 //! Where the text of a .bzl file may be cut, so that each of its two parts says its own.
 ghost use Rattle.std.specs.Prelude.{◌≡◌, IsTrue, IfOk};
 ghost use Rattle.bz_bzl_value.specs.Joined.{BeginsBare, EndsInLine, EndsInNewline, EndsWithStatement};
-ghost use Rattle.bz_bzl_value.specs.View.{bzl_view_of};
+ghost use Rattle.bz_hosts.specs.Suites.{bzl_view_of};
 
 use crate::rest::comment_in;
-use crate::value::BzlFile;
-use crate::viewing::items_of;
+use crate::viewing::{BzlFile, items_of};
 use bz_grammar::{Part, Tree};
 use bz_hosts::gap_at;
 use bz_items::Memory;

@@ -2,8 +2,7 @@
 
 ghost use Rattle.bz_bzl_value.specs.BzlHostRows.{WorkedBzlHosts};
 ghost use Rattle.bz_bzl_value.specs.Joined.{BzlViewsJoin};
-ghost use Rattle.bz_bzl_value.specs.Kept.{BzlCommentsKept};
-ghost use Rattle.bz_bzl_value.specs.Laws.{BuildFilesSayTheSame, BuildItemsAreProper, BuildItemsHaveTheSameComments, BzlHostsByPlace, BzlViewIsProper};
+ghost use Rattle.bz_bzl_value.specs.Laws.{BuildFilesSayTheSame, BuildItemsAreProper, BzlCommentsKept, BzlHostsByPlace, BzlViewIsProper};
 ghost use Rattle.bz_bzl_value.specs.Worked.{WorkedBzlViews};
 
 use bz_grammar::laws::lines_join;
@@ -31,17 +30,15 @@ pub fn bzl_views_join()
     lines_join();
 }
 
-/// What the legal tree of a BUILD file says as a .bzl file is, item by item, what it says as a BUILD file: each Block is the same
-/// Block, and each statement is a simple statement of the same expression, with the same comments.
+/// What the legal tree of a BUILD file says as a .bzl file is what it says as a BUILD file.
 pub fn build_files_say_the_same()
     ensures { BuildFilesSayTheSame }
 {}
 
 /// The items of a BUILD file are proper exactly where they are, as those of a .bzl file, proper and have none of the kinds that BUILD
-/// files have not; and these have each comment as often.
+/// files have not.
 pub fn build_items_are_bzl_items()
-    ensures proper { BuildItemsAreProper }
-    ensures comments { BuildItemsHaveTheSameComments }
+    ensures { BuildItemsAreProper }
 {}
 
 /// Worked rows of what .bzl files say: for each a text, its tree, and its items.

@@ -2,7 +2,7 @@
 ghost use Rattle.std.specs.Prelude.{◌≡◌, ◌∷◌, ◌++◌, ◌+◌, ◌<◌, [], length, IfOk, IfSome, OnOk, IsTrue, MatchOption, Some};
 ghost use Rattle.std.specs.Option.{option_copied};
 ghost use Rattle.bz_value.specs.Gaps.{all_in, lines_of, comments_in};
-ghost use Rattle.bz_bzl_value.specs.View.{after_end, end_comments, only_comment};
+ghost use Rattle.bz_hosts.specs.Suites.{after_end, end_comments, only_comment};
 
 use bz_items::{Items, Memory, Text};
 use bz_value::{Line, first_line, push_all};

@@ -1,20 +1,26 @@
 //! What the tree of a .bzl file says.
-ghost use Rattle.std.specs.Prelude.{◌≡◌, ◌++◌, ◌<◌, [], ◌∷◌, List, map, drop, length, IfOk, IsTrue, OnOk};
+ghost use Rattle.std.specs.Prelude.{◌≡◌, ◌++◌, ◌<◌, [], ◌∷◌, List, map, drop, length, IfOk, IsTrue, OnOk, false};
 ghost use Rattle.bz_lex.specs.Gaps.{indent};
 ghost use Rattle.bz_grammar.specs.declared.tree.Part.{Part};
 ghost use Rattle.bz_hosts.specs.View.{seen};
 ghost use Rattle.bz_bzl_value.specs.Joined.{lines_after, lines_at_end};
-ghost use Rattle.bz_bzl_value.specs.View.{bzl_items, bzl_view_of, block_items, branches, bzl_item, line_read, indented_lines_before, simple_statements, stated, walked};
-ghost use Rattle.bz_value.specs.Gaps.{groups_of, all_but_last, last_group, lines_of};
+ghost use Rattle.bz_bzl_value.specs.private.Gathered.{gathered};
+ghost use Rattle.bz_hosts.specs.Suites.{bzl_items, bzl_view_of, branches, exprs_in, line_read, indented_lines_before, stated, walked};
+ghost use Rattle.bz_value.specs.Gaps.{lines_of};
 
-use crate::headers::{after_first_part, colon_from, head, is_compound, is_kind, suffix_before};
+use crate::headers::{colon_from, headed_suite, is_kind};
 use crate::rest::{Rest, comments, is_spent, rest_of_gap, take_end};
-use crate::value::{Branch, BzlFile, BzlItem, Statement};
 use bz_grammar::{Kind, Part, Tree};
-use bz_hosts::{gap_at, gap_before, gap_of_last, push_groups, push_statements};
+use bz_hosts::{gap_at, gap_before, gap_of_last, push_all_groups, push_groups, push_statements};
 use bz_items::{Items, Memory, Text};
-use bz_value::{Item, past_first_line};
+use bz_value::{EndComments, Expr, Form, Item, is_header, past_first_line};
 use std::alloc::Global;
+
+/// What a .bzl file says.
+#[derive(Drop)]
+pub struct BzlFile {
+    pub items: Items<Item>,
+}
 
 /// How many spaces and tabs are at the end of a gap.
 fn indent_len(gap: &[u8]) -> usize
@@ -42,13 +48,23 @@ fn gap_after<'a>(parts: &'a [Part], at: usize, after: &'a [u8]) -> &'a [u8]
     }
 }
 
-/// Appends simple statements that are items.
-fn push_simple(items: Items<Item>, out: &mut Items<Statement>) -> Result<(), Memory>
-    ensures { OnOk result (out.new ≡ out.old ++ simple_statements items) }
+/// The parts after the first.
+fn after_first_part(parts: &[Part]) -> &[Part]
+    ensures { result.now ≡ drop 1 parts.now }
+{
+    match parts {
+        [] => &[],
+        [_, rest @ ..] => rest,
+    }
+}
+
+/// Appends the statements among items.
+fn push_exprs(items: Items<Item>, out: &mut Items<Expr>) -> Result<(), Memory>
+    ensures { OnOk result (out.new ≡ out.old ++ exprs_in items) }
 {
     for item in items.into_vec() {
         if let Item::Stmt(expr) = item {
-            out.push(Statement::Simple(expr))?;
+            out.push(expr)?;
         }
     }
     Ok(())
@@ -60,14 +76,14 @@ fn push_line<'a>(
     parts: &'a [Part],
     above: Items<Text>,
     after: &'a [u8],
-    out: &mut Items<Statement>,
+    out: &mut Items<Expr>,
 ) -> Result<Rest<'a>, Memory>
     ensures out { OnOk result (out.new ≡ out.old ++ (line_read (map seen parts.now) above (lines_of after.now)).0) }
     ensures rest { IfOk result (λ rest. lines_of rest.left.now ++ lines_of rest.gap.now ≡ (line_read (map seen parts.now) above (lines_of after.now)).1) }
 {
     let mut items = Items::new(alloc);
     push_statements(alloc, parts, above, &mut items)?;
-    push_simple(items, out)?;
+    push_exprs(items, out)?;
     Ok(Rest {
         left: past_first_line(gap_of_last(parts)),
         gap: after,
@@ -76,13 +92,13 @@ fn push_line<'a>(
 
 /// Appends a statement with these comments above it; gives the lines that are left of those after it.
 #[cycle(stated)]
-#[tactic(auto, using(crate::proofs::Parts::line_of, crate::proofs::Parts::compound_of))]
+#[tactic(auto, using(crate::proofs::Parts::line_of, crate::proofs::Parts::compound_of, crate::proofs::Branches::as_one))]
 fn push_statement<'a>(
     alloc: Global,
     part: &'a Part,
     above: Items<Text>,
     after: &'a [u8],
-    out: &mut Items<Statement>,
+    out: &mut Items<Expr>,
 ) -> Result<Rest<'a>, Memory>
     ensures out { OnOk result (out.new ≡ out.old ++ ((stated part.now).statement above (lines_of after.now)).0) }
     ensures rest { IfOk result (λ rest. lines_of rest.left.now ++ lines_of rest.gap.now ≡ ((stated part.now).statement above (lines_of after.now)).1) }
@@ -95,16 +111,32 @@ fn push_statement<'a>(
         let rest = push_line(alloc, parts, above, after, out)?;
         return Ok(rest);
     }
-    if !is_compound(node.kind) {
+    if !is_header(node.kind) {
         return Ok(rest_of_gap(after));
     }
     let mut own = Items::new(alloc);
     let rest = push_branches(alloc, node.kind, parts, above, after, &mut own)?;
-    out.push(Statement::Compound(own))?;
+    push_gathered(own, out)?;
     Ok(rest)
 }
 
-/// Appends the headers of a statement, each with its suite.
+/// Appends the first of these suites, with the others as its alternatives.
+#[tactic(auto, using(crate::proofs::Branches::gather_first, crate::proofs::Branches::gather_more, crate::proofs::Branches::gather_done))]
+fn push_gathered(suites: Items<Form>, out: &mut Items<Expr>) -> Result<(), Memory>
+    ensures { OnOk result (out.new ≡ out.old ++ gathered (map Expr.Form suites)) }
+{
+    let mut forms = suites.into_vec().into_iter();
+    let Some(mut first) = forms.next() else {
+        return Ok(());
+    };
+    for form in forms {
+        first.parts.push(Expr::Form(form))?;
+    }
+    out.push(Expr::Form(first))?;
+    Ok(())
+}
+
+/// Appends the suites of a statement, each with its header.
 #[cycle(stated)]
 fn push_branches<'a>(
     alloc: Global,
@@ -112,10 +144,10 @@ fn push_branches<'a>(
     parts: &'a [Part],
     above: Items<Text>,
     after: &'a [u8],
-    own: &mut Items<Branch>,
+    own: &mut Items<Form>,
 ) -> Result<Rest<'a>, Memory>
-    ensures own { OnOk result (own.new ≡ own.old ++ (branches kind [] above (lines_of after.now) (map stated parts.now) (lines_of after.now)).0) }
-    ensures rest { IfOk result (λ rest. lines_of rest.left.now ++ lines_of rest.gap.now ≡ (branches kind [] above (lines_of after.now) (map stated parts.now) (lines_of after.now)).1) }
+    ensures own { OnOk result (map Expr.Form own.new ≡ map Expr.Form own.old ++ (branches false kind [] above (lines_of after.now) (map stated parts.now) (lines_of after.now)).0) }
+    ensures rest { IfOk result (λ rest. lines_of rest.left.now ++ lines_of rest.gap.now ≡ (branches false kind [] above (lines_of after.now) (map stated parts.now) (lines_of after.now)).1) }
 {
     let mut above = above;
     let mut rest = rest_of_gap(after);
@@ -124,17 +156,12 @@ fn push_branches<'a>(
         let Some(suite) = parts.get(colon + 1) else {
             return Ok(rest);
         };
-        let suffix = suffix_before(alloc, suite)?;
-        let head = head(alloc, kind, &parts[from..colon], above, suffix)?;
-        let mut statements = Items::new(alloc);
+        let mut form = headed_suite(alloc, kind, &parts[from..colon], above, suite)?;
         let mut end = Items::new(alloc);
         let following = gap_after(parts, colon + 2, after);
-        rest = push_suite(alloc, suite, following, &mut statements, &mut end)?;
-        own.push(Branch {
-            head,
-            statements,
-            end,
-        })?;
+        rest = push_suite(alloc, suite, following, &mut form.seq.items, &mut end)?;
+        form.seq.end = EndComments::new(alloc, end)?;
+        own.push(form)?;
         above = comments(alloc, rest)?;
         from = colon + 2;
     }
@@ -149,7 +176,7 @@ fn push_suite<'a>(
     alloc: Global,
     part: &'a Part,
     after: &'a [u8],
-    statements: &mut Items<Statement>,
+    statements: &mut Items<Expr>,
     end: &mut Items<Text>,
 ) -> Result<Rest<'a>, Memory>
     ensures statements { OnOk result (statements.new ≡ statements.old ++ ((stated part.now).suite (lines_of after.now)).0.0) }
@@ -176,12 +203,12 @@ fn push_suite<'a>(
 
 /// Appends the statements of a suite; gives the lines that are left of those after it.
 #[cycle(stated)]
-#[tactic(auto, using(crate::proofs::Parts::lines_first))]
+#[tactic(auto, using(bz_hosts::proofs::Stated::lines_first))]
 fn push_all_statements<'a>(
     alloc: Global,
     parts: &'a [Part],
     after: &'a [u8],
-    out: &mut Items<Statement>,
+    out: &mut Items<Expr>,
 ) -> Result<Rest<'a>, Memory>
     ensures out { OnOk result (out.new ≡ out.old ++ (walked (indented_lines_before (map stated parts.now) []) (map stated parts.now) (lines_of after.now)).0) }
     ensures rest { IfOk result (λ rest. lines_of rest.left.now ++ lines_of rest.gap.now ≡ (walked (indented_lines_before (map stated parts.now) []) (map stated parts.now) (lines_of after.now)).1) }
@@ -195,58 +222,12 @@ fn push_all_statements<'a>(
     Ok(rest)
 }
 
-/// An item of a BUILD file as one of a .bzl file.
-fn item_of(item: Item) -> BzlItem
-    ensures { result ≡ bzl_item item }
-{
-    match item {
-        Item::Block(texts) => BzlItem::Block(texts),
-        Item::Stmt(expr) => BzlItem::Statement(Statement::Simple(expr)),
-    }
-}
-
-/// Appends items of a BUILD file as those of a .bzl file.
-fn push_plain(items: Items<Item>, out: &mut Items<BzlItem>) -> Result<(), Memory>
-    ensures { OnOk result (out.new ≡ out.old ++ map bzl_item items) }
-{
-    for item in items.into_vec() {
-        out.push(item_of(item))?;
-    }
-    Ok(())
-}
-
-/// Appends the groups of comment lines of these lines but for the last one, which it gives.
-#[tactic(auto, using(crate::proofs::JoinedFiles::blocks_pushed))]
-fn push_blocks(
-    alloc: Global,
-    rest: Rest<'_>,
-    items: &mut Items<BzlItem>,
-) -> Result<Items<Text>, Memory>
-    ensures items { OnOk result (items.new ≡ items.old ++ block_items (all_but_last (groups_of (lines_of rest.entry.left.now ++ lines_of rest.entry.gap.now)))) }
-    ensures last { IfOk result (λ last. last ≡ last_group (groups_of (lines_of rest.entry.left.now ++ lines_of rest.entry.gap.now))) }
-{
-    let mut blocks = Items::new(alloc);
-    let last = push_groups(alloc, rest.left, rest.gap, &mut blocks)?;
-    push_plain(blocks, items)?;
-    Ok(last)
-}
-
-/// Appends comment lines on their own, if there are any.
-fn push_last(lines: Items<Text>, items: &mut Items<BzlItem>) -> Result<(), Memory>
-    ensures { OnOk result (items.new ≡ items.old ++ block_items (lines ∷ [])) }
-{
-    if !lines.is_empty() {
-        items.push(BzlItem::Block(lines))?;
-    }
-    Ok(())
-}
-
 /// Appends statements of the file as items.
-fn push_items(statements: Items<Statement>, items: &mut Items<BzlItem>) -> Result<(), Memory>
-    ensures { OnOk result (items.new ≡ items.old ++ map BzlItem.Statement statements) }
+fn push_items(statements: Items<Expr>, items: &mut Items<Item>) -> Result<(), Memory>
+    ensures { OnOk result (items.new ≡ items.old ++ map Item.Stmt statements) }
 {
     for statement in statements.into_vec() {
-        items.push(BzlItem::Statement(statement))?;
+        items.push(Item::Stmt(statement))?;
     }
     Ok(())
 }
@@ -261,8 +242,8 @@ pub fn view_bzl(alloc: Global, tree: &Tree) -> Result<BzlFile, Memory>
 }
 
 /// The items of the statements of a file and of its end, and whether no line is left before the end. The error: memory was refused.
-#[tactic(auto, using(crate::proofs::Parts::lines_first, crate::proofs::Colons::part_here, crate::proofs::JoinedFiles::goes_on, crate::proofs::JoinedFiles::is_end, crate::proofs::JoinedFiles::none_left))]
-pub fn items_of(alloc: Global, parts: &[Part]) -> Result<(Items<BzlItem>, bool), Memory>
+#[tactic(auto, using(bz_hosts::proofs::Stated::lines_first, crate::proofs::Colons::part_here, crate::proofs::JoinedFiles::goes_on, crate::proofs::JoinedFiles::is_end, crate::proofs::JoinedFiles::none_left))]
+pub fn items_of(alloc: Global, parts: &[Part]) -> Result<(Items<Item>, bool), Memory>
     ensures items { IfOk result (λ seen. seen.0 ≡ bzl_items (indented_lines_before (map stated parts.now) []) parts.now) }
     ensures left { IfOk result (λ seen. IsTrue seen.1 → lines_at_end (indented_lines_before (map stated parts.now) []) parts.now ≡ []) }
 {
@@ -284,26 +265,27 @@ pub fn items_of(alloc: Global, parts: &[Part]) -> Result<(Items<BzlItem>, bool),
 
 /// Appends the items of a statement of a file, or those of its end, where these lines are before it; gives the lines that are
 /// left of the gap after it.
+#[tactic(auto, using(crate::proofs::JoinedFiles::end_pushed))]
 fn push_part<'a>(
     alloc: Global,
     rest: Rest<'_>,
     part: &'a Part,
     after: &'a [u8],
-    items: &mut Items<BzlItem>,
+    items: &mut Items<Item>,
 ) -> Result<Rest<'a>, Memory>
     ensures left { IfOk result (λ left. lines_of left.left.now ++ lines_of left.gap.now ≡ lines_after (lines_of rest.entry.left.now ++ lines_of rest.entry.gap.now) part.now (lines_of after.now)) }
     ensures items { IfOk result (λ left. (xs : List Part) → lines_of after.now ≡ indented_lines_before (map stated xs) []
         → items.new ++ bzl_items (lines_of left.left.now ++ lines_of left.gap.now) xs ≡ items.old ++ bzl_items (lines_of rest.entry.left.now ++ lines_of rest.entry.gap.now) (part.now ∷ xs)) }
 {
-    let last = push_blocks(alloc, rest, items)?;
     match part {
         Part::Leaf(_) => {
-            push_last(last, items)?;
+            push_all_groups(alloc, rest.left, rest.gap, items)?;
             Ok(rest_of_gap(&[]))
         }
         Part::Node(_) => {
+            let above = push_groups(alloc, rest.left, rest.gap, items)?;
             let mut statements = Items::new(alloc);
-            let left = push_statement(alloc, part, last, after, &mut statements)?;
+            let left = push_statement(alloc, part, above, after, &mut statements)?;
             push_items(statements, items)?;
             Ok(left)
         }

@@ -1,5 +1,5 @@
 -- In each part of a legal tree that is in a host, the comments are those of the view.
-use Rattle.std.proofs.Common.{◌≡◌, ℕ, suc, ◌+◌, ◌≤◌, false, ◌&&◌, List, [], ◌∷◌, ◌++◌, Some, refl, sym, ap, ◌∙◌, subst, map, take, drop}
+use Rattle.std.proofs.Common.{◌≡◌, ℕ, suc, ◌+◌, ◌≤◌, true, false, ◌&&◌, List, [], ◌∷◌, ◌++◌, Some, refl, sym, ap, ◌∙◌, subst, map, take, drop}
 use Rattle.std.specs.List.{AllByRecursion, flat_map}
 use Rattle.std.proofs.lemmas.List.{take-map, drop-map}
 use Rattle.bz_lex.specs.declared.leaf.Leaf.{Leaf}
@@ -7,21 +7,26 @@ use Rattle.bz_grammar.specs.declared.kind.Kind.{Kind}
 use Rattle.bz_grammar.specs.declared.tree.Part.{Part, Row_of-Part, end_of-Part, more_of-Part, Node', items-the_row-Part}
 use Rattle.bz_grammar.specs.declared.tree.Part.TheVariants as p
 use Rattle.bz_grammar.specs.Shapes as s
-use Rattle.bz_grammar.specs.Shapes.{Fits, bzl_shape}
+use Rattle.bz_grammar.specs.Shapes.{Fits}
 use Rattle.bz_grammar.specs.Spell.{leaves_row}
-use Rattle.bz_grammar.specs.Legal.{IsNonterminal, LegalPart, LegalRow}
+use Rattle.bz_grammar.proofs.Balance.{no_such}
+use Rattle.bz_grammar.specs.Legal.{IsNonterminal}
 use Rattle.bz_value.specs.declared.value.Expr.{Expr}
 use Rattle.bz_value.specs.declared.value.Form.{Form}
 use Rattle.bz_value.specs.Comments.{no_comments}
-use Rattle.bz_value.specs.Frames.{Frame, row, sequence, frame, lead, is_binary, is_comprehension}
+use Rattle.bz_value.specs.Frames.{Frame, row, sequence, compound, frame, lead, is_binary, is_comprehension, is_inner_frame}
 use Rattle.bz_value.specs.Gaps.{all_in}
+use Rattle.bz_value.specs.LineShapes.{line_shape, value_shape}
+use Rattle.bz_value.proofs.LegalBy.{LegalBy, LegalRowBy}
+use Rattle.bz_value.proofs.Wider.{values_wider}
 use Rattle.bz_hosts.specs.View.{Seen, seen, seen_row, plain, first_seen_gap, loose_in, row_exprs, items_in, is_split, is_open, seen_node}
 use Rattle.bz_hosts.proofs.SeenParts.{seen_rows}
-use Rattle.bz_hosts.specs.Hosts.{Region, host, Comment, Measured, sizes, measured, in_node, Hosted, ended, by_frame, inside_expr}
+use Rattle.bz_hosts.specs.Hosts.{Region, host, Comment, Measured, sizes, measured, in_node, Hosted, by_frame, inside_expr}
 use Rattle.bz_hosts.proofs.Around.{SeesAt}
 use Rattle.bz_hosts.proofs.Parts.{measured_rows, leaves_rows, comments_after, after_parts, parts_after}
 use Rattle.bz_hosts.proofs.Alternating.{Alternating, Regions}
-use Rattle.bz_hosts.proofs.Insides.{inside_list, form_inside, insides, row_insides, head_insides}
+use Rattle.bz_hosts.proofs.InnerParts.{line_framed}
+use Rattle.bz_hosts.proofs.Insides.{inside_list, inside_first, inside_rest, form_inside, insides, row_insides, head_insides}
 use Rattle.bz_hosts.proofs.Texts.{Texts, InHost, first_texts}
 use Rattle.bz_hosts.proofs.Cuts.{Cut, sequence_cut}
 use Rattle.bz_hosts.proofs.Nodes.{cut_regions, head_of, body_of, cut_size, node_cut, parted, row_regions, row_solid, leaf_texts, same_texts, sequence_hosts, cut_texts}
@@ -32,7 +37,7 @@ row_hosts : (kind : Kind) → frame kind ≡ row → (xs : List Part) → inside
 row_hosts kind e xs =
     let es : List Expr = row_exprs (is_binary kind) false false (map seen xs) in
     let form : Form = record { kind = kind; parts = es; seq = record { items = []; end = []; split = false }; open_break = is_comprehension kind && is_open (map seen xs); comments = no_comments } in
-    form_inside form ∙ (ap (λ (g : Frame). by_frame g (flat_map inside_expr es) [] (ended [])) e ∙ row_insides (is_binary kind) false false xs)
+    form_inside form ∙ (ap (λ (g : Frame). by_frame g (flat_map inside_expr es) [] [] (inside_first es) (inside_rest es)) e ∙ row_insides (is_binary kind) false false xs)
 
 bracket_hosts : (kind : Kind) (opener closer : ℕ) → frame kind ≡ sequence opener closer → (xs : List Part) →
     inside_expr (plain (seen_node (sequence opener closer) kind (map seen xs))) ≡ insides (take (lead kind) xs) ++ sequence_hosts (all_in (first_seen_gap (map seen (drop (suc (lead kind)) xs)))) (map seen (drop (suc (lead kind)) xs))
@@ -43,7 +48,7 @@ bracket_hosts kind opener closer e xs =
     let es : List Expr = map plain (take n (map seen xs)) in
     let form : Form = record { kind = kind; parts = es; seq = record { items = found.0; end = found.1; split = is_split body }; open_break = false; comments = no_comments } in
     form_inside form
-    ∙ (ap (λ (g : Frame). by_frame g (flat_map inside_expr es) (inside_list found.0) (ended found.1)) e
+    ∙ (ap (λ (g : Frame). by_frame g (flat_map inside_expr es) (inside_list found.0) found.1 (inside_first es) (inside_rest es)) e
     ∙ (ap (λ (ys : List Seen). flat_map inside_expr (map plain ys) ++ sequence_hosts (all_in (first_seen_gap body)) body) (take-map seen n xs)
     ∙ (ap (λ (z : List Hosted). z ++ sequence_hosts (all_in (first_seen_gap body)) body) (head_insides (take n xs))
     ∙ ap (λ (ys : List Seen). insides (take n xs) ++ sequence_hosts (all_in (first_seen_gap ys)) ys) (drop-map seen (suc n) xs))))
@@ -56,13 +61,14 @@ module _ (all : List Region) (h b e n : ℕ) (under : h ≤ n) where
   body_case head l [] a r r' i i' v = absurd a
   body_case head l (x ∷ xs) a r r' i i' v = cut_texts all h b e n head l x xs under a r r' i i' v
 
-  node_texts : (kind : Kind) (f : Frame) → frame kind ≡ f → (xs : List Part) → Fits IsNonterminal (bzl_shape kind) xs → AllByRecursion Regions xs → AllByRecursion (InHost all) xs →
+  pub node_texts : (kind : Kind) (f : Frame) → frame kind ≡ f → is_inner_frame f ≡ true → (xs : List Part) → Fits IsNonterminal (value_shape kind) xs → AllByRecursion Regions xs → AllByRecursion (InHost all) xs →
       SeesAt all (Some (host h b e)) (suc n) (n + sizes (map measured xs)) (in_node f kind n (map measured xs)) →
       Texts all h n (n + sizes (map measured xs)) (after_parts n xs) (seen_node f kind (map seen xs)).loose (in_node f kind n (map measured xs)) (inside_expr (plain (seen_node f kind (map seen xs))))
-  node_texts kind row d xs fits r i v =
+  node_texts kind row d q xs fits r i v =
       let up : ℕ = n + sizes (map measured xs) in
       subst (λ (z : List Hosted). Texts all h n up (after_parts n xs) (loose_in (map seen xs)) (in_node row kind n (map measured xs)) z) (sym (row_hosts kind d xs)) (first_texts all h b e n up xs under refl r i v)
-  node_texts kind (sequence opener closer) d xs fits r i v =
+  node_texts kind compound d q xs fits r i v = no_such q
+  node_texts kind (sequence opener closer) d q xs fits r i v =
       let c : Cut (lead kind) xs = sequence_cut kind opener closer xs d fits in
       let head : List Part = head_of kind xs c in
       let body : List Part = body_of kind xs c in
@@ -86,7 +92,7 @@ module _ (all : List Region) (h b e n : ℕ) (under : h ≤ n) where
 -- ---- parts of a legal tree
 
 mutual
-  pub part_texts : (all : List Region) (x : Part) → LegalPart x → InHost all x
+  pub part_texts : (all : List Region) (x : Part) → LegalBy line_shape x → InHost all x
   part_texts all (p.Leaf l) g h b e n under v = leaf_texts all l h b e n under v
   part_texts all (Node' kind z r) g h b e n under v =
       let xs : List Part = items-the_row-Part _ r in
@@ -97,9 +103,9 @@ mutual
       (sym (measured_rows _ r))
       (λ v'. subst (λ (cs : List Comment). Texts all h n (n + sizes (map measured xs)) cs (seen_node f kind (seen_row r)).loose (in_node f kind n (map measured xs)) (inside_expr (plain (seen_node f kind (seen_row r))))) (sym comments)
       (subst (λ (ss : List Seen). Texts all h n (n + sizes (map measured xs)) (after_parts n xs) (seen_node f kind ss).loose (in_node f kind n (map measured xs)) (inside_expr (plain (seen_node f kind ss)))) (sym (seen_rows _ r))
-      (node_texts all h b e n under kind f refl xs g.0 (row_regions _ r g.1) (row_in_host all _ r g.1) v')))
+      (node_texts all h b e n under kind f refl (line_framed kind xs g.0) xs (values_wider kind xs g.0) (row_regions _ r g.1) (row_in_host all _ r g.1) v')))
       v
 
-  pub row_in_host : (all : List Region) (m : _) (r : Row_of-Part m) → LegalRow r → AllByRecursion (InHost all) (items-the_row-Part m r)
+  pub row_in_host : (all : List Region) (m : _) (r : Row_of-Part m) → LegalRowBy line_shape r → AllByRecursion (InHost all) (items-the_row-Part m r)
   row_in_host all m end_of-Part g = tt
   row_in_host all m (more_of-Part x rest) g = (part_texts all x g.0, row_in_host all _ rest g.1)

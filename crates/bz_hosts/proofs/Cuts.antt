@@ -1,7 +1,7 @@
 -- Where single tokens are in a legal tree: a node with a sequence is cut at its opening bracket; after it items and commas
 -- alternate, as statements and semicolons do in a line.
 use Rattle.std.proofs.Common.{◌≡◌, ℕ, zero, suc, Bool, true, false, not, List, [], ◌∷◌, ◌++◌, inl, inr, refl, ap, subst, take, drop}
-use Rattle.std.specs.List.{list_all}
+use Rattle.std.specs.List.{AllByRecursion, list_all}
 use Rattle.std.proofs.lemmas.Bool.{not-true}
 use Rattle.bz_token.specs.declared.class.Class.{Class}
 use Rattle.bz_token.specs.declared.class.Class.TheVariants as c
@@ -11,12 +11,13 @@ use Rattle.bz_grammar.specs.declared.kind.Kind.TheVariants as k
 use Rattle.bz_grammar.specs.declared.tree.Part.{Part, Node'}
 use Rattle.bz_grammar.specs.declared.tree.Part.TheVariants as p
 use Rattle.bz_grammar.specs.Shapes as s
-use Rattle.bz_grammar.specs.Shapes.{Nonterminal, Terminal, Shape, Fits, Listed, bzl_shape, items, tok, done, has_token, is_one_of, leaves_at}
+use Rattle.bz_grammar.specs.Shapes.{Nonterminal, Terminal, Shape, Fits, Listed, items, tok, done, has_token, is_one_of, leaves_at}
 use Rattle.bz_grammar.specs.Legal.{IsNonterminal}
 use Rattle.bz_grammar.specs.Spots.{Spot, Within, opens, plain, role, after_part}
 use Rattle.bz_grammar.proofs.Balance.{no_such, inner_nonterminal}
 use Rattle.bz_grammar.proofs.Terminals.{disjoint, disjoint-one_of}
-use Rattle.bz_value.specs.Frames.{Frame, row, sequence, frame, lead}
+use Rattle.bz_value.specs.Frames.{Frame, sequence, frame, lead}
+use Rattle.bz_value.specs.LineShapes.{value_shape}
 use Rattle.bz_hosts.specs.Hosts.{is_word_class}
 use Rattle.bz_hosts.proofs.Alternating.{IsItem, IsMark, Alternating}
 use Rattle.bz_hosts.proofs.InnerParts.{GoesOn, all_turn, kind_goes, leaf_goes, nonterminal_inner, of_terminals, token_goes, token_opens}
@@ -144,15 +145,16 @@ pub record Cut (n : ℕ) (xs : List Part) : Type 0 where
   pub front : take (suc n) xs ≡ take n xs ++ p.Leaf opener ∷ []
   pub bracket_at : BracketAt n xs
   pub alternating : Alternating s.comma_mark (drop (suc n) xs)
+  pub tokens : AllByRecursion (λ x. is_token x ≡ true) (drop 1 (take n xs))
 
 -- of a node that begins with its opening bracket, and of one with a part before it
 opened : (open_ : List Terminal) (rest : Shape) → all_turn opens open_ ≡ true → ((xs : List Part) → Fits IsNonterminal rest xs → Alternating s.comma_mark xs) → (xs : List Part) → Fits IsNonterminal (tok open_ rest) xs → Cut zero xs
 opened open_ rest o f [] h = absurd h
-opened open_ rest o f (p.Leaf l ∷ xs) h = record { opener = l; parts = refl; front = refl; bracket_at = bracket open_ (p.Leaf l) o h.0; alternating = f xs h.1 }
+opened open_ rest o f (p.Leaf l ∷ xs) h = record { opener = l; parts = refl; front = refl; bracket_at = bracket open_ (p.Leaf l) o h.0; alternating = f xs h.1; tokens = tt }
 opened open_ rest o f (Node' kind n r ∷ xs) h = no_such h.0
 
-after_one : (x : Part) (xs : List Part) → Cut zero xs → Cut 1 (x ∷ xs)
-after_one x xs c = record { opener = c.opener; parts = ap (λ ys. x ∷ ys) c.parts; front = ap (λ ys. x ∷ ys) c.front; bracket_at = c.bracket_at; alternating = c.alternating }
+after_one : (n : ℕ) (x : Part) (xs : List Part) → AllByRecursion (λ y. is_token y ≡ true) (take n xs) → Cut n xs → Cut (suc n) (x ∷ xs)
+after_one n x xs t c = record { opener = c.opener; parts = ap (λ ys. x ∷ ys) c.parts; front = ap (λ ys. x ∷ ys) c.front; bracket_at = c.bracket_at; alternating = c.alternating; tokens = t }
 
 abbrev one_of : Nonterminal → List Terminal → Shape
 one_of q close = s.alt (tok close done) (tok s.comma_mark (items q close))
@@ -168,18 +170,21 @@ tuple_alternating (x ∷ xs) (inl i) = ends_alternating s.comma_mark s.close_rou
 tuple_alternating (x ∷ xs) (inr i) = one_alternating s.close_round refl refl s.test refl x xs (nonterminal_item s.test x refl i.0) (inr i.1)
 
 abbrev pub CutIn : Frame → Kind → List Part → Type 0
-CutIn row kind xs = Unit {0}
 CutIn (sequence opener closer) kind xs = Cut (lead kind) xs
+CutIn _ kind xs = Unit {0}
 
-pub kind_cut : (kind : Kind) (xs : List Part) → Fits IsNonterminal (bzl_shape kind) xs → CutIn (frame kind) kind xs
+pub kind_cut : (kind : Kind) (xs : List Part) → Fits IsNonterminal (value_shape kind) xs → CutIn (frame kind) kind xs
 kind_cut k.Call [] h = absurd h
-kind_cut k.Call (x ∷ xs) h = after_one x xs (opened s.open_round (items s.argument s.close_round) refl (items_alternating s.close_round refl refl s.argument refl) xs h.1)
+kind_cut k.Call (x ∷ xs) h = after_one 0 x xs tt (opened s.open_round (items s.argument s.close_round) refl (items_alternating s.close_round refl refl s.argument refl) xs h.1)
 kind_cut k.Load [] h = absurd h
-kind_cut k.Load (x ∷ xs) h = after_one x xs (opened s.open_round (tok s.string (one_of s.loaded s.close_round)) refl loaded_alternating xs h.1)
+kind_cut k.Load (x ∷ xs) h = after_one 0 x xs tt (opened s.open_round (tok s.string (one_of s.loaded s.close_round)) refl loaded_alternating xs h.1)
 kind_cut k.Tuple xs h = opened s.open_round (s.alt (tok s.close_round done) (s.sub s.test (tok s.comma_mark (items s.test s.close_round)))) refl tuple_alternating xs h
 kind_cut k.List xs h = opened s.open_square (items s.test s.close_square) refl (items_alternating s.close_square refl refl s.test refl) xs h
 kind_cut k.Dict xs h = opened s.open_curly (items s.entry s.close_curly) refl (items_alternating s.close_curly refl refl s.entry refl) xs h
+kind_cut k.Def [] h = absurd h
+kind_cut k.Def (x ∷ []) h = absurd h.1
+kind_cut k.Def (x ∷ y ∷ xs) h = after_one 1 x (y ∷ xs) (token s.name y h.1.0, tt) (after_one 0 y xs tt (opened s.open_round (items s.param s.close_round) refl (items_alternating s.close_round refl refl s.param refl) xs h.1.1))
 kind_cut _ xs h = tt
 
-pub sequence_cut : (kind : Kind) (opener closer : ℕ) (xs : List Part) → frame kind ≡ sequence opener closer → Fits IsNonterminal (bzl_shape kind) xs → Cut (lead kind) xs
+pub sequence_cut : (kind : Kind) (opener closer : ℕ) (xs : List Part) → frame kind ≡ sequence opener closer → Fits IsNonterminal (value_shape kind) xs → Cut (lead kind) xs
 sequence_cut kind opener closer xs e h = subst (λ f. CutIn f kind xs) e (kind_cut kind xs h)

@@ -19,10 +19,12 @@ use Rattle.bz_grammar.proofs.Numbers.{same_kind}
 use Rattle.bz_value.specs.Comments.{HostComments}
 use Rattle.bz_items.specs.Characters.{Bytes}
 use Rattle.bz_value.specs.Gaps.{GapLine, lines_of, after_first_line, groups_of, all_but_last, last_group}
+use Rattle.bz_value.specs.LineShapes.{line_shape}
+use Rattle.bz_value.proofs.LegalBy.{LegalRowBy}
 use Rattle.bz_hosts.specs.View as v
 use Rattle.bz_hosts.specs.View.{Seen, seen, seen_row, first_seen_gap, blocks, statement, statements_in, file_items, view_of}
 use Rattle.bz_hosts.proofs.SeenParts.{all_mapped, seen_rows, comments_made}
-use Rattle.bz_hosts.proofs.QuietGaps.{Quiet, Statements, parts_silent, statements_quiet, line_alternating}
+use Rattle.bz_hosts.proofs.QuietGaps.{Quiet, Statements, parts_silent, statements_quiet, legal_statements, line_alternating}
 use Rattle.bz_hosts.specs.Hosts.{Region, Comment, comments_at, comments_from, Measured, sizes, measured, measured_row, hosts_from, in_line, regions_from, CommentPlace, outside, texts_at, Hosted, block, hosted_at, hosted_by, hosts_alone, with_group, hosted_in, inside_expr, inside_item}
 use Rattle.bz_hosts.specs.Laws.{HostsByPlace}
 use Rattle.bz_hosts.proofs.Around.{AllInside, all_wider, Sees, SeesAt, sees_after, sees_before}
@@ -111,7 +113,7 @@ line_in (p.Leaf l) h g = no_such h
 line_in (Node' kind z r) h g = record {
   some = some_leaf (Node' kind z r) (part_solid (Node' kind z r) g);
   within = λ n. subst (λ (ms : List Measured). AllInside n (n + sizes ms) (hosts_from s.semicolon n ms)) (sym (measured_rows _ r))
-      (hosts_inside s.semicolon n (items-the_row-Part _ r) (line_alternating (items-the_row-Part _ r) (statements_of kind (items-the_row-Part _ r) h g.0)) (row_regions _ r g.1));
+      (hosts_inside s.semicolon n (items-the_row-Part _ r) (line_alternating (items-the_row-Part _ r) (statements_of kind (items-the_row-Part _ r) h g.0)) (row_regions _ r (legal_statements _ r (statements_of kind (items-the_row-Part _ r) h g.0) g.1)));
 }
 
 leaf_in : (l : Leaf) → LineIn (p.Leaf l)
@@ -139,13 +141,14 @@ line_found : (all : List Region) (n : ℕ) (kind : Kind) (m : _) (r : Row_of-Par
     LineTexts all n (n + sizes (measured_row r)) (comments_after n (leaves_row r)) (hosts_from s.semicolon n (measured_row r)) (statements_in [] (seen_row r))
 line_found all n kind m r h g at_ sees =
     let ys : List Part = items-the_row-Part m r in
-    let comments : comments_after n (leaves_row r) ≡ after_parts n ys = ap (comments_after n) (leaves_rows m r) ∙ parts_after n ys (row_solid m r g) in
+    let legal : LegalRowBy line_shape r = legal_statements m r h g in
+    let comments : comments_after n (leaves_row r) ≡ after_parts n ys = ap (comments_after n) (leaves_rows m r) ∙ parts_after n ys (row_solid m r legal) in
     let quiet : Quiet ys = statements_quiet Begins Begins ys refl h (parts_silent m r g) (parts_of_row Stands Begins Begins m r at_) in
     subst (λ (ms : List Measured). SeesAt all None (suc n) (n + sizes ms) (hosts_from s.semicolon n ms) → LineTexts all n (n + sizes ms) (comments_after n (leaves_row r)) (hosts_from s.semicolon n ms) (statements_in [] (seen_row r)))
     (sym (measured_rows m r))
     (λ sees'. subst (λ (cs : List Comment). LineTexts all n (n + sizes (map measured ys)) cs (hosts_from s.semicolon n (map measured ys)) (statements_in [] (seen_row r))) (sym comments)
     (subst (λ (ss : List Seen). LineTexts all n (n + sizes (map measured ys)) (after_parts n ys) (hosts_from s.semicolon n (map measured ys)) (statements_in [] ss)) (sym (seen_rows m r))
-    (line_texts all n (n + sizes (map measured ys)) ys refl (line_alternating ys h) quiet (row_regions m r g) (row_in_host all m r g) sees')))
+    (line_texts all n (n + sizes (map measured ys)) ys refl (line_alternating ys h) quiet (row_regions m r legal) (row_in_host all m r legal) sees')))
     sees
 
 -- the parts of a line, as they are seen
@@ -230,7 +233,7 @@ lines_texts all n up (Node' kind z r ∷ xs) u (inr h) g at_ sees =
     let rest : FileTexts all m up xs = lines_texts all m up xs (omega arith) h.1 g.1 at_rest (λ q a b. sees_after all q None up n m (in_line n x) (regions_from m xs) (there.within n) a (sees q (omega arith) b)) in
     let solid : Solid x = part_solid x g.0 in
     let first : gap_of (leaves_row r) ≡ first_seen_gap (seen_row r) = first_gap_of (leaves_row r) solid.first solid.rest (first_seen_gap (seen_row r)) solid.leaves solid.gap in
-    let last : last_gap (leaves_row r) ≡ v.last_gap (seen_row r) = ap last_gap (leaves_rows _ r) ∙ (last_same s.semicolon ys (line_alternating ys statements) (row_solid _ r g.0.1) ∙ ap v.last_gap (sym (seen_rows _ r))) in
+    let last : last_gap (leaves_row r) ≡ v.last_gap (seen_row r) = ap last_gap (leaves_rows _ r) ∙ (last_same s.semicolon ys (line_alternating ys statements) (row_solid _ r (legal_statements _ r statements g.0.1)) ∙ ap v.last_gap (sym (seen_rows _ r))) in
     line_step all n up x xs h.0 some (omega arith) gap texts rest first last
     (λ group. subst (λ (ss : List Seen). with_group group (flat_map inside_item (statements_in [] ss)) ≡ flat_map inside_item (statements_in group ss)) (sym (seen_rows _ r)) (group_above group ys))
 

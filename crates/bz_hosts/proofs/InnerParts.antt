@@ -9,15 +9,16 @@ use Rattle.bz_token.specs.declared.class.Class.TheVariants as c
 use Rattle.bz_lex.specs.declared.leaf.Leaf.{Leaf}
 use Rattle.bz_grammar.specs.declared.kind.Kind.{Kind}
 use Rattle.bz_grammar.specs.declared.kind.Kind.TheVariants as k
-use Rattle.bz_grammar.specs.declared.tree.Part.{Part, Node'}
+use Rattle.bz_grammar.specs.declared.tree.Part.{Part, Row_of-Part, end_of-Part, more_of-Part, Node', items-the_row-Part}
 use Rattle.bz_grammar.specs.declared.tree.Part.TheVariants as p
 use Rattle.bz_grammar.specs.Shapes as s
 use Rattle.bz_grammar.specs.Shapes.{Nonterminal, Terminal, Shape, Fits, Listed, After, Several, shape, bzl_shape, has_token, is_one_of, is_terminal, nonterminal_has_kind, leaves_at}
-use Rattle.bz_grammar.specs.Legal.{IsNonterminal}
+use Rattle.bz_grammar.specs.Legal.{IsNonterminal, LegalPart, LegalRow}
 use Rattle.bz_grammar.specs.Spots.{Spot, Within, onward, Role, opens, closes, ends, plain, role, following_token, after_node, after_part}
 use Rattle.bz_grammar.proofs.Balance.{no_such, same_class, inner_nonterminal, not_file, not_lines}
-use Rattle.bz_value.specs.Frames.{is_binary, is_statement}
-use Rattle.bz_value.specs.LineShapes.{line_shape}
+use Rattle.bz_value.specs.Frames.{frame, is_binary, is_inner_frame, is_statement}
+use Rattle.bz_value.specs.LineShapes.{line_shape, value_shape}
+use Rattle.bz_value.proofs.LegalBy.{LegalBy, LegalRowBy}
 use Rattle.bz_value.specs.Proper.{is_operator_class}
 
 -- ---- a test on shapes for a fact of all their parts
@@ -151,13 +152,52 @@ kind_inner _ h = refl
 pub inner_parts : (kind : Kind) → inner_kind kind ≡ true → (xs : List Part) → Fits IsNonterminal (bzl_shape kind) xs → AllByRecursion (λ x. is_inner x ≡ true) xs
 inner_parts kind h xs i = every_part (λ x. is_inner x ≡ true) inner_tokens inner_nonterminal token_inner nonterminal_inner (bzl_shape kind) (kind_inner kind h) xs i
 
--- and all by the grammar of lines
-pub lines_bzl : (kind : Kind) (xs : List Part) → Fits IsNonterminal (line_shape kind) xs → Fits IsNonterminal (bzl_shape kind) xs
-lines_bzl k.Def xs h = absurd h
-lines_bzl k.IfStmt xs h = absurd h
-lines_bzl k.ForStmt xs h = absurd h
-lines_bzl k.Suite xs h = absurd h
-lines_bzl _ xs h = h
+-- The grammars of lines and of values are that of .bzl files there.
+pub inner_bzl : (kind : Kind) → inner_kind kind ≡ true → (xs : List Part) → Fits IsNonterminal (value_shape kind) xs → Fits IsNonterminal (bzl_shape kind) xs
+inner_bzl k.Def i xs h = no_such i
+inner_bzl k.IfStmt i xs h = no_such i
+inner_bzl k.ForStmt i xs h = no_such i
+inner_bzl k.Suite i xs h = no_such i
+inner_bzl _ i xs h = h
+
+pub inner_framed : (kind : Kind) → inner_kind kind ≡ true → is_inner_frame (frame kind) ≡ true
+inner_framed k.Suite i = no_such i
+inner_framed _ i = refl
+
+-- no suite is in a line
+pub line_framed : (kind : Kind) (xs : List Part) → Fits IsNonterminal (line_shape kind) xs → is_inner_frame (frame kind) ≡ true
+line_framed k.Suite xs h = absurd h
+line_framed _ xs h = refl
+
+pub inner_line : (kind : Kind) → inner_kind kind ≡ true → (xs : List Part) → Fits IsNonterminal (bzl_shape kind) xs → Fits IsNonterminal (line_shape kind) xs
+inner_line k.Def i xs h = no_such i
+inner_line k.IfStmt i xs h = no_such i
+inner_line k.ForStmt i xs h = no_such i
+inner_line k.Suite i xs h = no_such i
+inner_line _ i xs h = h
+
+-- a token, or a node inside a line
+abbrev pub InLine : Part → Type 0
+InLine (p.Leaf l) = Unit {0}
+InLine (Node' kind n r) = inner_kind kind ≡ true
+
+pub in_line : (x : Part) → is_inner x ≡ true → InLine x
+in_line (p.Leaf l) h = tt
+in_line (Node' kind n r) h = h
+
+pub all_in_line : (xs : List Part) → AllByRecursion (λ x. is_inner x ≡ true) xs → AllByRecursion InLine xs
+all_in_line [] h = tt
+all_in_line (x ∷ xs) h = (in_line x h.0, all_in_line xs h.1)
+
+mutual
+  -- what is in a line of a .bzl file holds none of what is in no line
+  pub inner_legal : (x : Part) → InLine x → LegalPart x → LegalBy line_shape x
+  inner_legal (p.Leaf l) i h = tt
+  inner_legal (Node' kind n r) i h = (inner_line kind i _ h.0, inner_row _ r (all_in_line _ (inner_parts kind i _ h.0)) h.1)
+
+  pub inner_row : (m : _) (r : Row_of-Part m) → AllByRecursion InLine (items-the_row-Part m r) → LegalRow r → LegalRowBy line_shape r
+  inner_row m end_of-Part i h = tt
+  inner_row m (more_of-Part x rest) i h = (inner_legal x i.0 h.0, inner_row _ rest i.1 h.1)
 
 -- ---- parts that neither open nor close brackets
 
@@ -239,7 +279,7 @@ abbrev begins_nonterminal : Shape → Bool
 begins_nonterminal (s.sub a r) = true
 begins_nonterminal _ = false
 
-kind_binary : (kind : Kind) → is_binary kind ≡ true → (begins_nonterminal (line_shape kind) && every plain_tokens inner_nonterminal (line_shape kind)) ≡ true
+kind_binary : (kind : Kind) → is_binary kind ≡ true → (begins_nonterminal (value_shape kind) && every plain_tokens inner_nonterminal (value_shape kind)) ≡ true
 kind_binary k.Or h = refl
 kind_binary k.And h = refl
 kind_binary k.Compare h = refl
@@ -252,12 +292,12 @@ kind_binary k.Product h = refl
 kind_binary _ h = no_such h
 
 -- no part of one is a bracket
-pub binary_goes : (kind : Kind) → is_binary kind ≡ true → (xs : List Part) → Fits IsNonterminal (line_shape kind) xs → AllByRecursion GoesOn xs
-binary_goes kind h xs i = every_part GoesOn plain_tokens inner_nonterminal token_goes nonterminal_goes (line_shape kind) (and_parts _ _ (kind_binary kind h)).1 xs i
+pub binary_goes : (kind : Kind) → is_binary kind ≡ true → (xs : List Part) → Fits IsNonterminal (value_shape kind) xs → AllByRecursion GoesOn xs
+binary_goes kind h xs i = every_part GoesOn plain_tokens inner_nonterminal token_goes nonterminal_goes (value_shape kind) (and_parts _ _ (kind_binary kind h)).1 xs i
 
 -- and it begins with an operand
-pub binary_begins : (kind : Kind) → is_binary kind ≡ true → (x : Part) (xs : List Part) → Fits IsNonterminal (line_shape kind) (x ∷ xs) → (a : Nonterminal) × IsNonterminal a x
-binary_begins kind h x xs i = front (line_shape kind) (and_parts _ _ (kind_binary kind h)).0 i
+pub binary_begins : (kind : Kind) → is_binary kind ≡ true → (x : Part) (xs : List Part) → Fits IsNonterminal (value_shape kind) (x ∷ xs) → (a : Nonterminal) × IsNonterminal a x
+binary_begins kind h x xs i = front (value_shape kind) (and_parts _ _ (kind_binary kind h)).0 i
   where
     front : (r : Shape) → begins_nonterminal r ≡ true → Fits IsNonterminal r (x ∷ xs) → (a : Nonterminal) × IsNonterminal a x
     front (s.sub a r) b j = (a, j.0)

@@ -12,7 +12,7 @@ use Rattle.bz_value.specs.Gaps.{has_newline}
 use Rattle.bz_value.specs.Proper.{comments_of, is_operator}
 use Rattle.bz_value.proofs.FormParts.{parts_in, items_in}
 use Rattle.bz_hosts.specs.View.{seen, plain, first_seen_gap, begins_seen_operator, row_exprs}
-use Rattle.bz_hosts.specs.Hosts.{Hosted, ended, hosted_by, by_frame, inside_expr, inside_row, inside_items}
+use Rattle.bz_hosts.specs.Hosts.{Hosted, hosted_by, by_frame, inside_expr, inside_row, inside_items, inside_header, inside_others}
 
 -- the items of a sequence, each with what is in it
 abbrev pub inside_list : List Expr → List Hosted
@@ -27,14 +27,35 @@ items_rows : (m : _) (r : Row_of-Expr m) → inside_items r ≡ inside_list (ite
 items_rows m end_of-Expr = refl
 items_rows m (more_of-Expr x rest) = ap (λ (t : List Hosted). hosted_by (comments_of x) ∷ (inside_expr x ++ t)) (items_rows _ rest)
 
-pub form_inside : (f : Form) → inside_expr (e.Form f) ≡ by_frame (frame f.kind) (flat_map inside_expr f.parts) (inside_list f.seq.items) (ended f.seq.end)
+-- of the first of these parts, and of the others
+abbrev pub inside_first : List Expr → List Hosted
+inside_first [] = []
+inside_first (x ∷ xs) = inside_expr x
+
+abbrev pub inside_rest : List Expr → List Hosted
+inside_rest [] = []
+inside_rest (x ∷ xs) = inside_list xs
+
+first_rows : (m : _) (r : Row_of-Expr m) → inside_header r ≡ inside_first (items-the_row-Expr m r)
+first_rows m end_of-Expr = refl
+first_rows m (more_of-Expr x rest) = refl
+
+rest_rows : (m : _) (r : Row_of-Expr m) → inside_others r ≡ inside_rest (items-the_row-Expr m r)
+rest_rows m end_of-Expr = refl
+rest_rows m (more_of-Expr x rest) = items_rows _ rest
+
+pub form_inside : (f : Form) → inside_expr (e.Form f) ≡ by_frame (frame f.kind) (flat_map inside_expr f.parts) (inside_list f.seq.items) f.seq.end (inside_first f.parts) (inside_rest f.parts)
 form_inside f =
     let ps = parts_in (e.Form f) in
     let qs = items_in (e.Form f) in
     let parts : inside_row ps.1 ≡ flat_map inside_expr f.parts = inside_rows ps.0 ps.1 ∙ ap (flat_map inside_expr) (items_hidden-the_row-Expr-0 f.parts) in
     let items : inside_items qs.1 ≡ inside_list f.seq.items = items_rows qs.0 qs.1 ∙ ap inside_list (items_hidden-the_row-Expr-0 f.seq.items) in
-    ap (λ (z : List Hosted). by_frame (frame f.kind) z (inside_items qs.1) (ended f.seq.end)) parts
-    ∙ ap (λ (z : List Hosted). by_frame (frame f.kind) (flat_map inside_expr f.parts) z (ended f.seq.end)) items
+    let header : inside_header ps.1 ≡ inside_first f.parts = first_rows ps.0 ps.1 ∙ ap inside_first (items_hidden-the_row-Expr-0 f.parts) in
+    let others : inside_others ps.1 ≡ inside_rest f.parts = rest_rows ps.0 ps.1 ∙ ap inside_rest (items_hidden-the_row-Expr-0 f.parts) in
+    ap (λ (z : List Hosted). by_frame (frame f.kind) z (inside_items qs.1) f.seq.end (inside_header ps.1) (inside_others ps.1)) parts
+    ∙ (ap (λ (z : List Hosted). by_frame (frame f.kind) (flat_map inside_expr f.parts) z f.seq.end (inside_header ps.1) (inside_others ps.1)) items
+    ∙ (ap (λ (z : List Hosted). by_frame (frame f.kind) (flat_map inside_expr f.parts) (inside_list f.seq.items) f.seq.end z (inside_others ps.1)) header
+    ∙ ap (λ (z : List Hosted). by_frame (frame f.kind) (flat_map inside_expr f.parts) (inside_list f.seq.items) f.seq.end (inside_first f.parts) z) others))
 
 -- ---- what is made of a part has the same in it for any comments and break
 

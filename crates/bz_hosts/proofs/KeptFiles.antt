@@ -20,7 +20,7 @@ use Rattle.bz_hosts.specs.View.{seen, seen_row, first_seen_gap, last_gap, blocks
 use Rattle.bz_hosts.proofs.Alternating.{Alternating}
 use Rattle.bz_hosts.proofs.Cuts.{mark_token}
 use Rattle.bz_hosts.proofs.KeptParts.{AllKept, host_kept, token_part, parts_kept}
-use Rattle.bz_hosts.proofs.QuietGaps.{Quiet, Statements, parts_silent, statements_quiet, line_alternating}
+use Rattle.bz_hosts.proofs.QuietGaps.{Quiet, Statements, parts_silent, statements_quiet, legal_statements, line_alternating}
 use Rattle.bz_hosts.proofs.SeenParts.{seen_rows}
 use Rattle.bz_hosts.proofs.Sums.{gap_amount, gap_parts, lines_joined, all_blocks, front_blocks, part_amount, leaf_amount, row_leaves, parts_leaves}
 use Rattle.bz_value.proofs.Totals.{append_total}
@@ -77,7 +77,7 @@ module _ (number : Bytes → ℕ) where
       let ys : List Part = items-the_row-Part m r in
       let lines : List GapLine = left ++ lines_of (first_seen_gap (map seen ys)) in
       let quiet : Quiet ys = statements_quiet Begins Begins ys refl h (parts_silent m r g) (parts_of_row Stands Begins Begins m r at_) in
-      let made = line_kept lines ys h (parts_kept number m r g) quiet in
+      let made = line_kept lines ys h (parts_kept number m r (legal_statements m r h g)) quiet in
       let both = lines_joined number left (lines_of (first_seen_gap (map seen ys))) in
       let found : total (item_amount number) (line_items lines (map seen ys)) + left_amount (last_gap (map seen ys)) ≡ total number (comments_in left) + total (part_amount number) ys = omega arith in
       ap (λ ss. total (item_amount number) (line_items (left ++ lines_of (first_seen_gap ss)) ss) + left_amount (last_gap ss)) (seen_rows m r) ∙ found

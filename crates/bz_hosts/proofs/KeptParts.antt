@@ -7,10 +7,9 @@ use Rattle.bz_grammar.specs.declared.kind.Kind.{Kind}
 use Rattle.bz_grammar.specs.declared.tree.Part.{Part, Row_of-Part, end_of-Part, more_of-Part, Node', items-the_row-Part}
 use Rattle.bz_grammar.specs.declared.tree.Part.TheVariants as p
 use Rattle.bz_grammar.specs.Shapes as s
-use Rattle.bz_grammar.specs.Legal.{LegalPart, LegalRow}
 use Rattle.bz_value.specs.Comments.{no_comments}
 use Rattle.bz_value.specs.Counted.{total, suffix_amount, amount}
-use Rattle.bz_value.specs.Frames.{Frame, row, sequence, frame, lead, is_binary}
+use Rattle.bz_value.specs.Frames.{Frame, sequence, frame, lead, is_binary}
 use Rattle.bz_items.specs.Characters.{Bytes}
 use Rattle.bz_value.specs.Gaps.{suffix_in, others_in, all_in, has_newline}
 use Rattle.bz_value.specs.Proper.{is_operator}
@@ -21,6 +20,9 @@ use Rattle.bz_hosts.proofs.ProperParts.{dropped}
 use Rattle.bz_hosts.proofs.SeenParts.{seen_rows}
 use Rattle.bz_hosts.proofs.Sums.{gap_amount, gap_parts, node_amount, made_amount, part_amount, leaf_amount, row_leaves}
 use Rattle.bz_value.proofs.Totals.{append_total, inner_amount}
+use Rattle.bz_value.specs.LineShapes.{line_shape}
+use Rattle.bz_value.proofs.LegalBy.{LegalBy, LegalRowBy}
+use Rattle.bz_value.proofs.Wider.{values_wider}
 
 module _ (number : Bytes → ℕ) where
   -- what is loose in a part, and what is in the expression made of it
@@ -156,13 +158,13 @@ module _ (number : Bytes → ℕ) where
 
   form_kept : (f : Frame) (kind : Kind) (xs : List Part) → AllKept xs → CutIn f kind xs →
       gap_amount number (first_seen_gap (map seen xs)) + (total number (loose_of f kind (map seen xs)) + inner_amount number (form_of_frame f kind (map seen xs) no_comments)) ≡ total (part_amount number) xs
-  form_kept row kind xs h b = let all = row_kept (is_binary kind) false false xs h in omega arith
   form_kept (sequence opener closer) kind xs h b =
       let n : ℕ = lead kind in
       let head = head_kept n xs h b.bracket_at in
       let found = found_kept (suc n) xs h b.alternating in
       let cut = cut_total (suc n) xs in
       omega arith
+  form_kept _ kind xs h b = let all = row_kept (is_binary kind) false false xs h in omega arith
 
   pub node_kept : (f : Frame) (kind : Kind) (xs : List Part) → AllKept xs → CutIn f kind xs → gap_amount number (seen_node f kind (map seen xs)).gap + held (seen_node f kind (map seen xs)) ≡ total (part_amount number) xs
   node_kept f kind xs h b =
@@ -171,13 +173,13 @@ module _ (number : Bytes → ℕ) where
       omega arith
 
   mutual
-    pub part_kept : (x : Part) → LegalPart x → KeptPart x
+    pub part_kept : (x : Part) → LegalBy line_shape x → KeptPart x
     part_kept (p.Leaf l) h = let all = leaf_amount number l in omega arith
     part_kept (Node' kind n r) h =
         let xs : List Part = items-the_row-Part _ r in
         ap (λ ss. gap_amount number (seen_node (frame kind) kind ss).gap + held (seen_node (frame kind) kind ss)) (seen_rows _ r)
-        ∙ (node_kept (frame kind) kind xs (parts_kept _ r h.1) (kind_cut kind xs h.0) ∙ sym (row_leaves number _ r))
+        ∙ (node_kept (frame kind) kind xs (parts_kept _ r h.1) (kind_cut kind xs (values_wider kind xs h.0)) ∙ sym (row_leaves number _ r))
 
-    pub parts_kept : (m : _) (r : Row_of-Part m) → LegalRow r → AllKept (items-the_row-Part m r)
+    pub parts_kept : (m : _) (r : Row_of-Part m) → LegalRowBy line_shape r → AllKept (items-the_row-Part m r)
     parts_kept m end_of-Part h = tt
     parts_kept m (more_of-Part x rest) h = (part_kept x h.0, parts_kept _ rest h.1)

@@ -1,6 +1,8 @@
 pub mod Alternating
 pub mod Around
+pub mod BuildFiles
 pub mod Claim
+pub mod Colons
 pub mod Cuts
 pub mod Files
 pub mod Gathered
@@ -13,6 +15,7 @@ pub mod JoinedLines
 pub mod KeptFiles
 pub mod KeptParts
 pub mod LineSteps
+pub mod Narrow
 pub mod NodeViews
 pub mod Nodes
 pub mod Numbered
@@ -25,6 +28,7 @@ pub mod RowSteps
 pub mod SeenParts
 pub mod SequenceParts
 pub mod Sequences
+pub mod Stated
 pub mod Statements
 pub mod Sums
 pub mod Texts

@@ -1,5 +1,5 @@
 -- What is seen of a node, by the list of its parts.
-use Rattle.std.proofs.Common.{ℕ, zero, suc, Bool, true, false, ◌≡◌, List, [], ◌∷◌, ◌++◌, refl, sym, ap, ◌∙◌, map, take, drop, ◌+◌, add-one}
+use Rattle.std.proofs.Common.{ℕ, zero, suc, Bool, true, false, ◌≡◌, List, [], ◌∷◌, ◌++◌, refl, sym, ap, ◌∙◌, map, take, drop, ◌+◌, add-one, true≢false}
 use Rattle.std.proofs.lemmas.List.{drop-map}
 use Rattle.bz_grammar.specs.declared.kind.Kind.{Kind}
 use Rattle.bz_grammar.specs.declared.tree.Node.{Node}
@@ -12,7 +12,7 @@ use Rattle.bz_value.specs.declared.value.Form.{Form}
 use Rattle.bz_value.specs.declared.value.Seq.{Seq}
 use Rattle.bz_value.specs.Commented.{with_comments}
 use Rattle.bz_value.specs.Comments.{HostComments, no_comments}
-use Rattle.bz_value.specs.Frames.{Frame, row, sequence, frame, has_brackets, lead}
+use Rattle.bz_value.specs.Frames.{Frame, sequence, frame, has_brackets, lead}
 use Rattle.bz_items.specs.Characters.{Bytes}
 use Rattle.bz_value.specs.Gaps.{has_newline}
 use Rattle.bz_hosts.specs.View.{seen, seen_row, seen_node, plain, first_seen_gap, is_open, is_split, form_of_frame, loose_of, seq_in}
@@ -47,12 +47,12 @@ made kind parts seq comments = record { kind = kind; parts = parts; seq = seq; o
 
 pub sequence_made : (f : Frame) (kind : Kind) (ps qs : List Part) (n : ℕ) (es : List Expr) (q : Seq) (cs : HostComments) → has_brackets f ≡ true → qs ≡ ps → n ≡ lead kind →
     es ≡ map plain (take n (map seen qs)) → q ≡ seq_in (map seen (drop (n + 1) qs)) → cs ≡ no_comments → made kind es q cs ≡ form_of_frame f kind (map seen ps) no_comments
-sequence_made row kind ps qs n es q cs h j i e g k = cc
 sequence_made (sequence opener closer) kind ps qs n es q cs h j i e g k =
     let head : es ≡ map plain (take (lead kind) (map seen ps)) = e ∙ (ap (λ m. map plain (take m (map seen qs))) i ∙ ap (λ rs. map plain (take (lead kind) (map seen rs))) j) in
     let body : q ≡ seq_in (drop (suc (lead kind)) (map seen ps)) =
     g ∙ (ap (λ rs. seq_in (map seen (drop (n + 1) rs))) j ∙ (ap (λ m. seq_in (map seen (drop m ps))) (add-one n ∙ ap suc i) ∙ ap seq_in (sym (drop-map seen (suc (lead kind)) ps)))) in
     ap (λ t. made kind t q cs) head ∙ (ap (λ t. made kind (map plain (take (lead kind) (map seen ps))) t cs) body ∙ ap (λ t. made kind (map plain (take (lead kind) (map seen ps))) (seq_in (drop (suc (lead kind)) (map seen ps))) t) k)
+sequence_made _ kind ps qs n es q cs h j i e g k = absurd (true≢false (sym h))
 
 -- ---- parts of a row
 

@@ -7,12 +7,14 @@ use Rattle.bz_grammar.specs.declared.kind.Kind.{Kind}
 use Rattle.bz_grammar.specs.declared.tree.Part.{Part, Row_of-Part, end_of-Part, more_of-Part, Node', items-the_row-Part}
 use Rattle.bz_grammar.specs.declared.tree.Part.TheVariants as p
 use Rattle.bz_grammar.specs.Shapes as s
-use Rattle.bz_grammar.specs.Shapes.{Fits, bzl_shape}
-use Rattle.bz_grammar.specs.Legal.{IsNonterminal, LegalPart, LegalRow}
-use Rattle.bz_grammar.proofs.Balance.{legal_row}
-use Rattle.bz_value.specs.Frames.{Frame, row, sequence, frame, lead}
+use Rattle.bz_grammar.specs.Shapes.{Fits}
+use Rattle.bz_grammar.specs.Legal.{IsNonterminal}
+use Rattle.bz_value.specs.Frames.{Frame, sequence, frame, lead}
 use Rattle.bz_items.specs.Characters.{Bytes}
 use Rattle.bz_value.specs.Gaps.{all_in}
+use Rattle.bz_value.specs.LineShapes.{line_shape, value_shape}
+use Rattle.bz_value.proofs.LegalBy.{LegalBy, LegalRowBy, each_legal, as_bzl}
+use Rattle.bz_value.proofs.Wider.{values_wider}
 use Rattle.bz_value.proofs.GapComments.{all_joined}
 use Rattle.bz_hosts.specs.View.{Seen, seen, plain, loose_in, items_in}
 use Rattle.bz_hosts.proofs.SeenParts.{all_mapped, all_parted}
@@ -104,28 +106,28 @@ module _ (kind : Kind) (xs : List Part) (c : Cut (lead kind) xs) where
   pub parted : (P : Part → Type 0) → AllByRecursion P xs → AllByRecursion P head_of × AllByRecursion P body_of
   parted P h = let w = all_parted P head_of (p.Leaf c.opener ∷ body_of) (subst (AllByRecursion P) c.parts h) in (w.0, w.1.1)
 
-node_inside : (kind : Kind) (f : Frame) → frame kind ≡ f → (xs : List Part) → Fits IsNonterminal (bzl_shape kind) xs → AllByRecursion Regions xs → (n : ℕ) → AllInside n (n + sizes (map measured xs)) (in_node f kind n (map measured xs))
-node_inside kind row e xs h r n = row_inside n xs r
+pub node_inside : (kind : Kind) (f : Frame) → frame kind ≡ f → (xs : List Part) → Fits IsNonterminal (value_shape kind) xs → AllByRecursion Regions xs → (n : ℕ) → AllInside n (n + sizes (map measured xs)) (in_node f kind n (map measured xs))
 node_inside kind (sequence opener closer) e xs h r n =
     let c : Cut (lead kind) xs = sequence_cut kind opener closer xs e h in
     let w = parted kind xs c Regions r in
     subst (λ (rs : List Region). AllInside n (n + sizes (map measured xs)) rs) (sym (node_cut kind xs c opener closer n))
     (subst (λ (z : ℕ). AllInside n z (cut_regions n (head_of kind xs c) (body_of kind xs c))) (sym (cut_size kind xs c n)) (cut_inside n (head_of kind xs c) (body_of kind xs c) c.alternating w.0 w.1))
+node_inside kind _ e xs h r n = row_inside n xs r
 
 mutual
-  pub part_regions : (x : Part) → LegalPart x → Regions x
+  pub part_regions : (x : Part) → LegalBy line_shape x → Regions x
   part_regions (p.Leaf l) h = leaf_regions l
   part_regions (Node' kind z r) h = record {
-    some = some_leaf (Node' kind z r) (part_solid (Node' kind z r) h);
-    within = λ n. subst (λ (ms : List Measured). AllInside n (n + sizes ms) (in_node (frame kind) kind n ms)) (sym (measured_rows _ r)) (node_inside kind (frame kind) refl (items-the_row-Part _ r) h.0 (row_regions _ r h.1) n);
+    some = some_leaf (Node' kind z r) (part_solid (Node' kind z r) (as_bzl (Node' kind z r) h));
+    within = λ n. subst (λ (ms : List Measured). AllInside n (n + sizes ms) (in_node (frame kind) kind n ms)) (sym (measured_rows _ r)) (node_inside kind (frame kind) refl (items-the_row-Part _ r) (values_wider kind _ h.0) (row_regions _ r h.1) n);
   }
 
-  pub row_regions : (m : _) (r : Row_of-Part m) → LegalRow r → AllByRecursion Regions (items-the_row-Part m r)
+  pub row_regions : (m : _) (r : Row_of-Part m) → LegalRowBy line_shape r → AllByRecursion Regions (items-the_row-Part m r)
   row_regions m end_of-Part h = tt
   row_regions m (more_of-Part x rest) h = (part_regions x h.0, row_regions _ rest h.1)
 
-pub row_solid : (m : _) (r : Row_of-Part m) → LegalRow r → AllByRecursion Solid (items-the_row-Part m r)
-row_solid m r h = all_mapped LegalPart Solid part_solid (items-the_row-Part m r) (legal_row m r h)
+pub row_solid : (m : _) (r : Row_of-Part m) → LegalRowBy line_shape r → AllByRecursion Solid (items-the_row-Part m r)
+row_solid m r h = all_mapped (LegalBy line_shape) Solid (λ x l. part_solid x (as_bzl x l)) (items-the_row-Part m r) (each_legal line_shape m r h)
 
 -- ---- texts
 

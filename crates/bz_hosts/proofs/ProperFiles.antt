@@ -26,12 +26,13 @@ use Rattle.bz_value.specs.declared.value.Item.{Item}
 use Rattle.bz_value.specs.Comments.{HostComments}
 use Rattle.bz_items.specs.Characters.{Bytes}
 use Rattle.bz_value.specs.Gaps.{GapLine, lines_of, after_first_line, groups_of, all_but_last, last_group, suffix_in}
-use Rattle.bz_value.specs.Proper.{IsComment, MaybeComment, AreComments, has_statement_kind, IsProperItem, IsProper}
+use Rattle.bz_value.specs.Proper.{IsComment, MaybeComment, AreComments, IsProperItem, IsProper}
+use Rattle.bz_value.specs.Statements.{has_statement_kind}
 use Rattle.bz_value.proofs.Begun.{moved_expr}
 use Rattle.bz_value.proofs.GapComments.{AreFine, Group, Groups, all_joined, fine_lines, fine_after, suffix_fine, groups_fine, groups_front, groups_last}
 use Rattle.bz_value.proofs.LegalBy.{LegalBy, each_legal, all_of_build}
 use Rattle.bz_value.proofs.Rooted.{kind_fits}
-use Rattle.bz_value.proofs.Wider.{lines_wider}
+use Rattle.bz_value.proofs.Wider.{build_wider}
 use Rattle.bz_hosts.specs.View.{Seen, seen, seen_row, first_seen_gap, blocks, statement, statements_in, last_gap, line_items, file_items, view_of}
 use Rattle.bz_hosts.proofs.InnerParts.{ends_line, nonterminal_inner, nonterminal_goes, token_goes, small_statement}
 use Rattle.bz_hosts.proofs.SeenParts.{seen_rows, Decoded, AllDecoded, gap_decoded, all_parted, comments_made, row_decoded}
@@ -126,7 +127,7 @@ lines_proper left (Node' kind n r ∷ xs) f (inr h) g l c at_ =
     let last : AreFine (after_first_line (lines_of (last_gap (seen_row r)))) = fine_after (lines_of (last_gap (seen_row r))) (fine_lines (last_gap (seen_row r)) (last_decoded (seen_row r) row)) in
     let there : AtParts Stands Begins Begins xs = subst (λ kd. AtParts Stands Begins (after_node kd Begins) xs) e at_.1 in
     all_joined IsProperItem (line_items lines (seen_row r)) (file_items (after_first_line (lines_of (last_gap (seen_row r)))) xs)
-    (subst (λ ss. AreProper (line_items lines ss)) (sym rows) (line_proper lines ys fine fits (each_legal shape _ r g.0.1) (row_ready shape lines_wider kind_fits _ r g.0.1 v.0 w.0) decoded (parts_of_row Stands Begins Begins _ r at_.0)))
+    (subst (λ ss. AreProper (line_items lines ss)) (sym rows) (line_proper lines ys fine fits (each_legal shape _ r g.0.1) (row_ready shape build_wider kind_fits _ r g.0.1 v.0 w.0) decoded (parts_of_row Stands Begins Begins _ r at_.0)))
     (lines_proper (after_first_line (lines_of (last_gap (seen_row r)))) xs last h.1 g.1 v.1 w.1 there)
 
 -- ---- the leaves

@@ -11,30 +11,29 @@ use Rattle.bz_grammar.specs.declared.kind.Kind.{Kind}
 use Rattle.bz_grammar.specs.declared.tree.Part.{Part, Row_of-Part, end_of-Part, more_of-Part, Node', items-the_row-Part}
 use Rattle.bz_grammar.specs.declared.tree.Part.TheVariants as p
 use Rattle.bz_grammar.specs.Spell.{leaves_part, leaves_row}
-use Rattle.bz_grammar.specs.declared.kind.Kind.TheVariants as k
 use Rattle.bz_grammar.specs.Shapes as s
 use Rattle.bz_grammar.specs.Shapes.{Shape, Fits, bzl_shape}
-use Rattle.bz_grammar.specs.Legal.{IsNonterminal, LegalPart, LegalRow}
+use Rattle.bz_grammar.specs.Legal.{IsNonterminal, LegalPart}
 use Rattle.bz_grammar.specs.Spots.{Spot, Within, Stands, AtParts}
 use Rattle.bz_grammar.proofs.Balance.{no_such, parts_of_row}
 use Rattle.bz_value.specs.declared.value.Expr.{Expr}
 use Rattle.bz_value.specs.declared.value.Form.{Form}
 use Rattle.bz_value.specs.Comments.{HostComments, no_comments}
-use Rattle.bz_value.specs.Frames.{Frame, row, sequence, frame, lead, is_binary, is_comprehension}
+use Rattle.bz_value.specs.Frames.{Frame, row, sequence, compound, frame, lead, is_binary, is_comprehension, is_inner_frame}
 use Rattle.bz_items.specs.Characters.{Bytes}
 use Rattle.bz_value.specs.Gaps.{all_in, has_newline}
 use Rattle.bz_value.specs.Roots.{root, row_in}
-use Rattle.bz_value.specs.LineShapes.{line_shape}
+use Rattle.bz_value.specs.LineShapes.{line_shape, value_shape}
 use Rattle.bz_value.specs.Proper.{IsComment, is_operator, in_frame, ProperBy}
-use Rattle.bz_value.proofs.FormParts.{AsRowBy, AsSequenceBy, form_proper_by}
+use Rattle.bz_value.proofs.FormParts.{AsRowBy, AsSequenceBy, AsCompoundBy, form_proper_by}
 use Rattle.bz_value.proofs.GapComments.{all_fine}
-use Rattle.bz_value.proofs.Rooted.{Same, over, more, fits_same, row_same, places, kept_parts, kept_items, line_fits}
-use Rattle.bz_value.proofs.LegalBy.{LegalBy, LegalRowBy}
-use Rattle.bz_value.proofs.Wider.{IsWider}
+use Rattle.bz_value.proofs.Rooted.{Same, over, more, fits_same, row_same, places, kept_parts, kept_items, value_fits}
+use Rattle.bz_value.proofs.LegalBy.{LegalBy, LegalRowBy, wider_part}
+use Rattle.bz_value.proofs.Wider.{IsWider, values_wider}
 use Rattle.bz_hosts.specs.View.{Seen, seen, seen_node, plain, first_seen_gap, row_exprs, items_in, is_split, is_open}
 use Rattle.bz_hosts.proofs.Alternating.{Alternating}
 use Rattle.bz_hosts.proofs.Cuts.{Cut, sequence_cut}
-use Rattle.bz_hosts.proofs.InnerParts.{ends_line, is_inner, inner_kind, inner_parts, lines_bzl}
+use Rattle.bz_hosts.proofs.InnerParts.{ends_line, is_inner, inner_parts, inner_bzl, inner_framed, in_line, inner_legal}
 use Rattle.bz_hosts.proofs.SeenParts.{seen_rows, Decoded, AllDecoded, gap_decoded, all_parted, root_made, row_decoded}
 use Rattle.bz_hosts.proofs.RowParts.{Fit, AllFit, row_proper}
 use Rattle.bz_hosts.proofs.SequenceParts.{sequence_stands, head_proper, head_roots, ItemsProper, items_proper, items_roots}
@@ -57,7 +56,7 @@ dropped P (suc n) (x ∷ xs) h = dropped P n xs h.1
 abbrev pub IsLexed : Leaf → Type 0
 IsLexed l = not (ends_line l.class) ≡ true → IsLexeme l.class l.token
 
--- ---- by a grammar, of which that of lines is the widest
+-- ---- by a grammar, of which that of values is the widest
 
 module _ (grammar : Kind → Shape) where
   -- what is found after the opening bracket
@@ -78,7 +77,7 @@ module _ (grammar : Kind → Shape) where
   Ready x = is_inner x ≡ true → Fit grammar x
 
   -- fits: what a form keeps of a node's parts has the shape of its kind again
-  module _ (wider : IsWider grammar line_shape) (fits : (kind : Kind) (ps : List Part) → Fits IsNonterminal (grammar kind) ps → Fits IsNonterminal (grammar kind) (row_in (frame kind) (kept_parts (frame kind) kind ps) (kept_items (frame kind) kind ps))) where
+  module _ (wider : IsWider grammar value_shape) (fits : (kind : Kind) (ps : List Part) → Fits IsNonterminal (grammar kind) ps → Fits IsNonterminal (grammar kind) (row_in (frame kind) (kept_parts (frame kind) kind ps) (kept_items (frame kind) kind ps))) where
     -- what is kept of the parts has the shape of the kind, where its roots are these
     kept_fits : (kind : Kind) (f : Frame) → frame kind ≡ f → (xs ys us : List Part) → Fits IsNonterminal (grammar kind) xs → Same (kept_parts f kind xs) ys → Same (kept_items f kind xs) us → Fits IsNonterminal (grammar kind) (row_in (frame kind) ys us)
     kept_fits kind f e xs ys us h v w =
@@ -86,26 +85,27 @@ module _ (grammar : Kind → Shape) where
         fits_same (grammar kind) (row_in f (kept_parts f kind xs) (kept_items f kind xs)) (row_in f ys us) (row_same f (kept_parts f kind xs) ys (kept_items f kind xs) us v w)
         (subst (λ z. Fits IsNonterminal (grammar kind) (row_in z (kept_parts z kind xs) (kept_items z kind xs))) e (fits kind xs h)))
 
-    node_proper : (kind : Kind) (f : Frame) → frame kind ≡ f → (here : Spot) (xs : List Part) → Fits IsNonterminal (grammar kind) xs → AllDecoded (map seen xs) → AllFit grammar xs → AtParts Stands here here xs →
+    pub node_proper : (kind : Kind) (f : Frame) → frame kind ≡ f → is_inner_frame f ≡ true → (here : Spot) (xs : List Part) → Fits IsNonterminal (grammar kind) xs → AllDecoded (map seen xs) → AllFit grammar xs → AtParts Stands here here xs →
         (cs : HostComments) (b : Bool) → ProperBy grammar here ((seen_node f kind (map seen xs)).make cs b)
-    node_proper kind row e here xs h t g at_ cs b =
+    node_proper kind row e q here xs h t g at_ cs b =
         let es : List Expr = row_exprs (is_binary kind) false false (map seen xs) in
         let form : Form = record { kind = kind; parts = es; seq = record { items = []; end = []; split = false }; open_break = is_comprehension kind && is_open (map seen xs); comments = cs } in
         let as_row : AsRowBy grammar here form = (row_proper grammar wider kind here here xs h g at_, tt, refl, refl, λ o. (and_parts (is_comprehension kind) (is_open (map seen xs)) o).0) in
-        form_proper_by grammar here form (kept_fits kind row e xs (map root es) [] h (row_roots (is_binary kind) false false xs) over) (subst (λ z. in_frame z (AsRowBy grammar here form) (AsSequenceBy grammar here form)) (sym e) as_row)
-    node_proper kind (sequence opener closer) e here xs h t g at_ cs b =
+        form_proper_by grammar here form (kept_fits kind row e xs (map root es) [] h (row_roots (is_binary kind) false false xs) over) (subst (λ z. in_frame z (AsRowBy grammar here form) (AsSequenceBy grammar here form) (AsCompoundBy grammar form)) (sym e) as_row)
+    node_proper kind (sequence opener closer) e q here xs h t g at_ cs b =
         let n : ℕ = lead kind in
         let body : List Seen = drop (suc n) (map seen xs) in
         let found : List Expr × List Bytes = items_in (all_in (first_seen_gap body)) body in
         let es : List Expr = map plain (take n (map seen xs)) in
-        let cut : Cut (lead kind) xs = sequence_cut kind opener closer xs e (lines_bzl kind xs (wider kind xs h)) in
+        let cut : Cut (lead kind) xs = sequence_cut kind opener closer xs e (wider kind xs h) in
         let stands = sequence_stands kind here xs cut at_ in
         let same : body ≡ map seen (drop (suc n) xs) = drop-map seen (suc n) xs in
         let decoded : AllDecoded (map seen (drop (suc n) xs)) = subst AllDecoded same (dropped Decoded (suc n) (map seen xs) t) in
         let inside : FoundProper (drop (suc n) xs) body = subst (FoundProper (drop (suc n) xs)) (sym same) (found_proper here (drop (suc n) xs) decoded (dropped (Fit grammar) (suc n) xs g) stands.1 cut.alternating) in
         let form : Form = record { kind = kind; parts = es; seq = record { items = found.0; end = found.1; split = is_split body }; open_break = false; comments = cs } in
         let as_sequence : AsSequenceBy grammar here form = (head_proper grammar here n xs g stands.0, inside.items.0, All-from_recursion IsComment found.1 inside.items.1, refl) in
-        form_proper_by grammar here form (kept_fits kind (sequence opener closer) e xs (map root es) (map root found.0) h (head_roots n xs) inside.roots) (subst (λ z. in_frame z (AsRowBy grammar here form) (AsSequenceBy grammar here form)) (sym e) as_sequence)
+        form_proper_by grammar here form (kept_fits kind (sequence opener closer) e xs (map root es) (map root found.0) h (head_roots n xs) inside.roots) (subst (λ z. in_frame z (AsRowBy grammar here form) (AsSequenceBy grammar here form) (AsCompoundBy grammar form)) (sym e) as_sequence)
+    node_proper kind compound e q here xs h t g at_ cs b = no_such q
 
     -- ---- parts of a tree
 
@@ -119,8 +119,8 @@ module _ (grammar : Kind → Shape) where
       part_proper (Node' kind n r) g i here at_ cs b =
           let xs : List Part = items-the_row-Part _ r in
           let decoded : AllDecoded (map seen xs) = subst AllDecoded (seen_rows _ r) (row_decoded _ r g.2) in
-          let fit : AllFit grammar xs = ready_fit xs (inner_parts kind i xs (lines_bzl kind xs (wider kind xs g.0.0))) (row_ready _ r g.0.1 g.1 g.2) in
-          subst (λ ss. ProperBy grammar here ((seen_node (frame kind) kind ss).make cs b)) (sym (seen_rows _ r)) (node_proper kind (frame kind) refl here xs g.0.0 decoded fit (parts_of_row Stands here here _ r at_) cs b)
+          let fit : AllFit grammar xs = ready_fit xs (inner_parts kind i xs (inner_bzl kind i xs (wider kind xs g.0.0))) (row_ready _ r g.0.1 g.1 g.2) in
+          subst (λ ss. ProperBy grammar here ((seen_node (frame kind) kind ss).make cs b)) (sym (seen_rows _ r)) (node_proper kind (frame kind) refl (inner_framed kind i) here xs g.0.0 decoded fit (parts_of_row Stands here here _ r at_) cs b)
 
       pub row_ready : (m : _) (r : Row_of-Part m) → LegalRowBy grammar r → AllByRecursion IsLexed (leaves_row r) → AllByRecursion IsCodedLeaf (leaves_row r) → AllByRecursion Ready (items-the_row-Part m r)
       row_ready m end_of-Part h l c = tt
@@ -129,27 +129,8 @@ module _ (grammar : Kind → Shape) where
           let w = all_parted IsCodedLeaf (leaves_part x) (leaves_row rest) c in
           (part_proper x (h.0, v.0, w.0), row_ready _ rest h.1 v.1 w.1)
 
--- ---- by the grammar of lines
+-- ---- by the grammar of values
 
-inner_shape : (kind : Kind) (xs : List Part) → inner_kind kind ≡ true → Fits IsNonterminal (bzl_shape kind) xs → Fits IsNonterminal (line_shape kind) xs
-inner_shape k.Def xs i h = no_such i
-inner_shape k.IfStmt xs i h = no_such i
-inner_shape k.ForStmt xs i h = no_such i
-inner_shape k.Suite xs i h = no_such i
-inner_shape _ xs i h = h
-
-mutual
-  -- an inner part of a .bzl file holds none of what is in no line
-  pub inner_legal : (x : Part) → is_inner x ≡ true → LegalPart x → LegalBy line_shape x
-  inner_legal (p.Leaf l) i h = tt
-  inner_legal (Node' kind n r) i h =
-      let fits : Fits IsNonterminal (line_shape kind) (items-the_row-Part _ r) = inner_shape kind (items-the_row-Part _ r) i h.0 in
-      (fits, inner_row _ r (inner_parts kind i (items-the_row-Part _ r) h.0) h.1)
-
-  inner_row : (m : _) (r : Row_of-Part m) → AllByRecursion (λ x. is_inner x ≡ true) (items-the_row-Part m r) → LegalRow r → LegalRowBy line_shape r
-  inner_row m end_of-Part i h = tt
-  inner_row m (more_of-Part x rest) i h = (inner_legal x i.0 h.0, inner_row _ rest i.1 h.1)
-
--- what is seen of an inner part of a .bzl file is proper by the grammar of lines
-pub line_proper : (x : Part) → LegalPart x → AllByRecursion IsLexed (leaves_part x) → AllByRecursion IsCodedLeaf (leaves_part x) → is_inner x ≡ true → Fit line_shape x
-line_proper x h l u i = part_proper line_shape (λ kind xs g. g) line_fits x (inner_legal x i h, l, u) i
+-- what is seen of an inner part of a .bzl file
+pub line_proper : (x : Part) → LegalPart x → AllByRecursion IsLexed (leaves_part x) → AllByRecursion IsCodedLeaf (leaves_part x) → is_inner x ≡ true → Fit value_shape x
+line_proper x h l u i = part_proper value_shape (λ kind xs g. g) value_fits x (wider_part line_shape value_shape values_wider x (inner_legal x (in_line x i) h), l, u) i

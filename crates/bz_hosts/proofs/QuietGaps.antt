@@ -7,17 +7,19 @@ use Rattle.bz_lex.specs.Gaps.{IsGap}
 use Rattle.bz_grammar.specs.declared.tree.Part.{Part, Row_of-Part, end_of-Part, more_of-Part, Node', items-the_row-Part}
 use Rattle.bz_grammar.specs.declared.tree.Part.TheVariants as p
 use Rattle.bz_grammar.specs.Shapes as s
-use Rattle.bz_grammar.specs.Shapes.{Fits, Listed, tok, done}
+use Rattle.bz_grammar.specs.Shapes.{Terminal, Fits, Listed, has_token, list, tok, done}
 use Rattle.bz_grammar.specs.Legal.{IsNonterminal, LegalPart, LegalRow}
 use Rattle.bz_grammar.specs.Spots.{Spot, Begins, Along, onward, after_part, GapStands, Stands, AtLeaves, AtRow, AtParts}
 use Rattle.bz_items.specs.Characters.{Bytes}
-use Rattle.bz_grammar.proofs.Balance.{legal_row, no_such}
+use Rattle.bz_grammar.proofs.Balance.{inner_nonterminal, legal_row, no_such}
 use Rattle.bz_value.specs.Gaps.{as_list, all_in}
+use Rattle.bz_value.specs.LineShapes.{line_shape}
 use Rattle.bz_value.proofs.AlongGaps.{along}
+use Rattle.bz_value.proofs.LegalBy.{LegalRowBy}
 use Rattle.bz_hosts.specs.View.{seen, seen_row, first_seen_gap}
 use Rattle.bz_hosts.proofs.Alternating.{Alternating}
 use Rattle.bz_hosts.proofs.Cuts.{listed_alternating}
-use Rattle.bz_hosts.proofs.InnerParts.{ends_line, is_inner, token_inner, nonterminal_inner, inner_parts, nonterminal_goes, token_goes}
+use Rattle.bz_hosts.proofs.InnerParts.{ends_line, is_inner, InLine, in_line, inner_row, every_part, token_inner, nonterminal_inner, inner_parts, nonterminal_goes, token_goes}
 use Rattle.bz_hosts.proofs.RowParts.{on_twice}
 use Rattle.bz_hosts.proofs.SeenParts.{all_mapped}
 
@@ -55,6 +57,17 @@ Quiet (x ∷ y ∷ z ∷ u ∷ xs) = (all_in (seen y).gap ≡ []) × (all_in (se
 
 abbrev pub Statements : List Part → Type 0
 Statements xs = Listed (IsNonterminal s.small) s.semicolon true (Fits IsNonterminal (tok s.newline done)) xs
+
+token_in_line : (ts : List Terminal) (x : Part) → true ≡ true → has_token ts x ≡ true → InLine x
+token_in_line ts (p.Leaf l) h i = tt
+token_in_line ts (Node' kind n r) h i = no_such i
+
+-- each part of a line is a token or may be inside a line
+pub in_statements : (xs : List Part) → Statements xs → AllByRecursion InLine xs
+in_statements xs h = every_part InLine (λ ts. true) inner_nonterminal token_in_line (λ a x b i. in_line x (nonterminal_inner a x b i)) (list s.small s.semicolon true (tok s.newline done)) refl xs h
+
+pub legal_statements : (m : _) (r : Row_of-Part m) → Statements (items-the_row-Part m r) → LegalRow r → LegalRowBy line_shape r
+legal_statements m r h g = inner_row m r (in_statements _ h) g
 
 pub line_alternating : (xs : List Part) → Statements xs → Alternating s.semicolon xs
 line_alternating xs h = listed_alternating s.semicolon s.newline refl refl refl s.small refl xs h

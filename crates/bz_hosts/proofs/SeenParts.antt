@@ -14,7 +14,7 @@ use Rattle.bz_grammar.specs.Spell.{leaves_part, leaves_row}
 use Rattle.bz_grammar.specs.Spots.{Spot, Along, after_part, GapStands, Stands, AtLeaves, AtRow}
 use Rattle.bz_grammar.proofs.Balance.{no_such}
 use Rattle.bz_value.specs.Comments.{HostComments}
-use Rattle.bz_value.specs.Frames.{Frame, row, sequence, frame, lead}
+use Rattle.bz_value.specs.Frames.{Frame, sequence, frame, lead}
 use Rattle.bz_items.specs.Characters.{Bytes}
 use Rattle.bz_value.specs.Gaps.{all_in, has_newline}
 use Rattle.bz_value.specs.Roots.{root}
@@ -109,9 +109,9 @@ take_decoded (suc n) [] h = tt
 take_decoded zero (s ∷ ss) h = tt
 take_decoded (suc n) (s ∷ ss) h = (h.0, take_decoded n ss h.1)
 
-node_decoded : (f : Frame) (kind : Kind) (ss : List Seen) → AllDecoded ss → Decoded (seen_node f kind ss)
-node_decoded row kind ss h = record { coded = gap_decoded ss h; loose = in_decoded ss h }
+pub node_decoded : (f : Frame) (kind : Kind) (ss : List Seen) → AllDecoded ss → Decoded (seen_node f kind ss)
 node_decoded (sequence opener closer) kind ss h = record { coded = gap_decoded ss h; loose = in_decoded (take (suc (lead kind)) ss) (take_decoded (suc (lead kind)) ss h) }
+node_decoded _ kind ss h = record { coded = gap_decoded ss h; loose = in_decoded ss h }
 
 mutual
   pub part_decoded : (x : Part) → AllByRecursion IsCodedLeaf (leaves_part x) → Decoded (seen x)

@@ -1,10 +1,10 @@
 -- Sequences: what is before the bracket is proper where the node is, each item inside the brackets.
-use Rattle.std.proofs.Common.{◌≡◌, ◌≤◌, ℕ, zero, suc, false, List, [], ◌∷◌, ◌++◌, sym, ap, ◌∙◌, subst, map, take, drop, arith}
+use Rattle.std.proofs.Common.{◌≡◌, ℕ, zero, suc, Bool, true, false, List, [], ◌∷◌, ◌++◌, sym, ap, ◌∙◌, subst, map, take, drop, true≢false}
 use Rattle.std.specs.List.{AllByRecursion}
 use Rattle.std.proofs.lemmas.List.Elements.{All-from_recursion}
 use Rattle.bz_grammar.specs.declared.kind.Kind.{Kind}
-use Rattle.bz_grammar.specs.declared.kind.Kind.TheVariants as k
-use Rattle.bz_grammar.specs.declared.tree.Part.{Part}
+use Rattle.bz_grammar.specs.declared.tree.Part.{Part, Node'}
+use Rattle.bz_grammar.specs.declared.tree.Part.TheVariants as p
 use Rattle.bz_grammar.specs.Shapes as s
 use Rattle.bz_grammar.specs.Shapes.{Shape}
 use Rattle.bz_grammar.specs.Spots.{Spot, Within, after_part, Stands, AtLeaves, AtParts}
@@ -14,36 +14,40 @@ use Rattle.bz_value.specs.Frames.{lead}
 use Rattle.bz_items.specs.Characters.{Bytes}
 use Rattle.bz_value.specs.Gaps.{suffix_in, others_in, all_in}
 use Rattle.bz_value.specs.Roots.{root}
-use Rattle.bz_value.specs.Proper.{IsComment, MaybeComment, AreComments, comments_of}
+use Rattle.bz_value.specs.Proper.{IsComment, MaybeComment, AreComments, ProperBy, comments_of}
 use Rattle.bz_value.proofs.FormParts.{AreHeadBy, AreItemsBy}
 use Rattle.bz_value.proofs.GapComments.{Group, all_joined, suffix_fine, others_fine, all_fine}
 use Rattle.bz_value.proofs.Rooted.{Same, over, more, places}
 use Rattle.bz_hosts.specs.View.{Seen, seen, plain, items_in}
 use Rattle.bz_hosts.proofs.Alternating.{Alternating}
-use Rattle.bz_hosts.proofs.Cuts.{BracketAt, Cut, comma_goes, item_goes}
+use Rattle.bz_hosts.proofs.Cuts.{BracketAt, Cut, comma_goes, is_token, item_goes}
 use Rattle.bz_hosts.proofs.SeenParts.{Decoded, AllDecoded, comments_made, no_break_made, root_made}
 use Rattle.bz_hosts.proofs.RowParts.{AllFit}
 
 -- ---- where the parts of a sequence are
 
--- of the parts of a node that is here: what is before the bracket, and what is after it
-abbrev Stand : Spot → ℕ → List Part → Type 0
-Stand here n xs = AllByRecursion (AtLeaves Stands here) (take n xs) × AtParts Stands here Within (drop (suc n) xs)
+-- a token, wherever it is
+abbrev TokenStands : Part → Type 0
+TokenStands x = (is_token x ≡ true) × (q : Spot) × AtLeaves Stands q x
 
-stand : (here : Spot) (n : ℕ) (xs : List Part) → n ≤ 1 → BracketAt n xs → AtParts Stands here here xs → Stand here n xs
-stand here n [] l b at_ = absurd b
-stand here zero (y ∷ xs) l b at_ = (tt, subst (λ z. AtParts Stands here z xs) (b.1 here here) at_.1)
-stand here (suc zero) (x ∷ []) l b at_ = absurd b
-stand here (suc zero) (x ∷ y ∷ xs) l b at_ = ((at_.0, tt), subst (λ z. AtParts Stands here z xs) (b.1 here (after_part here here x)) at_.1.1)
-stand here (suc (suc n)) (x ∷ xs) l b at_ = absurd (omega arith)
+-- of what is before the bracket of a node that is here, the first part is here
+abbrev HeadStands : Spot → List Part → Type 0
+HeadStands here [] = Unit {0}
+HeadStands here (x ∷ xs) = AtLeaves Stands here x × AllByRecursion TokenStands xs
 
-lead_one : (kind : Kind) → lead kind ≤ 1
-lead_one k.Call = omega arith
-lead_one k.Load = omega arith
-lead_one _ = omega arith
+tokens_stand : (here q : Spot) (n : ℕ) (xs : List Part) → AllByRecursion (λ x. is_token x ≡ true) (take n xs) → BracketAt n xs → AtParts Stands here q xs → AllByRecursion TokenStands (take n xs) × AtParts Stands here Within (drop (suc n) xs)
+tokens_stand here q n [] t b at_ = absurd b
+tokens_stand here q zero (y ∷ xs) t b at_ = (tt, subst (λ z. AtParts Stands here z xs) (b.1 here q) at_.1)
+tokens_stand here q (suc n) (x ∷ xs) t b at_ = let w = tokens_stand here (after_part here q x) n xs t.1 b at_.1 in (((t.0, q, at_.0), w.0), w.1)
 
-pub sequence_stands : (kind : Kind) (here : Spot) (xs : List Part) → Cut (lead kind) xs → AtParts Stands here here xs → Stand here (lead kind) xs
-sequence_stands kind here xs c at_ = stand here (lead kind) xs (lead_one kind) c.bracket_at at_
+-- and what is after the bracket is inside
+stand : (here : Spot) (n : ℕ) (xs : List Part) → AllByRecursion (λ x. is_token x ≡ true) (drop 1 (take n xs)) → BracketAt n xs → AtParts Stands here here xs → HeadStands here (take n xs) × AtParts Stands here Within (drop (suc n) xs)
+stand here n [] t b at_ = absurd b
+stand here zero (y ∷ xs) t b at_ = (tt, subst (λ z. AtParts Stands here z xs) (b.1 here here) at_.1)
+stand here (suc n) (x ∷ xs) t b at_ = let w = tokens_stand here (after_part here here x) n xs t b at_.1 in ((at_.0, w.0), w.1)
+
+pub sequence_stands : (kind : Kind) (here : Spot) (xs : List Part) → Cut (lead kind) xs → AtParts Stands here here xs → HeadStands here (take (lead kind) xs) × AtParts Stands here Within (drop (suc (lead kind)) xs)
+sequence_stands kind here xs c at_ = stand here (lead kind) xs c.tokens c.bracket_at at_
 
 -- ---- what is before the bracket
 
@@ -71,11 +75,20 @@ items_roots above (x ∷ y ∷ z ∷ xs) = more x _ _ _ (root_made x (host above
 -- ---- by a grammar
 
 module _ (grammar : Kind → Shape) where
-  pub head_proper : (here : Spot) (n : ℕ) (xs : List Part) → AllFit grammar xs → AllByRecursion (AtLeaves Stands here) (take n xs) → AreHeadBy grammar here (map plain (take n (map seen xs)))
-  head_proper here zero [] h at_ = tt
+  token_proper : (x : Part) → is_token x ≡ true → (q here : Spot) (cs : HostComments) (b : Bool) → ProperBy grammar q ((seen x).make cs b) → ProperBy grammar here ((seen x).make cs b)
+  token_proper (p.Leaf l) t q here cs b h = h
+  token_proper (Node' kind n r) t q here cs b h = absurd (true≢false (sym t))
+
+  tokens_proper : (here : Spot) (n : ℕ) (xs : List Part) → AllFit grammar xs → AllByRecursion TokenStands (take n xs) → AreHeadBy grammar here (map plain (take n (map seen xs)))
+  tokens_proper here zero xs h at_ = tt
+  tokens_proper here (suc n) [] h at_ = tt
+  tokens_proper here (suc n) (x ∷ xs) h at_ =
+      (token_proper x at_.0.0 at_.0.1 here no_comments false (h.0 at_.0.1 at_.0.2 no_comments false), (comments_made x no_comments false, no_break_made x no_comments), tokens_proper here n xs h.1 at_.1)
+
+  pub head_proper : (here : Spot) (n : ℕ) (xs : List Part) → AllFit grammar xs → HeadStands here (take n xs) → AreHeadBy grammar here (map plain (take n (map seen xs)))
+  head_proper here zero xs h at_ = tt
   head_proper here (suc n) [] h at_ = tt
-  head_proper here zero (x ∷ xs) h at_ = tt
-  head_proper here (suc n) (x ∷ xs) h at_ = (h.0 here at_.0 no_comments false, (comments_made x no_comments false, no_break_made x no_comments), head_proper here n xs h.1 at_.1)
+  head_proper here (suc n) (x ∷ xs) h at_ = (h.0 here at_.0 no_comments false, (comments_made x no_comments false, no_break_made x no_comments), tokens_proper here n xs h.1 at_.1)
 
   -- items, and the comments below the last one
   abbrev pub ItemsProper : List Expr × List Bytes → Type 0

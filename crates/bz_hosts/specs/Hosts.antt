@@ -17,7 +17,7 @@ use Rattle.bz_value.specs.declared.value.Expr.{Expr, Token, Form', Row_of-Expr, 
 use Rattle.bz_value.specs.declared.value.Item.{Item}
 use Rattle.bz_value.specs.declared.value.Item.TheVariants as i
 use Rattle.bz_value.specs.Comments.{HostComments}
-use Rattle.bz_value.specs.Frames.{Frame, row, sequence, frame, lead}
+use Rattle.bz_value.specs.Frames.{Frame, row, sequence, compound, frame, lead}
 use Rattle.bz_items.specs.Characters.{Bytes}
 use Rattle.bz_value.specs.Gaps.{GapLine, lines_of, as_list, after_first_line, comments_in, first_comment}
 use Rattle.bz_value.specs.Proper.{comments_of}
@@ -87,10 +87,10 @@ hosts_from separators n (x ∷ xs) =
 
 -- a node by its frame; of a sequence what is before its bracket, the sequence itself and its items
 abbrev pub in_node : Frame → Kind → ℕ → List Measured → List Region
-in_node row kind n xs = in_row n xs
 in_node (sequence opener closer) kind n xs =
     let opening : ℕ = n + sizes (take (lead kind) xs) in
     in_row n (take (lead kind) xs) ++ between opening (n + sizes xs) ∷ hosts_from s.comma_mark (suc opening) (drop (suc (lead kind)) xs)
+in_node _ kind n xs = in_row n xs
 
 abbrev mutual
   pub measured : Part → Measured
@@ -242,14 +242,16 @@ hosted_in n = hosted_from (regions_from 0 n.parts) (comments_from 0 (leaves_of n
 abbrev pub hosted_by : HostComments → Hosted
 hosted_by comments = hosted comments.before (as_list comments.suffix)
 
-abbrev pub by_frame : Frame → List Hosted → List Hosted → Hosted → List Hosted
-by_frame row parts items end = parts
-by_frame (sequence opener closer) parts items end = parts ++ end ∷ items
+-- of a suite: what is in its header, its end comments, its statements, and its alternatives
+abbrev pub by_frame : Frame → List Hosted → List Hosted → List Bytes → List Hosted → List Hosted → List Hosted
+by_frame row parts items end header others = parts
+by_frame (sequence opener closer) parts items end header others = parts ++ ended end ∷ items
+by_frame compound parts items end header others = header ++ block end ∷ (items ++ others)
 
 abbrev mutual
   pub inside_expr : Expr → List Hosted
   inside_expr (Token t) = []
-  inside_expr (Form' kind _ parts _ items end split open_break comments) = by_frame (frame kind) (inside_row parts) (inside_items items) (ended end)
+  inside_expr (Form' kind _ parts _ items end split open_break comments) = by_frame (frame kind) (inside_row parts) (inside_items items) end (inside_header parts) (inside_others parts)
 
   pub inside_row : {m : _} → Row_of-Expr m → List Hosted
   inside_row end_of-Expr = []
@@ -258,6 +260,16 @@ abbrev mutual
   pub inside_items : {m : _} → Row_of-Expr m → List Hosted
   inside_items end_of-Expr = []
   inside_items (more_of-Expr x rest) = hosted_by (comments_of x) ∷ (inside_expr x ++ inside_items rest)
+
+  -- of the first of these parts
+  pub inside_header : {m : _} → Row_of-Expr m → List Hosted
+  inside_header end_of-Expr = []
+  inside_header (more_of-Expr x rest) = inside_expr x
+
+  -- of the others
+  pub inside_others : {m : _} → Row_of-Expr m → List Hosted
+  inside_others end_of-Expr = []
+  inside_others (more_of-Expr x rest) = inside_items rest
 
 abbrev pub inside_item : Item → List Hosted
 inside_item (i.Block lines) = block lines ∷ []

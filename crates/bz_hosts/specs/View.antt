@@ -12,7 +12,7 @@ use Rattle.bz_value.specs.declared.value.Seq.{Seq}
 use Rattle.bz_value.specs.declared.value.Item.{Item}
 use Rattle.bz_value.specs.declared.value.Item.TheVariants as i
 use Rattle.bz_value.specs.Comments.{HostComments, no_comments}
-use Rattle.bz_value.specs.Frames.{Frame, row, sequence, frame, lead, is_binary, is_comprehension}
+use Rattle.bz_value.specs.Frames.{Frame, sequence, frame, lead, is_binary, is_comprehension}
 use Rattle.bz_items.specs.Characters.{Bytes}
 use Rattle.bz_value.specs.Gaps.{GapLine, lines_of, after_first_line, groups_of, all_but_last, last_group, suffix_in, others_in, all_in, has_newline}
 use Rattle.bz_value.specs.Proper.{is_operator}
@@ -105,8 +105,8 @@ sequence_form kind head body comments = e.Form (record { kind = kind; parts = ma
 -- A node without gaps: its parts, its sequence, and whether it is open. Of a sequence stay what is before the bracket and the items;
 -- brackets and commas are gone. Every other node keeps the row of its parts.
 abbrev pub held_in : Frame → Kind → List Seen → List Expr × Seq × Bool
-held_in row kind ss = (row_exprs (is_binary kind) false false ss, seq_in [], is_comprehension kind && is_open ss)
 held_in (sequence opener closer) kind ss = (map plain (take (lead kind) ss), seq_in (drop (suc (lead kind)) ss), false)
+held_in _ kind ss = (row_exprs (is_binary kind) false false ss, seq_in [], is_comprehension kind && is_open ss)
 
 abbrev pub form_of_frame : Frame → Kind → List Seen → HostComments → Form
 form_of_frame f kind ss comments =
@@ -115,8 +115,8 @@ form_of_frame f kind ss comments =
 
 -- the comments of a node that are in no host or sequence inside it
 abbrev pub loose_of : Frame → Kind → List Seen → List Bytes
-loose_of row kind ss = loose_in ss
 loose_of (sequence opener closer) kind ss = loose_in (take (suc (lead kind)) ss)
+loose_of _ kind ss = loose_in ss
 
 abbrev pub seen_node : Frame → Kind → List Seen → Seen
 seen_node f kind ss = record { make = λ comments break. e.Form (form_of_frame f kind ss comments); gap = first_seen_gap ss; loose = loose_of f kind ss }

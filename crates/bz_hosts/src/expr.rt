@@ -78,9 +78,24 @@ pub(crate) fn push_form(
     ensures exprs { OnOk result (exprs.new.items ≡ exprs.old.items ++ Expr.Form (form_of_frame (frame node.now.kind) node.now.kind (map seen node.now.parts) no_comments) ∷ []) }
     ensures loose { OnOk result (loose.new ≡ loose.old ++ loose_of (frame node.now.kind) node.now.kind (map seen node.now.parts)) }
 {
+    push_parts(alloc, node.kind, node.parts.as_slice(), loose, exprs)?;
+    Ok(())
+}
+
+/// The same of a node of this kind with these parts.
+#[cycle(seen)]
+#[inline(always)]
+pub fn push_parts(
+    alloc: Global,
+    kind: Kind,
+    parts: &[Part],
+    loose: &mut Items<Text>,
+    exprs: &mut Vec<Expr>,
+) -> Result<(), Memory>
+    ensures exprs { OnOk result (exprs.new.items ≡ exprs.old.items ++ Expr.Form (form_of_frame (frame kind) kind (map seen parts.now) no_comments) ∷ []) }
+    ensures loose { OnOk result (loose.new ≡ loose.old ++ loose_of (frame kind) kind (map seen parts.now)) }
+{
     exprs.reserve(1)?;
-    let kind = node.kind;
-    let parts = node.parts.as_slice();
     if is_sequence(kind) {
         let lead = lead_of(kind);
         let head = head_of(alloc, parts, lead, loose)?;
@@ -100,7 +115,7 @@ pub(crate) fn push_form(
 
 /// All parts of a row, with the breaks of its operators where it has some.
 #[cycle(seen)]
-pub fn row_of(
+pub(crate) fn row_of(
     alloc: Global,
     parts: &[Part],
     binary: bool,
@@ -127,7 +142,7 @@ pub fn row_of(
 
 /// The parts before the opening bracket of a sequence. What is loose in them and in the bracket is appended to `loose`.
 #[cycle(seen)]
-pub fn head_of(
+pub(crate) fn head_of(
     alloc: Global,
     parts: &[Part],
     lead: usize,
@@ -152,8 +167,8 @@ pub fn head_of(
 
 /// The sequence whose items are from this index on, after the opening bracket.
 #[cycle(seen)]
-pub fn seq_of(alloc: Global, parts: &[Part], from: usize) -> Result<Seq, Memory>
-    requires { from ≤ 2 }
+pub(crate) fn seq_of(alloc: Global, parts: &[Part], from: usize) -> Result<Seq, Memory>
+    requires { from ≤ 3 }
     ensures { IfOk result (λ seq. seq ≡ seq_in (map seen (drop from parts.now))) }
 {
     let mut items = Vec::with_capacity(alloc, parts.len() / 2)?;

@@ -12,8 +12,8 @@ mod moved;
 mod viewing;
 
 pub use before::{gap_at, gap_before, gap_of_last};
-pub use expr::{head_of, row_of, seq_of};
-pub use groups::push_groups;
+pub use expr::push_parts;
+pub use groups::{push_all_groups, push_groups};
 pub use joined::ends_with_line;
 pub use laws::{
     comments_kept, hosts_by_place, views_are_proper, views_join, worked_hosts, worked_views,

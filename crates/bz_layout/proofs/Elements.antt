@@ -17,7 +17,7 @@ use Rattle.bz_grammar.specs.Legal.{IsNonterminal}
 use Rattle.bz_grammar.specs.Spots.{opens, role}
 use Rattle.bz_grammar.proofs.Balance.{same_class, no_such}
 use Rattle.bz_items.specs.Characters.{comma}
-use Rattle.bz_value.specs.Frames.{Frame, row, sequence, frame, has_brackets, is_comprehension}
+use Rattle.bz_value.specs.Frames.{Frame, row, sequence, compound, frame, has_brackets, is_comprehension}
 use Rattle.bz_value.specs.LineShapes.{line_shape}
 use Rattle.bz_value.specs.Proper.{in_frame}
 use Rattle.bz_value.specs.Roots.{mark_leaf, each_with_comma, row_in}
@@ -148,9 +148,10 @@ enclosed_values r t o [] items rest h = item_values (mark_leaf o) items rest (li
 enclosed_values r t o (x ∷ parts) items rest h =
     item_values (mark_leaf o) items rest (after_head x parts (mark_leaf o) (each_with_comma items ++ rest) (links before_comma any_last r None x tt t (x ∷ (parts ++ (mark_leaf o ∷ (each_with_comma items ++ rest)))) h))
 
-in_brackets : (r : Shape) (f : Frame) → (has_brackets f ≡ true → passes before_comma any_last None r ≡ true) → (parts items : List Part) → Fits IsNonterminal r (row_in f parts items) → in_frame f (Unit {0}) (AreValues items)
+in_brackets : (r : Shape) (f : Frame) → (has_brackets f ≡ true → passes before_comma any_last None r ≡ true) → (parts items : List Part) → Fits IsNonterminal r (row_in f parts items) → in_frame f (Unit {0}) (AreValues items) (Unit {0})
 in_brackets r row t parts items h = tt
 in_brackets r (sequence o e) t parts items h = enclosed_values r (t refl) o parts items (mark_leaf e ∷ []) h
+in_brackets r compound t parts items h = tt
 
 brackets_pass : (kind : Kind) → has_brackets (frame kind) ≡ true → passes before_comma any_last None (line_shape kind) ≡ true
 brackets_pass k.Call h = refl
@@ -158,10 +159,11 @@ brackets_pass k.Load h = refl
 brackets_pass k.Tuple h = refl
 brackets_pass k.List h = refl
 brackets_pass k.Dict h = refl
+brackets_pass k.Def h = refl
 brackets_pass _ h = no_such h
 
 -- the items of each sequence
-pub items_values : (kind : Kind) (parts items : List Part) → Fits IsNonterminal (line_shape kind) (row_in (frame kind) parts items) → in_frame (frame kind) (Unit {0}) (AreValues items)
+pub items_values : (kind : Kind) (parts items : List Part) → Fits IsNonterminal (line_shape kind) (row_in (frame kind) parts items) → in_frame (frame kind) (Unit {0}) (AreValues items) (Unit {0})
 items_values kind parts items h = in_brackets (line_shape kind) (frame kind) (brackets_pass kind) parts items h
 
 -- ---- comprehensions: an opening bracket, and then no tokens of their row but the last

@@ -11,16 +11,17 @@ use Rattle.bz_grammar.specs.Shapes as s
 use Rattle.bz_grammar.specs.Shapes.{Nonterminal, Terminal, Shape, Fits, Listed, Several, Times, no_more, once_more, has_nonterminal, has_token, is_one_of, is_terminal, leaves_at}
 use Rattle.bz_grammar.specs.Legal.{IsNonterminal}
 use Rattle.bz_value.specs.declared.value.Expr.{Expr, Token, Form', Row_of-Expr, end_of-Expr, more_of-Expr}
-use Rattle.bz_items.specs.Characters.{Bytes, comma}
-use Rattle.bz_value.specs.Frames.{Frame, row, sequence, frame}
+use Rattle.bz_items.specs.Characters.{Bytes, comma, space}
+use Rattle.bz_value.specs.Frames.{Frame, row, sequence, compound, frame}
 use Rattle.bz_value.specs.Proper.{comments_of, roots}
 use Rattle.bz_value.specs.Roots.{root, mark_leaf as bare_mark, each_with_comma, row_in}
+use Rattle.bz_value.specs.Statements.{has_suite}
 use Rattle.bz_layout.specs.Layout.{Piece, mark, is_broken, is_tuple, gap_after, margin_after, firsts, rowed, headed, joined, stacked, laid_in, laid}
 use Rattle.bz_value.specs.Empty.{is_empty}
-use Rattle.bz_layout.specs.LaidOut.{piece_part, part_of, parts_of, layouts}
+use Rattle.bz_layout.specs.LaidOut.{PartAt, piece_part, part_of, parts_of, layouts}
 use Rattle.bz_layout.proofs.Joined.{row_joined, without_last, HasSequences, fits_joined}
 use Rattle.std.proofs.lemmas.List.{length-map}
-use Rattle.bz_layout.proofs.Made.{none_mapped}
+use Rattle.bz_layout.proofs.Made.{none_mapped, plain_part, laid_plain}
 
 -- ---- the table sees no difference
 
@@ -103,10 +104,13 @@ sees_no_gap (t ∷ ts) class gap gap' text =
 leaf_same : (class : Class) (gap gap' text : Bytes) → Same (p.Leaf (record { class = class; gap = gap; token = text })) (p.Leaf (record { class = class; gap = gap'; token = text }))
 leaf_same class gap gap' text = record { nonterminal = λ a. sees_no_gap (leaves_at a) class gap gap' text; token = λ ts. sees_no_gap ts class gap gap' text }
 
--- what is laid out of an expression is its root
-pub root_same : (x : Expr) (gap : Bytes) (m : ℕ) → Same (root x) (part_of x gap m)
-root_same (Token t) gap m = leaf_same t.class [] gap t.text
-root_same (Form' kind z parts z' items end split open_break comments) gap m = record { nonterminal = λ a. refl; token = λ ts. refl }
+pub plain_same : (x : Expr) (gap : Bytes) (m : ℕ) → Same (root x) (plain_part x gap m)
+plain_same (Token t) gap m = leaf_same t.class [] gap t.text
+plain_same (Form' kind z parts z' items end split open_break comments) gap m = record { nonterminal = λ a. refl; token = λ ts. refl }
+
+-- what is laid out of an expression without a suite is its root
+pub root_same : (x : Expr) → has_suite x ≡ false → (gap : Bytes) (m : ℕ) → Same (root x) (part_of x gap m)
+root_same x h gap m = subst (λ f. Same (root x) (f gap m)) (sym (laid_plain x h)) (plain_same x gap m)
 
 pub same_append : (xs ys us vs : List Part) → AllSame xs ys → AllSame us vs → AllSame (xs ++ us) (ys ++ vs)
 same_append [] [] us vs h i = i
@@ -118,7 +122,7 @@ same_append (x ∷ xs) (y ∷ ys) us vs h i = (h.0, same_append xs ys us vs h.1 
 
 -- an expression with its reading as a part
 abbrev pub Child : Type 0
-Child = Expr × (Bytes → ℕ → Part)
+Child = Expr × PartAt
 
 abbrev pub rooted : List Child → List Part
 rooted xs = map (λ x. root x.0) xs
@@ -131,7 +135,7 @@ abbrev pub AreRooted : List Child → Type 0
 AreRooted xs = AllByRecursion IsRooted xs
 
 abbrev pub Pieces : Type 0
-Pieces = List (Piece (Bytes → ℕ → Part))
+Pieces = List (Piece PartAt)
 
 pub rowed_same : (kind : Kind) (open_break : Bool) (m : ℕ) (gap : Bytes) (n : ℕ) (xs : List Child) → AreRooted xs → AllSame (rooted xs) (map piece_part (rowed kind open_break m gap n xs))
 rowed_same kind open_break m gap n [] h = tt
@@ -139,7 +143,7 @@ rowed_same kind open_break m gap n (x ∷ xs) h = (h.0 gap n, rowed_same kind op
 
 pub headed_same : (m : ℕ) (gap : Bytes) (opener : ℕ) (xs : List Child) (after : Pieces) (rest : List Part) → AreRooted xs → AllSame rest (map piece_part after) → AllSame (rooted xs ++ (bare_mark opener ∷ rest)) (map piece_part (headed m gap opener xs after))
 headed_same m gap opener [] after rest h i = (leaf_same c.Mark [] gap (opener ∷ []), i)
-headed_same m gap opener (x ∷ xs) after rest h i = (h.0 gap m, headed_same m [] opener xs after rest h.1 i)
+headed_same m gap opener (x ∷ xs) after rest h i = (h.0 gap m, headed_same m (if is_empty xs then [] else (space ∷ [])) opener xs after rest h.1 i)
 
 pub stacked_same : (m : ℕ) (suffix : Option Bytes) (closer : ℕ) (end : List Bytes) (xs : List Child) → AreRooted xs → AllSame (each_with_comma (rooted xs) ++ (bare_mark closer ∷ [])) (map piece_part (stacked m suffix closer end xs))
 stacked_same m suffix closer end [] h = (leaf_same c.Mark [] _ (closer ∷ []), tt)
@@ -155,9 +159,9 @@ joined_same m gap closer one [] h = (leaf_same c.Mark [] [] (closer ∷ []), tt)
 joined_same m gap closer one (x ∷ xs) h = (
   h.0 gap m,
   subst
-      (λ b. AllSame ((if b && not one then [] else (bare_mark comma ∷ [])) ++ without_last false (bare_mark closer) (rooted xs)) (map piece_part ((if is_empty xs && not one then [] else (mark [] (comma ∷ []) ∷ [])) ++ joined m (32 ∷ []) closer false xs)))
+      (λ b. AllSame ((if b && not one then [] else (bare_mark comma ∷ [])) ++ without_last false (bare_mark closer) (rooted xs)) (map piece_part ((if is_empty xs && not one then [] else (mark [] (comma ∷ []) ∷ [])) ++ joined m (space ∷ []) closer false xs)))
       (sym (none_mapped xs (λ x. root x.0)))
-      (maybe_comma (is_empty xs && not one) (without_last false (bare_mark closer) (rooted xs)) (joined m (32 ∷ []) closer false xs) (joined_same m (32 ∷ []) closer false xs h.1)),
+      (maybe_comma (is_empty xs && not one) (without_last false (bare_mark closer) (rooted xs)) (joined m (space ∷ []) closer false xs) (joined_same m (space ∷ []) closer false xs h.1)),
 )
 
 -- ---- a whole form
@@ -172,6 +176,7 @@ module _ (r : Shape) (m : ℕ) (gap : Bytes) (parts items : List Child) (h : Are
   fits_in : (f : Frame) (kind : Kind) (split open_break : Bool) (end : List Bytes) → Fits IsNonterminal r (row_in f (rooted parts) (rooted items)) →
       Fits IsNonterminal r (row_joined f (is_tuple kind && nat_eq (length items) 1) (rooted parts) (rooted items)) → Fits IsNonterminal r (map piece_part (laid_in f kind split open_break gap m parts items end))
   fits_in row kind split open_break end g k = same_fits r _ _ (rowed_same kind open_break m gap m parts h) g
+  fits_in compound kind split open_break end g k = g
   fits_in (sequence opener closer) kind split open_break end g k = sequence_fits (is_broken kind split (firsts items) end) (is_tuple kind && nat_eq (length items) 1) opener closer end g k
 
 -- what is laid of a form has the shape of its kind where its roots have it
@@ -190,9 +195,9 @@ roots_of_row m (more_of-Expr x rest) = ap (λ t. root x ∷ t) (roots_of_row _ r
 
 -- ---- lists of expressions
 
-pub list_rooted : (xs : List Expr) → AreRooted (layouts xs)
-list_rooted [] = tt
-list_rooted (x ∷ xs) = (root_same x, list_rooted xs)
+pub list_rooted : (xs : List Expr) → AllByRecursion (λ x. has_suite x ≡ false) xs → AreRooted (layouts xs)
+list_rooted [] h = tt
+list_rooted (x ∷ xs) h = (root_same x h.0, list_rooted xs h.1)
 
 pub roots_of_list : (xs : List Expr) → rooted (layouts xs) ≡ map root xs
 roots_of_list [] = refl

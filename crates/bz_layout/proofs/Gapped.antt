@@ -5,19 +5,24 @@ use Rattle.std.specs.List.{AllByRecursion}
 use Rattle.std.proofs.lemmas.Bool.{ne_eqb}
 use Rattle.bz_lex.specs.Gaps.{IsOneLine}
 use Rattle.bz_items.specs.Characters.{Bytes, line_feed, number_sign, space}
-use Rattle.bz_value.specs.Gaps.{GapLine, LineRest, trimmed, lines_from, lines_of, rest_of_line, comments_in}
+use Rattle.bz_value.specs.Gaps.{GapLine, LineRest, trimmed, lines_from, lines_of, rest_of_line, comments_in, first_comment, after_first_line}
 use Rattle.bz_value.specs.Proper.{IsComment, MaybeComment}
 use Rattle.bz_layout.specs.Layout.{new_line_at, ended, margin_lines, suffix_text}
+use Rattle.bz_layout.specs.Written.{Indented, at_margin}
 use Rattle.bz_layout.proofs.Margins.{rest_one_line}
 
 -- a line that a newline ends
 abbrev pub ended_line : ℕ → Option Bytes → GapLine
 ended_line indent comment = record { indent = indent; comment = comment; newline = true }
 
--- comment lines at a margin, as lines of a gap
+-- comments at their margins, as lines of a gap
+abbrev pub lines_at : Indented → List GapLine
+lines_at [] = []
+lines_at (c ∷ cs) = ended_line c.0 (Some c.1) ∷ lines_at cs
+
+-- comments at one margin
 abbrev pub commented : ℕ → List Bytes → List GapLine
-commented m [] = []
-commented m (text ∷ texts) = ended_line m (Some text) ∷ commented m texts
+commented m texts = lines_at (at_margin m texts)
 
 pub commented_back : (m : ℕ) (texts : List Bytes) → comments_in (commented m texts) ≡ texts
 commented_back m [] = refl
@@ -69,7 +74,7 @@ spaces_are_none m = ap lines_of (sym (append-nil (replicate m space))) ∙ margi
 pub lines_line : (m : ℕ) → lines_of (new_line_at m) ≡ ended_line 0 None ∷ []
 lines_line m = ap (λ z. ended_line 0 None ∷ z) (spaces_are_none m)
 
-lines_above : (m : ℕ) (texts : List Bytes) → AllByRecursion IsComment texts → lines_of (replicate m space ++ margin_lines m texts) ≡ commented m texts
+pub lines_above : (m : ℕ) (texts : List Bytes) → AllByRecursion IsComment texts → lines_of (replicate m space ++ margin_lines m texts) ≡ commented m texts
 lines_above m [] h = margin_counted m []
 lines_above m (text ∷ texts) h =
     margin_counted m (margin_lines m (text ∷ texts)) ∙ (comment_line m text (replicate m space ++ margin_lines m texts) h.0 ∙ ap (λ z. ended_line m (Some text) ∷ z) (lines_above m texts h.1))
@@ -113,3 +118,12 @@ suffix_line (Some text) = record { indent = 2; comment = Some text; newline = fa
 pub lines_after : (suffix : Option Bytes) → MaybeComment suffix → lines_of (suffix_text suffix) ≡ suffix_line suffix
 lines_after None h = refl
 lines_after (Some text) h = last_comment 2 text h
+
+-- it comes back, and nothing is left
+pub suffix_after : (suffix : Option Bytes) → first_comment (suffix_line suffix) ≡ suffix
+suffix_after None = refl
+suffix_after (Some text) = refl
+
+pub nothing_left : (suffix : Option Bytes) → after_first_line (suffix_line suffix) ≡ []
+nothing_left None = refl
+nothing_left (Some text) = refl

@@ -1,6 +1,6 @@
 -- A sequence that fits with a comma after each item fits without the last comma, but for a tuple of one; and at most one
 -- part is before its bracket.
-use Rattle.std.proofs.Common.{◌≡◌, Bool, true, false, not, ◌&&◌, List, [], ◌∷◌, ◌++◌, inl, inr, if◌then◌else◌, length, refl, sym, subst, append-nil, arith}
+use Rattle.std.proofs.Common.{◌≡◌, ◌≤◌, ℕ, Bool, true, false, not, ◌&&◌, List, [], ◌∷◌, ◌++◌, inl, inr, if◌then◌else◌, length, refl, sym, subst, append-nil, arith}
 use Rattle.std.specs.Prelude.{nat_eq}
 use Rattle.std.proofs.lemmas.Bool.{both_ways}
 use Rattle.bz_grammar.specs.declared.kind.Kind.{Kind}
@@ -11,7 +11,7 @@ use Rattle.bz_grammar.specs.Shapes.{Nonterminal, Terminal, Shape, Fits, Listed, 
 use Rattle.bz_grammar.specs.Legal.{IsNonterminal}
 use Rattle.bz_grammar.proofs.Balance.{no_such}
 use Rattle.bz_items.specs.Characters.{comma}
-use Rattle.bz_value.specs.Frames.{Frame, row, sequence, frame, has_brackets, lead}
+use Rattle.bz_value.specs.Frames.{Frame, row, sequence, compound, frame, has_brackets, lead}
 use Rattle.bz_value.specs.LineShapes.{line_shape}
 use Rattle.bz_value.specs.Proper.{in_frame}
 use Rattle.bz_value.specs.Roots.{mark_leaf, each_with_comma, row_in}
@@ -19,6 +19,7 @@ use Rattle.bz_layout.specs.Layout.{is_tuple}
 use Rattle.bz_value.specs.Empty.{is_empty}
 use Rattle.bz_value.proofs.FormParts.{framed}
 use Rattle.bz_value.proofs.LeadParts.{lead_before}
+use Rattle.bz_value.proofs.Wider.{values_wider}
 
 -- the items with commas between them, one after the last where `one`, and then the closing bracket
 abbrev pub without_last : Bool → Part → List Part → List Part
@@ -52,6 +53,7 @@ items_fit a close e n i xs h = subst (Fits IsNonterminal (items a close)) (appen
 abbrev pub row_joined : Frame → Bool → List Part → List Part → List Part
 row_joined row one parts xs = parts
 row_joined (sequence opener closer) one parts xs = parts ++ (mark_leaf opener ∷ without_last one (mark_leaf closer) xs)
+row_joined compound one parts xs = []
 
 -- what is after the bracket of a load, and of a tuple
 abbrev loads : Shape
@@ -73,7 +75,7 @@ tuples_fit (x ∷ y ∷ ys) (inl h) = absurd h.1
 tuples_fit (x ∷ y ∷ ys) (inr (g, h)) = inr (g, (h.0, items_fit s.test s.close_round (mark_leaf 41) refl refl (y ∷ ys) h.1))
 
 -- each kind fits with its last comma dropped
-line_joined : (kind : Kind) (parts xs : List Part) → in_frame (frame kind) (Unit {0}) (length parts ≡ lead kind) → Fits IsNonterminal (line_shape kind) (row_in (frame kind) parts xs) →
+line_joined : (kind : Kind) (parts xs : List Part) → in_frame (frame kind) (Unit {0}) (length parts ≡ lead kind) (Unit {0}) → Fits IsNonterminal (line_shape kind) (row_in (frame kind) parts xs) →
     Fits IsNonterminal (line_shape kind) (row_joined (frame kind) (is_tuple kind && nat_eq (length xs) 1) parts xs)
 line_joined k.Call (x ∷ []) xs n h = (h.0, (h.1.0, items_fit s.argument s.close_round (mark_leaf 41) refl refl xs h.1.1))
 line_joined k.Call [] xs n h = absurd (omega (arith, n))
@@ -98,11 +100,12 @@ module _ (grammar : Kind → Shape) (sequences : HasSequences grammar) where
   by_frame : (f : Frame) (one : Bool) (r r' : Shape) → (has_brackets f ≡ true → r ≡ r') → (parts xs : List Part) → (Fits IsNonterminal r' (row_in f parts xs) → Fits IsNonterminal r' (row_joined f one parts xs)) →
       Fits IsNonterminal r (row_in f parts xs) → Fits IsNonterminal r (row_joined f one parts xs)
   by_frame row one r r' e parts xs g h = h
+  by_frame compound one r r' e parts xs g h = h
   by_frame (sequence opener closer) one r r' e parts xs g h =
       subst (λ z. Fits IsNonterminal z (row_joined (sequence opener closer) one parts xs)) (sym (e refl)) (g (subst (λ z. Fits IsNonterminal z (row_in (sequence opener closer) parts xs)) (e refl) h))
 
   pub fits_joined : (kind : Kind) (parts xs : List Part) → Fits IsNonterminal (grammar kind) (row_in (frame kind) parts xs) → Fits IsNonterminal (grammar kind) (row_joined (frame kind) (is_tuple kind && nat_eq (length xs) 1) parts xs)
-  fits_joined kind parts xs h = by_frame (frame kind) (is_tuple kind && nat_eq (length xs) 1) (grammar kind) (line_shape kind) (sequences kind) parts xs (λ g. line_joined kind parts xs (lead_before kind parts xs g) g) h
+  fits_joined kind parts xs h = by_frame (frame kind) (is_tuple kind && nat_eq (length xs) 1) (grammar kind) (line_shape kind) (sequences kind) parts xs (λ g. line_joined kind parts xs (lead_before kind parts xs (values_wider kind _ g)) g) h
 
 -- the grammars of lines and of BUILD files
 pub line_sequences : HasSequences line_shape
@@ -114,6 +117,7 @@ build_sequences k.Load h = refl
 build_sequences k.Tuple h = refl
 build_sequences k.List h = refl
 build_sequences k.Dict h = refl
+build_sequences k.Def h = refl
 build_sequences _ h = no_such h
 
 -- ---- what is before the bracket
@@ -123,12 +127,15 @@ AtMostOne [] = Unit {0}
 AtMostOne (x ∷ []) = Unit {0}
 AtMostOne (x ∷ y ∷ ys) = ⊥
 
-at_most_one : (kind : Kind) (parts : List Part) → length parts ≡ lead kind → AtMostOne parts
-at_most_one kind [] n = tt
-at_most_one kind (x ∷ []) n = tt
-at_most_one k.Call (x ∷ y ∷ ps) n = absurd (omega (arith, n))
-at_most_one k.Load (x ∷ y ∷ ps) n = absurd (omega (arith, n))
-at_most_one _ (x ∷ y ∷ ps) n = absurd (omega (arith, n))
+at_most_one : {X : Type 0} (xs : List X) → length xs ≤ 1 → AtMostOne xs
+at_most_one [] h = tt
+at_most_one (x ∷ []) h = tt
+at_most_one (x ∷ y ∷ xs) h = absurd (omega (arith, h))
 
-pub head_fits : (kind : Kind) (parts xs : List Part) → Fits IsNonterminal (line_shape kind) (row_in (frame kind) parts xs) → in_frame (frame kind) (Unit {0}) (AtMostOne parts)
-head_fits kind parts xs h = framed (frame kind) (λ u. u) (at_most_one kind parts) (lead_before kind parts xs h)
+few_before : (f : Frame) (n : ℕ) (parts : List Part) → n ≤ 1 → in_frame f (Unit {0}) (length parts ≡ n) (Unit {0}) → in_frame f (Unit {0}) (AtMostOne parts) (Unit {0})
+few_before f n parts few h = framed f (λ u. u) (λ l. at_most_one parts (omega (arith, few, l))) (λ u. u) h
+
+-- but for a function, which is in no line
+pub head_fits : (kind : Kind) (parts xs : List Part) → Fits IsNonterminal (line_shape kind) (row_in (frame kind) parts xs) → in_frame (frame kind) (Unit {0}) (AtMostOne parts) (Unit {0})
+head_fits k.Def parts xs h = absurd h
+head_fits kind parts xs h = few_before (frame kind) (lead kind) parts (omega arith) (lead_before kind parts xs (values_wider kind (row_in (frame kind) parts xs) h))

@@ -10,7 +10,7 @@ use Rattle.bz_grammar.proofs.Numbers.{same_kind}
 use Rattle.bz_value.specs.declared.value.Expr.{Expr, Token, Form'}
 use Rattle.bz_value.specs.declared.value.Expr.TheVariants as e
 use Rattle.bz_value.specs.declared.value.Form.{Form}
-use Rattle.bz_value.specs.Frames.{frame}
+use Rattle.bz_value.specs.Frames.{frame, has_brackets, is_compound}
 use Rattle.bz_items.specs.Characters.{Bytes}
 use Rattle.bz_rule.specs.Values as v
 use Rattle.bz_rule.specs.private.Named.{fronts, fronts_among}
@@ -51,7 +51,7 @@ front_row form front xs d same l is dot all m =
     let parts : form.parts ≡ e.Form front ∷ tokens = first_and_rest form xs d (e.Form front) same l is in
     ap (row_text form.kind form.open_break m m) parts ∙
     (row_tokens form.kind form.open_break m m (e.Form front) tokens (sym (all ∙ ap (list_all is_lone_token) (take_all (length xs - 1) tokens (all_left xs 1)))) ∙
-    (ap (λ t. t ++ past_first form.kind form.open_break m (e.Form front ∷ tokens)) (row_form front m (ap frame (same_kind front.kind k.Dot dot))) ∙
+    (ap (λ t. t ++ past_first form.kind form.open_break m (e.Form front ∷ tokens)) (row_form front m (ap (λ kind. has_brackets (frame kind)) (same_kind front.kind k.Dot dot)) (ap (λ kind. is_compound (frame kind)) (same_kind front.kind k.Dot dot))) ∙
     ap (λ ys. row_written m front ++ past_first form.kind form.open_break m ys) (sym parts)))
 
 pub front_is_less : (form front : Form) (xs : List Expr) (d : Expr) → xs ≡ form.parts → 1 ≤ length xs → get_or xs 0 d ≡ e.Form front → fronts (e.Form front) < fronts (e.Form form)

@@ -33,7 +33,9 @@ use Rattle.bz_value.specs.declared.value.Item.{Item}
 use Rattle.bz_value.specs.declared.value.Item.TheVariants as i
 use Rattle.bz_value.specs.Frames.{is_statement}
 use Rattle.bz_value.specs.LineShapes.{line_shape}
-use Rattle.bz_value.specs.Proper.{IsComment, comments_of, has_statement_kind, IsProperItem, IsProper}
+use Rattle.bz_value.specs.Proper.{IsComment, comments_of, after_expr, IsProperItem, IsProper}
+use Rattle.bz_value.specs.Roots.{root}
+use Rattle.bz_value.specs.Statements.{has_statement_kind}
 use Rattle.bz_value.proofs.LegalBy.{as_build, wider_part}
 use Rattle.bz_value.proofs.Wider.{lines_wider, line_expr}
 use Rattle.bz_value.proofs.GapComments.{all_joined}
@@ -41,9 +43,10 @@ use Rattle.bz_layout.specs.Layout.{suffix_text}
 use Rattle.bz_layout.specs.Written.{comment_lines, gap_between}
 use Rattle.bz_layout.specs.LaidOut.{part_of, line_part, before_next, lines_from, laid_out}
 use Rattle.bz_layout.specs.Laws.{LayoutIsAccepted}
-use Rattle.bz_layout.proofs.Touching.{Airy, Toks, IsLex, FollowsAs, ends_plain, tokens, AiryRow}
-use Rattle.bz_layout.proofs.Margins.{FitsFlush, coded_byte, first_append, first_nothing, first_blank, lines_fit, newline_gap, is_begins}
-use Rattle.bz_layout.proofs.Standing.{Placed, laid_out_stands, at_node}
+use Rattle.bz_layout.proofs.Touching.{Airy, Toks, IsLex, FollowsAs, ends_plain, tokens}
+use Rattle.bz_layout.proofs.Margins.{FitsFlush, coded_byte, first_append, first_nothing, first_blank, lines_fit, newline_gap}
+use Rattle.bz_layout.proofs.Made.{plain_first, item_plain}
+use Rattle.bz_layout.proofs.Standing.{Placed, laid_out_goes_on, laid_out_stands, at_node}
 use Rattle.bz_layout.proofs.LegalParts.{IsGood, build_good}
 use Rattle.bz_layout.proofs.Spelled.{laid_out_spelled}
 
@@ -99,7 +102,7 @@ between_fits (i.Block texts) y = first_blank
 between_fits (i.Stmt x) (i.Block texts) = first_blank
 between_fits (i.Stmt x) (i.Stmt y) = if_blank _
 
-before_next_fits : (x : Item) (ys : List Item) → FitsFlush (before_next x ys)
+pub before_next_fits : (x : Item) (ys : List Item) → FitsFlush (before_next x ys)
 before_next_fits x [] = first_nothing
 before_next_fits x (y ∷ ys) = between_fits x y
 
@@ -119,13 +122,13 @@ statement_after k.ForStmt h = no_such h
 statement_after k.Suite h = no_such h
 statement_after _ h = refl
 
-is_small : (x : Expr) → has_statement_kind x ≡ true → (gap : Bytes) → IsNonterminal s.small (part_of x gap 0)
-is_small (Token t) h gap = no_such h
-is_small (Form' kind z parts z' items end split open_break comments) h gap = statement_nonterminal kind h
+small_root : (x : Expr) → has_statement_kind x ≡ true → IsNonterminal s.small (root x)
+small_root (Token t) h = no_such h
+small_root (Form' kind z parts z' items end split open_break comments) h = statement_nonterminal kind h
 
-goes_along : (x : Expr) → has_statement_kind x ≡ true → (gap : Bytes) → after_part Begins Begins (part_of x gap 0) ≡ Along
-goes_along (Token t) h gap = no_such h
-goes_along (Form' kind z parts z' items end split open_break comments) h gap = statement_after kind h
+goes_along : (x : Expr) → has_statement_kind x ≡ true → after_expr Begins Begins x ≡ Along
+goes_along (Token t) h = no_such h
+goes_along (Form' kind z parts z' items end split open_break comments) h = statement_after kind h
 
 abbrev newline_leaf : Option Bytes → Leaf
 newline_leaf suffix = record { class = c.Newline; gap = suffix_text suffix; token = line_feed ∷ [] }
@@ -163,13 +166,15 @@ line_stands gap x h g =
     let leaves : leaves_part (p.Node node) ≡ leaves_part statement ++ (newline ∷ []) = leaves_Node node in
     let lexed : AllByRecursion IsLex (leaves_part statement) = leaves_hold Placed IsLex (λ here l q. q.lexeme) Begins statement placed in
     let own = as_build statement (good.legal front 0) in
-    let legal : LegalPart (p.Node node) = of_bzl_shapes node ((is_small x h.0 front, inl (refl, tt)), (own.0, (tt, tt))) in
+    let small : IsNonterminal s.small statement = sym ((good.stands.rooted_as front 0).nonterminal s.small) ∙ small_root x h.0 in
+    let along : after_part Begins Begins statement ≡ Along = laid_out_goes_on Begins Begins x (item_plain x h) front 0 ∙ goes_along x h.0 in
+    let legal : LegalPart (p.Node node) = of_bzl_shapes node ((small, inl (refl, tt)), (own.0, (tt, tt))) in
     record {
       legal = (legal, build_node (p.Node node) node refl (omega arith) (own.1, (tt, tt)));
       indented = line_indented node refl legal (ap (λ ls. first_indent (ls ++ newline ∷ [])) first.2 ∙ (ap indent first.3 ∙ none_flush front fits.1));
       is_line = refl;
       begins = refl;
-      gaps = at_node Stands Begins node (at_leaves Placed Stands (λ here l q. q.stands) Begins statement placed, (subst (λ z. AtLeaves Stands z (p.Leaf newline)) (sym (goes_along x h.0 front)) (true, (newline_gap suffix h.2.1).0), tt));
+      gaps = at_node Stands Begins node (at_leaves Placed Stands (λ here l q. q.stands) Begins statement placed, (subst (λ z. AtLeaves Stands z (p.Leaf newline)) (sym along) (true, (newline_gap suffix h.2.1).0), tt));
       tokens_then = λ rest r. subst (λ z. AreTokens (z ++ rest)) (sym leaves) (line_tokens statement newline rest refl refl
           (tokens statement (wider_part shape line_shape lines_wider statement (good.legal front 0)) lexed airy (spell_leaves (newline ∷ rest)) (newline_follows (ends_plain statement) suffix (spell_leaves rest))) r);
       coded = subst AreCoded (sym leaves) (all_joined IsCodedLeaf (leaves_part statement) (newline ∷ []) (leaves_hold Placed IsCodedLeaf (λ here l q. q.coded) Begins statement placed) ((ending, coded_byte line_feed (omega arith)), tt));
@@ -195,7 +200,7 @@ lines_stand (i.Stmt x ∷ xs) h gap g =
     let more : AreLines (lines_from (before_next (i.Stmt x) xs) xs) = lines_stand xs h.1 (before_next (i.Stmt x) xs) (before_next_fits (i.Stmt x) xs) in
     let rest : List Leaf = flat_map leaves_part (lines_from (before_next (i.Stmt x) xs) xs) in
     let here : IsLine (line_part gap x) = line_stands gap x h.0 g in
-    record {
+    subst AreLines (sym (plain_first gap x xs (item_plain x h.0))) (record {
       legal = (here.legal.0, more.legal);
       build = (here.legal.1, more.build);
       indents = (here.indented, more.indents);
@@ -203,7 +208,7 @@ lines_stand (i.Stmt x ∷ xs) h gap g =
       gaps = (here.gaps, subst (λ z. AtParts Stands Begins z (lines_from (before_next (i.Stmt x) xs) xs)) (sym here.begins) more.gaps);
       tokens_there = here.tokens_then rest more.tokens_there;
       coded = all_joined IsCodedLeaf (leaves_part (line_part gap x)) rest here.coded more.coded;
-    }
+    })
 
 -- what is laid out of a proper file value is legal, where it is not too deep
 pub laid_out_legal : (items : List Item) → IsProper items → depth_of (laid_out items) ≤ depth_limit → LegalBuild (laid_out items)

@@ -17,7 +17,7 @@ use Rattle.bz_grammar.proofs.Nested.{row_of, items_of_row}
 use Rattle.bz_grammar.proofs.Spells.{leaves_Node}
 use Rattle.bz_value.specs.declared.value.Expr.{Expr, Token, Form', Row_of-Expr, end_of-Expr, more_of-Expr}
 use Rattle.bz_items.specs.Characters.{Bytes, comma, space}
-use Rattle.bz_value.specs.Frames.{Frame, row, sequence, frame}
+use Rattle.bz_value.specs.Frames.{Frame, row, sequence, compound, frame}
 use Rattle.bz_value.specs.LineShapes.{line_shape}
 use Rattle.bz_value.specs.Proper.{comments_of, roots, in_frame, ProperBy}
 use Rattle.bz_value.specs.Roots.{row_in}
@@ -30,8 +30,9 @@ use Rattle.bz_layout.specs.LaidOut.{piece_part, part_of, parts_of}
 use Rattle.bz_layout.proofs.Touching.{Apart, Airy, AiryRow}
 use Rattle.bz_layout.proofs.Elements.{items_values, some_part}
 use Rattle.bz_layout.proofs.Joined.{HasSequences, line_sequences, build_sequences, head_fits}
-use Rattle.bz_layout.proofs.Fitted.{root_same, Child, rooted, roots_of_row, AreRooted, Pieces, laid_fits}
-use Rattle.bz_layout.proofs.Rows.{root_spaced, IsAfter, AreAfter, laid_apart}
+use Rattle.bz_layout.proofs.Fitted.{plain_same, Child, rooted, roots_of_row, AreRooted, Pieces, laid_fits}
+use Rattle.bz_layout.proofs.Rows.{plain_spaced, IsAfter, AreAfter, laid_apart}
+use Rattle.bz_layout.proofs.Made.{laid_plain, line_plain}
 use Rattle.bz_layout.proofs.Spots.{no_line, EachProper, both_each}
 
 -- ---- a node by its list of parts
@@ -67,7 +68,7 @@ module _ (P : Part → Type 0) (marks : (gap : Bytes) (n : ℕ) → P (p.Leaf (r
 
   pub headed_each : (m : ℕ) (gap : Bytes) (opener : ℕ) (xs : List Child) (after : Pieces) → Each xs → AllByRecursion P (map piece_part after) → AllByRecursion P (map piece_part (headed m gap opener xs after))
   headed_each m gap opener [] after h i = (marks gap opener, i)
-  headed_each m gap opener (x ∷ xs) after h i = (h.0 gap m, headed_each m [] opener xs after h.1 i)
+  headed_each m gap opener (x ∷ xs) after h i = (h.0 gap m, headed_each m (if is_empty xs then [] else (space ∷ [])) opener xs after h.1 i)
 
   pub stacked_each : (m : ℕ) (suffix : Option Bytes) (closer : ℕ) (end : List Bytes) (xs : List Child) → Each xs → AllByRecursion P (map piece_part (stacked m suffix closer end xs))
   stacked_each m suffix closer end [] h = (marks _ closer, tt)
@@ -87,6 +88,7 @@ module _ (P : Part → Type 0) (marks : (gap : Bytes) (n : ℕ) → P (p.Leaf (r
 
   pub each_in : (f : Frame) (kind : Kind) (split open_break : Bool) (gap : Bytes) (m : ℕ) (parts items : List Child) (end : List Bytes) → Each parts → Each items → AllByRecursion P (map piece_part (laid_in f kind split open_break gap m parts items end))
   each_in row kind split open_break gap m parts items end h i = rowed_each kind open_break m gap m parts h
+  each_in compound kind split open_break gap m parts items end h i = tt
   each_in (sequence opener closer) kind split open_break gap m parts items end h i = headed_each m gap opener parts _ h (body_each (is_broken kind split (firsts items) end) (is_tuple kind && nat_eq (length items) 1) m closer end items i)
 
 -- ---- the first leaf
@@ -95,15 +97,17 @@ pub first_rowed : (kind : Kind) (open_break : Bool) (m : ℕ) (gap : Bytes) (n :
 first_rowed kind open_break m gap n [] h e = absurd (e refl)
 first_rowed kind open_break m gap n (x ∷ xs) h e = h.0.starts gap n
 
-pub first_in : (f : Frame) (kind : Kind) (split open_break : Bool) (gap : Bytes) (m : ℕ) (parts items : List Child) (end : List Bytes) → AreAfter parts → in_frame f (rooted parts ≡ [] → ⊥) (Unit {0}) →
+pub first_in : (f : Frame) (kind : Kind) (split open_break : Bool) (gap : Bytes) (m : ℕ) (parts items : List Child) (end : List Bytes) → AreAfter parts → in_frame f (rooted parts ≡ [] → ⊥) (Unit {0}) ⊥ →
     FirstBegins gap (map piece_part (laid_in f kind split open_break gap m parts items end))
 first_in row kind split open_break gap m parts items end h e = first_rowed kind open_break m gap m parts h (λ i. e (ap rooted i))
 first_in (sequence opener closer) kind split open_break gap m [] items end h e = (record { class = c.Mark; gap = gap; token = opener ∷ [] }, [], refl, refl)
 first_in (sequence opener closer) kind split open_break gap m (x ∷ xs) items end h e = h.0.starts gap m
+first_in compound kind split open_break gap m parts items end h e = absurd e
 
-pub some_parts : (f : Frame) (kind : Kind) (parts items : List Part) → Fits IsNonterminal (line_shape kind) (row_in f parts items) → in_frame f (parts ≡ [] → ⊥) (Unit {0})
+pub some_parts : (f : Frame) (kind : Kind) (parts items : List Part) → Fits IsNonterminal (line_shape kind) (row_in f parts items) → in_frame f (parts ≡ [] → ⊥) (Unit {0}) ⊥
 some_parts row kind parts items h = λ e. some_part kind (subst (Fits IsNonterminal (line_shape kind)) e h)
 some_parts (sequence opener closer) kind parts items h = tt
+some_parts compound kind parts items h = some_part kind h
 
 -- ---- a form of good parts
 
@@ -166,27 +170,29 @@ module _ (grammar : Kind → Shape) (sequences : HasSequences grammar) (wider : 
     good_by here (Token t) h = record {
       stands = record {
         starts = λ gap m. (record { class = t.class; gap = gap; token = t.text }, [], refl, refl);
-        rooted_as = root_same (Token t);
-        spaced_as = root_spaced (Token t);
+        rooted_as = plain_same (Token t);
+        spaced_as = plain_spaced (Token t);
       };
       legal = λ gap m. tt;
       airy = λ gap m. tt;
     }
     good_by here (Form' kind z parts z' items end split open_break comments) h =
+        let x : Expr = Form' kind z parts z' items end split open_break comments in
         let inner = both_each grammar (frame kind) kind here _ _ parts items end split open_break h.1 in
         let ps : AreGood grammar (parts_of parts) = each_good _ parts inner.0 in
         let is : AreGood grammar (parts_of items) = each_good _ items inner.1 in
-        let line : inner_kind kind ≡ true = no_line here (Form' kind z parts z' items end split open_break comments) (wider_expr grammar line_shape wider here (Form' kind z parts z' items end split open_break comments) h) in
+        let narrow : ProperBy line_shape here x = wider_expr grammar line_shape wider here x h in
+        let line : inner_kind kind ≡ true = no_line here x narrow in
         let fits : Fits IsNonterminal (grammar kind) (row_in (frame kind) (rooted (parts_of parts)) (rooted (parts_of items))) = roots_fit kind _ _ parts items h.0 in
-        record {
+        subst (λ f. IsGood grammar (x, f)) (sym (laid_plain x (line_plain here x narrow))) (record {
           stands = record {
             starts = node_starts kind split open_break (parts_of parts) (parts_of items) end ps is line fits;
-            rooted_as = root_same (Form' kind z parts z' items end split open_break comments);
-            spaced_as = root_spaced (Form' kind z parts z' items end split open_break comments);
+            rooted_as = plain_same x;
+            spaced_as = plain_spaced x;
           };
           legal = laid_out_legal kind split open_break (parts_of parts) (parts_of items) end ps is line fits;
           airy = node_airy kind split open_break (parts_of parts) (parts_of items) end ps is line fits;
-        }
+        })
 
     pub each_good : (m : _) (r : Row_of-Expr m) → EachProper grammar r → AreGood grammar (parts_of r)
     each_good m end_of-Expr h = tt

@@ -1,4 +1,8 @@
 pub mod Appending
+pub mod BackEnds
+pub mod BackFiles
+pub mod BackLines
+pub mod BackSuites
 pub mod Changes
 pub mod Deep
 pub mod Elements
@@ -18,6 +22,7 @@ pub mod Made
 pub mod Margins
 pub mod Measured
 pub mod Neighbours
+pub mod PlainLaid
 pub mod PlainRows
 pub mod Pushing
 pub mod Reaching

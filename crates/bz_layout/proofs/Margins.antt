@@ -160,7 +160,7 @@ flush_append [] b h k = k
 flush_append (x ∷ []) b h k = flush_first x b h k
 flush_append (x ∷ y ∷ a) b h k = flush_append (y ∷ a) b h k
 
-flush_line : (a b : Bytes) → is_flush b ≡ true → is_flush (a ++ (line_feed ∷ b)) ≡ true
+pub flush_line : (a b : Bytes) → is_flush b ≡ true → is_flush (a ++ (line_feed ∷ b)) ≡ true
 flush_line [] b h = flush_first line_feed b refl h
 flush_line (x ∷ []) b h = flush_first line_feed b refl h
 flush_line (x ∷ y ∷ a) b h = flush_line (y ∷ a) b h

@@ -17,16 +17,18 @@ use Rattle.bz_grammar.specs.Shapes.{has_token}
 use Rattle.bz_grammar.proofs.Balance.{no_such}
 use Rattle.bz_value.specs.declared.value.Expr.{Expr, Token, Form'}
 use Rattle.bz_items.specs.Characters.{Bytes, comma, space}
-use Rattle.bz_value.specs.Frames.{Frame, row, sequence, frame}
+use Rattle.bz_value.specs.Frames.{Frame, row, sequence, compound, frame}
 use Rattle.bz_value.specs.Proper.{comments_of, has_break, in_frame}
 use Rattle.bz_value.specs.Roots.{root}
+use Rattle.bz_value.specs.Statements.{has_suite}
 use Rattle.bz_layout.specs.Spaces.{lone, space_after, space_before, is_value, is_spaced_after, is_spaced_before, is_lone, is_number_leaf, apart, number_dot, is_spaced}
 use Rattle.bz_layout.proofs.Neighbours.{is_word}
 use Rattle.bz_layout.specs.Layout.{mark, new_line_at, margin_lines, ended, suffix_text, is_broken, is_tuple, gap_after, margin_after, firsts, rowed, headed, joined, stacked, laid_in, laid}
 use Rattle.bz_value.specs.Empty.{is_empty}
-use Rattle.bz_layout.specs.LaidOut.{piece_part, part_of}
+use Rattle.bz_layout.specs.LaidOut.{PartAt, piece_part, part_of}
 use Rattle.bz_layout.proofs.Fitted.{Same, Child, rooted, IsRooted, Pieces}
 use Rattle.bz_layout.proofs.Joined.{AtMostOne}
+use Rattle.bz_layout.proofs.Made.{plain_part, laid_plain}
 use Rattle.bz_layout.proofs.Elements.{AreValues}
 use Rattle.bz_layout.proofs.Touching.{Fine, Between, Apart, OpensAt, BareAt, Opens, NumberDot}
 
@@ -39,9 +41,12 @@ pub record SpacedAs (x y : Part) : Type 0 where
   pub alone : is_lone x ≡ is_lone y
   pub number : is_number_leaf x ≡ is_number_leaf y
 
-pub root_spaced : (x : Expr) (gap : Bytes) (m : ℕ) → SpacedAs (root x) (part_of x gap m)
-root_spaced (Token t) gap m = record { after_it = λ kind. refl; before_it = λ kind. refl; value = refl; alone = refl; number = refl }
-root_spaced (Form' kind z parts z' items end split open_break comments) gap m = record { after_it = λ kind. refl; before_it = λ kind. refl; value = refl; alone = refl; number = refl }
+pub plain_spaced : (x : Expr) (gap : Bytes) (m : ℕ) → SpacedAs (root x) (plain_part x gap m)
+plain_spaced (Token t) gap m = record { after_it = λ kind. refl; before_it = λ kind. refl; value = refl; alone = refl; number = refl }
+plain_spaced (Form' kind z parts z' items end split open_break comments) gap m = record { after_it = λ kind. refl; before_it = λ kind. refl; value = refl; alone = refl; number = refl }
+
+pub root_spaced : (x : Expr) → has_suite x ≡ false → (gap : Bytes) (m : ℕ) → SpacedAs (root x) (part_of x gap m)
+root_spaced x h gap m = subst (λ f. SpacedAs (root x) (f gap m)) (sym (laid_plain x h)) (plain_spaced x gap m)
 
 same_apart : (kind : Kind) (x y x' y' : Part) → SpacedAs x x' → SpacedAs y y' → apart kind x' y' ≡ apart kind x y
 same_apart kind x y x' y' h i = rw (h.after_it kind, i.alone, i.before_it kind, h.value, i.value) refl
@@ -50,7 +55,7 @@ same_number_dot : (x y x' y' : Part) → SpacedAs x x' → Same y y' → number_
 same_number_dot x y x' y' h i = rw (h.number, i.token s.dot) refl
 
 -- the first leaf of what is laid out has the gap that it is given
-abbrev pub Starts : (Bytes → ℕ → Part) → Type 0
+abbrev pub Starts : PartAt → Type 0
 Starts f = (gap : Bytes) (m : ℕ) → (l : Leaf) × (ls : List Leaf) × (leaves_part (f gap m) ≡ l ∷ ls) × (l.gap ≡ gap)
 
 -- a child is laid out after its gap, and to its neighbours as its root
@@ -62,10 +67,10 @@ pub record IsAfter (x : Child) : Type 0 where
 abbrev pub AreAfter : List Child → Type 0
 AreAfter xs = AllByRecursion IsAfter xs
 
-opens_at : (f : Bytes → ℕ → Part) (gap : Bytes) (m : ℕ) → Starts f → Opens gap → OpensAt (leaves_part (f gap m))
+opens_at : (f : PartAt) (gap : Bytes) (m : ℕ) → Starts f → Opens gap → OpensAt (leaves_part (f gap m))
 opens_at f gap m h o = let w = h gap m in subst OpensAt (sym w.2) (subst Opens (sym w.3) o)
 
-bare_at : (f : Bytes → ℕ → Part) (m : ℕ) → Starts f → BareAt (leaves_part (f [] m))
+bare_at : (f : PartAt) (m : ℕ) → Starts f → BareAt (leaves_part (f [] m))
 bare_at f m h = let w = h [] m in subst BareAt (sym w.2) w.3
 
 no_number_dot : (x y : Part) → number_dot x y ≡ false → NumberDot x y → ⊥
@@ -73,7 +78,7 @@ no_number_dot x y h d = both_ways (number_dot x y) h (rw (d.0, d.1) refl)
 
 -- ---- rows
 
-fine_gap : (kind : Kind) (x : Part) (f : Bytes → ℕ → Part) (o b d : Bool) (j k n : ℕ) → Starts f → (d ≡ false → (apart kind x (f [] n) ≡ false) × (number_dot x (f [] n) ≡ false)) →
+fine_gap : (kind : Kind) (x : Part) (f : PartAt) (o b d : Bool) (j k n : ℕ) → Starts f → (d ≡ false → (apart kind x (f [] n) ≡ false) × (number_dot x (f [] n) ≡ false)) →
     Fine kind x (f (if o then new_line_at j else (if b then new_line_at k else (if d then space ∷ [] else []))) n)
 fine_gap kind x f true b d j k n h t = inl (opens_at f (new_line_at j) n h refl)
 fine_gap kind x f false true d j k n h t = inl (opens_at f (new_line_at k) n h refl)
@@ -126,7 +131,7 @@ abbrev pub mark_part : Bytes → ℕ → Part
 mark_part gap m = p.Leaf (record { class = c.Mark; gap = gap; token = m ∷ [] })
 
 -- what is laid out of an item is a value, after the gap that it is given
-abbrev pub IsItem : (Bytes → ℕ → Part) → Type 0
+abbrev pub IsItem : PartAt → Type 0
 IsItem f = Starts f × ((gap : Bytes) (m : ℕ) → is_value (f gap m) ≡ true)
 
 abbrev pub AreItems : List Child → Type 0
@@ -163,14 +168,14 @@ module _ (kind : Kind) (closer : ℕ) (closes : IsLone closer) where
   before_comma : (x : Part) → Fine kind x (mark_part [] comma)
   before_comma x = before_lone kind comma (record { alone = refl; no_dot = λ gap. refl }) x
 
-  after_space : (x : Part) (m : ℕ) (f : Bytes → ℕ → Part) → IsItem f → Fine kind x (f (space ∷ []) m)
+  after_space : (x : Part) (m : ℕ) (f : PartAt) → IsItem f → Fine kind x (f (space ∷ []) m)
   after_space x m f h = inl (opens_at f (space ∷ []) m h.0 refl)
 
   maybe_comma : (b : Bool) (x : Part) (after : Pieces) → Between kind x (map piece_part after) → Between kind (mark_part [] comma) (map piece_part after) → Between kind x (map piece_part ((if b then [] else (mark [] (comma ∷ []) ∷ [])) ++ after))
   maybe_comma true x after h k = h
   maybe_comma false x after h k = (before_comma x, k)
 
-  joined_between : (m : ℕ) (gap : Bytes) (one : Bool) (xs : List Child) (x : Part) → ((f : Bytes → ℕ → Part) → IsItem f → Fine kind x (f gap m)) → AreItems xs → Between kind x (map piece_part (joined m gap closer one xs))
+  joined_between : (m : ℕ) (gap : Bytes) (one : Bool) (xs : List Child) (x : Part) → ((f : PartAt) → IsItem f → Fine kind x (f gap m)) → AreItems xs → Between kind x (map piece_part (joined m gap closer one xs))
   joined_between m gap one [] x first h = (before_lone kind closer closes x, tt)
   joined_between m gap one (y ∷ ys) x first h = (
     first y.1 h.0,
@@ -188,7 +193,7 @@ module _ (kind : Kind) (closer : ℕ) (closes : IsLone closer) where
       )
 
   module _ (opener : ℕ) (opens : IsLone opener) (quiet : space_after kind (s.this c.Mark (opener ∷ [])) ≡ false) where
-    after_opener : (gap : Bytes) (m : ℕ) (f : Bytes → ℕ → Part) → IsItem f → Fine kind (mark_part gap opener) (f [] m)
+    after_opener : (gap : Bytes) (m : ℕ) (f : PartAt) → IsItem f → Fine kind (mark_part gap opener) (f [] m)
     after_opener gap m f h = inr (bare_at f m h.0, touches_opener kind (mark_part gap opener) (f [] m) quiet refl (h.1 [] m), λ d. no_such d.0)
 
     -- what is after the opening bracket, broken or not
@@ -206,8 +211,8 @@ module _ (kind : Kind) (closer : ℕ) (closes : IsLone closer) where
 -- ---- all kinds
 
 abbrev Bracketed : Kind → Frame → Type 0
-Bracketed kind row = Unit {0}
 Bracketed kind (sequence opener closer) = IsLone opener × IsLone closer × (space_after kind (s.this c.Mark (opener ∷ [])) ≡ false)
+Bracketed kind _ = Unit {0}
 
 pub colon_alone : IsLone 58
 colon_alone = record { alone = refl; no_dot = λ gap. refl }
@@ -219,6 +224,7 @@ bracketed : (kind : Kind) → Bracketed kind (frame kind)
 bracketed k.Call = (round.0, round.1, refl)
 bracketed k.Load = (round.0, round.1, refl)
 bracketed k.Tuple = (round.0, round.1, refl)
+bracketed k.Def = (round.0, round.1, refl)
 bracketed k.List = (record { alone = refl; no_dot = λ gap. refl }, record { alone = refl; no_dot = λ gap. refl }, refl)
 bracketed k.Dict = (record { alone = refl; no_dot = λ gap. refl }, record { alone = refl; no_dot = λ gap. refl }, refl)
 bracketed _ = tt
@@ -228,12 +234,13 @@ items_of [] h i = tt
 items_of (x ∷ xs) h i = ((h.0.starts, λ gap m. sym (h.0.spaced_as gap m).value ∙ i.0), items_of xs h.1 i.1)
 
 apart_in : (f : Frame) (kind : Kind) → Bracketed kind f → (split open_break : Bool) (gap : Bytes) (m : ℕ) (parts items : List Child) (end : List Bytes) → AreAfter parts → AreAfter items →
-    in_frame f (Unit {0}) (AtMostOne (rooted parts)) → in_frame f (Unit {0}) (AreValues (rooted items)) → Apart kind (map piece_part (laid_in f kind split open_break gap m parts items end))
+    in_frame f (Unit {0}) (AtMostOne (rooted parts)) (Unit {0}) → in_frame f (Unit {0}) (AreValues (rooted items)) (Unit {0}) → Apart kind (map piece_part (laid_in f kind split open_break gap m parts items end))
 apart_in row kind b split open_break gap m parts items end h i o v = row_apart kind open_break m gap m parts h
+apart_in compound kind b split open_break gap m parts items end h i o v = tt
 apart_in (sequence opener closer) kind b split open_break gap m parts items end h i o v =
     headed_apart kind closer b.1 opener b.0 b.2 (is_broken kind split (firsts items) end) (is_tuple kind && nat_eq (length items) 1) gap m end parts items o (items_of items i v)
 
 -- each two neighbours of what is laid out of a form are apart where they must be
 pub laid_apart : (kind : Kind) (split open_break : Bool) (gap : Bytes) (m : ℕ) (parts items : List Child) (end : List Bytes) → AreAfter parts → AreAfter items →
-    in_frame (frame kind) (Unit {0}) (AtMostOne (rooted parts)) → in_frame (frame kind) (Unit {0}) (AreValues (rooted items)) → Apart kind (map piece_part (laid kind split open_break gap m parts items end))
+    in_frame (frame kind) (Unit {0}) (AtMostOne (rooted parts)) (Unit {0}) → in_frame (frame kind) (Unit {0}) (AreValues (rooted items)) (Unit {0}) → Apart kind (map piece_part (laid kind split open_break gap m parts items end))
 laid_apart kind split open_break gap m parts items end h i o v = apart_in (frame kind) kind (bracketed kind) split open_break gap m parts items end h i o v

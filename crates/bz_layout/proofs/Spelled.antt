@@ -1,46 +1,53 @@
 -- The tree of the layout spells its text.
-use Rattle.std.proofs.Common.{ℕ, suc, Bool, true, false, not, ◌&&◌, ◌≡◌, List, [], ◌∷◌, ◌++◌, ◌+◌, if◌then◌else◌, refl, ap, ◌∙◌, map, append_assoc, true≢false}
-use Rattle.std.specs.Prelude.{Option, None, nat_eq, length}
+use Rattle.std.proofs.Common.{ℕ, suc, Bool, true, false, not, ◌&&◌, ◌≡◌, inl, inr, List, [], ◌∷◌, ◌++◌, ◌+◌, if◌then◌else◌, refl, sym, ap, ◌∙◌, map, append_assoc, true≢false}
+use Rattle.std.specs.Prelude.{Option, None, nat_eq, length, replicate}
 use Rattle.std.specs.List.{flat_map, AllByRecursion}
+use Rattle.std.proofs.lemmas.Grind.{flat_map-append}
 use Rattle.std.proofs.lemmas.List.{append-nil}
 use Rattle.std.proofs.lemmas.List.Elements.{recursion_from_All}
 use Rattle.bz_grammar.specs.declared.kind.Kind.{Kind}
 use Rattle.bz_grammar.specs.declared.kind.Kind.TheVariants as k
+use Rattle.bz_grammar.specs.declared.tree.Node.{Node}
 use Rattle.bz_grammar.specs.declared.tree.Part.{Part}
 use Rattle.bz_grammar.specs.declared.tree.Part.TheVariants as p
 use Rattle.bz_grammar.specs.Spell.{spell_part, spell_node}
 use Rattle.bz_grammar.specs.Spots.{Begins}
+use Rattle.bz_grammar.proofs.Nested.{items_of_row}
 use Rattle.bz_grammar.proofs.Spells.{spell_Node}
-use Rattle.bz_value.specs.declared.value.Expr.{Expr, Token, Form', Row_of-Expr, end_of-Expr, more_of-Expr, items-the_row-Expr}
+use Rattle.bz_value.specs.declared.value.Expr.{Expr, Token, Form', Row_of-Expr, end_of-Expr, more_of-Expr}
 use Rattle.bz_value.specs.declared.value.Item.{Item}
 use Rattle.bz_value.specs.declared.value.Item.TheVariants as i
-use Rattle.bz_items.specs.Characters.{Bytes, comma, line_feed, space}
-use Rattle.bz_value.specs.Frames.{Frame, row, sequence, frame}
-use Rattle.bz_value.specs.Proper.{IsProperItem, IsProper, in_frame, comments_of}
-use Rattle.bz_value.proofs.Wider.{line_expr}
-use Rattle.bz_layout.specs.Layout.{Piece, mark, laid_in, rowed, headed, joined, stacked, is_broken, is_tuple, gap_after, margin_after, suffix_text, firsts}
+use Rattle.bz_items.specs.Characters.{Bytes, colon, comma, line_feed, space}
 use Rattle.bz_value.specs.Empty.{is_empty}
-use Rattle.bz_layout.specs.Written.{text_of, texts_of, piece_text, comment_lines, past_item, item_text, layout}
-use Rattle.bz_layout.specs.Writings.{writings}
-use Rattle.bz_layout.specs.LaidOut.{part_of, parts_of, layouts, piece_part, before_next, line_part, lines_from, laid_out}
-use Rattle.bz_layout.proofs.Readable.{Readable, EachReadable, IsRow, IsSequence, readable}
+use Rattle.bz_value.specs.Frames.{Frame, row, sequence, compound, frame, is_compound}
+use Rattle.bz_value.specs.LineShapes.{value_shape}
+use Rattle.bz_value.specs.Proper.{IsProperItemBy, IsProper, IsProperBzl, comments_of}
+use Rattle.bz_value.specs.Roots.{mark_leaf}
+use Rattle.bz_value.specs.Statements.{has_suite, is_whole_statement}
+use Rattle.bz_layout.specs.Layout.{Piece, mark, laid_in, rowed, headed, joined, stacked, is_broken, is_tuple, gap_after, margin_after, margin_lines, suffix_text, firsts}
+use Rattle.bz_layout.specs.Written.{Indented, TextAt, at_margin, indented_lines, comment_lines, statement_text, statements_text, suite_text, piece_text, text_by_frame, text_of, texts_of, past_item, item_text, layout}
+use Rattle.bz_layout.specs.LaidOut.{PartAt, gap_to_margin, left_by_frame, left_of, last_left, newline_part, statement_part, statement_parts, parts_in, alternative_parts, with_more_parts, suite_part, piece_part, node_by_frame, part_of, parts_of, line_part, before_next, lines_from, laid_out}
+use Rattle.bz_layout.proofs.BackSuites.{AreBack, own_left_of, alternative_suited}
+use Rattle.bz_layout.proofs.Made.{two, plain_left}
+use Rattle.bz_layout.proofs.Readable.{Readable, EachReadable, AreInner, AreLinesOf, IsStatement, IsAlternative, IsSuite, Facts, line_statement, readable, build_items}
+use Rattle.bz_layout.proofs.ReadBack.{row_read, head_here, others_left, left_form, facts_of}
 
 -- the two readings of the same expressions, each spelling the other after its gap
-pub data Agree : List (Expr × (Bytes → ℕ → Part)) → List (Expr × (ℕ → Bytes)) → Type 0 where
+data Agree : List (Expr × PartAt) → List (Expr × TextAt) → Type 0 where
   over : Agree [] []
-  more : (v : Expr) (x : Bytes → ℕ → Part) (y : ℕ → Bytes) (xs : List (Expr × (Bytes → ℕ → Part))) (ys : List (Expr × (ℕ → Bytes))) →
+  more : (v : Expr) (x : PartAt) (y : TextAt) (xs : List (Expr × PartAt)) (ys : List (Expr × TextAt)) →
       ((g : Bytes) (m : ℕ) → spell_part (x g m) ≡ g ++ y m) → Agree xs ys → Agree ((v, x) ∷ xs) ((v, y) ∷ ys)
 
-abbrev pub spelled : List (Piece (Bytes → ℕ → Part)) → Bytes
+abbrev spelled : List (Piece PartAt) → Bytes
 spelled ps = flat_map spell_part (map piece_part ps)
 
-abbrev pub written : List (Piece (ℕ → Bytes)) → Bytes
+abbrev written : List (Piece TextAt) → Bytes
 written ps = flat_map piece_text ps
 
-pub both : {a b c d : Bytes} → a ≡ b → c ≡ d → a ++ c ≡ b ++ d
+both : {a b c d : Bytes} → a ≡ b → c ≡ d → a ++ c ≡ b ++ d
 both {a} {b} {c} {d} e f = ap (λ t. t ++ c) e ∙ ap (λ t. b ++ t) f
 
-pub same_values : (xs : _) (ys : _) → Agree xs ys → firsts xs ≡ firsts ys
+same_values : (xs : _) (ys : _) → Agree xs ys → firsts xs ≡ firsts ys
 same_values xs ys over = refl
 same_values xs ys (more v x y xs' ys' e a) = ap (λ t. v ∷ t) (same_values xs' ys' a)
 
@@ -52,7 +59,7 @@ same_length : (xs : _) (ys : _) → Agree xs ys → length xs ≡ length ys
 same_length xs ys over = refl
 same_length xs ys (more v x y xs' ys' e a) = ap suc (same_length xs' ys' a)
 
-pub same_rowed : (kind : Kind) (open_break : Bool) (m : ℕ) (g : Bytes) (n : ℕ) (xs : _) (ys : _) → Agree xs ys → spelled (rowed kind open_break m g n xs) ≡ written (rowed kind open_break m g n ys)
+same_rowed : (kind : Kind) (open_break : Bool) (m : ℕ) (g : Bytes) (n : ℕ) (xs : _) (ys : _) → Agree xs ys → spelled (rowed kind open_break m g n xs) ≡ written (rowed kind open_break m g n ys)
 same_rowed kind open_break m g n xs ys over = refl
 same_rowed kind open_break m g n xs ys (more v x y xs' ys' e a) =
     both (e g n)
@@ -61,78 +68,205 @@ same_rowed kind open_break m g n xs ys (more v x y xs' ys' e a) =
 
 same_headed : (m : ℕ) (g : Bytes) (opener : ℕ) (xs : _) (ys : _) (p : _) (q : _) → Agree xs ys → spelled p ≡ written q → spelled (headed m g opener xs p) ≡ written (headed m g opener ys q)
 same_headed m g opener xs ys p q over f = both refl f
-same_headed m g opener xs ys p q (more v x y xs' ys' e a) f = both (e g m) (same_headed m [] opener xs' ys' p q a f)
+same_headed m g opener xs ys p q (more v x y xs' ys' e a) f = both (e g m) (rw (same_empty xs' ys' a) (same_headed m _ opener xs' ys' p q a f))
 
 same_comma : (b : Bool) (p : _) (q : _) → spelled p ≡ written q → spelled ((if b then [] else (mark [] (comma ∷ []) ∷ [])) ++ p) ≡ written ((if b then [] else (mark [] (comma ∷ []) ∷ [])) ++ q)
 same_comma true p q e = e
 same_comma false p q e = ap (λ t. comma ∷ t) e
 
-pub same_joined : (m : ℕ) (g : Bytes) (closer : ℕ) (one : Bool) (xs : _) (ys : _) → Agree xs ys → spelled (joined m g closer one xs) ≡ written (joined m g closer one ys)
+same_joined : (m : ℕ) (g : Bytes) (closer : ℕ) (one : Bool) (xs : _) (ys : _) → Agree xs ys → spelled (joined m g closer one xs) ≡ written (joined m g closer one ys)
 same_joined m g closer one xs ys over = refl
 same_joined m g closer one xs ys (more v x y xs' ys' e a) =
     both (e g m) (rw (same_empty xs' ys' a) (same_comma (is_empty ys' && not one) _ _ (same_joined m (space ∷ []) closer false xs' ys' a)))
 
-pub same_stacked : (m : ℕ) (suffix : Option Bytes) (closer : ℕ) (end : List Bytes) (xs : _) (ys : _) → Agree xs ys → spelled (stacked m suffix closer end xs) ≡ written (stacked m suffix closer end ys)
+same_stacked : (m : ℕ) (suffix : Option Bytes) (closer : ℕ) (end : List Bytes) (xs : _) (ys : _) → Agree xs ys → spelled (stacked m suffix closer end xs) ≡ written (stacked m suffix closer end ys)
 same_stacked m suffix closer end xs ys over = refl
 same_stacked m suffix closer end xs ys (more v x y xs' ys' e a) = both (e _ (m + 4)) (ap (λ t. comma ∷ t) (same_stacked m _ closer end xs' ys' a))
 
-pub same_body : (b one : Bool) (m : ℕ) (closer : ℕ) (end : List Bytes) (xs : _) (ys : _) → Agree xs ys →
+same_body : (b one : Bool) (m : ℕ) (closer : ℕ) (end : List Bytes) (xs : _) (ys : _) → Agree xs ys →
     spelled (if b then stacked m None closer end xs else joined m [] closer one xs) ≡ written (if b then stacked m None closer end ys else joined m [] closer one ys)
 same_body true one m closer end xs ys a = same_stacked m None closer end xs ys a
 same_body false one m closer end xs ys a = same_joined m [] closer one xs ys a
 
-same_laid : (f : Frame) (kind : Kind) (split open_break : Bool) (g : Bytes) (m : ℕ) (hs hs' xs ys : _) (end : List Bytes) → Agree hs hs' → Agree xs ys →
-    spelled (laid_in f kind split open_break g m hs xs end) ≡ written (laid_in f kind split open_break g m hs' ys end)
-same_laid row kind split open_break g m hs hs' xs ys end a b = same_rowed kind open_break m g m hs hs' a
-same_laid (sequence opener closer) kind split open_break g m hs hs' xs ys end a b =
-    same_headed m g opener hs hs' _ _ a
-    (rw (same_values xs ys b, same_length xs ys b) (same_body (is_broken kind split (firsts ys) end) (is_tuple kind && nat_eq (length ys) 1) m closer end xs ys b))
-
 -- ---- the gap before a node is before its text
 
--- a row has a part
-abbrev Starts : {X : Type 0} → Frame → List X → Type 0
-Starts row xs = is_empty xs ≡ false
-Starts (sequence opener closer) xs = Unit {0}
-
-pub row_gap : (kind : Kind) (open_break : Bool) (g : Bytes) (m n : ℕ) (xs : List (Expr × (ℕ → Bytes))) → is_empty xs ≡ false → written (rowed kind open_break m g n xs) ≡ g ++ written (rowed kind open_break m [] n xs)
+row_gap : (kind : Kind) (open_break : Bool) (g : Bytes) (m n : ℕ) (xs : List (Expr × TextAt)) → is_empty xs ≡ false → written (rowed kind open_break m g n xs) ≡ g ++ written (rowed kind open_break m [] n xs)
 row_gap kind open_break g m n [] s = absurd (true≢false s)
 row_gap kind open_break g m n (x ∷ xs) s = append_assoc g _ _
 
-first_gap : (f : Frame) (kind : Kind) (split open_break : Bool) (g : Bytes) (m : ℕ) (hs xs : List (Expr × (ℕ → Bytes))) (end : List Bytes) → Starts f hs →
-    written (laid_in f kind split open_break g m hs xs end) ≡ g ++ written (laid_in f kind split open_break [] m hs xs end)
-first_gap row kind split open_break g m hs xs end s = row_gap kind open_break g m m hs s
-first_gap (sequence opener closer) kind split open_break g m [] xs end s = append_assoc g _ _
-first_gap (sequence opener closer) kind split open_break g m (h ∷ hs) xs end s = append_assoc g _ _
+headed_gap : (m : ℕ) (g : Bytes) (opener : ℕ) (ys : List (Expr × TextAt)) (r : List (Piece TextAt)) → written (headed m g opener ys r) ≡ g ++ written (headed m [] opener ys r)
+headed_gap m g opener [] r = append_assoc g (opener ∷ []) (written r)
+headed_gap m g opener (y ∷ ys) r = append_assoc g _ _
 
-spell_made : (kind : Kind) (ps : List Part) → spell_part (p.Node (record { kind = kind; parts = ps })) ≡ flat_map spell_part ps
-spell_made kind ps = spell_Node (record { kind = kind; parts = ps })
+-- ---- expressions without suites
 
-row_starts : (m : _) (r : Row_of-Expr m) → is_empty (items-the_row-Expr m r) ≡ false → is_empty (texts_of r) ≡ false
-row_starts m end_of-Expr h = h
-row_starts m (more_of-Expr x rest) h = refl
+-- each expression with its text
+abbrev texts : List (Expr × PartAt) → List (Expr × TextAt)
+texts xs = map (λ x. (x.0, text_of x.0)) xs
 
--- a readable row has a part
-starts : (f : Frame) (kind : Kind) (split open_break : Bool) (m : _) (parts : Row_of-Expr m) (items : List Expr) (end : List Bytes) →
-    in_frame f (IsRow kind split open_break (items-the_row-Expr m parts) items end) (IsSequence kind open_break (items-the_row-Expr m parts) items end) → Starts f (texts_of parts)
-starts row kind split open_break m parts items end h = row_starts m parts h.full
-starts (sequence opener closer) kind split open_break m parts items end h = tt
+-- what is laid out of an expression spells its text after its gap, but for the comments that are left to what follows
+abbrev IsSpelled : Expr × PartAt → Type 0
+IsSpelled x = (g : Bytes) (m : ℕ) → spell_part (x.1 g m) ++ indented_lines (left_of m x.0) ≡ g ++ text_of x.0 m
+
+abbrev AreSpelled : List (Expr × PartAt) → Type 0
+AreSpelled xs = AllByRecursion IsSpelled xs
+
+plain_spelled : (x : Expr × PartAt) → IsSpelled x → has_suite x.0 ≡ false → (g : Bytes) (m : ℕ) → spell_part (x.1 g m) ≡ g ++ text_of x.0 m
+plain_spelled x h plain g m = sym (append-nil (spell_part (x.1 g m))) ∙ (ap (λ z. spell_part (x.1 g m) ++ indented_lines z) (sym (plain_left m x.0 plain)) ∙ h g m)
+
+agree : (xs : List (Expr × PartAt)) → AreSpelled xs → AreInner (firsts xs) → Agree xs (texts xs)
+agree [] h i = over
+agree (x ∷ xs) h i = more x.0 x.1 (text_of x.0) xs (texts xs) (plain_spelled x h.0 i.0) (agree xs h.1 i.1)
+
+some_texts : (xs : List (Expr × PartAt)) → is_empty (firsts xs) ≡ false → is_empty (texts xs) ≡ false
+some_texts [] h = h
+some_texts (x ∷ xs) h = refl
+
+inner_spelled : (f : Frame) (kind : Kind) (split open_break : Bool) (g : Bytes) (m : ℕ) (hs xs : List (Expr × PartAt)) (end : List Bytes) → is_compound f ≡ false → AreSpelled hs → AreSpelled xs → Facts f kind split open_break (firsts hs) (firsts xs) end →
+    spelled (laid_in f kind split open_break g m hs xs end) ≡ g ++ written (laid_in f kind split open_break [] m (texts hs) (texts xs) end)
+inner_spelled row kind split open_break g m hs xs end i a b h = same_rowed kind open_break m g m hs (texts hs) (agree hs a h.inner) ∙ row_gap kind open_break g m m (texts hs) (some_texts hs h.full)
+inner_spelled (sequence opener closer) kind split open_break g m hs xs end i a b h =
+    let c : Agree xs (texts xs) = agree xs b h.inner.1 in
+    same_headed m g opener hs (texts hs) _ _ (agree hs a h.inner.0)
+    (rw (same_values xs (texts xs) c, same_length xs (texts xs) c) (same_body (is_broken kind split (firsts (texts xs)) end) (is_tuple kind && nat_eq (length (texts xs)) 1) m closer end xs (texts xs) c))
+    ∙ headed_gap m g opener (texts hs) _
+inner_spelled compound kind split open_break g m hs xs end i a b h = absurd (true≢false i)
+
+-- ---- nodes
+
+-- with more parts a node spells more
+spell_grown : (y : Part) (n : Node) (others : List Part) → y ≡ p.Node n → spell_part (with_more_parts y others) ≡ spell_part y ++ flat_map spell_part others
+spell_grown y n others e =
+    ap (λ z. spell_part (with_more_parts z others)) e ∙ (ap (λ z. let w : Node = record { kind = n.kind; parts = z ++ others } in spell_part (p.Node w)) (items_of_row n)
+    ∙ (spell_Node (record { kind = n.kind; parts = n.parts ++ others }) ∙ (flat_map-append spell_part n.parts others ∙ ap (λ z. z ++ flat_map spell_part others) (sym (ap spell_part e ∙ spell_Node n)))))
+
+-- its parts spell what it does
+spell_parts : (y : Part) (n : Node) → y ≡ p.Node n → flat_map spell_part (parts_in y) ≡ spell_part y
+spell_parts y n e = ap (λ z. flat_map spell_part (parts_in z)) e ∙ (ap (flat_map spell_part) (items_of_row n) ∙ sym (ap spell_part e ∙ spell_Node n))
+
+-- ---- statements
+
+abbrev line_text : ℕ → Expr → Bytes
+line_text m x = statement_text m (x, text_of x)
+
+suited_grouped : (lines margin above text : Bytes) → (lines ++ (margin ++ above)) ++ text ≡ lines ++ (margin ++ (above ++ (text ++ [])))
+suited_grouped lines margin above text = simp (append_assoc, append-nil)
+
+plain_grouped : (lines margin above text end : Bytes) → ((lines ++ (margin ++ above)) ++ text) ++ (end ++ []) ≡ lines ++ (margin ++ (above ++ (text ++ end)))
+plain_grouped lines margin above text end = simp (append_assoc, append-nil)
+
+-- with its end
+abbrev with_end : ℕ → Bytes → Expr → Bytes → Bytes
+with_end m lines x end = lines ++ (replicate m space ++ (margin_lines m (comments_of x).before ++ (text_of x m ++ end)))
+
+-- one without a suite, in its line
+plain_line : (m : ℕ) (lines : Bytes) (x : Expr × PartAt) → IsSpelled x → has_suite x.0 ≡ false →
+    spell_part (p.Node (record { kind = k.Line; parts = x.1 (gap_to_margin m lines (comments_of x.0).before) m ∷ newline_part (comments_of x.0).suffix ∷ [] })) ≡ lines ++ line_text m x.0
+plain_line m lines x h plain =
+    let above : Bytes = margin_lines m (comments_of x.0).before in
+    let end : Bytes = suffix_text (comments_of x.0).suffix ++ line_feed ∷ [] in
+    spell_Node (record { kind = k.Line; parts = x.1 (gap_to_margin m lines (comments_of x.0).before) m ∷ newline_part (comments_of x.0).suffix ∷ [] })
+    ∙ (ap (λ z. z ++ (end ++ [])) (plain_spelled x h plain (gap_to_margin m lines (comments_of x.0).before) m)
+    ∙ (plain_grouped lines (replicate m space) above (text_of x.0 m) end ∙ ap (λ z. with_end m lines x.0 (if z then [] else end)) (sym plain)))
+
+line_spelled : (m : ℕ) (lines : Bytes) (x : Expr × PartAt) → IsSpelled x → IsStatement x.0 → spell_part (statement_part m lines x) ++ indented_lines (left_of m x.0) ≡ lines ++ line_text m x.0
+line_spelled m lines x h (inl suited) =
+    let gap : Bytes = gap_to_margin m lines (comments_of x.0).before in
+    let suffix : Option Bytes = (comments_of x.0).suffix in
+    ap (λ z. spell_part (if z then x.1 gap m else p.Node (record { kind = k.Line; parts = x.1 gap m ∷ newline_part suffix ∷ [] })) ++ indented_lines (left_of m x.0)) suited
+    ∙ (h gap m ∙ (suited_grouped lines (replicate m space) (margin_lines m (comments_of x.0).before) (text_of x.0 m) ∙ ap (λ z. with_end m lines x.0 (if z then [] else suffix_text suffix ++ line_feed ∷ [])) (sym suited)))
+line_spelled m lines x h (inr (plain, unbroken)) =
+    let gap : Bytes = gap_to_margin m lines (comments_of x.0).before in
+    let node : Node = record { kind = k.Line; parts = x.1 gap m ∷ newline_part (comments_of x.0).suffix ∷ [] } in
+    two (λ z w. spell_part (if z then x.1 gap m else p.Node node) ++ indented_lines w) plain (plain_left m x.0 plain) ∙ (append-nil (spell_part (p.Node node)) ∙ plain_line m lines x h plain)
+
+-- one part, what it leaves, and the rest
+next_joined : (first left rest rest_left lines text rest_text : Bytes) → first ++ left ≡ lines ++ text → rest ++ rest_left ≡ left ++ rest_text → (first ++ rest) ++ rest_left ≡ lines ++ (text ++ rest_text)
+next_joined first left rest rest_left lines text rest_text e f =
+    append_assoc first rest rest_left ∙ (ap (λ z. first ++ z) f ∙ (sym (append_assoc first left rest_text) ∙ (ap (λ z. z ++ rest_text) e ∙ append_assoc lines text rest_text)))
+
+statements_spelled : (m : ℕ) (cs : Indented) (xs : List (Expr × PartAt)) → AreSpelled xs → AreLinesOf IsStatement (firsts xs) →
+    flat_map spell_part (statement_parts m (indented_lines cs) xs) ++ indented_lines (last_left m cs (firsts xs)) ≡ indented_lines cs ++ statements_text m (texts xs)
+statements_spelled m cs [] a h = sym (append-nil (indented_lines cs))
+statements_spelled m cs (x ∷ xs) a h =
+    let own : Indented = left_of m x.0 in
+    next_joined (spell_part (statement_part m (indented_lines cs) x)) (indented_lines own) (flat_map spell_part (statement_parts m (indented_lines own) xs)) (indented_lines (last_left m own (firsts xs))) (indented_lines cs) (line_text m x.0) (statements_text m (texts xs))
+    (line_spelled m (indented_lines cs) x a.0 h.0) (statements_spelled m own xs a.1 h.3)
+
+alternatives_spelled : (m : ℕ) (kind : Kind) (cs : Indented) (xs : List (Expr × PartAt)) → AreBack xs → AreSpelled xs → AreLinesOf (IsAlternative kind) (firsts xs) →
+    flat_map spell_part (alternative_parts m (indented_lines cs) xs) ++ indented_lines (last_left m cs (firsts xs)) ≡ indented_lines cs ++ statements_text m (texts xs)
+alternatives_spelled m kind cs [] b a h = sym (append-nil (indented_lines cs))
+alternatives_spelled m kind cs (x ∷ xs) b a h =
+    let own : Indented = left_of m x.0 in
+    let gap : Bytes = gap_to_margin m (indented_lines cs) (comments_of x.0).before in
+    let suited : has_suite x.0 ≡ true = alternative_suited kind x.0 h.0 in
+    let node = (b.0.suite suited).node gap m in
+    let same : flat_map spell_part (parts_in (x.1 gap m)) ≡ spell_part (statement_part m (indented_lines cs) x) =
+    spell_parts (x.1 gap m) node.0 node.1 ∙ ap (λ z. spell_part (if z then x.1 gap m else p.Node (record { kind = k.Line; parts = x.1 gap m ∷ newline_part (comments_of x.0).suffix ∷ [] }))) (sym suited) in
+    ap (λ z. z ++ indented_lines (last_left m own (firsts xs))) (flat_map-append spell_part (parts_in (x.1 gap m)) (alternative_parts m (indented_lines own) xs))
+    ∙ (ap (λ z. (z ++ flat_map spell_part (alternative_parts m (indented_lines own) xs)) ++ indented_lines (last_left m own (firsts xs))) same
+    ∙ next_joined (spell_part (statement_part m (indented_lines cs) x)) (indented_lines own) (flat_map spell_part (alternative_parts m (indented_lines own) xs)) (indented_lines (last_left m own (firsts xs))) (indented_lines cs) (line_text m x.0) (statements_text m (texts xs))
+    (line_spelled m (indented_lines cs) x a.0 (inl suited)) (alternatives_spelled m kind own xs b.1 a.1 h.3))
+
+-- ---- suites
+
+indented_joined : (cs ds : Indented) → indented_lines (cs ++ ds) ≡ indented_lines cs ++ indented_lines ds
+indented_joined [] ds = refl
+indented_joined (c ∷ cs) ds = let own : Bytes = replicate c.0 space ++ (c.1 ++ line_feed ∷ []) in ap (λ z. own ++ z) (indented_joined cs ds) ∙ sym (append_assoc own (indented_lines cs) (indented_lines ds))
+
+-- header, statements and alternatives, by what is known of the latter two
+suite_grouped : (gap head suffix statements left text end others all rest : Bytes) → statements ++ left ≡ text → others ++ all ≡ (left ++ end) ++ rest →
+    ((gap ++ head) ++ (colon ∷ (((suffix ++ line_feed ∷ []) ++ statements) ++ others))) ++ all ≡ gap ++ (head ++ (colon ∷ (suffix ++ (line_feed ∷ (text ++ (end ++ rest))))))
+suite_grouped gap head suffix statements left text end others all rest e f =
+    let first : ((gap ++ head) ++ (colon ∷ (((suffix ++ line_feed ∷ []) ++ statements) ++ others))) ++ all ≡ gap ++ (head ++ (colon ∷ (suffix ++ (line_feed ∷ (statements ++ (others ++ all)))))) = simp append_assoc in
+    let then_ : statements ++ ((left ++ end) ++ rest) ≡ (statements ++ left) ++ (end ++ rest) = simp append_assoc in
+    first ∙ ap (λ z. gap ++ (head ++ (colon ∷ (suffix ++ (line_feed ∷ z))))) (ap (λ z. statements ++ z) f ∙ (then_ ∙ ap (λ z. z ++ (end ++ rest)) e))
+
+suite_spelled : (split open_break : Bool) (suffix : Option Bytes) (g : Bytes) (m : ℕ) (h : Expr × PartAt) (others xs : List (Expr × PartAt)) (end : List Bytes) → AreBack (h ∷ others) → AreSpelled (h ∷ others) → AreSpelled xs → IsSuite split open_break h.0 (firsts others) (firsts xs) end →
+    spell_part (with_more_parts (h.1 g m) (mark_leaf colon ∷ suite_part m suffix xs ∷ alternative_parts m (indented_lines (own_left_of m xs end)) others)) ++ indented_lines (last_left m (own_left_of m xs end) (firsts others))
+    ≡ g ++ suite_text suffix m (texts (h ∷ others)) (texts xs) end
+suite_spelled split open_break suffix g m h others xs end b a c f =
+    let own : Indented = own_left_of m xs end in
+    let newline : Bytes = suffix_text suffix ++ line_feed ∷ [] in
+    let statements : List Part = statement_parts (m + 4) [] xs in
+    let alternatives : List Part = alternative_parts m (indented_lines own) others in
+    let left : Indented = last_left (m + 4) [] (firsts xs) in
+    let header = b.0.head f.kind f.is_head g m in
+    let front : spell_part (h.1 g m) ≡ g ++ text_of h.0 m = plain_spelled h a.0 (head_here f.kind h.0 f.is_head).0 g m in
+    let suite : spell_part (suite_part m suffix xs) ≡ newline ++ flat_map spell_part statements = spell_Node (record { kind = k.Suite; parts = newline_part suffix ∷ statements }) in
+    let all : Bytes = indented_lines (last_left m own (firsts others)) in
+    ap (λ z. z ++ all) (spell_grown (h.1 g m) (record { kind = f.kind; parts = header.0 }) (mark_leaf colon ∷ suite_part m suffix xs ∷ alternatives) header.1)
+    ∙ (two (λ z w. (z ++ (colon ∷ (w ++ flat_map spell_part alternatives))) ++ all) front suite
+    ∙ suite_grouped g (text_of h.0 m) (suffix_text suffix) (flat_map spell_part statements) (indented_lines left) (statements_text (m + 4) (texts xs)) (indented_lines (at_margin (m + 4) end)) (flat_map spell_part alternatives) all (statements_text m (texts others))
+    (statements_spelled (m + 4) [] xs c f.each) (alternatives_spelled m f.kind own others b.1 a.1 f.others_each ∙ ap (λ z. z ++ statements_text m (texts others)) (indented_joined left (at_margin (m + 4) end))))
+
+-- ---- forms
+
+form_spelled : (f : Frame) (kind : Kind) (split open_break : Bool) (suffix : Option Bytes) (g : Bytes) (m : ℕ) (ps xs : List (Expr × PartAt)) (end : List Bytes) → AreBack ps → AreSpelled ps → AreSpelled xs → Facts f kind split open_break (firsts ps) (firsts xs) end →
+    spell_part (node_by_frame f kind split open_break suffix g m ps xs end) ++ indented_lines (left_by_frame f (others_left m (own_left_of m xs end) (firsts ps))) ≡ g ++ text_by_frame f kind split open_break suffix m (texts ps) (texts xs) end
+form_spelled row kind split open_break suffix g m ps xs end b a c h = append-nil _ ∙ (spell_Node (record { kind = kind; parts = map piece_part (laid_in row kind split open_break g m ps xs end) }) ∙ inner_spelled row kind split open_break g m ps xs end refl a c h)
+form_spelled (sequence o e) kind split open_break suffix g m ps xs end b a c h =
+    append-nil _ ∙ (spell_Node (record { kind = kind; parts = map piece_part (laid_in (sequence o e) kind split open_break g m ps xs end) }) ∙ inner_spelled (sequence o e) kind split open_break g m ps xs end refl a c h)
+form_spelled compound kind split open_break suffix g m [] xs end b a c h = absurd h
+form_spelled compound kind split open_break suffix g m (y ∷ ys) xs end b a c h = suite_spelled split open_break suffix g m y ys xs end b a c h
+
+texts_row : (n : _) (r : Row_of-Expr n) → texts_of r ≡ texts (parts_of r)
+texts_row n end_of-Expr = refl
+texts_row n (more_of-Expr x rest) = ap (λ t. (x, text_of x) ∷ t) (texts_row _ rest)
 
 mutual
-  pub spell_expr : (a : Expr) → Readable a → (g : Bytes) (m : ℕ) → spell_part (part_of a g m) ≡ g ++ text_of a m
-  spell_expr (Token t) f g m = refl
-  spell_expr (Form' kind s parts s' items end split open_break comments) f g m =
-      spell_made kind _ ∙
-      (same_laid (frame kind) kind split open_break g m _ _ _ _ end (agree _ parts f.1) (agree _ items f.2) ∙ first_gap (frame kind) kind split open_break g m _ _ end (starts (frame kind) kind split open_break _ parts _ end f.0))
+  pub spell_expr : (a : Expr) → Readable a → IsSpelled (a, part_of a)
+  spell_expr (Token t) f g m = append-nil (g ++ t.text)
+  spell_expr (Form' kind z parts z' items end split open_break comments) f g m =
+      let ps : List (Expr × PartAt) = parts_of parts in
+      let xs : List (Expr × PartAt) = parts_of items in
+      ap (λ w. spell_part (part_of (Form' kind z parts z' items end split open_break comments) g m) ++ indented_lines w) (left_form m (frame kind) _ _ parts items end)
+      ∙ (form_spelled (frame kind) kind split open_break comments.suffix g m ps xs end (row_read _ parts f.1) (row_spelled _ parts f.1) (row_spelled _ items f.2) (facts_of (frame kind) kind split open_break _ _ parts items end f.0)
+      ∙ two (λ u w. g ++ text_by_frame (frame kind) kind split open_break comments.suffix m u w end) (sym (texts_row _ parts)) (sym (texts_row _ items)))
 
-  pub agree : (n : _) (r : Row_of-Expr n) → EachReadable r → Agree (parts_of r) (texts_of r)
-  agree n end_of-Expr f = over
-  agree n (more_of-Expr x rest) f = more x _ _ _ _ (spell_expr x f.0) (agree _ rest f.1)
-
--- the same of lists
-pub agree_all : (xs : List Expr) → AllByRecursion Readable xs → Agree (layouts xs) (writings xs)
-agree_all [] f = over
-agree_all (x ∷ xs) f = more x _ _ _ _ (spell_expr x f.0) (agree_all xs f.1)
+  row_spelled : (n : _) (r : Row_of-Expr n) → EachReadable r → AreSpelled (parts_of r)
+  row_spelled n end_of-Expr f = tt
+  row_spelled n (more_of-Expr x rest) f = (spell_expr x f.0, row_spelled _ rest f.1)
 
 -- ---- the file
 
@@ -141,24 +275,27 @@ pub next_after : (x : Item) (ys : List Item) → before_next x ys ++ layout ys �
 next_after x [] = refl
 next_after x (y ∷ ys) = refl
 
-pub spell_line : (gap : Bytes) (x : Expr) → Readable x → spell_part (line_part gap x) ≡ gap ++ item_text (i.Stmt x)
-spell_line gap x f =
-    let before : Bytes = comment_lines (comments_of x).before in
-    let after : Bytes = suffix_text (comments_of x).suffix ++ (line_feed ∷ []) in
-    spell_made k.Line _ ∙
-    (both (spell_expr x f (gap ++ before) 0) (append-nil after) ∙ (append_assoc (gap ++ before) (text_of x 0) after ∙ append_assoc gap before (text_of x 0 ++ after)))
+pub spell_line : (gap : Bytes) (x : Expr) → has_suite x ≡ false → Readable x → spell_part (line_part gap x) ≡ gap ++ item_text (i.Stmt x)
+spell_line gap x plain f = plain_line 0 gap (x, part_of x) (spell_expr x f) plain
 
-pub spell_lines : (xs : List Item) → AllByRecursion IsProperItem xs → (gap : Bytes) → flat_map spell_part (lines_from gap xs) ≡ gap ++ layout xs
-spell_lines [] h gap = append-nil (gap ++ [])
-spell_lines (i.Block texts ∷ xs) h gap =
-    let lines : Bytes = comment_lines texts in
-    let next : Bytes = before_next (i.Block texts) xs in
-    spell_lines xs h.1 ((gap ++ lines) ++ next) ∙
-    (append_assoc (gap ++ lines) next (layout xs) ∙ (ap (λ t. (gap ++ lines) ++ t) (next_after (i.Block texts) xs) ∙ append_assoc gap lines (past_item (i.Block texts) xs)))
-spell_lines (i.Stmt x ∷ xs) h gap =
+items_spelled : (xs : List Item) → AllByRecursion (IsProperItemBy is_whole_statement value_shape) xs → (gap : Bytes) → flat_map spell_part (lines_from gap xs) ≡ gap ++ layout xs
+items_spelled [] h gap = append-nil (gap ++ [])
+items_spelled (i.Block own ∷ xs) h gap =
+    let lines : Bytes = comment_lines own in
+    let next : Bytes = before_next (i.Block own) xs in
+    items_spelled xs h.1 ((gap ++ lines) ++ next)
+    ∙ (append_assoc (gap ++ lines) next (layout xs) ∙ (ap (λ t. (gap ++ lines) ++ t) (next_after (i.Block own) xs) ∙ append_assoc gap lines (past_item (i.Block own) xs)))
+items_spelled (i.Stmt x ∷ xs) h gap =
     let next : Bytes = before_next (i.Stmt x) xs in
-    both (spell_line gap x (readable Begins x (line_expr Begins x h.0.1))) (spell_lines xs h.1 next ∙ next_after (i.Stmt x) xs) ∙ append_assoc gap (item_text (i.Stmt x)) (past_item (i.Stmt x) xs)
+    let left : Bytes = indented_lines (left_of 0 x) in
+    sym (append-nil _)
+    ∙ next_joined (spell_part (statement_part 0 gap (x, part_of x))) left (flat_map spell_part (lines_from (left ++ next) xs)) [] gap (item_text (i.Stmt x)) (past_item (i.Stmt x) xs)
+    (line_spelled 0 gap (x, part_of x) (spell_expr x (readable Begins x h.0.1)) (line_statement x h.0.0))
+    (append-nil _ ∙ (items_spelled xs h.1 (left ++ next) ∙ (append_assoc left next (layout xs) ∙ ap (λ t. left ++ t) (next_after (i.Stmt x) xs))))
 
--- the tree of the layout of a proper file value spells its text
+-- the tree of the layout of a proper value spells its text
+pub bzl_spelled : (items : List Item) → IsProperBzl items → spell_node (laid_out items) ≡ layout items
+bzl_spelled items h = items_spelled items (recursion_from_All (IsProperItemBy is_whole_statement value_shape) items h) []
+
 pub laid_out_spelled : (items : List Item) → IsProper items → spell_node (laid_out items) ≡ layout items
-laid_out_spelled items h = spell_lines items (recursion_from_All IsProperItem items h) []
+laid_out_spelled items h = bzl_spelled items (build_items items h)

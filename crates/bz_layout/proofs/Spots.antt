@@ -6,15 +6,17 @@ use Rattle.bz_token.specs.declared.class.Class.TheVariants as c
 use Rattle.bz_token.specs.Lexemes.{IsLexeme}
 use Rattle.bz_grammar.specs.declared.kind.Kind.{Kind}
 use Rattle.bz_grammar.specs.declared.kind.Kind.TheVariants as k
+use Rattle.bz_grammar.specs.declared.tree.Part.{Part}
 use Rattle.bz_grammar.specs.Shapes.{Shape, Fits}
 use Rattle.bz_grammar.specs.Legal.{IsNonterminal}
-use Rattle.bz_grammar.specs.Spots.{Spot, Within, onward, opens, closes, plain, role, following_token, after_node}
+use Rattle.bz_grammar.specs.Spots.{Spot, Begins, Within, onward, opens, closes, plain, role, following_token, after_node}
 use Rattle.bz_grammar.proofs.Balance.{no_such}
 use Rattle.bz_value.specs.declared.value.Expr.{Expr, Token, Form', Row_of-Expr, end_of-Expr, more_of-Expr}
-use Rattle.bz_value.specs.Frames.{Frame, row, sequence, frame, has_brackets, is_binary, is_comprehension}
+use Rattle.bz_value.specs.Frames.{Frame, row, sequence, compound, frame, has_brackets, is_binary, is_comprehension}
 use Rattle.bz_items.specs.Characters.{Bytes}
 use Rattle.bz_value.specs.LineShapes.{line_shape}
-use Rattle.bz_value.specs.Proper.{IsComment, has_break, after_expr, roots, IsEmptyRow, in_frame, ProperBy, ProperRowBy, ProperHeadBy, ProperItemsBy}
+use Rattle.bz_value.specs.Proper.{IsComment, has_break, after_expr, roots, IsEmptyRow, IsSomeRow, in_frame, ProperBy, ProperRowBy, ProperHeadBy, ProperItemsBy, ProperHeaderBy, ProperLinesBy}
+use Rattle.bz_value.specs.Statements.{is_alternative, is_whole_statement}
 use Rattle.bz_value.specs.Roots.{root, row_in}
 use Rattle.bz_hosts.proofs.InnerParts.{inner_kind}
 use Rattle.bz_layout.specs.Spaces.{is_value}
@@ -22,7 +24,7 @@ use Rattle.bz_layout.proofs.Neighbours.{is_word}
 use Rattle.bz_layout.specs.Layout.{firsts}
 use Rattle.bz_value.specs.Empty.{is_empty}
 use Rattle.bz_layout.specs.LaidOut.{part_of, parts_of}
-use Rattle.bz_layout.proofs.Elements.{Inside, IsOpening, Opened, in_line_class, in_line_part, InLine, within_line}
+use Rattle.bz_layout.proofs.Elements.{Inside, IsOpening, Opened, in_line_class, in_line_part, InLine, within_line, some_part}
 use Rattle.bz_layout.proofs.Fitted.{Child}
 use Rattle.bz_layout.proofs.Margins.{is_begins}
 
@@ -33,30 +35,37 @@ lexeme_in_line c.Newline t h = absurd h
 lexeme_in_line c.End t h = absurd h
 lexeme_in_line _ t h = refl
 
-pub root_in_line : (here : Spot) (x : Expr) → ProperBy line_shape here x → in_line_part (root x) ≡ true
-root_in_line here (Token t) h = lexeme_in_line t.class t.text h.0
-root_in_line here (Form' kind z parts z' items end split open_break comments) h = refl
+brackets_in_line : (kind : Kind) (xs : List Part) → Fits IsNonterminal (line_shape kind) xs → has_brackets (frame kind) ≡ true → inner_kind kind ≡ true
+brackets_in_line k.File xs g h = no_such h
+brackets_in_line k.Line xs g h = no_such h
+brackets_in_line k.Def xs g h = absurd g
+brackets_in_line k.IfStmt xs g h = absurd g
+brackets_in_line k.ForStmt xs g h = absurd g
+brackets_in_line k.Suite xs g h = absurd g
+brackets_in_line _ xs g h = refl
 
-pub row_in_line : (binary : Bool) (outer here : Spot) (m : _) (r : Row_of-Expr m) → ProperRowBy line_shape binary outer here r → InLine (roots r)
-row_in_line binary outer here m end_of-Expr h = tt
-row_in_line binary outer here m (more_of-Expr x rest) h = (root_in_line here x h.0, row_in_line binary outer (after_expr outer here x) _ rest h.3)
-
-brackets_in_line : (kind : Kind) → has_brackets (frame kind) ≡ true → inner_kind kind ≡ true
-brackets_in_line k.File h = no_such h
-brackets_in_line k.Line h = no_such h
-brackets_in_line k.Def h = no_such h
-brackets_in_line k.IfStmt h = no_such h
-brackets_in_line k.ForStmt h = no_such h
-brackets_in_line k.Suite h = no_such h
-brackets_in_line _ h = refl
-
--- what a form that is proper by a grammar says of its row; of its head, its items and its end comments
+-- what a form that is proper by a grammar says of its row; of its head, its items and its end comments; of a suite
 module _ (grammar : Kind → Shape) where
+  root_in_line : (here : Spot) (x : Expr) → ProperBy grammar here x → in_line_part (root x) ≡ true
+  root_in_line here (Token t) h = lexeme_in_line t.class t.text h.0
+  root_in_line here (Form' kind z parts z' items end split open_break comments) h = refl
+
+  pub row_in_line : (binary : Bool) (outer here : Spot) (m : _) (r : Row_of-Expr m) → ProperRowBy grammar binary outer here r → InLine (roots r)
+  row_in_line binary outer here m end_of-Expr h = tt
+  row_in_line binary outer here m (more_of-Expr x rest) h = (root_in_line here x h.0, row_in_line binary outer (after_expr outer here x) _ rest h.3)
+
   abbrev pub AsRow : Kind → Spot → {m n : _} → Row_of-Expr m → Row_of-Expr n → List Bytes → Bool → Bool → Type 0
   AsRow kind here parts items end split open_break = ProperRowBy grammar (is_binary kind) here here parts × IsEmptyRow items × (end ≡ []) × (split ≡ false) × (open_break ≡ true → is_comprehension kind ≡ true)
 
   abbrev pub AsSequence : Spot → {m n : _} → Row_of-Expr m → Row_of-Expr n → List Bytes → Bool → Type 0
   AsSequence here parts items end open_break = ProperHeadBy grammar here parts × ProperItemsBy grammar items × All IsComment end × (open_break ≡ false)
+
+  abbrev pub AsCompound : {m n : _} → Row_of-Expr m → Row_of-Expr n → List Bytes → Bool → Bool → Type 0
+  AsCompound parts items end split open_break = ProperHeaderBy grammar parts × IsSomeRow items × ProperLinesBy grammar is_whole_statement items × All IsComment end × (split ≡ false) × (open_break ≡ false)
+
+  -- by its frame
+  abbrev pub InFrame : Frame → Kind → Spot → {m n : _} → Row_of-Expr m → Row_of-Expr n → List Bytes → Bool → Bool → Type 0
+  InFrame f kind here parts items end split open_break = in_frame f (AsRow kind here parts items end split open_break) (AsSequence here parts items end open_break) (AsCompound parts items end split open_break)
 
   -- each expression of a row is proper at some spot
   abbrev pub EachProper : {m : _} → Row_of-Expr m → Type 0
@@ -79,15 +88,24 @@ module _ (grammar : Kind → Shape) where
   none_each m end_of-Expr h = tt
   none_each m (more_of-Expr x rest) h = absurd h
 
+  lines_each : (test : Expr → Bool) (m : _) (r : Row_of-Expr m) → ProperLinesBy grammar test r → EachProper r
+  lines_each test m end_of-Expr h = tt
+  lines_each test m (more_of-Expr x rest) h = ((Begins, h.1), lines_each test _ rest h.3)
+
+  header_each : (m : _) (r : Row_of-Expr m) → ProperHeaderBy grammar r → EachProper r
+  header_each m end_of-Expr h = absurd h
+  header_each m (more_of-Expr head rest) h = ((Begins, h.1), lines_each is_alternative _ rest h.3)
+
   -- so it is of both rows of a form
-  pub both_each : (f : Frame) (kind : Kind) (here : Spot) (m n : _) (parts : Row_of-Expr m) (items : Row_of-Expr n) (end : List Bytes) (split open_break : Bool) →
-      in_frame f (AsRow kind here parts items end split open_break) (AsSequence here parts items end open_break) → EachProper parts × EachProper items
+  pub both_each : (f : Frame) (kind : Kind) (here : Spot) (m n : _) (parts : Row_of-Expr m) (items : Row_of-Expr n) (end : List Bytes) (split open_break : Bool) → InFrame f kind here parts items end split open_break → EachProper parts × EachProper items
   both_each row kind here m n parts items end split open_break h = (row_each (is_binary kind) here here m parts h.0, none_each n items h.1)
   both_each (sequence opener closer) kind here m n parts items end split open_break h = (head_each here m parts h.0, items_each n items h.1)
+  both_each compound kind here m n parts items end split open_break h = (header_each m parts h.0, lines_each is_whole_statement n items h.2)
 
 in_line_by : (f : Frame) (kind : Kind) (here : Spot) (m n : _) (parts : Row_of-Expr m) (items : Row_of-Expr n) (end : List Bytes) (split open_break : Bool) → (has_brackets f ≡ true → inner_kind kind ≡ true) →
-    Fits IsNonterminal (line_shape kind) (row_in f (roots parts) (roots items)) → in_frame f (AsRow line_shape kind here parts items end split open_break) (AsSequence line_shape here parts items end open_break) → inner_kind kind ≡ true
-in_line_by row kind here m n parts items end split open_break b h i = within_line kind (roots parts) h (row_in_line (is_binary kind) here here m parts i.0)
+    Fits IsNonterminal (line_shape kind) (row_in f (roots parts) (roots items)) → InFrame line_shape f kind here parts items end split open_break → inner_kind kind ≡ true
+in_line_by compound kind here m n parts items end split open_break b h i = absurd (some_part kind h)
+in_line_by row kind here m n parts items end split open_break b h i = within_line kind (roots parts) h (row_in_line line_shape (is_binary kind) here here m parts i.0)
 in_line_by (sequence opener closer) kind here m n parts items end split open_break b h i = b refl
 
 abbrev pub NoLine : Expr → Type 0
@@ -97,7 +115,7 @@ NoLine (Form' kind z parts z' items end split open_break comments) = inner_kind 
 -- a proper form is no line and no file
 pub no_line : (here : Spot) (x : Expr) → ProperBy line_shape here x → NoLine x
 no_line here (Token t) h = tt
-no_line here (Form' kind z parts z' items end split open_break comments) h = in_line_by (frame kind) kind here _ _ parts items end split open_break (brackets_in_line kind) h.0 h.1
+no_line here (Form' kind z parts z' items end split open_break comments) h = in_line_by (frame kind) kind here _ _ parts items end split open_break (brackets_in_line kind _ h.0) h.0 h.1
 
 -- ---- where what follows is
 

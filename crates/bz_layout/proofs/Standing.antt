@@ -1,8 +1,9 @@
 -- What the layout makes of any proper expression is where it may be, whatever its kinds are: one lemma for each way to lay
 -- parts.
-use Rattle.std.proofs.Common.{◌≡◌, ℕ, Bool, true, false, not, ◌&&◌, ◌+◌, List, [], ◌∷◌, ◌++◌, None, Option, if◌then◌else◌, length, refl, sym, subst, map, append-nil, arith}
+use Rattle.std.proofs.Common.{◌≡◌, ℕ, Bool, true, false, not, ◌&&◌, ◌+◌, List, [], ◌∷◌, ◌++◌, None, Option, if◌then◌else◌, length, refl, sym, ap, ◌∙◌, subst, map, append-nil, arith}
 use Rattle.std.specs.Prelude.{IsUtf8, nat_eq}
 use Rattle.std.specs.List.{AllByRecursion}
+use Rattle.std.proofs.lemmas.Bool.{both_ways}
 use Rattle.std.proofs.lemmas.List.Elements.{recursion_from_All}
 use Rattle.bz_token.specs.declared.class.Class.{Class}
 use Rattle.bz_token.specs.declared.class.Class.TheVariants as c
@@ -21,18 +22,20 @@ use Rattle.bz_grammar.proofs.Nested.{row_of, items_of_row}
 use Rattle.bz_grammar.proofs.Balance.{row_of_parts}
 use Rattle.bz_value.specs.declared.value.Expr.{Expr, Token, Form', Row_of-Expr, end_of-Expr, more_of-Expr}
 use Rattle.bz_items.specs.Characters.{Bytes, comma, space}
-use Rattle.bz_value.specs.Frames.{Frame, row, sequence, frame, is_binary, is_comprehension}
+use Rattle.bz_value.specs.Frames.{Frame, row, sequence, compound, frame, is_binary, is_comprehension, is_compound}
 use Rattle.bz_value.specs.LineShapes.{line_shape}
 use Rattle.bz_value.specs.Proper.{IsComment, MaybeComment, AreComments, comments_of, after_expr, roots, in_frame, ProperBy, ProperRowBy, ProperHeadBy, ProperItemsBy}
 use Rattle.bz_value.specs.Roots.{row_in}
+use Rattle.bz_value.specs.Statements.{has_suite}
 use Rattle.bz_layout.specs.Layout.{mark, new_line_at, margin_lines, ended, suffix_text, is_broken, is_tuple, gap_after, margin_after, firsts, rowed, headed, joined, stacked, laid_in, laid}
 use Rattle.bz_value.specs.Empty.{is_empty}
 use Rattle.bz_layout.specs.LaidOut.{piece_part, part_of, parts_of}
 use Rattle.bz_layout.proofs.Elements.{AreValues, items_values, Opened, comprehension}
 use Rattle.bz_layout.proofs.Joined.{AtMostOne, head_fits}
 use Rattle.bz_layout.proofs.Fitted.{Child, Pieces}
-use Rattle.bz_layout.proofs.Margins.{FitsAt, gap_stands, gap_coded, coded_byte, inner_nothing, inner_space, item_gap, closer_gap, is_begins, none_fits, after_fits}
-use Rattle.bz_layout.proofs.Spots.{lexeme_in_line, AsRow, AsSequence, goes_on, value_within, RowBreaks, row_breaks}
+use Rattle.bz_layout.proofs.Made.{plain_part, laid_plain, line_plain}
+use Rattle.bz_layout.proofs.Margins.{FitsAt, gap_stands, gap_coded, coded_byte, inner_nothing, inner_space, item_gap, closer_gap, is_begins, none_fits, space_fits, after_fits}
+use Rattle.bz_layout.proofs.Spots.{lexeme_in_line, InFrame, goes_on, value_within, RowBreaks, row_breaks}
 
 -- a leaf is where it may be, is of texts of characters, and holds a lexeme
 pub record Placed (here : Spot) (leaf : Leaf) : Type 0 where
@@ -75,6 +78,11 @@ rowed_at kind open_break m outer here gap n (x ∷ xs) rest g h b r =
     first_part outer here (after_expr outer here x.0) x gap n _ h.0 g
     (rowed_at kind open_break m outer (after_expr outer here x.0) (gap_after kind open_break m x.0 (firsts xs)) (margin_after open_break m x.0) xs rest (after_fits kind open_break m x.0 (firsts xs) (after_expr outer here x.0) h.0.no_first b.0) h.1 b.1 r)
 
+-- a space before what follows, or nothing
+next_fits : (b : Bool) (here : Spot) → is_begins here ≡ false → FitsAt here (if b then [] else (space ∷ []))
+next_fits true here h = none_fits here h
+next_fits false here h = space_fits here h
+
 -- a bracket: what it is to those after it, and that it is a token
 pub record IsBracket (t : Role) (n : ℕ) : Type 0 where
   pub turns : role c.Mark (n ∷ []) ≡ t
@@ -89,7 +97,8 @@ module _ (outer : Spot) (opener closer : ℕ) (opening : IsBracket opens opener)
   pub headed_at : (m : ℕ) (here : Spot) (gap : Bytes) (xs : List Child) (after : Pieces) → FitsAt here gap → RowLaysOut outer here xs → AtParts Placed outer Within (map piece_part after) → AtParts Placed outer here (map piece_part (headed m gap opener xs after))
   headed_at m here gap [] after g h i = opener_at here gap (map piece_part after) g i
   headed_at m here gap (x ∷ xs) after g h i =
-      first_part outer here (after_expr outer here x.0) x gap m _ h.0 g (headed_at m (after_expr outer here x.0) [] xs after (none_fits (after_expr outer here x.0) h.0.no_first) h.1 i)
+      let there : Spot = after_expr outer here x.0 in
+      first_part outer here there x gap m _ h.0 g (headed_at m there (if is_empty xs then [] else (space ∷ [])) xs after (next_fits (is_empty xs) there h.0.no_first) h.1 i)
 
   pub closer_at : (gap : Bytes) (rest : List Part) → FitsAt Within gap → AtParts Placed outer (onward outer) rest → AtParts Placed outer Within (p.Leaf (record { class = c.Mark; gap = gap; token = closer ∷ [] }) ∷ rest)
   closer_at gap rest g r = (placed c.Mark gap (closer ∷ []) Within closing.is_token closing.coded g, subst (λ z. AtParts Placed outer (following_token z outer Within) rest) (sym closing.turns) r)
@@ -125,8 +134,8 @@ module _ (outer : Spot) (opener closer : ℕ) (opening : IsBracket opens opener)
 -- ---- all kinds
 
 abbrev Bracketed : Frame → Type 0
-Bracketed row = Unit {0}
 Bracketed (sequence opener closer) = IsBracket opens opener × IsBracket closes closer
+Bracketed _ = Unit {0}
 
 pub round : IsBracket opens 40 × IsBracket closes 41
 round = (record { turns = refl; is_token = refl; coded = coded_byte 40 (omega arith) }, record { turns = refl; is_token = refl; coded = coded_byte 41 (omega arith) })
@@ -141,18 +150,21 @@ bracketed : (kind : Kind) → Bracketed (frame kind)
 bracketed k.Call = round
 bracketed k.Load = round
 bracketed k.Tuple = round
+bracketed k.Def = round
 bracketed k.List = square
 bracketed k.Dict = curly
 bracketed _ = tt
 
 abbrev FormLaysOut : Frame → Bool → Spot → List Child → List Child → List Bytes → Type 0
 FormLaysOut row open_break here parts items end = RowLaysOut here here parts × RowBreaks open_break here here parts
+FormLaysOut compound open_break here parts items end = ⊥
 FormLaysOut (sequence opener closer) open_break here parts items end = RowLaysOut here here parts × ItemsLayOut here items × AllByRecursion IsComment end
 
 laid_at : (f : Frame) → Bracketed f → (kind : Kind) (split open_break : Bool) (here : Spot) (gap : Bytes) (m : ℕ) (parts items : List Child) (end : List Bytes) → FitsAt here gap → FormLaysOut f open_break here parts items end →
     AtParts Placed here here (map piece_part (laid_in f kind split open_break gap m parts items end))
 laid_at row b kind split open_break here gap m parts items end g h =
     subst (AtParts Placed here here) (append-nil (map piece_part (rowed kind open_break m gap m parts))) (rowed_at kind open_break m here here gap m parts [] g h.0 h.1 tt)
+laid_at compound b kind split open_break here gap m parts items end g h = absurd h
 laid_at (sequence opener closer) b kind split open_break here gap m parts items end g h =
     let broken : Bool = is_broken kind split (firsts items) end in
     let one : Bool = is_tuple kind && nat_eq (length items) 1 in
@@ -163,34 +175,42 @@ laid_at (sequence opener closer) b kind split open_break here gap m parts items 
 pub at_node : (P : Spot → Leaf → Type 0) (here : Spot) (n : Node) → AtParts P here here n.parts → AtLeaves P here (p.Node n)
 at_node P here n h = row_of_parts P here here _ (row_of n).1 (subst (AtParts P here here) (sym (items_of_row n)) h)
 
-laid_out_goes_on : (outer here : Spot) (x : Expr) (gap : Bytes) (m : ℕ) → after_part outer here (part_of x gap m) ≡ after_expr outer here x
-laid_out_goes_on outer here (Token t) gap m = refl
-laid_out_goes_on outer here (Form' kind z parts z' items end split open_break comments) gap m = refl
+plain_goes_on : (outer here : Spot) (x : Expr) (gap : Bytes) (m : ℕ) → after_part outer here (plain_part x gap m) ≡ after_expr outer here x
+plain_goes_on outer here (Token t) gap m = refl
+plain_goes_on outer here (Form' kind z parts z' items end split open_break comments) gap m = refl
+
+pub laid_out_goes_on : (outer here : Spot) (x : Expr) → has_suite x ≡ false → (gap : Bytes) (m : ℕ) → after_part outer here (part_of x gap m) ≡ after_expr outer here x
+laid_out_goes_on outer here x h gap m = ap (λ f. after_part outer here (f gap m)) (laid_plain x h) ∙ plain_goes_on outer here x gap m
 
 pub lays_out : (outer here : Spot) (x : Expr) → ProperBy line_shape here x → ((gap : Bytes) (m : ℕ) → FitsAt here gap → AtLeaves Placed here (part_of x gap m)) → LaysOut outer here (after_expr outer here x) (x, part_of x)
-lays_out outer here x h s = record { stands = s; goes_on = λ gap m. laid_out_goes_on outer here x gap m; no_first = goes_on outer here x h }
+lays_out outer here x h s = record { stands = s; goes_on = laid_out_goes_on outer here x (line_plain here x h); no_first = goes_on outer here x h }
 
 -- what is in a form, by what is known of its rows
 form_lays_out : (f : Frame) (kind : Kind) (split open_break : Bool) (here : Spot) (m n : _) (parts : Row_of-Expr m) (items : Row_of-Expr n) (end : List Bytes) →
     (ProperRowBy line_shape (is_binary kind) here here parts → RowLaysOut here here (parts_of parts)) → (ProperHeadBy line_shape here parts → AtMostOne (roots parts) → RowLaysOut here here (parts_of parts)) → (ProperItemsBy line_shape items → AreValues (roots items) → ItemsLayOut here (parts_of items)) →
-    in_frame f (Unit {0}) (AtMostOne (roots parts)) → in_frame f (Unit {0}) (AreValues (roots items)) → (is_comprehension kind ≡ true → in_frame f (Opened (roots parts)) (Unit {0})) →
-    in_frame f (AsRow line_shape kind here parts items end split open_break) (AsSequence line_shape here parts items end open_break) → FormLaysOut f open_break here (parts_of parts) (parts_of items) end
-form_lays_out row kind split open_break here m n parts items end a b d o v c h = (a h.0, row_breaks (is_binary kind) open_break here here m parts h.0 (λ e. c (h.4 e)))
-form_lays_out (sequence opener closer) kind split open_break here m n parts items end a b d o v c h = (b h.0 o, d h.1 v, recursion_from_All IsComment end h.2)
+    (is_compound f ≡ true → ⊥) → in_frame f (Unit {0}) (AtMostOne (roots parts)) (Unit {0}) → in_frame f (Unit {0}) (AreValues (roots items)) (Unit {0}) → (is_comprehension kind ≡ true → in_frame f (Opened (roots parts)) (Unit {0}) (Unit {0})) →
+    InFrame line_shape f kind here parts items end split open_break → FormLaysOut f open_break here (parts_of parts) (parts_of items) end
+form_lays_out row kind split open_break here m n parts items end a b d e o v c h = (a h.0, row_breaks (is_binary kind) open_break here here m parts h.0 (λ e. c (h.4 e)))
+form_lays_out compound kind split open_break here m n parts items end a b d e o v c h = absurd (e refl)
+form_lays_out (sequence opener closer) kind split open_break here m n parts items end a b d e o v c h = (b h.0 o, d h.1 v, recursion_from_All IsComment end h.2)
 
-open_form : (f : Frame) (kind : Kind) → is_comprehension kind ≡ true → (parts items : List Part) → Fits IsNonterminal (line_shape kind) (row_in f parts items) → in_frame f (Opened parts) (Unit {0})
+open_form : (f : Frame) (kind : Kind) → is_comprehension kind ≡ true → (parts items : List Part) → Fits IsNonterminal (line_shape kind) (row_in f parts items) → in_frame f (Opened parts) (Unit {0}) (Unit {0})
 open_form row kind c parts items h = comprehension kind c parts h
 open_form (sequence opener closer) kind c parts items h = tt
+open_form compound kind c parts items h = tt
 
 mutual
   -- what is laid out of a proper expression is where it may be
   pub laid_out_stands : (here : Spot) (x : Expr) → ProperBy line_shape here x → (gap : Bytes) (m : ℕ) → FitsAt here gap → AtLeaves Placed here (part_of x gap m)
   laid_out_stands here (Token t) h gap m g = placed t.class gap t.text here h.0 h.1 g
   laid_out_stands here (Form' kind z parts z' items end split open_break comments) h gap m g =
-      at_node Placed here (record { kind = kind; parts = map piece_part (laid kind split open_break gap m (parts_of parts) (parts_of items) end) })
+      let x : Expr = Form' kind z parts z' items end split open_break comments in
+      let plain : is_compound (frame kind) ≡ false = line_plain here x h in
+      subst (λ f. AtLeaves Placed here (f gap m)) (sym (laid_plain x plain))
+      (at_node Placed here (record { kind = kind; parts = map piece_part (laid kind split open_break gap m (parts_of parts) (parts_of items) end) })
       (laid_at (frame kind) (bracketed kind) kind split open_break here gap m (parts_of parts) (parts_of items) end g
-      (form_lays_out (frame kind) kind split open_break here _ _ parts items end (row_lays_out (is_binary kind) here here _ parts) (head_lays_out here _ parts) (items_lay_out here _ items) (head_fits kind (roots parts) (roots items) h.0) (items_values kind (roots parts) (roots items) h.0)
-      (λ e. open_form (frame kind) kind e (roots parts) (roots items) h.0) h.1))
+      (form_lays_out (frame kind) kind split open_break here _ _ parts items end (row_lays_out (is_binary kind) here here _ parts) (head_lays_out here _ parts) (items_lay_out here _ items) (both_ways _ plain) (head_fits kind (roots parts) (roots items) h.0)
+      (items_values kind (roots parts) (roots items) h.0) (λ e. open_form (frame kind) kind e (roots parts) (roots items) h.0) h.1)))
 
   pub row_lays_out : (binary : Bool) (outer here : Spot) (m : _) (r : Row_of-Expr m) → ProperRowBy line_shape binary outer here r → RowLaysOut outer here (parts_of r)
   row_lays_out binary outer here m end_of-Expr h = tt

@@ -5,6 +5,7 @@ use Rattle.std.specs.Prelude.{slice_get}
 use Rattle.std.specs.List.{AllByRecursion}
 use Rattle.std.proofs.lemmas.List.Elements.{recursion_from_All}
 use Rattle.bz_grammar.specs.Spell.{leaves_part, limit}
+use Rattle.bz_grammar.specs.Shapes.{shape}
 use Rattle.bz_grammar.specs.Spots.{Begins}
 use Rattle.bz_grammar.specs.declared.kind.Kind.TheVariants as k
 use Rattle.bz_grammar.specs.declared.tree.Node.{Node}
@@ -18,7 +19,9 @@ use Rattle.bz_value.specs.Proper.{IsProperItem, IsProper, comments_of}
 use Rattle.bz_value.specs.declared.value.Expr.{Expr}
 use Rattle.bz_value.specs.declared.value.Item.{Item}
 use Rattle.bz_value.specs.declared.value.Item.TheVariants as i
-use Rattle.bz_value.proofs.Wider.{line_expr}
+use Rattle.bz_value.specs.LineShapes.{value_shape}
+use Rattle.bz_value.specs.Statements.{has_suite}
+use Rattle.bz_value.proofs.Wider.{build_wider, line_expr, wider_expr}
 use Rattle.bz_layout.specs.Drafts.{Drafted, drafted, pushed}
 use Rattle.bz_layout.specs.Layout.{suffix_text}
 use Rattle.bz_layout.specs.LaidOut.{part_of, line_part, left_gap, before_next, lines_from}
@@ -30,6 +33,7 @@ use Rattle.bz_layout.specs.private.Windows.{line_count_in, statement_gap, AreCou
 use Rattle.bz_value.specs.declared.windows.Window.{Window}
 use Rattle.bz_layout.proofs.LineWindows.{each_cut}
 use Rattle.bz_layout.proofs.LegalParts.{Begin, begin_with, laid_out_good}
+use Rattle.bz_layout.proofs.Made.{plain_first, item_plain}
 use Rattle.bz_layout.proofs.Pushing.{pushed_none}
 use Rattle.bz_layout.proofs.Reaching.{put_line, take_lines, skip_lines, opened, reach_as}
 use Rattle.bz_layout.proofs.Readable.{readable}
@@ -43,6 +47,11 @@ same_first n k xs ys y h l e is =
     drop_more xs k y (omega (arith, h, l)) ∙
     ap (λ x. x ∷ drop (k + 1) xs) (sym (get_or-take n xs k y h) ∙ (ap (λ zs. get_or zs k y) e ∙ (get_or-take n ys k y h ∙ sym is)))
 
+proper_drop : (n : ℕ) (xs : List Item) → AllByRecursion IsProperItem xs → AllByRecursion IsProperItem (drop n xs)
+proper_drop zero xs h = h
+proper_drop (suc n) [] h = h
+proper_drop (suc n) (x ∷ xs) h = proper_drop n xs h.1
+
 -- ---- items that came
 
 module _ {parts all : List Part} where
@@ -51,7 +60,10 @@ module _ {parts all : List Part} where
       Reached parts all w.made (pushed w.window.text (own_text w.window.gap.items y)) true w.bytes w.done w.base w.part left (lines_from (left_gap w.window.gap.items y ++ before_next y ys) ys)
   line_put w left (i.Block texts) ys h r = reach_as (pushed_none w.window.text) refl refl (opened r)
   line_put w left (i.Stmt x) ys h r =
-      reach_as (ap (pushed w.window.text) (sym (spell_line w.window.gap.items x (readable Begins x (line_expr Begins x h.1))))) refl refl (put_line (line_part w.window.gap.items x) r)
+      let gap : Bytes = w.window.gap.items in
+      let plain : has_suite x ≡ false = item_plain x h in
+      reach_as (ap (pushed w.window.text) (sym (spell_line gap x plain (readable Begins x (wider_expr shape value_shape build_wider Begins x h.1))))) refl refl
+      (put_line (line_part gap x) (reach_as refl refl (sym (plain_first gap x ys plain)) r))
 
   -- a turn of the loop over them
   pub came_turn : (w : Writer) (v : OpenWindow) (xs items : List Item) (at : ℕ) (y : Item) → at < length items → y ≡ get_or items at y → v.text ≡ pushed w.window.text (own_text w.window.gap.items y) →
@@ -62,6 +74,7 @@ module _ {parts all : List Part} where
       let here : AreReached parts all w xs (y ∷ drop (at + 1) items) = subst (AreReached parts all w xs) first r in
       record {
         above = here.above;
+        proper_before = here.proper_before;
         proper = here.proper.1;
         lines =
             reach_as text shown (ap (λ g. lines_from g (drop (at + 1) items)) (gap ∙ ap (λ zs. left_gap w.window.gap.items y ++ before_next y zs) (rest_here items (at + 1))))
@@ -76,7 +89,7 @@ module _ {parts all : List Part} where
       let above : Bytes = statement_gap r.above gone xs in
       let front : List Part = front_lines r.above gone xs in
       let rest : List Part = lines_from above (drop gone xs) in
-      let cut : lines_from r.above xs ≡ front ++ rest = lines_cut r.above gone xs h in
+      let cut : lines_from r.above xs ≡ front ++ rest = lines_cut r.above gone xs r.proper_before h in
       let many : length front ≡ lines = length_front r.above gone xs ∙ count in
       let room : length (lines_from r.above xs) ≡ length front + length rest = ap length cut ∙ length-append front rest in
       let left : length parts - w.part ≡ length (lines_from r.above xs) = sym (length-drop w.part parts) ∙ ap length r.lines.left_is in
@@ -84,6 +97,7 @@ module _ {parts all : List Part} where
       let after : drop lines (lines_from r.above xs) ≡ rest = ap (λ ps. drop lines ps) cut ∙ drop_at front rest lines many in
       record {
         above = above;
+        proper_before = proper_drop gone xs r.proper_before;
         proper = r.proper;
         lines =
             subst (λ ps. Reached parts all w.made w.window.text true w.bytes w.done w.base part ps (lines_from w.window.gap.items ys)) after
@@ -122,16 +136,12 @@ line_begins gap x rest h =
 -- a statement with the gap that its line has in the tree has this line
 same_line : (gap above : Bytes) (x : Expr) (xs : List Item) → IsProperItem (i.Stmt x) → HasNext gap (i.Stmt x ∷ []) (lines_from above (i.Stmt x ∷ xs)) → line_part gap x ≡ line_part above x
 same_line gap above x xs h has =
-    let same : gap ++ comment_lines (comments_of x).before ≡ above ++ comment_lines (comments_of x).before = has_gap_at _ _ _ (line_begins above x (lines_from (before_next (i.Stmt x) xs) xs) h) has in
+    let same : gap ++ comment_lines (comments_of x).before ≡ above ++ comment_lines (comments_of x).before =
+    has_gap_at _ _ _ (line_begins above x (lines_from (before_next (i.Stmt x) xs) xs) h) (subst (HasNext gap (i.Stmt x ∷ [])) (plain_first above x xs (item_plain x h)) has) in
     ap (λ t. p.Node (record {
       kind = k.Line;
       parts = part_of x t 0 ∷ p.Leaf (record { class = c.Newline; gap = suffix_text (comments_of x).suffix; token = line_feed ∷ [] }) ∷ [];
     })) same
-
-proper_drop : (n : ℕ) (xs : List Item) → AllByRecursion IsProperItem xs → AllByRecursion IsProperItem (drop n xs)
-proper_drop zero xs h = h
-proper_drop (suc n) [] h = h
-proper_drop (suc n) (x ∷ xs) h = proper_drop n xs h.1
 
 module _ {parts all : List Part} where
   lines_skipped : (w : Writer) (v : OpenWindow) (xs ys : List Item) (x : Expr) (n part : ℕ) → w.window.is_open ≡ false → v.text ≡ w.window.text → v.is_open ≡ w.window.is_open →
@@ -146,14 +156,15 @@ module _ {parts all : List Part} where
       let line : line_part here x ≡ line_part r.above x = same_line here r.above x xs r.proper.0 (subst (λ (ps : List Part). HasNext here (i.Stmt x ∷ []) ps) r.lines.left_is has) in
       let first : front_lines r.above (suc n) (i.Stmt x ∷ xs) ≡ kept =
       front_same r.above (suc n) (i.Stmt x ∷ xs) (i.Stmt x ∷ ys) (omega (arith, g)) (omega (arith, h)) same ∙ ap (λ z. z ∷ front_lines (before_next (i.Stmt x) ys) n ys) (sym line) in
-      let left : lines_from r.above (i.Stmt x ∷ xs) ≡ kept ++ lines_from old (drop n xs) = lines_cut r.above (suc n) (i.Stmt x ∷ xs) (omega (arith, g)) ∙ ap (λ ps. ps ++ lines_from old (drop n xs)) first in
+      let left : lines_from r.above (i.Stmt x ∷ xs) ≡ kept ++ lines_from old (drop n xs) = lines_cut r.above (suc n) (i.Stmt x ∷ xs) r.proper_before (omega (arith, g)) ∙ ap (λ ps. ps ++ lines_from old (drop n xs)) first in
       let rest : lines_from here (i.Stmt x ∷ ys) ≡ kept ++ lines_from v.gap.items (drop n ys) =
-      lines_cut here (suc n) (i.Stmt x ∷ ys) (omega (arith, h)) ∙ ap (λ t. kept ++ lines_from t (drop n ys)) (sym gap) in
+      lines_cut here (suc n) (i.Stmt x ∷ ys) r.proper (omega (arith, h)) ∙ ap (λ t. kept ++ lines_from t (drop n ys)) (sym gap) in
       let many : length kept ≡ line_count_in (take (suc n) (i.Stmt x ∷ ys)) = length_front here (suc n) (i.Stmt x ∷ ys) in
       let room : length parts - w.part ≡ length kept + length (lines_from old (drop n xs)) = sym (length-drop w.part parts) ∙ (ap length (r.lines.left_is ∙ left) ∙ length-append kept (lines_from old (drop n xs))) in
       let on : part ≡ w.part + line_count_in (take (suc n) (i.Stmt x ∷ ys)) = past (omega (arith, many, room, r.lines.within)) in
       record {
         above = old;
+        proper_before = proper_drop n xs r.proper_before.1;
         proper = proper_drop n ys r.proper.1;
         lines = reach_as text still refl (skip_lines part kept (lines_from old (drop n xs)) (lines_from v.gap.items (drop n ys)) shut left rest (on ∙ ap (λ m. w.part + m) (sym many)) r.lines);
       }
@@ -183,6 +194,7 @@ module _ {parts all : List Part} where
       sym (drop-take at n xs) ∙ (ap (λ m. drop at (take m xs)) both ∙ (ap (drop at) same ∙ (ap (λ m. drop at (take m items)) (sym both) ∙ drop-take at n items))) in
       let closed : AreReached parts all v (drop at xs) (drop at items) = record {
         above = r.above;
+        proper_before = r.proper_before;
         proper = r.proper;
         lines = subst (λ t. IsAt parts all v (lines_from r.above (drop at xs)) (lines_from t (drop at items))) (sym gap) (close _ _ r.lines);
       } in
@@ -245,8 +257,8 @@ module _ {said : Bool} {parts all : List Part} where
 -- ---- the beginning
 
 pub begun : (parts : List Part) (before items : List Item) (w : Writer) → w.made ≡ [] → w.window.text ≡ drafted limit [] → w.window.gap.items ≡ [] → w.window.is_open ≡ false → w.bytes ≡ 0 → w.done ≡ 0 → w.base ≡ 0 → w.part ≡ 0 → lines_from [] before ≡ parts →
-    IsProper items → AreReached parts (lines_from [] items) w before items
-begun parts before items w made text gap shut bytes done base part own proper =
+    IsProper before → IsProper items → AreReached parts (lines_from [] items) w before items
+begun parts before items w made text gap shut bytes done base part own old proper =
     let start : Reached parts (lines_from [] items) [] (drafted limit []) false 0 0 0 0 (lines_from [] before) (lines_from [] items) = record {
       before = record { new = []; texts = tt; there = tt; done_is = refl; count = refl; few = omega arith };
       own = [];
@@ -260,6 +272,7 @@ begun parts before items w made text gap shut bytes done base part own proper =
     } in
     record {
       above = [];
+      proper_before = recursion_from_All IsProperItem before old;
       proper = recursion_from_All IsProperItem items proper;
       lines = rw (made, text, shut, bytes, done, base, part, gap) start;
     }

@@ -6,7 +6,6 @@ use Rattle.std.proofs.Math.Bool.{and-false, and-true}
 use Rattle.std.proofs.lemmas.Bool.{and_parts}
 use Rattle.bz_grammar.specs.declared.kind.Kind.{Kind}
 use Rattle.bz_grammar.specs.declared.kind.Kind.TheVariants as k
-use Rattle.bz_grammar.specs.declared.tree.Part.{Part}
 use Rattle.bz_value.specs.declared.value.Expr.{Expr}
 use Rattle.bz_items.specs.Characters.{Bytes, space}
 use Rattle.bz_value.specs.Comments.{no_comments}
@@ -19,15 +18,12 @@ use Rattle.bz_hosts.specs.View.{Seen, seen, plain, first_seen_gap, begins_seen_o
 use Rattle.bz_layout.specs.Layout.{Piece, rowed, gap_after, margin_after, new_line_at, firsts}
 use Rattle.bz_value.specs.Empty.{is_empty}
 use Rattle.bz_layout.specs.Spaces.{is_spaced}
-use Rattle.bz_layout.specs.LaidOut.{piece_part}
+use Rattle.bz_layout.specs.LaidOut.{PartAt, piece_part}
 use Rattle.bz_layout.specs.Flags.{with_flags}
+use Rattle.bz_hosts.proofs.Colons.{NoColon}
 use Rattle.bz_layout.proofs.Framed.{after_first}
 use Rattle.bz_layout.proofs.Gapped.{ended_line, lines_line}
 use Rattle.bz_layout.proofs.Readable.{AreParts, ends}
-
--- what is laid out of an expression, after a gap, at a margin
-abbrev pub PartAt : Type 0
-PartAt = Bytes → ℕ → Part
 
 abbrev pub look : List (Piece PartAt) → List Seen
 look ps = map seen (map piece_part ps)
@@ -38,6 +34,7 @@ pub record SeenAs (x : Expr × PartAt) : Type 0 where
   pub sign : (g : Bytes) (m : ℕ) → is_operator (plain (seen (x.1 g m))) ≡ is_operator x.0
   pub gap : (g : Bytes) (m : ℕ) → (seen (x.1 g m)).gap ≡ g
   pub loose : (g : Bytes) (m : ℕ) → (seen (x.1 g m)).loose ≡ []
+  pub plain : (g : Bytes) (m : ℕ) → NoColon (root x.0) → NoColon (x.1 g m)
 
 abbrev pub Reads : List (Expr × PartAt) → Type 0
 Reads xs = AllByRecursion SeenAs xs

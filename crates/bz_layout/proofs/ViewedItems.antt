@@ -15,8 +15,10 @@ use Rattle.bz_layout.specs.Layout.{Piece, joined, stacked, headed, is_broken, ha
 use Rattle.bz_value.specs.Empty.{is_empty, is_none}
 use Rattle.bz_layout.specs.Flags.{with_flags}
 use Rattle.bz_layout.proofs.Gapped.{ended_line, commented, commented_back, suffix_indent, lines_item, lines_end}
+use Rattle.bz_layout.proofs.Made.{two}
 use Rattle.bz_layout.proofs.Readable.{AreHeads, AreItems}
-use Rattle.bz_layout.proofs.Viewed.{PartAt, SeenAs, Reads, look, settled}
+use Rattle.bz_layout.specs.LaidOut.{PartAt}
+use Rattle.bz_layout.proofs.Viewed.{SeenAs, Reads, look, settled}
 
 -- a mark with nothing before it
 abbrev bare_mark : ℕ → Seen
@@ -159,24 +161,33 @@ pub headed_gap : (m : ℕ) (g : Bytes) (opener : ℕ) (hs : List (Expr × PartAt
 headed_gap m g opener [] body r = refl
 headed_gap m g opener (x ∷ xs) body r = r.0.gap g m
 
+pub head_made : (x : Expr × PartAt) (g : Bytes) (m : ℕ) → SeenAs x → comments_of x.0 ≡ no_comments → has_break x.0 ≡ false → plain (seen (x.1 g m)) ≡ with_flags x.0
+head_made x g m r c b = let s : Seen = seen (x.1 g m) in ap (λ z. s.make no_comments z) (sym b) ∙ (ap (λ z. s.make z (has_break x.0)) (sym c) ∙ r.value g m)
+
+-- the space between two parts of it
+abbrev between : List (Expr × PartAt) → Bytes
+between xs = if is_empty xs then [] else (space ∷ [])
+
+between_bare : (xs : List (Expr × PartAt)) → all_in (between xs) ≡ []
+between_bare [] = refl
+between_bare (x ∷ xs) = refl
+
 pub headed_take : (m : ℕ) (g : Bytes) (opener : ℕ) (hs : List (Expr × PartAt)) (body : List (Piece PartAt)) → Reads hs → AreHeads (firsts hs) → map plain (take (length (firsts hs)) (look (headed m g opener hs body))) ≡ settled hs
 headed_take m g opener [] body r h = refl
 headed_take m g opener (x ∷ xs) body r h =
-    let s : Seen = seen (x.1 g m) in
-    let rest : List Expr = map plain (take (length (firsts xs)) (look (headed m [] opener xs body))) in
-    ap (λ z. s.make no_comments z ∷ rest) (sym h.1) ∙ (ap (λ z. s.make z (has_break x.0) ∷ rest) (sym h.0) ∙ (ap (λ z. z ∷ rest) (r.0.value g m) ∙ ap (λ z. with_flags x.0 ∷ z) (headed_take m [] opener xs body r.1 h.2)))
+    ap (λ z. z ∷ map plain (take (length (firsts xs)) (look (headed m (between xs) opener xs body)))) (head_made x g m r.0 h.0 h.1) ∙ ap (λ z. with_flags x.0 ∷ z) (headed_take m (between xs) opener xs body r.1 h.2)
 
 pub headed_drop : (m : ℕ) (g : Bytes) (opener : ℕ) (hs : List (Expr × PartAt)) (body : List (Piece PartAt)) → drop (suc (length (firsts hs))) (look (headed m g opener hs body)) ≡ look body
 headed_drop m g opener [] body = refl
-headed_drop m g opener (x ∷ xs) body = headed_drop m [] opener xs body
+headed_drop m g opener (x ∷ xs) body = headed_drop m (between xs) opener xs body
 
-headed_after : (m : ℕ) (opener : ℕ) (hs : List (Expr × PartAt)) (body : List (Piece PartAt)) → Reads hs → loose_after (take (suc (length (firsts hs))) (look (headed m [] opener hs body))) ≡ []
-headed_after m opener [] body r = refl
-headed_after m opener (x ∷ xs) body r =
-    let s : Seen = seen (x.1 [] m) in
-    let rest : List Bytes = loose_after (take (suc (length (firsts xs))) (look (headed m [] opener xs body))) in
-    ap (λ z. (all_in z ++ s.loose) ++ rest) (r.0.gap [] m) ∙ (ap (λ z. z ++ rest) (r.0.loose [] m) ∙ headed_after m opener xs body r.1)
+headed_after : (m : ℕ) (g : Bytes) (opener : ℕ) (hs : List (Expr × PartAt)) (body : List (Piece PartAt)) → Reads hs → all_in g ≡ [] → loose_after (take (suc (length (firsts hs))) (look (headed m g opener hs body))) ≡ []
+headed_after m g opener [] body r e = ap (λ z. (z ++ []) ++ []) e
+headed_after m g opener (x ∷ xs) body r e =
+    let s : Seen = seen (x.1 g m) in
+    let rest : List Bytes = loose_after (take (suc (length (firsts xs))) (look (headed m (between xs) opener xs body))) in
+    ap (λ z. (all_in z ++ s.loose) ++ rest) (r.0.gap g m) ∙ (two (λ z w. (z ++ w) ++ rest) e (r.0.loose g m) ∙ headed_after m (between xs) opener xs body r.1 (between_bare xs))
 
 pub headed_loose : (m : ℕ) (g : Bytes) (opener : ℕ) (hs : List (Expr × PartAt)) (body : List (Piece PartAt)) → Reads hs → loose_in (take (suc (length (firsts hs))) (look (headed m g opener hs body))) ≡ []
 headed_loose m g opener [] body r = refl
-headed_loose m g opener (x ∷ xs) body r = ap (λ z. z ++ loose_after (take (suc (length (firsts xs))) (look (headed m [] opener xs body)))) (r.0.loose g m) ∙ headed_after m opener xs body r.1
+headed_loose m g opener (x ∷ xs) body r = ap (λ z. z ++ loose_after (take (suc (length (firsts xs))) (look (headed m (between xs) opener xs body)))) (r.0.loose g m) ∙ headed_after m (between xs) opener xs body r.1 (between_bare xs)

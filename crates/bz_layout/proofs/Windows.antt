@@ -2,14 +2,17 @@
 use Rattle.std.proofs.Common.{ℕ, zero, suc, Bool, true, false, ◌≡◌, ◌<◌, ◌≤◌, ◌+◌, ◌-◌, List, [], ◌∷◌, ◌++◌, length, get_or, take, drop, count_by, cond, refl, sym, ap, ◌∙◌, arith, append_assoc}
 use Rattle.std.proofs.lemmas.List.{drop_more, take-append-drop, drop-drop}
 use Rattle.std.proofs.lemmas.List.Recursion.{is_count_by}
+use Rattle.std.specs.List.{AllByRecursion}
 use Rattle.bz_grammar.specs.declared.tree.Part.{Part}
 use Rattle.bz_value.specs.declared.value.Expr.{Expr}
 use Rattle.bz_value.specs.declared.value.Item.{Item}
 use Rattle.bz_value.specs.declared.value.Item.TheVariants as i
+use Rattle.bz_value.specs.Proper.{IsProperItem}
 use Rattle.bz_items.specs.Characters.{Bytes}
-use Rattle.bz_layout.specs.Written.{gap_between, comment_lines}
-use Rattle.bz_layout.specs.LaidOut.{line_part, left_gap, before_next, lines_from}
+use Rattle.bz_layout.specs.Written.{gap_between, comment_lines, indented_lines}
+use Rattle.bz_layout.specs.LaidOut.{left_of, line_part, left_gap, before_next, lines_from}
 use Rattle.bz_layout.specs.private.Windows.{line_count_in, statement_gap}
+use Rattle.bz_layout.proofs.Made.{plain_first, item_plain}
 
 -- ---- a window of a list
 
@@ -34,17 +37,17 @@ front_lines gap zero items = []
 front_lines gap (suc n) [] = []
 front_lines gap (suc n) (item ∷ items) = own_lines gap item ++ front_lines (left_gap gap item ++ before_next item items) n items
 
-lines_first : (gap : Bytes) (x : Item) (xs : List Item) → lines_from gap (x ∷ xs) ≡ own_lines gap x ++ lines_from (left_gap gap x ++ before_next x xs) xs
-lines_first gap (i.Block texts) xs = refl
-lines_first gap (i.Stmt x) xs = refl
+lines_first : (gap : Bytes) (x : Item) (xs : List Item) → IsProperItem x → lines_from gap (x ∷ xs) ≡ own_lines gap x ++ lines_from (left_gap gap x ++ before_next x xs) xs
+lines_first gap (i.Block texts) xs p = refl
+lines_first gap (i.Stmt x) xs p = plain_first gap x xs (item_plain x p)
 
-pub lines_cut : (gap : Bytes) (n : ℕ) (xs : List Item) → n ≤ length xs → lines_from gap xs ≡ front_lines gap n xs ++ lines_from (statement_gap gap n xs) (drop n xs)
-lines_cut gap zero xs h = refl
-lines_cut gap (suc n) [] h = absurd (omega arith)
-lines_cut gap (suc n) (x ∷ xs) h =
+pub lines_cut : (gap : Bytes) (n : ℕ) (xs : List Item) → AllByRecursion IsProperItem xs → n ≤ length xs → lines_from gap xs ≡ front_lines gap n xs ++ lines_from (statement_gap gap n xs) (drop n xs)
+lines_cut gap zero xs p h = refl
+lines_cut gap (suc n) [] p h = absurd (omega arith)
+lines_cut gap (suc n) (x ∷ xs) p h =
     let next : Bytes = left_gap gap x ++ before_next x xs in
-    lines_first gap x xs ∙
-    (ap (λ ps. own_lines gap x ++ ps) (lines_cut next n xs (omega arith)) ∙
+    lines_first gap x xs p.0 ∙
+    (ap (λ ps. own_lines gap x ++ ps) (lines_cut next n xs p.1 (omega arith)) ∙
     sym (append_assoc (own_lines gap x) (front_lines next n xs) (lines_from (statement_gap next n xs) (drop n xs))))
 
 -- what is after that place makes no difference to them
@@ -69,7 +72,7 @@ length_front gap (suc n) (i.Stmt x ∷ xs) = ap suc (length_front (before_next (
 pub length_lines : (gap : Bytes) (xs : List Item) → length (lines_from gap xs) ≡ suc (line_count_in xs)
 length_lines gap [] = refl
 length_lines gap (i.Block texts ∷ xs) = length_lines ((gap ++ comment_lines texts) ++ before_next (i.Block texts) xs) xs
-length_lines gap (i.Stmt x ∷ xs) = ap suc (length_lines (before_next (i.Stmt x) xs) xs)
+length_lines gap (i.Stmt x ∷ xs) = ap suc (length_lines (indented_lines (left_of 0 x) ++ before_next (i.Stmt x) xs) xs)
 
 -- whether an item has a line
 abbrev pub makes_line : Item → Bool

@@ -1,6 +1,6 @@
 -- The steps of the loops that write rows and sequences as text, and the text of a form by its frame.
 use Rattle.std.proofs.Common.{ℕ, Bool, true, false, ◌&&◌, ◌≡◌, ◌<◌, ◌≤◌, List, [], ◌∷◌, ◌++◌, ◌+◌, if◌then◌else◌, length, get_or, take, drop, ◌-◌, refl, sym, ap, ◌∙◌, append_assoc, arith, not, append-nil}
-use Rattle.std.specs.Prelude.{Option, None, nat_eq, codes}
+use Rattle.std.specs.Prelude.{Option, None, nat_eq, codes, replicate}
 use Rattle.std.specs.List.{flat_map}
 use Rattle.std.proofs.lemmas.List.{drop_all, drop_more, take_all, length-drop, length-map}
 use Rattle.std.proofs.lemmas.Bool.{both_ways, or_left, or_right}
@@ -8,26 +8,28 @@ use Rattle.std.specs.Cmp.Derive.{both_true}
 use Rattle.bz_token.specs.declared.class.Class.TheVariants as c
 use Rattle.bz_grammar.specs.declared.kind.Kind.{Kind}
 use Rattle.bz_grammar.specs.Shapes.{equals, has_token}
-use Rattle.bz_items.specs.Characters.{Bytes, comma, line_feed}
+use Rattle.bz_items.specs.Characters.{Bytes, comma, line_feed, space}
 use Rattle.bz_value.specs.declared.value.Form.{Form}
 use Rattle.bz_value.specs.declared.value.Expr.{Expr, Token, Form'}
 use Rattle.bz_value.specs.declared.value.Expr.TheVariants as e
-use Rattle.bz_value.specs.Frames.{row, sequence, frame}
+use Rattle.bz_value.specs.Empty.{is_empty}
+use Rattle.bz_value.specs.Frames.{Frame, row, sequence, compound, frame, has_brackets, is_compound}
 use Rattle.bz_value.specs.Proper.{comments_of, has_break}
 use Rattle.bz_value.specs.declared.value.Item.{Item}
 use Rattle.bz_value.specs.Roots.{root}
-use Rattle.bz_layout.specs.Layout.{Piece, new_line_at, margin_lines, ended, suffix_text, stacked, joined, rowed, headed, laid_in, is_broken, is_tuple, gap_after, margin_after}
-use Rattle.bz_layout.specs.Written.{piece_text, text_of, comment_lines, item_text, layout}
+use Rattle.bz_value.specs.Statements.{has_suite}
+use Rattle.bz_layout.specs.Layout.{Piece, new_line_at, margin_lines, ended, suffix_text, stacked, joined, rowed, headed, is_broken, is_tuple, gap_after, margin_after}
+use Rattle.bz_layout.specs.Written.{TextAt, piece_text, text_of, text_by_frame, suite_text, statements_text, line_end, at_margin, indented_lines, item_text, layout}
 use Rattle.bz_layout.specs.LaidOut.{before_next}
-use Rattle.bz_layout.specs.Writings.{writings, row_text, comma_text, joined_text, stacked_text, body_text}
+use Rattle.bz_layout.specs.Writings.{writings, row_text, comma_text, space_text, joined_text, stacked_text, body_text}
 use Rattle.bz_layout.specs.Drafts.{Drafted, pushed}
 use Rattle.bz_layout.proofs.Made.{text_Form, values_of}
-use Rattle.bz_layout.proofs.Pushing.{pushed_end, pushed_twice}
+use Rattle.bz_layout.proofs.Pushing.{pushed_end, pushed_none, pushed_twice}
 use Rattle.bz_layout.proofs.Spelled.{next_after}
 use Rattle.bz_layout.specs.Spaces.{is_lone, is_prefix_mark, is_spaced, is_spaced_after, is_spaced_before}
 use Rattle.bz_layout.proofs.Elements.{this_leaf}
 
-abbrev written : List (Piece (ℕ → Bytes)) → Bytes
+abbrev written : List (Piece TextAt) → Bytes
 written ps = flat_map piece_text ps
 
 -- ---- rows
@@ -79,9 +81,10 @@ joined_next m closer one xs k d h = ap (λ ys. joined_text m closer one ys) (dro
 
 -- what is before a bracket
 abbrev pub head_text : ℕ → List Expr → Bytes
-head_text m xs = flat_map (λ x. text_of x m) xs
+head_text m [] = []
+head_text m (x ∷ xs) = text_of x m ++ (space_text xs ++ head_text m xs)
 
-pub head_next : (m : ℕ) (xs : List Expr) (k : ℕ) (d : Expr) → k < length xs → head_text m (drop k xs) ≡ text_of (get_or xs k d) m ++ head_text m (drop (k + 1) xs)
+pub head_next : (m : ℕ) (xs : List Expr) (k : ℕ) (d : Expr) → k < length xs → head_text m (drop k xs) ≡ text_of (get_or xs k d) m ++ (space_text (drop (k + 1) xs) ++ head_text m (drop (k + 1) xs))
 head_next m xs k d h = ap (head_text m) (drop_more xs k d h)
 
 pub head_end : (d : Drafted) (m : ℕ) (xs : List Expr) (k : ℕ) → length xs ≤ k → pushed d (head_text m (drop k xs)) ≡ d
@@ -114,15 +117,41 @@ stacked_end m closer end xs k l = ap (stacked_text m closer end) (drop_all k xs 
 
 -- ---- forms by their frames
 
-pub row_form : (f : Form) (m : ℕ) → frame f.kind ≡ row → text_of (e.Form f) m ≡ row_text f.kind f.open_break m m f.parts
-row_form f m h =
-    text_Form f m ∙ ap (λ own. written (laid_in own f.kind f.seq.split f.open_break [] m (writings f.parts) (writings f.seq.items) f.seq.end)) h
+-- the text of a form where its frame is this one
+form_in : (f : Form) (own : Frame) (m : ℕ) → frame f.kind ≡ own → text_of (e.Form f) m ≡ text_by_frame own f.kind f.seq.split f.open_break f.comments.suffix m (writings f.parts) (writings f.seq.items) f.seq.end
+form_in f own m h = text_Form f m ∙ ap (λ g. text_by_frame g f.kind f.seq.split f.open_break f.comments.suffix m (writings f.parts) (writings f.seq.items) f.seq.end) h
 
--- what is before the bracket, the bracket, then
-head_first : (m opener : ℕ) (xs : List Expr) (after : List (Piece (ℕ → Bytes))) → written (headed m [] opener (writings xs) after) ≡ head_text m xs ++ (opener ∷ written after)
-head_first m opener [] after = refl
-head_first m opener (x ∷ xs) after =
-    ap (λ t. text_of x m ++ t) (head_first m opener xs after) ∙ sym (append_assoc (text_of x m) (head_text m xs) (opener ∷ written after))
+is_row : (f : Frame) → has_brackets f ≡ false → is_compound f ≡ false → f ≡ row
+is_row row h i = refl
+is_row (sequence opener closer) h i = absurd cc
+is_row compound h i = absurd cc
+
+is_suite : (f : Frame) → is_compound f ≡ true → f ≡ compound
+is_suite row h = absurd cc
+is_suite (sequence opener closer) h = absurd cc
+is_suite compound h = refl
+
+pub row_form : (f : Form) (m : ℕ) → has_brackets (frame f.kind) ≡ false → is_compound (frame f.kind) ≡ false → text_of (e.Form f) m ≡ row_text f.kind f.open_break m m f.parts
+row_form f m h i = form_in f row m (is_row (frame f.kind) h i)
+
+pub suite_form : (f : Form) (m : ℕ) → is_compound (frame f.kind) ≡ true → text_of (e.Form f) m ≡ suite_text f.comments.suffix m (writings f.parts) (writings f.seq.items) f.seq.end
+suite_form f m h = form_in f compound m (is_suite (frame f.kind) h)
+
+space_gap : (xs : List Expr) → (if is_empty (writings xs) then [] else (space ∷ [])) ≡ space_text xs
+space_gap [] = refl
+space_gap (x ∷ xs) = refl
+
+-- what is before the bracket, after a gap, the bracket, then
+head_first : (m : ℕ) (gap : Bytes) (opener : ℕ) (xs : List Expr) (after : List (Piece TextAt)) → written (headed m gap opener (writings xs) after) ≡ gap ++ (head_text m xs ++ (opener ∷ written after))
+head_first m gap opener [] after = append_assoc gap (opener ∷ []) (written after)
+head_first m gap opener (x ∷ xs) after =
+    let text : Bytes = text_of x m in
+    let next : Bytes = space_text xs in
+    let more : Bytes = head_text m xs in
+    let end : Bytes = opener ∷ written after in
+    ap (λ g. (gap ++ text) ++ written (headed m g opener (writings xs) after)) (space_gap xs) ∙
+    (ap (λ t. (gap ++ text) ++ t) (head_first m next opener xs after) ∙
+    (append_assoc gap text (next ++ (more ++ end)) ∙ ap (λ t. gap ++ t) (sym (append_assoc text (next ++ more) end ∙ ap (λ t. text ++ t) (append_assoc next more end)))))
 
 chosen : (b one : Bool) (m closer : ℕ) (end : List Bytes) (xs : List Expr) →
     written (if b then stacked m None closer end (writings xs) else joined m [] closer one (writings xs)) ≡ (if b then stacked_text m closer end xs else joined_text m closer one xs)
@@ -132,15 +161,51 @@ chosen false one m closer end xs = refl
 pub sequence_form : (f : Form) (opener closer m : ℕ) → frame f.kind ≡ sequence opener closer → text_of (e.Form f) m ≡ head_text m f.parts ++ (opener ∷ body_text f m closer)
 sequence_form f opener closer m h =
     let xs : List Expr = f.seq.items in
-    let after : List Expr → ℕ → List (Piece (ℕ → Bytes)) = λ ys n.
+    let after : List Expr → ℕ → List (Piece TextAt) = λ ys n.
     if is_broken f.kind f.seq.split ys f.seq.end then stacked m None closer f.seq.end (writings xs) else joined m [] closer (is_tuple f.kind && nat_eq n 1) (writings xs) in
     let all : List Expr → ℕ → Bytes = λ ys n. written (headed m [] opener (writings f.parts) (after ys n)) in
-    text_Form f m ∙
-    (ap (λ own. written (laid_in own f.kind f.seq.split f.open_break [] m (writings f.parts) (writings xs) f.seq.end)) h ∙
+    form_in f (sequence opener closer) m h ∙
     (ap (λ ys. all ys (length (writings xs))) (values_of text_of xs) ∙
     (ap (λ n. all xs n) (length-map xs (λ x. (x, text_of x))) ∙
-    (head_first m opener f.parts (after xs (length xs)) ∙
-    ap (λ t. head_text m f.parts ++ (opener ∷ t)) (chosen (is_broken f.kind f.seq.split xs f.seq.end) (is_tuple f.kind && nat_eq (length xs) 1) m closer f.seq.end xs)))))
+    (head_first m [] opener f.parts (after xs (length xs)) ∙
+    ap (λ t. head_text m f.parts ++ (opener ∷ t)) (chosen (is_broken f.kind f.seq.split xs f.seq.end) (is_tuple f.kind && nat_eq (length xs) 1) m closer f.seq.end xs))))
+
+-- ---- statements
+
+-- what has a suite ends with that
+pub suite_end : (x : Expr) → has_suite x ≡ true → line_end x ≡ []
+suite_end x h = ap (λ (b : Bool). if b then [] else suffix_text (comments_of x).suffix ++ line_feed ∷ []) h
+
+pub plain_end : (x : Expr) → has_suite x ≡ false → line_end x ≡ suffix_text (comments_of x).suffix ++ (line_feed ∷ [])
+plain_end x h = ap (λ (b : Bool). if b then [] else suffix_text (comments_of x).suffix ++ line_feed ∷ []) h
+
+-- without a header nothing is written
+pub suite_none : (d : Drafted) (suffix : Option Bytes) (m : ℕ) (xs items : List Expr) (end : List Bytes) → length xs ≡ 0 → pushed d (suite_text suffix m (writings xs) (writings items) end) ≡ d
+suite_none d suffix m [] items end h = pushed_none d
+suite_none d suffix m (x ∷ xs) items end h = absurd (omega (arith, h))
+
+four_texts : (a b c d rest : Bytes) → (a ++ (b ++ (c ++ d))) ++ rest ≡ a ++ (b ++ (c ++ (d ++ rest)))
+four_texts a b c d rest = simp append_assoc
+
+pub statements_next : (m : ℕ) (xs : List Expr) (k : ℕ) (d : Expr) → k < length xs →
+    statements_text m (writings (drop k xs)) ≡ replicate m space ++ (margin_lines m (comments_of (get_or xs k d)).before ++ (text_of (get_or xs k d) m ++ (line_end (get_or xs k d) ++ statements_text m (writings (drop (k + 1) xs)))))
+statements_next m xs k d h =
+    let x : Expr = get_or xs k d in
+    ap (λ ys. statements_text m (writings ys)) (drop_more xs k d h) ∙
+    four_texts (replicate m space) (margin_lines m (comments_of x).before) (text_of x m) (line_end x) (statements_text m (writings (drop (k + 1) xs)))
+
+pub statements_end : (d : Drafted) (m : ℕ) (xs : List Expr) (k : ℕ) → length xs ≤ k → pushed d (statements_text m (writings (drop k xs))) ≡ d
+statements_end d m xs k l = pushed_end (λ ys. statements_text m (writings ys)) d xs k refl l
+
+pub lines_next : (m : ℕ) (ts : List Bytes) (k : ℕ) (d : Bytes) → k < length ts →
+    indented_lines (at_margin m (drop k ts)) ≡ replicate m space ++ (get_or ts k d ++ (line_feed ∷ indented_lines (at_margin m (drop (k + 1) ts))))
+lines_next m ts k d h =
+    let rest : Bytes = indented_lines (at_margin m (drop (k + 1) ts)) in
+    ap (λ us. indented_lines (at_margin m us)) (drop_more ts k d h) ∙
+    (append_assoc (replicate m space) (get_or ts k d ++ line_feed ∷ []) rest ∙ ap (λ t. replicate m space ++ t) (append_assoc (get_or ts k d) (line_feed ∷ []) rest))
+
+pub lines_end : (d : Drafted) (m : ℕ) (ts : List Bytes) (k : ℕ) → length ts ≤ k → pushed d (indented_lines (at_margin m (drop k ts))) ≡ d
+lines_end d m ts k l = pushed_end (λ us. indented_lines (at_margin m us)) d ts k refl l
 
 -- ---- comments above an item and at the end of a sequence
 
@@ -149,11 +214,6 @@ above_next m ts k d h = ap (margin_lines m) (drop_more ts k d h)
 
 pub above_end : (d : Drafted) (m : ℕ) (ts : List Bytes) (k : ℕ) → length ts ≤ k → pushed d (margin_lines m (drop k ts)) ≡ d
 above_end d m ts k l = pushed_end (margin_lines m) d ts k refl l
-
--- at no margin they are lines
-pub above_none : (ts : List Bytes) → margin_lines 0 ts ≡ comment_lines ts
-above_none [] = refl
-above_none (t ∷ ts) = ap (λ rest. t ++ (line_feed ∷ rest)) (above_none ts)
 
 pub ended_next : (m : ℕ) (ts : List Bytes) (k : ℕ) (d : Bytes) → k < length ts → ended m (drop k ts) ≡ new_line_at (m + 4) ++ (get_or ts k d ++ ended m (drop (k + 1) ts))
 ended_next m ts k d h = ap (ended m) (drop_more ts k d h)

@@ -6,12 +6,12 @@ use Rattle.bz_value.specs.declared.value.Expr.TheVariants as e
 use Rattle.bz_value.specs.declared.value.Item.{Item}
 use Rattle.bz_value.specs.declared.value.Item.TheVariants as i
 use Rattle.bz_items.specs.Characters.{Bytes}
-use Rattle.bz_value.specs.Frames.{Frame, row, sequence, frame}
+use Rattle.bz_value.specs.Frames.{Frame, sequence, frame}
 use Rattle.bz_layout.specs.Layout.{is_broken}
 
 abbrev pub settled_split : Frame → Kind → Bool → List Expr → List Bytes → Bool
-settled_split row kind split items end = split
 settled_split (sequence opener closer) kind split items end = is_broken kind split items end
+settled_split _ kind split items end = split
 
 abbrev mutual
   pub with_flags : Expr → Expr

@@ -8,7 +8,7 @@ use Rattle.bz_rule.specs.Values.{has_kind}
 use Rattle.bz_value.specs.declared.value.Expr.{Expr}
 use Rattle.bz_items.specs.Characters.{Bytes, comma, line_feed, space}
 use Rattle.bz_value.specs.Empty.{is_empty, is_none}
-use Rattle.bz_value.specs.Frames.{Frame, row, sequence, frame}
+use Rattle.bz_value.specs.Frames.{Frame, row, sequence, compound, frame}
 use Rattle.bz_value.specs.Proper.{comments_of, has_break}
 use Rattle.bz_value.specs.Roots.{root}
 use Rattle.bz_layout.specs.Spaces.{is_spaced}
@@ -95,10 +95,10 @@ module _ {X : Type 0} where
   rowed kind open_break m gap n [] = []
   rowed kind open_break m gap n (x ∷ xs) = part gap n x.1 ∷ rowed kind open_break m (gap_after kind open_break m x.0 (firsts xs)) (margin_after open_break m x.0) xs
 
-  -- what is before the opening bracket, the bracket, then
+  -- what is before the opening bracket, one space between two parts of it, the bracket, then
   abbrev pub headed : ℕ → Bytes → ℕ → List (Expr × X) → List (Piece X) → List (Piece X)
   headed m gap opener [] after = mark gap (opener ∷ []) ∷ after
-  headed m gap opener (x ∷ xs) after = part gap m x.1 ∷ headed m [] opener xs after
+  headed m gap opener (x ∷ xs) after = part gap m x.1 ∷ headed m (if is_empty xs then [] else (space ∷ [])) opener xs after
 
   -- not broken: items at the margin joined by a comma and a space; a tuple of one ends with a comma
   abbrev pub joined : ℕ → Bytes → ℕ → Bool → List (Expr × X) → List (Piece X)
@@ -112,12 +112,16 @@ module _ {X : Type 0} where
   stacked m suffix closer end (x ∷ xs) =
       part (suffix_text suffix ++ (new_line_at (m + 4) ++ margin_lines (m + 4) (comments_of x.0).before)) (m + 4) x.1 ∷ mark [] (comma ∷ []) ∷ stacked m (comments_of x.0).suffix closer end xs
 
+  -- what is between the brackets, and the closing one
+  abbrev pub body : Kind → Bool → ℕ → ℕ → List (Expr × X) → List Bytes → List (Piece X)
+  body kind split m closer items end =
+      if is_broken kind split (firsts items) end then stacked m None closer end items else joined m [] closer (is_tuple kind && nat_eq (length items) 1) items
+
+  -- a row or a sequence
   abbrev pub laid_in : Frame → Kind → Bool → Bool → Bytes → ℕ → List (Expr × X) → List (Expr × X) → List Bytes → List (Piece X)
   laid_in row kind split open_break gap m parts items end = rowed kind open_break m gap m parts
-  laid_in (sequence opener closer) kind split open_break gap m parts items end =
-      headed m gap opener parts
-      (if is_broken kind split (firsts items) end then stacked m None closer end items
-      else joined m [] closer (is_tuple kind && nat_eq (length items) 1) items)
+  laid_in (sequence opener closer) kind split open_break gap m parts items end = headed m gap opener parts (body kind split m closer items end)
+  laid_in compound kind split open_break gap m parts items end = []
 
   -- kind, flags split and open, gap before, margin, parts, items, end comments
   abbrev pub laid : Kind → Bool → Bool → Bytes → ℕ → List (Expr × X) → List (Expr × X) → List Bytes → List (Piece X)

@@ -6,10 +6,10 @@ use Rattle.bz_value.specs.declared.value.Expr.{Expr}
 use Rattle.bz_value.specs.declared.value.Form.{Form}
 use Rattle.bz_items.specs.Characters.{Bytes, comma, space}
 use Rattle.bz_layout.specs.Layout.{rowed, joined, stacked, is_broken, is_tuple}
-use Rattle.bz_layout.specs.Written.{piece_text, text_of}
+use Rattle.bz_layout.specs.Written.{TextAt, piece_text, text_of}
 
 -- each expression with its reading as a text
-abbrev pub writings : List Expr → List (Expr × (ℕ → Bytes))
+abbrev pub writings : List Expr → List (Expr × TextAt)
 writings xs = map (λ x. (x, text_of x)) xs
 
 -- a row, or the rest of one, with no gap before it: kind, flag, margin of the row, margin of its first part
@@ -28,6 +28,11 @@ joined_text m closer one xs = flat_map piece_text (joined m [] closer one (writi
 -- items on lines of their own, end comments, and the closing bracket
 abbrev pub stacked_text : ℕ → ℕ → List Bytes → List Expr → Bytes
 stacked_text m closer end xs = flat_map piece_text (stacked m None closer end (writings xs))
+
+-- between two parts before a bracket
+abbrev pub space_text : List Expr → Bytes
+space_text [] = []
+space_text (x ∷ xs) = space ∷ []
 
 -- what is in the sequence of a form, and its closing bracket
 abbrev pub body_text : Form → ℕ → ℕ → Bytes

@@ -1,5 +1,5 @@
 -- The layout as text: of an expression at a margin, and of a file.
-use Rattle.std.specs.Prelude.{ℕ, Bool, ◌&&◌, ◌||◌, List, [], ◌∷◌, ◌++◌, if◌then◌else◌}
+use Rattle.std.specs.Prelude.{ℕ, Bool, ◌&&◌, ◌||◌, List, [], ◌∷◌, ◌++◌, ◌+◌, Option, if◌then◌else◌, map, replicate}
 use Rattle.std.specs.List.{flat_map}
 use Rattle.bz_grammar.specs.declared.kind.Kind.{Kind}
 use Rattle.bz_grammar.specs.declared.kind.Kind.TheVariants as k
@@ -7,33 +7,79 @@ use Rattle.bz_rule.specs.Values.{has_kind}
 use Rattle.bz_value.specs.declared.value.Expr.{Expr, Token, Form', Row_of-Expr, end_of-Expr, more_of-Expr}
 use Rattle.bz_value.specs.declared.value.Item.{Item}
 use Rattle.bz_value.specs.declared.value.Item.TheVariants as i
-use Rattle.bz_items.specs.Characters.{Bytes, line_feed}
-use Rattle.bz_value.specs.Proper.{comments_of}
-use Rattle.bz_layout.specs.Layout.{Piece, mark, part, laid, suffix_text}
+use Rattle.bz_items.specs.Characters.{Bytes, colon, line_feed, space}
 use Rattle.bz_value.specs.Empty.{is_empty}
+use Rattle.bz_value.specs.Frames.{Frame, compound, frame}
+use Rattle.bz_value.specs.Proper.{comments_of}
+use Rattle.bz_value.specs.Statements.{has_suite}
+use Rattle.bz_layout.specs.Layout.{Piece, mark, part, laid_in, margin_lines, suffix_text}
 
-abbrev pub piece_text : Piece (ℕ → Bytes) → Bytes
-piece_text (mark gap token) = gap ++ token
-piece_text (part gap m x) = gap ++ x m
-
-abbrev mutual
-  pub text_of : Expr → ℕ → Bytes
-  text_of (Token t) m = t.text
-  text_of (Form' kind s parts s' items end split open_break comments) m = flat_map piece_text (laid kind split open_break [] m (texts_of parts) (texts_of items) end)
-
-  pub texts_of : {n : _} → Row_of-Expr n → List (Expr × (ℕ → Bytes))
-  texts_of end_of-Expr = []
-  texts_of (more_of-Expr x rest) = (x, text_of x) ∷ texts_of rest
+-- ---- lines of comments
 
 -- comment lines, each with its newline
 abbrev pub comment_lines : List Bytes → Bytes
-comment_lines [] = []
-comment_lines (text ∷ texts) = text ++ (line_feed ∷ comment_lines texts)
+comment_lines texts = margin_lines 0 texts
 
--- A Block is its lines; a statement is on lines of its own, comments above, its suffix after two spaces, a newline.
+-- comments with their margins
+abbrev pub Indented : Type 0
+Indented = List (ℕ × Bytes)
+
+abbrev pub at_margin : ℕ → List Bytes → Indented
+at_margin m texts = map (λ text. (m, text)) texts
+
+-- each on a line of its own
+abbrev pub indented_lines : Indented → Bytes
+indented_lines [] = []
+indented_lines (c ∷ cs) = (replicate c.0 space ++ (c.1 ++ line_feed ∷ [])) ++ indented_lines cs
+
+-- ---- statements, each with its reading as a text
+
+abbrev pub TextAt : Type 0
+TextAt = ℕ → Bytes
+
+-- a simple statement ends with its suffix and a newline, what has a suite with the last line of that
+abbrev pub line_end : Expr → Bytes
+line_end x = if has_suite x then [] else suffix_text (comments_of x).suffix ++ line_feed ∷ []
+
+-- a statement is on lines of its own, comments above
+abbrev pub statement_text : ℕ → Expr × TextAt → Bytes
+statement_text m x = replicate m space ++ (margin_lines m (comments_of x.0).before ++ (x.1 m ++ line_end x.0))
+
+abbrev pub statements_text : ℕ → List (Expr × TextAt) → Bytes
+statements_text m xs = flat_map (statement_text m) xs
+
+-- a suite: its header, a colon, its suffix, its statements and then its end comments four further, its alternatives
+abbrev pub suite_text : Option Bytes → ℕ → List (Expr × TextAt) → List (Expr × TextAt) → List Bytes → Bytes
+suite_text suffix m [] items end = []
+suite_text suffix m (head ∷ others) items end =
+    head.1 m ++ (colon ∷ (suffix_text suffix ++ (line_feed ∷ (statements_text (m + 4) items ++ (indented_lines (at_margin (m + 4) end) ++ statements_text m others)))))
+
+-- ---- expressions
+
+abbrev pub piece_text : Piece TextAt → Bytes
+piece_text (mark gap token) = gap ++ token
+piece_text (part gap m x) = gap ++ x m
+
+-- kind, flags split and open, suffix, margin, parts, items, end comments
+abbrev pub text_by_frame : Frame → Kind → Bool → Bool → Option Bytes → ℕ → List (Expr × TextAt) → List (Expr × TextAt) → List Bytes → Bytes
+text_by_frame compound kind split open_break suffix m parts items end = suite_text suffix m parts items end
+text_by_frame f kind split open_break suffix m parts items end = flat_map piece_text (laid_in f kind split open_break [] m parts items end)
+
+abbrev mutual
+  pub text_of : Expr → TextAt
+  text_of (Token t) m = t.text
+  text_of (Form' kind s parts s' items end split open_break comments) m = text_by_frame (frame kind) kind split open_break comments.suffix m (texts_of parts) (texts_of items) end
+
+  pub texts_of : {n : _} → Row_of-Expr n → List (Expr × TextAt)
+  texts_of end_of-Expr = []
+  texts_of (more_of-Expr x rest) = (x, text_of x) ∷ texts_of rest
+
+-- ---- the file
+
+-- A Block is its lines.
 abbrev pub item_text : Item → Bytes
 item_text (i.Block lines) = comment_lines lines
-item_text (i.Stmt x) = comment_lines (comments_of x).before ++ (text_of x 0 ++ (suffix_text (comments_of x).suffix ++ line_feed ∷ []))
+item_text (i.Stmt x) = statement_text 0 (x, text_of x)
 
 abbrev pub are_both : Kind → Expr → Expr → Bool
 are_both kind x y = has_kind kind x && has_kind kind y

@@ -1,16 +1,24 @@
 //! Which sequences the layout breaks.
 ghost use Rattle.std.specs.Prelude.{◌≡◌, ◌&&◌, ◌||◌, length, nat_le};
 ghost use Rattle.bz_rule.specs.Values.{has_kind};
+ghost use Rattle.bz_value.specs.Statements.{has_suite};
 ghost use Rattle.bz_layout.specs.Layout as layout;
 
 use bz_grammar::Kind;
-use bz_value::{Expr, Form};
+use bz_value::{Expr, Form, is_suite};
 
 /// Whether the expression is a form of this kind.
 pub fn is_of_kind(kind: Kind, expr: &Expr) -> bool
     ensures { result ≡ has_kind kind expr.now }
 {
     matches!(expr, Expr::Form(form) if form.kind.number() == kind.number())
+}
+
+/// Whether the expression is a suite with its header.
+pub fn holds_suite(expr: &Expr) -> bool
+    ensures { result ≡ has_suite expr.now }
+{
+    matches!(expr, Expr::Form(form) if is_suite(form.kind))
 }
 
 fn has_comment(expr: &Expr) -> bool

@@ -4,6 +4,7 @@ ghost use Rattle.std.specs.Option.{option_copied};
 ghost use Rattle.bz_items.specs.Characters.{Bytes, space};
 ghost use Rattle.bz_layout.specs.Drafts.{drafted, pushed};
 ghost use Rattle.bz_layout.specs.Layout.{new_line_at, margin_lines, suffix_text, ended};
+ghost use Rattle.bz_layout.specs.Written.{at_margin, indented_lines};
 
 use crate::gaps::deeper_margin;
 use bz_items::{Memory, Text};
@@ -95,6 +96,19 @@ impl Draft {
         for text in texts {
             self.push_bytes(text.as_slice())?;
             self.push_new_line(margin)?;
+        }
+        Ok(())
+    }
+
+    /// Appends comment lines at a margin. The error: a growth was refused.
+    #[tactic(auto, using(crate::proofs::Pushing::pushed_twice, crate::proofs::Writing::lines_next, crate::proofs::Writing::lines_end))]
+    pub fn push_lines(&mut self, texts: &[Text], margin: usize) -> Result<(), Memory>
+        ensures { OnOk result (self.new ≡ pushed self.old (indented_lines (at_margin margin texts.now))) }
+    {
+        for text in texts {
+            self.push_margin(margin)?;
+            self.push_bytes(text.as_slice())?;
+            self.push(b'\n')?;
         }
         Ok(())
     }

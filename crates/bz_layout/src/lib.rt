@@ -23,7 +23,7 @@ pub use gaps::deeper_margin;
 pub use laws::{
     flags_keep_layout, layout_is_accepted, layout_reads_back, layouts_join, worked_rows,
 };
-pub use setting::{SetFault, append_file, text_of_file};
+pub use setting::{SetFault, append_file, append_items, text_of_file, text_of_items};
 pub use spaces::{is_close, is_spaced};
 pub use texts::{expr_text, item_text, push_body, push_expr, push_row};
 pub use writer::TextWindow;

@@ -49,14 +49,13 @@ fn is_shallow(items: &[Item]) -> bool
     are_items_within(items, DEPTH_LIMIT as usize - 1)
 }
 
-/// Appends the layout of the file value to a text, below an item where one is given. None: a growth was refused, or the text or the
-/// tree of the layout would be past a limit; what was appended by then is not specified.
-pub fn append_file(out: &mut Vec<u8>, above: &Option<Item>, file: &File) -> Option<()>
-    ensures text { IfSome result (λ _. out.new.items ≡ out.old.items ++ (gap_below above.now file.now ++ layout file.now)) }
+/// Appends the layout of items to a text, below an item where one is given. None: a growth was refused, or the text or the tree of the
+/// layout would be past a limit; what was appended by then is not specified.
+pub fn append_items(out: &mut Vec<u8>, above: &Option<Item>, items: &[Item]) -> Option<()>
+    ensures text { IfSome result (λ _. out.new.items ≡ out.old.items ++ (gap_below above.now items.now ++ layout items.now)) }
     ensures short { IfSome result (λ _. length out.new.items ≤ limit) }
-    ensures shallow { IfSome result (λ _. depth_of (laid_out file.now) ≤ depth_limit) }
+    ensures shallow { IfSome result (λ _. depth_of (laid_out items.now) ≤ depth_limit) }
 {
-    let items = file.items.as_slice();
     if !is_shallow(items) {
         return None;
     }
@@ -69,17 +68,25 @@ pub fn append_file(out: &mut Vec<u8>, above: &Option<Item>, file: &File) -> Opti
     Some(())
 }
 
-/// The layout of the file value, as text, with no tree made for it: `about` how many bytes it has, by estimate, is the room that it
-/// begins with, and some more, since a text that doubles holds as much again. Errors: `TooLarge` exactly where the layout is past the
-/// limit of a text, else `TooDeep` exactly where its tree would be past the limit of depth; `Memory`: a growth was refused.
-pub fn text_of_file(alloc: Global, file: &File, about: usize) -> Result<Text, SetFault>
-    ensures text { IfOk result (λ text. text ≡ layout file.now) }
-    ensures short { IfOk result (λ _. length (layout file.now) ≤ limit) }
-    ensures shallow { IfOk result (λ _. depth_of (laid_out file.now) ≤ depth_limit) }
-    ensures too_large { result ≡ Err SetFault.TooLarge → limit < length (layout file.now) }
-    ensures too_deep { result ≡ Err SetFault.TooDeep → (length (layout file.now) ≤ limit) × (depth_limit < depth_of (laid_out file.now)) }
+/// Appends the layout of the file value, as `append_items` does.
+pub fn append_file(out: &mut Vec<u8>, above: &Option<Item>, file: &File) -> Option<()>
+    ensures text { IfSome result (λ _. out.new.items ≡ out.old.items ++ (gap_below above.now file.now ++ layout file.now)) }
+    ensures short { IfSome result (λ _. length out.new.items ≤ limit) }
+    ensures shallow { IfSome result (λ _. depth_of (laid_out file.now) ≤ depth_limit) }
 {
-    let items = file.items.as_slice();
+    append_items(out, above, file.items.as_slice())
+}
+
+/// The layout of items, as text, with no tree made for it: `about` how many bytes it has, by estimate, is the room that it begins
+/// with, and some more, since a text that doubles holds as much again. Errors: `TooLarge` exactly where the layout is past the limit
+/// of a text, else `TooDeep` exactly where its tree would be past the limit of depth; `Memory`: a growth was refused.
+pub fn text_of_items(alloc: Global, items: &[Item], about: usize) -> Result<Text, SetFault>
+    ensures text { IfOk result (λ text. text ≡ layout items.now) }
+    ensures short { IfOk result (λ _. length (layout items.now) ≤ limit) }
+    ensures shallow { IfOk result (λ _. depth_of (laid_out items.now) ≤ depth_limit) }
+    ensures too_large { result ≡ Err SetFault.TooLarge → limit < length (layout items.now) }
+    ensures too_deep { result ≡ Err SetFault.TooDeep → (length (layout items.now) ≤ limit) × (depth_limit < depth_of (laid_out items.now)) }
+{
     let room = Vec::with_capacity(alloc, about.saturating_add(about / 4))?;
     let mut out = Draft::new(room, LENGTH_LIMIT);
     push_items(&mut out, items)?;
@@ -88,4 +95,15 @@ pub fn text_of_file(alloc: Global, file: &File, about: usize) -> Result<Text, Se
         return Err(SetFault::TooDeep);
     }
     Ok(Text::from_vec(bytes))
+}
+
+/// The layout of the file value, as `text_of_items` gives it.
+pub fn text_of_file(alloc: Global, file: &File, about: usize) -> Result<Text, SetFault>
+    ensures text { IfOk result (λ text. text ≡ layout file.now) }
+    ensures short { IfOk result (λ _. length (layout file.now) ≤ limit) }
+    ensures shallow { IfOk result (λ _. depth_of (laid_out file.now) ≤ depth_limit) }
+    ensures too_large { result ≡ Err SetFault.TooLarge → limit < length (layout file.now) }
+    ensures too_deep { result ≡ Err SetFault.TooDeep → (length (layout file.now) ≤ limit) × (depth_limit < depth_of (laid_out file.now)) }
+{
+    text_of_items(alloc, file.items.as_slice(), about)
 }

@@ -1,14 +1,14 @@
 //! The layout of an expression and of an item, as text.
-ghost use Rattle.std.specs.Prelude.{◌≡◌, ◌&&◌, length, nat_eq, OnOk, IfOk, MatchOption};
+ghost use Rattle.std.specs.Prelude.{◌≡◌, ◌&&◌, false, length, nat_eq, OnOk, IfOk, MatchOption};
 ghost use Rattle.bz_layout.specs.Drafts.{pushed};
 ghost use Rattle.bz_layout.specs.Layout.{is_tuple};
 ghost use Rattle.bz_value.specs.declared.value.Expr.TheVariants as e;
 ghost use Rattle.bz_value.specs.declared.value.Item.TheVariants as i;
-ghost use Rattle.bz_value.specs.Frames.{frame, row, sequence};
+ghost use Rattle.bz_value.specs.Frames.{frame, has_brackets, sequence};
 ghost use Rattle.bz_layout.specs.Written as written;
-ghost use Rattle.bz_layout.specs.Writings.{row_text, comma_text, joined_text, stacked_text, body_text};
+ghost use Rattle.bz_layout.specs.Writings.{writings, row_text, comma_text, space_text, joined_text, stacked_text, body_text};
 
-use crate::breaks::is_broken;
+use crate::breaks::{holds_suite, is_broken};
 use crate::dotted::push_dotted;
 use crate::draft::Draft;
 use crate::gaps::deeper_margin;
@@ -16,7 +16,7 @@ use crate::row_gaps::{is_assignment, push_row_gap};
 use crate::spaces::blank_before;
 use bz_grammar::Kind;
 use bz_items::{Memory, Text};
-use bz_value::{Expr, Form, Item};
+use bz_value::{Expr, Form, Item, is_suite};
 use std::alloc::{AllocError, Global};
 
 /// Appends the layout of an expression at a margin. The error: a growth was refused.
@@ -31,29 +31,45 @@ pub fn push_expr(out: &mut Draft, expr: &Expr, margin: usize) -> Result<(), Memo
     }
 }
 
-/// The brackets of the nodes of a kind; `None` where they are rows.
+/// The brackets of the nodes of a kind; `None` where they have none.
 fn brackets_of(kind: Kind) -> Option<(u8, u8)>
-    ensures { MatchOption result (frame kind ≡ row) (λ brackets. frame kind ≡ sequence brackets.0 brackets.1) }
+    ensures { MatchOption result (has_brackets (frame kind) ≡ false) (λ brackets. frame kind ≡ sequence brackets.0 brackets.1) }
 {
     match kind {
-        Kind::Call | Kind::Load | Kind::Tuple => Some((b'(', b')')),
+        Kind::Call | Kind::Load | Kind::Tuple | Kind::Def => Some((b'(', b')')),
         Kind::List => Some((b'[', b']')),
         Kind::Dict => Some((b'{', b'}')),
         _ => None,
     }
 }
 
+/// Appends the space between two parts before a bracket.
+#[inline(always)]
+#[tactic(auto, using(crate::proofs::Pushing::pushed_none))]
+fn push_space(out: &mut Draft, others: &[Expr]) -> Result<(), Memory>
+    ensures { OnOk result (out.new ≡ pushed out.old (space_text others.now)) }
+{
+    match others {
+        [] => Ok(()),
+        _ => out.push(b' '),
+    }
+}
+
 #[cycle(push)]
-#[tactic(auto, using(crate::proofs::Pushing::pushed_twice, crate::proofs::Writing::row_form, crate::proofs::Writing::sequence_form, crate::proofs::Writing::head_next, crate::proofs::Writing::head_end))]
+#[tactic(auto, using(crate::proofs::Pushing::pushed_twice, crate::proofs::Writing::row_form, crate::proofs::Writing::suite_form, crate::proofs::Writing::sequence_form, crate::proofs::Writing::head_next, crate::proofs::Writing::head_end, crate::proofs::Writing::rest_here))]
 fn push_form(out: &mut Draft, form: &Form, margin: usize) -> Result<(), Memory>
     ensures { OnOk result (out.new ≡ pushed out.old (written.text_of (e.Form form.now) margin)) }
 {
     let Some((opener, closer)) = brackets_of(form.kind) else {
+        if is_suite(form.kind) {
+            return push_suite(out, form, margin);
+        }
         return push_row(out, form, margin);
     };
     let head = form.parts.as_slice();
-    for expr in head {
+    for (i, expr) in head.iter().enumerate() {
         push_expr(out, expr, margin)?;
+        push_space(out, &head[i + 1..])?;
     }
     out.push(opener)?;
     push_body(out, form, margin, closer)
@@ -142,16 +158,63 @@ fn push_stacked(out: &mut Draft, form: &Form, margin: usize, closer: u8) -> Resu
     out.push(closer)
 }
 
+/// Appends a header with its suite and the alternatives at a margin.
+#[cycle(push)]
+#[inline(never)]
+#[tactic(auto, using(crate::proofs::Pushing::pushed_twice, crate::proofs::Writing::suite_none))]
+fn push_suite(out: &mut Draft, form: &Form, margin: usize) -> Result<(), Memory>
+    ensures { OnOk result (out.new ≡ pushed out.old (written.suite_text form.now.comments.suffix margin (writings form.now.parts) (writings form.now.seq.items) form.now.seq.end)) }
+{
+    let Some((head, others)) = form.parts.as_slice().split_first() else {
+        return Ok(());
+    };
+    let inner = deeper_margin(margin)?;
+    push_expr(out, head, margin)?;
+    out.push(b':')?;
+    out.push_after(form.comments.suffix())?;
+    out.push(b'\n')?;
+    push_statements(out, form.seq.items.as_slice(), inner)?;
+    out.push_lines(form.seq.end.as_slice(), inner)?;
+    push_statements(out, others, margin)
+}
+
+/// Appends statements at a margin, on lines of their own.
+#[cycle(push)]
+#[tactic(auto, using(crate::proofs::Pushing::pushed_twice, crate::proofs::Writing::statements_next, crate::proofs::Writing::statements_end))]
+fn push_statements(out: &mut Draft, exprs: &[Expr], margin: usize) -> Result<(), Memory>
+    ensures { OnOk result (out.new ≡ pushed out.old (written.statements_text margin (writings exprs.now))) }
+{
+    for expr in exprs {
+        out.push_margin(margin)?;
+        out.push_above(expr.comments().before(), margin)?;
+        push_expr(out, expr, margin)?;
+        push_end(out, expr)?;
+    }
+    Ok(())
+}
+
+/// Appends the end of a statement: its suffix and a newline; nothing after a suite, which ends with a line of its own.
+#[inline(always)]
+#[tactic(auto, using(crate::proofs::Pushing::pushed_none, crate::proofs::Pushing::pushed_twice, crate::proofs::Writing::suite_end, crate::proofs::Writing::plain_end))]
+fn push_end(out: &mut Draft, expr: &Expr) -> Result<(), Memory>
+    ensures { OnOk result (out.new ≡ pushed out.old (written.line_end expr.now)) }
+{
+    if holds_suite(expr) {
+        return Ok(());
+    }
+    let comments = expr.comments();
+    out.push_after(comments.suffix())?;
+    out.push(b'\n')
+}
+
 /// Appends a statement on lines of its own: its comments above it, its suffix, a newline.
-#[tactic(auto, using(crate::proofs::Pushing::pushed_twice, crate::proofs::Writing::above_none))]
+#[tactic(auto, using(crate::proofs::Pushing::pushed_twice))]
 pub fn push_statement(out: &mut Draft, expr: &Expr) -> Result<(), Memory>
     ensures { OnOk result (out.new ≡ pushed out.old (written.item_text (i.Stmt expr.now))) }
 {
-    let comments = expr.comments();
-    out.push_above(comments.before(), 0)?;
+    out.push_above(expr.comments().before(), 0)?;
     push_expr(out, expr, 0)?;
-    out.push_after(comments.suffix())?;
-    out.push(b'\n')
+    push_end(out, expr)
 }
 
 /// The layout of an expression at margin 0, as text. The error: a growth was refused.
@@ -164,7 +227,6 @@ pub fn expr_text(alloc: Global, expr: &Expr) -> Result<Text, Memory>
 }
 
 /// Appends an item of a file, with its newlines.
-#[tactic(auto, using(crate::proofs::Writing::above_none))]
 pub fn push_item(out: &mut Draft, item: &Item) -> Result<(), Memory>
     ensures { OnOk result (out.new ≡ pushed out.old (written.item_text item.now)) }
 {

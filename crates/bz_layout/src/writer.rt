@@ -61,7 +61,7 @@ pub struct Writer {
 /// A writer at the beginning of a tree.
 #[tactic(auto, using(crate::proofs::Staying::begun))]
 pub fn new_writer(alloc: Global) -> Writer
-    ensures { (parts : List Part) (before items : List Item) → lines_from [] before ≡ parts → IsProper items → AreReached parts (lines_from [] items) result before items }
+    ensures { (parts : List Part) (before items : List Item) → lines_from [] before ≡ parts → IsProper before → IsProper items → AreReached parts (lines_from [] items) result before items }
 {
     Writer {
         made: Items::new(alloc),
@@ -234,7 +234,7 @@ pub fn go_over(
     each_is_line: bool,
 ) -> Result<Option<Writer>, Memory>
     requires { AreWithin windows.now items.now }
-    ensures { IfOk result (λ made. (before : List Item) → lines_from [] before ≡ parts.now → IsProper items.now → AreCounted each_is_line windows.now before items.now
+    ensures { IfOk result (λ made. (before : List Item) → lines_from [] before ≡ parts.now → IsProper before → IsProper items.now → AreCounted each_is_line windows.now before items.now
         → MatchOption made (limit < length (written.layout items.now)) (λ writer. IsPut parts.now (lines_from [] items.now) writer.made writer.bytes writer.done)) }
 {
     let mut writer = new_writer(alloc);

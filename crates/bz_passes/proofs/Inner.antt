@@ -82,10 +82,10 @@ same_has_named [] = refl
 same_has_named (x ∷ xs) = both (λ a b. a || b) (same_named x) (same_has_named xs)
 
 pub same_split : (f : Frame) (kind : Kind) (split : Bool) (xs : List Expr) (end : List Bytes) → settled_split f kind (settled_split f kind split xs end) (map with_flags xs) end ≡ settled_split f kind split xs end
-same_split row kind split xs end = refl
 same_split (sequence opener closer) kind split xs end =
     rw (same_comments xs, length-map xs with_flags, same_has_named xs, same_empty xs)
     (settled (has_comments xs) (not (is_empty end)) (nat_le 2 (length xs) && (is_listed kind || (is_call kind && has_named xs))) split (not (is_empty xs)))
+same_split _ kind split xs end = refl
 
 mutual
   pub flags_settle : Settles with_flags

@@ -219,8 +219,8 @@ in_form f parts items split = e.Form (record { kind = f.kind; parts = parts; seq
 -- ---- flags of a form, by its kind
 
 split_of : (f : Frame) (kind : Kind) (split : Bool) (items : List Expr) (end : List Bytes) → settled_split f kind split items end ≡ (if has_brackets f then is_broken kind split items end else split)
-split_of row kind split items end = refl
 split_of (sequence opener closer) kind split items end = refl
+split_of _ kind split items end = refl
 
 pub split_by_kind : (kind : Kind) (split : Bool) (items : List Expr) (end : List Bytes) → settled_split (frame kind) kind split items end ≡ (if has_brackets (frame kind) then is_broken kind split items end else split)
 split_by_kind kind = split_of (frame kind) kind

@@ -9,9 +9,10 @@ use Rattle.bz_value.specs.declared.value.Expr.{Expr, Token, Form', Row_of-Expr, 
 use Rattle.bz_value.specs.declared.value.Expr.TheVariants as e
 use Rattle.bz_items.specs.Characters.{Bytes}
 use Rattle.bz_value.specs.Frames.{frame, is_binary, is_comprehension}
-use Rattle.bz_value.specs.Proper.{IsComment, AreComments, comments_of, has_break, is_operator, begins_operator, after_expr, roots, IsEmptyRow, in_frame, ProperExpr, ProperRow, ProperHead, ProperItems, has_statement_kind}
+use Rattle.bz_value.specs.Proper.{IsComment, AreComments, comments_of, has_break, is_operator, begins_operator, after_expr, roots, IsEmptyRow, in_frame, ProperExpr, ProperRow, ProperHead, ProperItems}
+use Rattle.bz_value.specs.Statements.{has_statement_kind}
 use Rattle.bz_value.specs.Roots.{root, row_in}
-use Rattle.bz_value.proofs.FormParts.{AreParts, AreHead, AreItems, IsNone, operator_first, framed, form_proper}
+use Rattle.bz_value.proofs.FormParts.{AreParts, AreHead, AreItems, IsNone, operator_first, framed, form_proper, no_suite}
 use Rattle.bz_rule.specs.Values.{parts_of, items_of}
 use Rattle.bz_rule.proofs.ProperShapes.{AlikeRoots, same_root, Alike, kind_alike}
 use Rattle.bz_rule.proofs.ProperShapes as shapes
@@ -54,6 +55,7 @@ AsForm here kind ps xs end split open_break =
     × in_frame (frame kind)
     (AreParts (is_binary kind) here here ps × IsNone xs × (end ≡ []) × (split ≡ false) × (open_break ≡ true → is_comprehension kind ≡ true))
     (AreHead here ps × AreItems xs × All IsComment end × (open_break ≡ false))
+    ⊥
 
 -- the same of an expression, with these parts and items in place of its own
 abbrev pub AsFormWith : Spot → List Expr → List Expr → Expr → Type 0
@@ -67,7 +69,8 @@ opened here (Form' kind s parts s' items end split open_break comments) h = (
   framed (frame kind)
       (λ g. (parts_list (is_binary kind) here here _ parts g.0, none_list _ items g.1, g.2, g.3, g.4))
       (λ g. (head_list here _ parts g.0, items_list _ items g.1, g.2, g.3))
-      h.1,
+      (λ g. g)
+      (no_suite kind (roots parts) (roots items) _ _ _ h.0 h.1),
 )
 
 abbrev pub with_lists : List Expr → List Expr → Expr → Expr
@@ -157,6 +160,7 @@ lists_proper here ps xs (Form' kind s parts s' items end split open_break commen
   framed (frame kind)
       (λ g. (parts_in_place (is_binary kind) here here _ ps v g.0, none_in_place _ xs w g.1, g.2, g.3, g.4))
       (λ g. (head_in_place here _ ps v g.0, items_in_place _ xs w g.1, g.2, g.3))
+      (λ g. g)
       h.1,
 )
 

@@ -11,7 +11,7 @@ use Rattle.bz_grammar.specs.Shapes as s
 use Rattle.bz_grammar.specs.Shapes.{Nonterminal, Terminal, Shape, Fits, Listed, After, Several, shape, has_token, has_nonterminal, is_one_of, is_terminal, is_class}
 use Rattle.bz_grammar.specs.Legal.{IsNonterminal}
 use Rattle.bz_items.specs.Characters.{comma}
-use Rattle.bz_value.specs.Frames.{Frame, row, sequence}
+use Rattle.bz_value.specs.Frames.{Frame, row, sequence, compound}
 use Rattle.bz_value.specs.Roots.{mark_leaf, each_with_comma, row_in}
 
 -- ---- which tokens a shape names by their texts
@@ -130,6 +130,7 @@ after_parts xs ys us vs (more x y xs' ys' r w) i = more x y _ _ r (after_parts x
 row_alike : (f : Frame) (xs ys us vs : List Part) → Alike xs ys → Alike us vs → Alike (row_in f xs us) (row_in f ys vs)
 row_alike row xs ys us vs h i = h
 row_alike (sequence opener closer) xs ys us vs h i = after_parts xs ys _ _ h (more (mark_leaf opener) (mark_leaf opener) _ _ (itself (mark_leaf opener)) (commas_alike us vs (mark_leaf closer) i))
+row_alike compound xs ys us vs h i = over
 
 -- What is alike to the parts and items of a node fits its shape too.
 pub kind_alike : (kind : Kind) (f : Frame) (xs ys us vs : List Part) → Alike xs ys → Alike us vs → Fits IsNonterminal (shape kind) (row_in f xs us) → Fits IsNonterminal (shape kind) (row_in f ys vs)

@@ -36,6 +36,7 @@ module _ (grammar : Kind → Shape) where
       framed (frame kind)
           (λ g. (moved_row _ parts (is_binary kind) here here' here here' f f g.0, g.1, g.2, g.3, g.4))
           (λ g. (moved_head _ parts here here' f g.0, g.1, g.2, g.3))
+          (λ g. g)
           h.1,
     )
 

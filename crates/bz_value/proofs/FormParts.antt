@@ -1,18 +1,22 @@
 -- A form is proper where its parts are, stated for lists.
-use Rattle.std.proofs.Common.{◌≡◌, Bool, true, false, not, ◌&&◌, List, [], ◌∷◌, map, refl, sym, ap, ◌∙◌, subst}
+use Rattle.std.proofs.Common.{◌≡◌, Bool, true, false, not, ◌&&◌, List, [], ◌∷◌, map, refl, sym, ap, ◌∙◌, subst, true≢false}
 use Rattle.std.specs.List.{All}
 use mathlib.Core.Former.{Count}
 use Rattle.bz_grammar.specs.declared.kind.Kind.{Kind}
+use Rattle.bz_grammar.specs.declared.kind.Kind.TheVariants as k
+use Rattle.bz_grammar.specs.declared.tree.Part.{Part}
 use Rattle.bz_grammar.specs.Shapes.{Shape, Fits, shape}
 use Rattle.bz_grammar.specs.Legal.{IsNonterminal}
-use Rattle.bz_grammar.specs.Spots.{Spot, Within}
+use Rattle.bz_grammar.specs.Spots.{Spot, Begins, Within}
 use Rattle.bz_value.specs.declared.value.Form.{Form}
 use Rattle.bz_value.specs.declared.value.Expr.{Expr, Token, Form', Row_of-Expr, end_of-Expr, more_of-Expr, items-the_row-Expr, items_hidden-the_row-Expr-0}
 use Rattle.bz_value.specs.declared.value.Expr.TheVariants as e
 use Rattle.bz_value.specs.Comments.{no_comments}
-use Rattle.bz_value.specs.Frames.{Frame, row, sequence, frame, is_binary, is_comprehension}
+use Rattle.bz_value.specs.Empty.{is_empty}
+use Rattle.bz_value.specs.Frames.{Frame, row, sequence, compound, frame, is_binary, is_comprehension}
 use Rattle.bz_value.specs.Roots.{root, row_in}
-use Rattle.bz_value.specs.Proper.{IsComment, AreComments, comments_of, has_break, is_operator, begins_operator, after_expr, roots, IsEmptyRow, IsBare, in_frame, ProperExpr, ProperBy, ProperRowBy, ProperHeadBy, ProperItemsBy}
+use Rattle.bz_value.specs.Proper.{IsComment, AreComments, comments_of, has_break, is_operator, begins_operator, after_expr, roots, IsEmptyRow, IsSomeRow, IsBare, in_frame, ProperExpr, ProperBy, ProperRowBy, ProperHeadBy, ProperItemsBy, ProperHeaderBy, ProperLinesBy}
+use Rattle.bz_value.specs.Statements.{has_header_kind, is_alternative, is_whole_statement, alternatives_fit}
 
 -- ---- the definition's conditions on rows, of lists
 
@@ -46,9 +50,14 @@ abbrev pub items_in : Expr → (m : Count) × Row_of-Expr m
 items_in (Form' kind s parts s' items end split open_break comments) = (_, items)
 items_in (Token t) = (_, end_of-Expr)
 
-pub framed : (f : Frame) {A A' B B' : Type 0} → (A → A') → (B → B') → in_frame f A B → in_frame f A' B'
-framed row a b h = a h
-framed (sequence opener closer) a b h = b h
+pub framed : (f : Frame) {A A' B B' C C' : Type 0} → (A → A') → (B → B') → (C → C') → in_frame f A B C → in_frame f A' B' C'
+framed row a b c h = a h
+framed (sequence opener closer) a b c h = b h
+framed compound a b c h = c h
+
+some_of : (m : _) (r : Row_of-Expr m) → is_empty (items-the_row-Expr m r) ≡ false → IsSomeRow r
+some_of m end_of-Expr h = absurd (true≢false h)
+some_of m (more_of-Expr x rest) h = tt
 
 -- ---- by a grammar
 
@@ -68,6 +77,14 @@ module _ (grammar : Kind → Shape) where
   AreItemsBy [] = Unit {0}
   AreItemsBy (x ∷ xs) = ProperBy grammar Within x × AreComments (comments_of x) × (has_break x ≡ false) × AreItemsBy xs
 
+  abbrev pub AreLinesBy : (Expr → Bool) → List Expr → Type 0
+  AreLinesBy test [] = Unit {0}
+  AreLinesBy test (x ∷ xs) = (test x ≡ true) × ProperBy grammar Begins x × AreComments (comments_of x) × AreLinesBy test xs
+
+  abbrev pub AreHeaderBy : List Expr → Type 0
+  AreHeaderBy [] = ⊥
+  AreHeaderBy (head ∷ others) = (has_header_kind head ≡ true) × ProperBy grammar Begins head × (comments_of head ≡ no_comments) × AreLinesBy is_alternative others × (alternatives_fit head others ≡ true)
+
   row_of : (binary : Bool) (outer here : Spot) (m : _) (r : Row_of-Expr m) → ArePartsBy binary outer here (items-the_row-Expr m r) → ProperRowBy grammar binary outer here r
   row_of binary outer here m end_of-Expr h = tt
   row_of binary outer here m (more_of-Expr x rest) h = (
@@ -85,6 +102,14 @@ module _ (grammar : Kind → Shape) where
   items_of m end_of-Expr h = tt
   items_of m (more_of-Expr x rest) h = (h.0, h.1, h.2, items_of _ rest h.3)
 
+  lines_of : (test : Expr → Bool) (m : _) (r : Row_of-Expr m) → AreLinesBy test (items-the_row-Expr m r) → ProperLinesBy grammar test r
+  lines_of test m end_of-Expr h = tt
+  lines_of test m (more_of-Expr x rest) h = (h.0, h.1, h.2, lines_of test _ rest h.3)
+
+  header_of : (m : _) (r : Row_of-Expr m) → AreHeaderBy (items-the_row-Expr m r) → ProperHeaderBy grammar r
+  header_of m end_of-Expr h = absurd h
+  header_of m (more_of-Expr head rest) h = (h.0, h.1, h.2, lines_of is_alternative _ rest h.3, h.4)
+
   -- what the definition requires of a form, by its frame
   abbrev pub AsRowBy : Spot → Form → Type 0
   AsRowBy here f =
@@ -93,7 +118,10 @@ module _ (grammar : Kind → Shape) where
   abbrev pub AsSequenceBy : Spot → Form → Type 0
   AsSequenceBy here f = AreHeadBy here f.parts × AreItemsBy f.seq.items × All IsComment f.seq.end × (f.open_break ≡ false)
 
-  pub form_proper_by : (here : Spot) (f : Form) → Fits IsNonterminal (grammar f.kind) (row_in (frame f.kind) (map root f.parts) (map root f.seq.items)) → in_frame (frame f.kind) (AsRowBy here f) (AsSequenceBy here f) → ProperBy grammar here (e.Form f)
+  abbrev pub AsCompoundBy : Form → Type 0
+  AsCompoundBy f = AreHeaderBy f.parts × (is_empty f.seq.items ≡ false) × AreLinesBy is_whole_statement f.seq.items × All IsComment f.seq.end × (f.seq.split ≡ false) × (f.open_break ≡ false)
+
+  pub form_proper_by : (here : Spot) (f : Form) → Fits IsNonterminal (grammar f.kind) (row_in (frame f.kind) (map root f.parts) (map root f.seq.items)) → in_frame (frame f.kind) (AsRowBy here f) (AsSequenceBy here f) (AsCompoundBy f) → ProperBy grammar here (e.Form f)
   form_proper_by here f h i =
       let ps = parts_in (e.Form f) in
       let qs = items_in (e.Form f) in
@@ -105,6 +133,7 @@ module _ (grammar : Kind → Shape) where
         framed (frame f.kind)
             (λ g. (row_of (is_binary f.kind) here here ps.0 ps.1 (subst (ArePartsBy (is_binary f.kind) here here) (sym parts) g.0), none_of qs.0 qs.1 (subst IsNone (sym items) g.1), g.2, g.3, g.4))
             (λ g. (head_of here ps.0 ps.1 (subst (AreHeadBy here) (sym parts) g.0), items_of qs.0 qs.1 (subst AreItemsBy (sym items) g.1), g.2, g.3))
+            (λ g. (header_of ps.0 ps.1 (subst AreHeaderBy (sym parts) g.0), some_of qs.0 qs.1 (subst (λ z. is_empty z ≡ false) (sym items) g.1), lines_of is_whole_statement qs.0 qs.1 (subst (AreLinesBy is_whole_statement) (sym items) g.2), g.3, g.4, g.5))
             i,
       )
 
@@ -125,5 +154,10 @@ AsRow here f = AsRowBy shape here f
 abbrev pub AsSequence : Spot → Form → Type 0
 AsSequence here f = AsSequenceBy shape here f
 
-pub form_proper : (here : Spot) (f : Form) → Fits IsNonterminal (shape f.kind) (row_in (frame f.kind) (map root f.parts) (map root f.seq.items)) → in_frame (frame f.kind) (AsRow here f) (AsSequence here f) → ProperExpr here (e.Form f)
-form_proper here f h i = form_proper_by shape here f h i
+pub form_proper : (here : Spot) (f : Form) → Fits IsNonterminal (shape f.kind) (row_in (frame f.kind) (map root f.parts) (map root f.seq.items)) → in_frame (frame f.kind) (AsRow here f) (AsSequence here f) ⊥ → ProperExpr here (e.Form f)
+form_proper here f h i = form_proper_by shape here f h (framed (frame f.kind) (λ g. g) (λ g. g) (λ g. absurd g) i)
+
+-- a suite has none of the shapes of BUILD files
+pub no_suite : (kind : Kind) (xs ys : List Part) (A B C : Type 0) → Fits IsNonterminal (shape kind) (row_in (frame kind) xs ys) → in_frame (frame kind) A B C → in_frame (frame kind) A B ⊥
+no_suite k.Suite xs ys A B C h i = absurd h
+no_suite _ xs ys A B C h i = i

@@ -9,9 +9,9 @@ use Rattle.bz_grammar.specs.Shapes as s
 use Rattle.bz_grammar.specs.Shapes.{Nonterminal, Terminal, Shape, Fits, Listed, After, Several, has_token, has_nonterminal}
 use Rattle.bz_grammar.specs.Legal.{IsNonterminal}
 use Rattle.bz_value.specs.Frames.{frame, lead}
-use Rattle.bz_value.specs.LineShapes.{line_shape}
 use Rattle.bz_value.specs.Proper.{in_frame}
-use Rattle.bz_value.specs.Roots.{mark_leaf, row_in}
+use Rattle.bz_value.specs.Roots.{mark_leaf, each_with_comma, row_in}
+use Rattle.bz_value.specs.LineShapes.{value_shape}
 
 abbrev pub lacks_mark : ℕ → List Terminal → Bool
 lacks_mark o terminals = not (has_token terminals (mark_leaf o))
@@ -86,14 +86,24 @@ module _ (o : ℕ) (ys : List Part) where
   one_before nonterminal terminals then_ n [] h = absurd (no_nonterminal nonterminal o h.0)
   one_before nonterminal terminals then_ n (x ∷ xs) h = ap suc (none_before terminals then_ n xs h.1)
 
-  -- one word, and then the bracket
-  word_before : (word terminals : List Terminal) (then_ : Shape) → lacks_mark o word ≡ true → lacks o then_ ≡ true → (xs : List Part) → Fits IsNonterminal (s.tok word (s.tok terminals then_)) (xs ++ (mark_leaf o ∷ ys)) → length xs ≡ 1
-  word_before word terminals then_ w n [] h = absurd (no_token _ w h.0)
-  word_before word terminals then_ w n (x ∷ xs) h = ap suc (none_before terminals then_ n xs h.1)
+  -- one word, and then what is before the bracket
+  word_before : (word : List Terminal) (then_ : Shape) (n : ℕ) → lacks_mark o word ≡ true → ((xs : List Part) → Fits IsNonterminal then_ (xs ++ (mark_leaf o ∷ ys)) → length xs ≡ n) → (xs : List Part) → Fits IsNonterminal (s.tok word then_) (xs ++ (mark_leaf o ∷ ys)) → length xs ≡ suc n
+  word_before word then_ n w before [] h = absurd (no_token _ w h.0)
+  word_before word then_ n w before (x ∷ xs) h = ap suc (before xs h.1)
 
-pub lead_before : (kind : Kind) (xs ys : List Part) → Fits IsNonterminal (line_shape kind) (row_in (frame kind) xs ys) → in_frame (frame kind) (Unit {0}) (length xs ≡ lead kind)
+-- items, and the closing bracket
+abbrev closed : List Part → ℕ → List Part
+closed ys closer = each_with_comma ys ++ mark_leaf closer ∷ []
+
+pub lead_before : (kind : Kind) (xs ys : List Part) → Fits IsNonterminal (value_shape kind) (row_in (frame kind) xs ys) → in_frame (frame kind) (Unit {0}) (length xs ≡ lead kind) (Unit {0})
 lead_before k.Call xs ys h = one_before 40 _ s.primary s.open_round (s.items s.argument s.close_round) refl xs h
-lead_before k.Load xs ys h = word_before 40 _ (s.one_keyword (codes "load")) s.open_round (s.tok s.string (s.alt (s.tok s.close_round s.done) (s.tok s.comma_mark (s.items s.loaded s.close_round)))) refl refl xs h
+lead_before k.Load xs ys h =
+    let then_ : Shape = s.tok s.string (s.alt (s.tok s.close_round s.done) (s.tok s.comma_mark (s.items s.loaded s.close_round))) in
+    word_before 40 (closed ys 41) (s.one_keyword (codes "load")) (s.tok s.open_round then_) 0 refl (none_before 40 (closed ys 41) s.open_round then_ refl) xs h
+lead_before k.Def xs ys h =
+    let then_ : Shape = s.items s.param s.close_round in
+    word_before 40 (closed ys 41) (s.one_keyword (codes "def")) (s.tok s.name (s.tok s.open_round then_)) 1 refl
+    (word_before 40 (closed ys 41) s.name (s.tok s.open_round then_) 0 refl (none_before 40 (closed ys 41) s.open_round then_ refl)) xs h
 lead_before k.Tuple xs ys h = none_before 40 _ s.open_round (s.alt (s.tok s.close_round s.done) (s.sub s.test (s.tok s.comma_mark (s.items s.test s.close_round)))) refl xs h
 lead_before k.List xs ys h = none_before 91 _ s.open_square (s.items s.test s.close_square) refl xs h
 lead_before k.Dict xs ys h = none_before 123 _ s.open_curly (s.items s.entry s.close_curly) refl xs h

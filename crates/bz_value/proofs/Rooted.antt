@@ -8,9 +8,9 @@ use Rattle.bz_grammar.specs.Shapes as s
 use Rattle.bz_grammar.specs.Shapes.{Nonterminal, Terminal, Shape, Fits, Listed, After, Several, Times, no_more, once_more, shape, items, has_token, has_nonterminal, is_one_of, is_terminal, tok, done}
 use Rattle.bz_grammar.specs.Legal.{IsNonterminal}
 use Rattle.bz_items.specs.Characters.{comma}
-use Rattle.bz_value.specs.Frames.{Frame, row, sequence, frame, lead}
-use Rattle.bz_value.specs.LineShapes.{line_shape}
+use Rattle.bz_value.specs.Frames.{Frame, row, sequence, compound, frame, lead}
 use Rattle.bz_value.specs.Roots.{mark_leaf, each_with_comma, row_in}
+use Rattle.bz_value.specs.LineShapes.{value_shape}
 
 pub record SameRoot (x y : Part) : Type 0 where
   pub token : (ts : List Terminal) → has_token ts x ≡ has_token ts y
@@ -99,6 +99,7 @@ after_same_parts xs ys us vs (more x y xs' ys' r w) i = more x y _ _ r (after_sa
 pub row_same : (f : Frame) (xs ys us vs : List Part) → Same xs ys → Same us vs → Same (row_in f xs us) (row_in f ys vs)
 row_same row xs ys us vs h i = h
 row_same (sequence opener closer) xs ys us vs h i = after_same_parts xs ys _ _ h (more (mark_leaf opener) (mark_leaf opener) _ _ (itself (mark_leaf opener)) (commas_same us vs (mark_leaf closer ∷ []) i))
+row_same compound xs ys us vs h i = over
 
 -- ---- a sequence fits with a comma after each item
 
@@ -133,12 +134,12 @@ module _ (close : List Terminal) (closer : Part) (closes : has_token close close
 
 -- of the parts of a node, those that a form of its kind keeps: its parts and its items
 abbrev pub kept_parts : {X : Type 0} → Frame → Kind → List X → List X
-kept_parts row kind xs = xs
 kept_parts (sequence opener closer) kind xs = take (lead kind) xs
+kept_parts _ kind xs = xs
 
 abbrev pub kept_items : {X : Type 0} → Frame → Kind → List X → List X
-kept_items row kind xs = []
 kept_items (sequence opener closer) kind xs = places (drop (suc (lead kind)) xs)
+kept_items _ kind xs = []
 
 call_fits : (ps : List Part) → Fits IsNonterminal (shape k.Call) ps → Fits IsNonterminal (shape k.Call) (row_in (frame k.Call) (kept_parts (frame k.Call) k.Call ps) (kept_items (frame k.Call) k.Call ps))
 call_fits [] h = absurd h
@@ -171,20 +172,30 @@ dict_fits : (ps : List Part) → Fits IsNonterminal (shape k.Dict) ps → Fits I
 dict_fits [] h = absurd h
 dict_fits (y ∷ ps) h = (refl, items_closed s.close_curly (mark_leaf 125) refl s.entry ps h.1)
 
+def_fits : (ps : List Part) → Fits IsNonterminal (value_shape k.Def) ps → Fits IsNonterminal (value_shape k.Def) (row_in (frame k.Def) (kept_parts (frame k.Def) k.Def ps) (kept_items (frame k.Def) k.Def ps))
+def_fits [] h = absurd h
+def_fits (w ∷ []) h = absurd h.1
+def_fits (w ∷ x ∷ []) h = absurd h.1.1
+def_fits (w ∷ x ∷ y ∷ ps) h = (h.0, (h.1.0, (refl, items_closed s.close_round (mark_leaf 41) refl s.param ps h.1.1.1)))
+
 -- What a form keeps of a node's parts has the shape of its kind again, with brackets and commas put back.
+pub value_fits : (kind : Kind) (ps : List Part) → Fits IsNonterminal (value_shape kind) ps → Fits IsNonterminal (value_shape kind) (row_in (frame kind) (kept_parts (frame kind) kind ps) (kept_items (frame kind) kind ps))
+value_fits k.Call ps h = call_fits ps h
+value_fits k.Load ps h = load_fits ps h
+value_fits k.Tuple ps h = tuple_fits ps h
+value_fits k.List ps h = list_fits ps h
+value_fits k.Dict ps h = dict_fits ps h
+value_fits k.Def ps h = def_fits ps h
+value_fits k.Suite ps h = tt
+value_fits _ ps h = h
+
+-- the same by the grammar of BUILD files
 pub kind_fits : (kind : Kind) (ps : List Part) → Fits IsNonterminal (shape kind) ps → Fits IsNonterminal (shape kind) (row_in (frame kind) (kept_parts (frame kind) kind ps) (kept_items (frame kind) kind ps))
+kind_fits k.Def ps h = absurd h
+kind_fits k.Suite ps h = absurd h
 kind_fits k.Call ps h = call_fits ps h
 kind_fits k.Load ps h = load_fits ps h
 kind_fits k.Tuple ps h = tuple_fits ps h
 kind_fits k.List ps h = list_fits ps h
 kind_fits k.Dict ps h = dict_fits ps h
 kind_fits _ ps h = h
-
--- the same by the grammar of the lines of .bzl files
-pub line_fits : (kind : Kind) (ps : List Part) → Fits IsNonterminal (line_shape kind) ps → Fits IsNonterminal (line_shape kind) (row_in (frame kind) (kept_parts (frame kind) kind ps) (kept_items (frame kind) kind ps))
-line_fits k.Call ps h = call_fits ps h
-line_fits k.Load ps h = load_fits ps h
-line_fits k.Tuple ps h = tuple_fits ps h
-line_fits k.List ps h = list_fits ps h
-line_fits k.Dict ps h = dict_fits ps h
-line_fits _ ps h = h

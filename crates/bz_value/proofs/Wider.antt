@@ -1,4 +1,5 @@
--- What is proper by a grammar is proper by a wider one; that of the lines of .bzl files is wider than that of BUILD files.
+-- What is proper by a grammar is proper by a wider one; that of the lines of .bzl files is wider than that of BUILD files,
+-- and that of values than that of lines.
 use Rattle.std.proofs.Common.{Bool, List, [], ◌∷◌, inl, inr}
 use Rattle.std.proofs.lemmas.Bool.{or_left}
 use Rattle.bz_grammar.specs.declared.kind.Kind.{Kind}
@@ -8,11 +9,12 @@ use Rattle.bz_grammar.specs.declared.tree.Part.TheVariants as p
 use Rattle.bz_grammar.specs.Shapes as s
 use Rattle.bz_grammar.specs.Shapes.{Shape, Fits, shape}
 use Rattle.bz_grammar.specs.Legal.{IsNonterminal}
-use Rattle.bz_grammar.specs.Spots.{Spot, Within}
+use Rattle.bz_grammar.specs.Spots.{Spot, Begins, Within}
 use Rattle.bz_value.specs.declared.value.Expr.{Expr, Token, Form', Row_of-Expr, end_of-Expr, more_of-Expr}
 use Rattle.bz_value.specs.Frames.{frame, is_binary}
-use Rattle.bz_value.specs.LineShapes.{line_shape}
-use Rattle.bz_value.specs.Proper.{after_expr, ProperBy, ProperRowBy, ProperHeadBy, ProperItemsBy}
+use Rattle.bz_value.specs.Proper.{after_expr, ProperBy, ProperRowBy, ProperHeadBy, ProperItemsBy, ProperHeaderBy, ProperLinesBy}
+use Rattle.bz_value.specs.Statements.{is_alternative, is_whole_statement}
+use Rattle.bz_value.specs.LineShapes.{line_shape, value_shape}
 use Rattle.bz_value.proofs.FormParts.{framed}
 
 -- what has the shape of a kind by the one grammar has it by the other
@@ -28,6 +30,7 @@ module _ (narrow wide : Kind → Shape) (wider : IsWider narrow wide) where
       framed (frame kind)
           (λ g. (wider_row (is_binary kind) here here _ parts g.0, g.1, g.2, g.3, g.4))
           (λ g. (wider_head here _ parts g.0, wider_items _ items g.1, g.2, g.3))
+          (λ g. (wider_header _ parts g.0, g.1, wider_lines is_whole_statement _ items g.2, g.3, g.4, g.5))
           h.1,
     )
 
@@ -42,6 +45,14 @@ module _ (narrow wide : Kind → Shape) (wider : IsWider narrow wide) where
     wider_items : (m : _) (r : Row_of-Expr m) → ProperItemsBy narrow r → ProperItemsBy wide r
     wider_items m end_of-Expr h = tt
     wider_items m (more_of-Expr x rest) h = (wider_expr Within x h.0, h.1, h.2, wider_items _ rest h.3)
+
+    wider_header : (m : _) (r : Row_of-Expr m) → ProperHeaderBy narrow r → ProperHeaderBy wide r
+    wider_header m end_of-Expr h = absurd h
+    wider_header m (more_of-Expr head rest) h = (h.0, wider_expr Begins head h.1, h.2, wider_lines is_alternative _ rest h.3, h.4)
+
+    wider_lines : (test : Expr → Bool) (m : _) (r : Row_of-Expr m) → ProperLinesBy narrow test r → ProperLinesBy wide test r
+    wider_lines test m end_of-Expr h = tt
+    wider_lines test m (more_of-Expr x rest) h = (h.0, wider_expr Begins x h.1, h.2, wider_lines test _ rest h.3)
 
 -- what is a Line is a statement
 line_statement : (x : Part) → IsNonterminal s.line x → IsNonterminal s.stmt x
@@ -68,3 +79,13 @@ lines_wider _ xs h = h
 -- of BUILD files
 pub line_expr : (here : Spot) (x : Expr) → ProperBy shape here x → ProperBy line_shape here x
 line_expr here x h = wider_expr shape line_shape lines_wider here x h
+
+pub values_wider : IsWider line_shape value_shape
+values_wider k.Def xs h = absurd h
+values_wider k.IfStmt xs h = absurd h
+values_wider k.ForStmt xs h = absurd h
+values_wider k.Suite xs h = absurd h
+values_wider _ xs h = h
+
+pub build_wider : IsWider shape value_shape
+build_wider kind xs h = values_wider kind xs (lines_wider kind xs h)

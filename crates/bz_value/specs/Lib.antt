@@ -8,5 +8,6 @@ pub mod LineShapes
 pub mod Proper
 pub mod Refusals
 pub mod Roots
+pub mod Statements
 pub mod Windows
 pub mod Worked

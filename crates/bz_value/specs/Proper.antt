@@ -8,14 +8,16 @@ use Rattle.bz_grammar.specs.declared.kind.Kind.{Kind}
 use Rattle.bz_grammar.specs.Shapes.{Shape, Fits, shape}
 use Rattle.bz_grammar.specs.Legal.{IsNonterminal}
 use Rattle.bz_grammar.specs.Spots.{Spot, Begins, Within, role, following_token, after_node}
-use Rattle.bz_value.specs.declared.value.Expr.{Expr, Token, Form', Row_of-Expr, end_of-Expr, more_of-Expr}
+use Rattle.bz_value.specs.declared.value.Expr.{Expr, Token, Form', Row_of-Expr, end_of-Expr, more_of-Expr, items-the_row-Expr}
 use Rattle.bz_value.specs.declared.value.Item.{Item}
 use Rattle.bz_value.specs.declared.value.Item.TheVariants as i
 use Rattle.bz_items.specs.Characters.{Bytes, line_feed, number_sign}
 use Rattle.bz_value.specs.Comments.{HostComments, no_comments}
-use Rattle.bz_value.specs.Frames.{Frame, row, sequence, frame, is_binary, is_comprehension, is_statement}
+use Rattle.bz_value.specs.Frames.{Frame, row, sequence, compound, frame, is_binary, is_comprehension}
 use Rattle.bz_value.specs.Gaps.{trimmed}
 use Rattle.bz_value.specs.Roots.{root, row_in}
+use Rattle.bz_value.specs.Statements.{has_statement_kind, has_header_kind, is_alternative, is_whole_statement, alternatives_fit}
+use Rattle.bz_value.specs.LineShapes.{value_shape}
 
 -- ---- comments
 
@@ -74,20 +76,26 @@ abbrev pub IsEmptyRow : {m : _} → Row_of-Expr m → Type 0
 IsEmptyRow end_of-Expr = Unit {0}
 IsEmptyRow (more_of-Expr x rest) = ⊥
 
+abbrev pub IsSomeRow : {m : _} → Row_of-Expr m → Type 0
+IsSomeRow end_of-Expr = ⊥
+IsSomeRow (more_of-Expr x rest) = Unit {0}
+
 -- no host, so no comments; and no break
 abbrev pub IsBare : Expr → Type 0
 IsBare x = (comments_of x ≡ no_comments) × (has_break x ≡ false)
 
 -- by the frame
-abbrev pub in_frame : Frame → Type 0 → Type 0 → Type 0
-in_frame row as_row as_sequence = as_row
-in_frame (sequence opener closer) as_row as_sequence = as_sequence
+abbrev pub in_frame : Frame → Type 0 → Type 0 → Type 0 → Type 0
+in_frame row as_row as_sequence as_compound = as_row
+in_frame (sequence opener closer) as_row as_sequence as_compound = as_sequence
+in_frame compound as_row as_sequence as_compound = as_compound
 
 -- By a grammar, which gives each kind its shape.
 module _ (grammar : Kind → Shape) where
   -- An expression is proper at a spot where each node has the shape that the grammar gives its kind, with its brackets and
   -- commas put back; each token is a lexeme of its class; only statements and the items of sequences have comments; a break
-  -- is only after an operator and inside brackets; only a comprehension is open.
+  -- is only after an operator and inside brackets; only a comprehension is open. A suite has a header and statements, and the
+  -- comments of both are its own.
   abbrev mutual
     pub ProperBy : Spot → Expr → Type 0
     ProperBy here (Token t) = IsLexeme t.class t.text × IsUtf8 t.text
@@ -96,6 +104,7 @@ module _ (grammar : Kind → Shape) where
         × in_frame (frame kind)
         (ProperRowBy (is_binary kind) here here parts × IsEmptyRow items × (end ≡ []) × (split ≡ false) × (open_break ≡ true → is_comprehension kind ≡ true))
         (ProperHeadBy here parts × ProperItemsBy items × All IsComment end × (open_break ≡ false))
+        (ProperHeaderBy parts × IsSomeRow items × ProperLinesBy is_whole_statement items × All IsComment end × (split ≡ false) × (open_break ≡ false))
 
     -- the parts of a row, from one on that is here
     pub ProperRowBy : Bool → Spot → Spot → {m : _} → Row_of-Expr m → Type 0
@@ -114,6 +123,17 @@ module _ (grammar : Kind → Shape) where
     ProperItemsBy end_of-Expr = Unit {0}
     ProperItemsBy (more_of-Expr x rest) = ProperBy Within x × AreComments (comments_of x) × (has_break x ≡ false) × ProperItemsBy rest
 
+    -- a header, and its alternatives
+    pub ProperHeaderBy : {m : _} → Row_of-Expr m → Type 0
+    ProperHeaderBy end_of-Expr = ⊥
+    ProperHeaderBy (more_of-Expr head rest) =
+        (has_header_kind head ≡ true) × ProperBy Begins head × (comments_of head ≡ no_comments) × ProperLinesBy is_alternative rest × (alternatives_fit head (items-the_row-Expr _ rest) ≡ true)
+
+    -- statements, or alternatives: each of this sort
+    pub ProperLinesBy : (Expr → Bool) → {m : _} → Row_of-Expr m → Type 0
+    ProperLinesBy test end_of-Expr = Unit {0}
+    ProperLinesBy test (more_of-Expr x rest) = (test x ≡ true) × ProperBy Begins x × AreComments (comments_of x) × ProperLinesBy test rest
+
 -- by the grammar of BUILD files
 abbrev pub ProperExpr : Spot → Expr → Type 0
 ProperExpr here x = ProperBy shape here x
@@ -129,13 +149,19 @@ ProperItems r = ProperItemsBy shape r
 
 -- ---- files
 
-abbrev pub has_statement_kind : Expr → Bool
-has_statement_kind (Token t) = false
-has_statement_kind (Form' kind s parts s' items end split open_break comments) = is_statement kind
+-- By a grammar, with a test on statements.
+module _ (test : Expr → Bool) (grammar : Kind → Shape) where
+  abbrev pub IsProperItemBy : Item → Type 0
+  IsProperItemBy (i.Block lines) = (lines ≢ []) × All IsComment lines
+  IsProperItemBy (i.Stmt x) = (test x ≡ true) × ProperBy grammar Begins x × AreComments (comments_of x)
 
+-- of BUILD files
 abbrev pub IsProperItem : Item → Type 0
-IsProperItem (i.Block lines) = (lines ≢ []) × All IsComment lines
-IsProperItem (i.Stmt x) = (has_statement_kind x ≡ true) × ProperExpr Begins x × AreComments (comments_of x)
+IsProperItem item = IsProperItemBy has_statement_kind shape item
 
 abbrev pub IsProper : List Item → Type 0
 IsProper items = All IsProperItem items
+
+-- of .bzl files
+abbrev pub IsProperBzl : List Item → Type 0
+IsProperBzl items = All (IsProperItemBy is_whole_statement value_shape) items

@@ -1,6 +1,6 @@
 //! How the nodes of each kind are kept, and which tokens are operators.
 ghost use Rattle.std.specs.Prelude.{◌≡◌, ◌≤◌};
-ghost use Rattle.bz_value.specs.Frames.{frame, has_brackets, is_binary, is_comprehension, is_statement, lead};
+ghost use Rattle.bz_value.specs.Frames.{frame, has_brackets, is_binary, is_compound, is_comprehension, is_header, is_statement, lead};
 ghost use Rattle.bz_value.specs.Proper.{is_operator_class};
 
 use bz_grammar::{Class, Kind};
@@ -11,17 +11,32 @@ pub fn is_sequence(kind: Kind) -> bool
 {
     matches!(
         kind,
-        Kind::Call | Kind::Load | Kind::Tuple | Kind::List | Kind::Dict
+        Kind::Call | Kind::Load | Kind::Tuple | Kind::List | Kind::Dict | Kind::Def
     )
+}
+
+/// Whether a form of the kind is a suite with its header.
+pub fn is_suite(kind: Kind) -> bool
+    ensures { result ≡ is_compound (frame kind) }
+{
+    matches!(kind, Kind::Suite)
+}
+
+/// Whether a form of the kind is the header of a suite.
+pub fn is_header(kind: Kind) -> bool
+    ensures { result ≡ is_header kind }
+{
+    matches!(kind, Kind::Def | Kind::IfStmt | Kind::ForStmt)
 }
 
 /// How many parts are before the opening bracket of a sequence.
 pub fn lead_of(kind: Kind) -> usize
     ensures value { result ≡ lead kind }
-    ensures small { result ≤ 1 }
+    ensures small { result ≤ 2 }
 {
     match kind {
         Kind::Call | Kind::Load => 1,
+        Kind::Def => 2,
         _ => 0,
     }
 }

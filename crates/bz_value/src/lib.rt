@@ -16,7 +16,8 @@ mod windows;
 pub use comments::Comments;
 pub use end_comments::EndComments;
 pub use frame::{
-    is_binary, is_comprehension, is_operator_class, is_sequence, is_statement, lead_of,
+    is_binary, is_comprehension, is_header, is_operator_class, is_sequence, is_statement, is_suite,
+    lead_of,
 };
 pub use gap::{
     Line, first_line, has_newline, past_first_line, push_all, push_others, suffix_in, trim_end,

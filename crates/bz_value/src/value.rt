@@ -86,7 +86,7 @@ impl Expr {
     }
 }
 
-/// What is between the brackets of a call, list, dict, tuple or load, without brackets and commas: the items, the
+/// What is between the brackets of a call, list, dict, tuple, load or the parameters of a function, without brackets and commas: the items, the
 /// comments below the last one, and whether a newline was before an item, a comma or the closing bracket.
 #[cycle(expr)]
 #[derive(Drop)]
@@ -97,8 +97,10 @@ pub struct Seq {
 }
 
 /// A node without gaps. With a sequence: `parts` is what is before its opening bracket (the function of a call, the
-/// word of a load). Without one: `parts` is the whole row of the node, marks too, and `seq` is empty. `open_break`: of a
-/// comprehension, that a newline was right after its bracket.
+/// word of a load, the word and the name of a function's header). Without one: `parts` is the whole row of the node, marks
+/// too, and `seq` is empty. A suite holds its header, a form of its own without the colon, as its first part; the other parts
+/// are the alternatives of an `if`, suites in their turn; `seq` has its statements and its end comments, and `comments` are
+/// those of the header. `open_break`: of a comprehension, that a newline was right after its bracket.
 #[cycle(expr)]
 pub struct Form {
     pub kind: Kind,

@@ -4,7 +4,7 @@
 
 pub use bz_build_format::set;
 pub use bz_bzl_layout::set_bzl;
-pub use bz_bzl_value::{Branch, BzlFile, BzlItem, Statement, view_bzl};
+pub use bz_bzl_value::{BzlFile, view_bzl};
 pub use bz_hosts::view;
 pub use bz_layout::SetFault;
 pub use bz_value::{Comments, Expr, File, Form, Item, Seq, Token};

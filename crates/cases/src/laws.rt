@@ -88,9 +88,6 @@ fn call_suites() {
     bz_bzl_layout::bzl_layout_is_too_deep();
     bz_bzl_layout::bzl_layout_reads_back();
     bz_bzl_layout::worked_bzl_layouts();
-    bz_bzl_layout::build_items_are_laid_out_the_same();
-    bz_bzl_layout::build_items_are_levelled_the_same();
-    bz_bzl_layout::build_items_are_the_same_program();
     bz_bzl_layout::build_files_are_laid_out_the_same();
     bz_build_format::formatted_bzl_once();
     bz_build_format::bzl_views_keep_programs();

@@ -80,6 +80,7 @@ IsAt parts all w left rest = Reached parts all w.made w.window.text w.window.is_
 -- the same, where `before` are the items of the tree that were not come to yet, and these are to be in their place
 pub record AreReached (parts all : List Part) (w : Writer) (before items : List Item) : Type 0 where
   pub above : Bytes
+  pub proper_before : AllByRecursion IsProperItem before
   pub proper : AllByRecursion IsProperItem items
   pub lines : IsAt parts all w (lines_from above before) (lines_from w.window.gap.items items)
 

@@ -1,6 +1,6 @@
 use Rattle.std.proofs.Common.{Err, Ok, ap, ◌∙◌}
 use Rattle.bz_grammar.specs.Legal.{NoBzlTree}
-use Rattle.bz_bzl_layout.specs.Level.{level}
+use Rattle.bz_layout.specs.Flags.{flags}
 use Rattle.bz_build_format.specs.Faults.{FormatsBzlTo}
 use Rattle.bz_build_format.proofs.Formatting.{laid_out_given}
 use Rattle.bz_build_format.proofs.Chunking.{bzl_formatted, bzl_layers}
@@ -15,7 +15,7 @@ returns-in-Err c = record {
 }
 
 pub chunks_formatted-requires : goal.chunks_formatted-requires
-chunks_formatted-requires c = bzl_layers c.bzl_views_join.ensures c.bzl_layouts_join.ensures.text c.bzl_layouts_join.ensures.depth
+chunks_formatted-requires c = bzl_layers c.bzl_views_join.ensures c.layouts_join.ensures.text c.layouts_join.ensures.depth
 
 pub returns-in-Some : goal.returns-in-Some
 returns-in-Some c =
@@ -28,4 +28,4 @@ returns-in-Ok-set_bzl-clause-fixed c =
     let set = c.in-Ok-set_bzl.ensures in
     c.formatted_bzl_once.ensures c.args.text.now c.in-Ok-set_bzl.new
     (laid_out_given c.bzl_view_is_proper.ensures c.level_keeps_layout.ensures c.level_stays.ensures c.args.text.now c.in-Ok-set_bzl.new c.in-Ok.tree _ c.in-Ok.ensures.ok
-    (c.level.ensures ∙ ap level c.in-Ok-view_bzl.ensures) set.text set.short set.reads set.says)
+    (c.level.ensures ∙ ap flags c.in-Ok-view_bzl.ensures) set.text set.short set.reads set.says)

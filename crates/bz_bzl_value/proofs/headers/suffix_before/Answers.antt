@@ -1,5 +1,5 @@
 use Rattle.std.proofs.Common.{sym, ap, ◌∙◌}
-use Rattle.bz_bzl_value.specs.View.{only_comment}
+use Rattle.bz_hosts.specs.Suites.{only_comment}
 use Rattle.bz_bzl_value.proofs.Parts.{suffix_of}
 use Rattle.bz_bzl_value.proofs.headers.suffix_before.Goals as goal
 

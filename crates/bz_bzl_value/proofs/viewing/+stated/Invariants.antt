@@ -1,6 +1,7 @@
-use Rattle.std.proofs.Common.{◌≡◌, ◌≤◌, ◌++◌, ◌-◌, [], map, drop, length}
+use Rattle.std.proofs.Common.{false, ◌≡◌, ◌≤◌, ◌++◌, ◌-◌, [], map, drop, length}
+use Rattle.bz_value.specs.declared.value.Expr.TheVariants as e
 use Rattle.bz_value.specs.Gaps.{lines_of}
-use Rattle.bz_bzl_value.specs.View.{branches, indented_lines_before, stated, walked}
+use Rattle.bz_hosts.specs.Suites.{branches, indented_lines_before, stated, walked}
 use Rattle.bz_bzl_value.proofs.viewing.+stated.Given as goal
 
 abbrev pub invariant-push_all_statements-loop-at : goal.invariant-push_all_statements-loop-at
@@ -14,10 +15,10 @@ invariant-push_all_statements-loop-at l = record {
 abbrev pub invariant-push_branches-loop-colon : goal.invariant-push_branches-loop-colon
 invariant-push_branches-loop-colon l = record {
   within : l.from ≤ length l.parts;
-  own : l.own ++ (branches l.kind [] l.above (lines_of l.rest.left.now ++ lines_of l.rest.gap.now) (map stated (drop l.from l.parts)) (lines_of l.after)).0
-      ≡ l.fn.own ++ (branches l.kind [] l.fn.above (lines_of l.after) (map stated l.parts) (lines_of l.after)).0;
-  rest : (branches l.kind [] l.above (lines_of l.rest.left.now ++ lines_of l.rest.gap.now) (map stated (drop l.from l.parts)) (lines_of l.after)).1
-      ≡ (branches l.kind [] l.fn.above (lines_of l.after) (map stated l.parts) (lines_of l.after)).1;
+  own : map e.Form l.own ++ (branches false l.kind [] l.above (lines_of l.rest.left.now ++ lines_of l.rest.gap.now) (map stated (drop l.from l.parts)) (lines_of l.after)).0
+      ≡ map e.Form l.fn.own ++ (branches false l.kind [] l.fn.above (lines_of l.after) (map stated l.parts) (lines_of l.after)).0;
+  rest : (branches false l.kind [] l.above (lines_of l.rest.left.now ++ lines_of l.rest.gap.now) (map stated (drop l.from l.parts)) (lines_of l.after)).1
+      ≡ (branches false l.kind [] l.fn.above (lines_of l.after) (map stated l.parts) (lines_of l.after)).1;
 }
 
 abbrev pub decreases-push_branches-loop-colon : goal.decreases-push_branches-loop-colon

@@ -1,7 +1,7 @@
 use Rattle.std.proofs.Common.{◌≡◌, ◌<◌, ◌≤◌, ◌++◌, true, [], map, drop, length}
 use Rattle.bz_value.specs.Gaps.{lines_of}
 use Rattle.bz_bzl_value.specs.Joined.{lines_at_end}
-use Rattle.bz_bzl_value.specs.View.{bzl_items, indented_lines_before, stated}
+use Rattle.bz_hosts.specs.Suites.{bzl_items, indented_lines_before, stated}
 use Rattle.bz_bzl_value.proofs.viewing.items_of.Given as goal
 
 abbrev pub invariant-loop-at : goal.invariant-loop-at

@@ -1,6 +1,6 @@
 use Rattle.std.proofs.Common.{◌≡◌, ◌++◌, map}
-use Rattle.bz_bzl_value.specs.declared.value.BzlItem.TheVariants as b
+use Rattle.bz_value.specs.declared.value.Item.TheVariants as i
 use Rattle.bz_bzl_value.proofs.viewing.push_items.Given as goal
 
 abbrev pub invariant-loop-statement : goal.invariant-loop-statement
-invariant-loop-statement l = l.items ++ map b.Statement l.statement-iterator.rest.items ≡ l.fn.items ++ map b.Statement l.fn.statements
+invariant-loop-statement l = l.items ++ map i.Stmt l.statement-iterator.rest.items ≡ l.fn.items ++ map i.Stmt l.fn.statements

@@ -1,9 +1,11 @@
-use Rattle.std.proofs.Common.{◌≡◌, ◌++◌, map, ◌+◌, append-nil, sym, refl, ap, ◌∙◌, drop, arith}
+use Rattle.std.proofs.Common.{◌≡◌, [], ◌∷◌, ◌++◌, map, ◌+◌, append-nil, sym, refl, ap, ◌∙◌, drop, arith}
 use Rattle.std.proofs.lemmas.List.{take_all}
 use Rattle.bz_grammar.specs.declared.tree.Part.{Part}
+use Rattle.bz_value.specs.declared.value.Expr.TheVariants as e
+use Rattle.bz_value.specs.Frames.{frame}
 use Rattle.bz_hosts.specs.View.{first_seen_gap, seen}
 use Rattle.bz_hosts.proofs.HostSteps.{item_more, items_done}
-use Rattle.bz_hosts.proofs.NodeViews.{node_pushed, node_loose}
+use Rattle.bz_hosts.proofs.NodeViews.{node_pushed, node_loose, sequence_made}
 use Rattle.bz_hosts.proofs.RowSteps.{part_here, gap_inside, gap_at_first, gap_at_later, row_more, row_done, loose_done, loose_more, head_row, bracket_loose, most_taken}
 use Rattle.bz_hosts.proofs.expr.+seen.Goals as goal
 use Rattle.bz_hosts.proofs.expr.+seen.Goals.{head_of-then-lead-gt0+in_ok-push_gap, head_of-else-lead-gt0, head_of-in-Node+in_ok-push_form, head_of-in_default}
@@ -13,6 +15,12 @@ push_expr-returns-in_ok-push_form-in-Node-clause-exprs t c = node_pushed c.args.
 
 pub push_expr-returns-in_ok-push_form-in-Node-clause-loose : goal.push_expr-returns-in_ok-push_form-in-Node-clause-loose
 push_expr-returns-in_ok-push_form-in-Node-clause-loose t c = node_loose c.args.part.now c.in-Node.node c.args.loose.now _ c.in-Node.is c.in_ok-push_form-in-Node.ensures.loose
+
+pub push_parts-returns-then-is_sequence-clause-exprs : goal.push_parts-returns-then-is_sequence-clause-exprs
+push_parts-returns-then-is_sequence-clause-exprs t c =
+    c.push_reserved.ensures.items ∙ (ap (λ es. es ++ c.form_of.result ∷ []) c.in_ok-reserve.ensures.items ∙ ap (λ x. c.args.exprs.now.items ++ x ∷ []) (c.form_of.ensures ∙
+    ap e.Form (sequence_made (frame c.args.kind) c.args.kind c.args.parts.now c.args.parts.now _ _ _ _ (sym c.is_sequence.ensures ∙ c.if-is_sequence.true) refl c.lead_of-lead.ensures.value
+    c.in_ok-head.ensures.exprs c.in_ok-seq.ensures refl)))
 
 pub row_of-loop-at-preserved : goal.row_of-loop-at-preserved
 row_of-loop-at-preserved t c =

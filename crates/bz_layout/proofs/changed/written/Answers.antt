@@ -1,4 +1,4 @@
-use Rattle.std.proofs.Common.{[], ◌∷◌, ◌≡◌, ap, sym, subst, ◌∙◌}
+use Rattle.std.proofs.Common.{[], ◌∷◌, ap, sym, subst, ◌∙◌}
 use Rattle.bz_value.specs.Proper.{IsProper}
 use Rattle.bz_layout.proofs.Changes.{of_tree}
 use Rattle.bz_layout.proofs.LineWindows.{all_counted, all_lines, not_said, same_count}

@@ -10,4 +10,4 @@ use Rattle.bz_layout.proofs.writer.go_over.Given as goal
 abbrev pub invariant-loop-window : goal.invariant-loop-window
 invariant-loop-window l =
     AreWithin (drop l.window-index l.windows) l.rest
-    × ((before : List Item) → lines_from [] before ≡ l.parts → IsProper l.items → AreCounted l.each_is_line l.windows before l.items → IsOver l.each_is_line l.parts (lines_from [] l.items) (drop l.window-index l.windows) l.writer l.rest)
+    × ((before : List Item) → lines_from [] before ≡ l.parts → IsProper before → IsProper l.items → AreCounted l.each_is_line l.windows before l.items → IsOver l.each_is_line l.parts (lines_from [] l.items) (drop l.window-index l.windows) l.writer l.rest)

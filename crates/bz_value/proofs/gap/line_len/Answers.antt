@@ -1,4 +1,4 @@
-use Rattle.std.proofs.Common.{◌≡◌, ◌<◌, ℕ, length, get_or, take, sym, ap, ◌∙◌, add-one, drop, arith}
+use Rattle.std.proofs.Common.{length, get_or, sym, ap, ◌∙◌, add-one, drop, arith}
 use Rattle.std.proofs.Math.Seq.{take-length}
 use Rattle.std.proofs.lemmas.Bool.{lt-ltb, le-ltb, eqb-true, eq-eqb}
 use Rattle.bz_value.specs.Gaps.{lines_of}

@@ -1,0 +1,62 @@
+-- What is read of a part that is a node, by the list of its parts.
+use Rattle.std.proofs.Common.{true, false, ◌≡◌, List, [], ◌∷◌, refl, sym, ap, ◌∙◌, map, None}
+use Rattle.std.proofs.lemmas.Bool.{cond-true, cond-false}
+use Rattle.bz_grammar.specs.declared.tree.Node.{Node}
+use Rattle.bz_grammar.specs.declared.tree.Part.{Part, Row_of-Part, end_of-Part, more_of-Part, Node', items-the_row-Part}
+use Rattle.bz_grammar.specs.declared.tree.Part.TheVariants as p
+use Rattle.bz_grammar.specs.declared.kind.Kind.TheVariants as k
+use Rattle.bz_grammar.specs.Shapes.{is_kind}
+use Rattle.bz_grammar.proofs.Nested.{row_of, items_of_row}
+use Rattle.bz_items.specs.Characters.{Bytes}
+use Rattle.bz_value.specs.Frames.{is_header}
+use Rattle.bz_value.specs.Gaps.{GapLine, lines_of}
+use Rattle.bz_value.specs.declared.value.Item.TheVariants as i
+use Rattle.bz_hosts.specs.View.{Seen, seen, first_seen_gap, statement, statements_in}
+use Rattle.bz_hosts.specs.Suites.{stated, stated_row, indented_lines_before, exprs_in, statement_read, suite_in, suffix_before, line_read, branches}
+
+pub stated_rows : (m : _) (r : Row_of-Part m) → stated_row r ≡ map stated (items-the_row-Part m r)
+stated_rows m end_of-Part = refl
+stated_rows m (more_of-Part x rest) = ap (λ t. stated x ∷ t) (stated_rows _ rest)
+
+stated_parts : (n : Node) → stated_row (row_of n).1 ≡ map stated n.parts
+stated_parts n = stated_rows _ (row_of n).1 ∙ ap (map stated) (items_of_row n)
+
+pub statement_Node : (n : Node) → (stated (p.Node n)).statement ≡ statement_read n.kind (map stated n.parts)
+statement_Node n = ap (statement_read n.kind) (stated_parts n)
+
+pub suite_Node : (n : Node) → (stated (p.Node n)).suite ≡ suite_in n.kind (map stated n.parts)
+suite_Node n = ap (suite_in n.kind) (stated_parts n)
+
+pub suffix_Node : (n : Node) → (stated (p.Node n)).suffix ≡ suffix_before n.kind (map stated n.parts)
+suffix_Node n = ap (suffix_before n.kind) (stated_parts n)
+
+pub stated_part : (x : Part) → (stated x).part ≡ seen x
+stated_part (p.Leaf l) = refl
+stated_part (Node' kind size row) = refl
+
+-- the parts of a row are seen as parts of a row
+pub parts_seen : (xs : List Part) → map (λ x. x.part) (map stated xs) ≡ map seen xs
+parts_seen [] = refl
+parts_seen (x ∷ xs) = ap (λ s. s ∷ map (λ y. y.part) (map stated xs)) (stated_part x) ∙ ap (λ t. seen x ∷ t) (parts_seen xs)
+
+-- the lines before the first of these parts
+pub lines_first : (ps : List Part) → lines_of (first_seen_gap (map seen ps)) ≡ indented_lines_before (map stated ps) []
+lines_first [] = refl
+lines_first (x ∷ ps) = sym (ap (λ s. lines_of s.gap) (stated_part x))
+
+-- the items of a line are statements
+pub all_simple : (above : List Bytes) (ss : List Seen) → map i.Stmt (exprs_in (statements_in above ss)) ≡ statements_in above ss
+all_simple above [] = refl
+all_simple above (s ∷ []) = refl
+all_simple above (s ∷ mark ∷ []) = refl
+all_simple above (s ∷ mark ∷ t ∷ []) = refl
+all_simple above (s ∷ mark ∷ t ∷ u ∷ ss) = ap (λ items. statement above None s ∷ items) (all_simple [] (t ∷ u ∷ ss))
+
+-- ---- statements by their kinds
+
+module _ (n : Node) (above : List Bytes) (after : List GapLine) where
+  pub line_is : is_kind n.kind k.Line ≡ true → line_read (map seen n.parts) above after ≡ statement_read n.kind (map stated n.parts) above after
+  line_is e = ap (λ t. line_read t above after) (sym (parts_seen n.parts)) ∙ sym (cond-true (is_kind n.kind k.Line) _ _ e)
+
+  pub compound_is : is_kind n.kind k.Line ≡ false → is_header n.kind ≡ true → branches true n.kind [] above after (map stated n.parts) after ≡ statement_read n.kind (map stated n.parts) above after
+  compound_is e f = sym (cond-false (is_kind n.kind k.Line) _ _ e ∙ cond-true (is_header n.kind) _ _ f)
