@@ -25,6 +25,3 @@ part_list f = items_hidden-the_row-Expr-0 f.parts
 
 pub item_list : (f : Form) → listed (item_row (e.Form f)) ≡ f.seq.items
 item_list f = items_hidden-the_row-Expr-0 f.seq.items
-
-pub items_Form : (f : Form) → items_of (e.Form f) ≡ f.seq.items
-items_Form f = item_list f

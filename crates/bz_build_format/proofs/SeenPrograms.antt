@@ -14,16 +14,17 @@ use Rattle.bz_value.specs.declared.value.Item.{Item}
 use Rattle.bz_value.specs.declared.value.Item.TheVariants as i
 use Rattle.bz_value.specs.Comments.{HostComments, no_comments}
 use Rattle.bz_value.specs.Frames.{Frame, sequence, frame, lead, is_binary, is_comprehension, is_header}
-use Rattle.bz_value.specs.Gaps.{GapLine, has_newline, lines_of, after_first_line, groups_of, all_but_last, last_group, all_in, others_in, comments_in}
+use Rattle.bz_value.specs.Gaps.{GapLine, has_newline, groups_of, all_but_last, last_group, all_in, others_in, comments_in}
 use Rattle.bz_items.specs.Characters.{Bytes}
 use Rattle.bz_value.specs.Proper.{is_operator}
-use Rattle.bz_hosts.specs.Suites.{bzl_items, branches, exprs_in, indented_lines_before, put_header, statement_read, stated, stated_row, suite_form, suite_in, walked, with_suite, Stated}
-use Rattle.bz_hosts.specs.View.{Seen, plain, row_exprs, items_in, item_in, is_split, is_open, first_seen_gap, seen_node, seen, seen_row, blocks, statements_in as seen_statements, statement_before, last_gap, line_items, file_items}
+use Rattle.bz_hosts.specs.View.{items_from}
+use Rattle.bz_hosts.specs.Suites.{branches, exprs_in, indented_lines_before, put_header, statement_read, stated, stated_row, suite_form, suite_in, walked, with_suite, Stated}
+use Rattle.bz_hosts.specs.Seen.{Seen, plain, row_exprs, items_in, item_in, is_split, is_open, first_seen_gap, seen_node, seen, seen_row, blocks, statements_in as seen_statements, statement_before}
 use Rattle.bz_passes.specs.Syntax.{syntax_of, program}
 use Rattle.bz_passes.proofs.Keeping.{both}
 use Rattle.bz_passes.proofs.Parts.{made}
 use Rattle.bz_passes.proofs.SameSyntax.{syntax_Form}
-use Rattle.bz_build_format.specs.TreePrograms.{before_marks, bare_form, node_syntax, part_syntax, row_syntax, lines_program, headers_in, node_statements, Parsed, parsed, parsed_row, statements_in, suite_statements, suite_syntax, suites_in, BzlViewsKeepPrograms, ViewsKeepPrograms}
+use Rattle.bz_build_format.specs.TreePrograms.{before_marks, bare_form, node_syntax, part_syntax, row_syntax, headers_in, node_statements, Parsed, parsed, parsed_row, statements_in, suite_statements, suite_syntax, suites_in, ViewsKeepPrograms}
 
 -- whatever comments and break it is given, a part that was read has this syntax
 abbrev Says : Seen → Expr → Type 0
@@ -91,45 +92,20 @@ mutual
   each_says m end_of-Part = over
   each_says m (more_of-Part x rest) = step _ _ _ _ (part_says x) (each_says _ rest)
 
--- ---- the file
-
-program_append : (xs ys : List Item) → program (xs ++ ys) ≡ program xs ++ program ys
-program_append [] ys = refl
-program_append (i.Block lines ∷ xs) ys = program_append xs ys
-program_append (i.Stmt x ∷ xs) ys = ap (λ zs. syntax_of x ∷ zs) (program_append xs ys)
-
-no_program : (groups : List (List Bytes)) (ys : List Item) → program (blocks groups ++ ys) ≡ program ys
-no_program [] ys = refl
-no_program ([] ∷ groups) ys = no_program groups ys
-no_program ((text ∷ group) ∷ groups) ys = no_program groups ys
+-- ---- the statements of a line
 
 mutual
-  statements_say : (above : List Bytes) {ss : List Seen} {xs : List Expr} → EachSays ss xs → program (seen_statements above ss) ≡ before_marks xs
-  statements_say above over = refl
-  statements_say above (step s x _ _ a over) = refl
-  statements_say above (step s x _ _ a (step mark y ss xs b h)) = statement_says above s mark x y a h
+  line_says : (above : List Bytes) {ss : List Seen} {xs : List Expr} → EachSays ss xs → map syntax_of (exprs_in (seen_statements above ss)) ≡ before_marks xs
+  line_says above over = refl
+  line_says above (step s x _ _ a over) = refl
+  line_says above (step s x _ _ a (step mark y ss xs b h)) = statement_says above s mark x y a h
 
-  statement_says : (above : List Bytes) (s mark : Seen) (x y : Expr) {ss : List Seen} {xs : List Expr} → Says s x → EachSays ss xs → program (statement_before above s mark ss) ≡ before_marks (x ∷ y ∷ xs)
+  statement_says : (above : List Bytes) (s mark : Seen) (x y : Expr) {ss : List Seen} {xs : List Expr} → Says s x → EachSays ss xs → map syntax_of (exprs_in (statement_before above s mark ss)) ≡ before_marks (x ∷ y ∷ xs)
   statement_says above s mark x y a over = ap (λ z. z ∷ []) (a _ false)
   statement_says above s mark x y a (step t z _ _ d over) = ap (λ w. w ∷ []) (a _ false)
   statement_says above s mark x y a (step t z _ _ d (step u w ss xs e h)) = both (λ v vs. v ∷ vs) (a _ false) (statement_says [] t u z w d h)
 
-items_program : (left : List GapLine) (parts : List Part) → program (file_items left parts) ≡ lines_program parts
-items_program left [] = refl
-items_program left (p.Leaf l ∷ xs) = no_program (groups_of (left ++ lines_of l.gap)) (file_items [] xs) ∙ items_program [] xs
-items_program left (Node' kind s parts ∷ xs) =
-    let ss : List Seen = seen_row parts in
-    let groups : List (List Bytes) = groups_of (left ++ lines_of (first_seen_gap ss)) in
-    let more : List Item = file_items (after_first_line (lines_of (last_gap ss))) xs in
-    program_append (line_items (left ++ lines_of (first_seen_gap ss)) ss) more
-    ∙ both (λ ys zs. ys ++ zs)
-    (no_program (all_but_last groups) (seen_statements (last_group groups) ss) ∙ statements_say (last_group groups) (each_says _ parts))
-    (items_program (after_first_line (lines_of (last_gap ss))) xs)
-
-pub views_keep_programs : ViewsKeepPrograms
-views_keep_programs tree = items_program [] tree.parts
-
--- ---- .bzl files
+-- ---- parts
 
 -- whatever is around it, a part that was read says this
 record Agrees (x : Stated) (y : Parsed) : Type 0 where
@@ -146,14 +122,6 @@ parts_agree over = over
 parts_agree (step x y xs ys a h) = step _ _ _ _ a.part (parts_agree h)
 
 -- ---- statements one after the other
-
-exprs_syntax : (items : List Item) → map syntax_of (exprs_in items) ≡ program items
-exprs_syntax [] = refl
-exprs_syntax (i.Block texts ∷ items) = exprs_syntax items
-exprs_syntax (i.Stmt x ∷ items) = ap (λ z. syntax_of x ∷ z) (exprs_syntax items)
-
-line_agrees : (above : List Bytes) {ss : List Seen} {xs : List Expr} → EachSays ss xs → map syntax_of (exprs_in (seen_statements above ss)) ≡ before_marks xs
-line_agrees above {ss} h = exprs_syntax (seen_statements above ss) ∙ statements_say above h
 
 walk_agrees : (above : List GapLine) {xs : List Stated} {ys : List Parsed} (after : List GapLine) → EachAgrees xs ys → map syntax_of (walked above xs after).0 ≡ statements_in ys
 walk_agrees above after over = refl
@@ -202,7 +170,7 @@ mutual
 
 statement_agrees : (kind : Kind) (xs : List Stated) (ys : List Parsed) (above : List Bytes) (after : List GapLine) → EachAgrees xs ys → map syntax_of (statement_read kind xs above after).0 ≡ node_statements kind ys
 statement_agrees kind xs ys above after h = elim (cases_Bool (is_kind kind k.Line)) [
-  | inl w ↦ rw w (line_agrees above (parts_agree h))
+  | inl w ↦ rw w (line_says above (parts_agree h))
   | inr w ↦ elim (cases_Bool (is_header kind)) [
     | inl v ↦ rw (w, v) (headers_agree true kind above after after over h)
     | inr v ↦ rw (w, v) refl
@@ -211,7 +179,7 @@ statement_agrees kind xs ys above after h = elim (cases_Bool (is_kind kind k.Lin
 
 suite_agrees : (kind : Kind) (xs : List Stated) (ys : List Parsed) (after : List GapLine) → EachAgrees xs ys → map syntax_of (suite_in kind xs after).0.0 ≡ suite_statements kind ys
 suite_agrees kind xs ys after h = elim (cases_Bool (is_kind kind k.Line)) [
-  | inl w ↦ rw w (line_agrees [] (parts_agree h))
+  | inl w ↦ rw w (line_says [] (parts_agree h))
   | inr w ↦ elim (cases_Bool (is_kind kind k.Suite)) [
     | inl v ↦ rw (w, v) (walk_agrees (indented_lines_before (drop 1 xs) []) after (each_dropped 1 h))
     | inr v ↦ rw (w, v) refl
@@ -234,21 +202,31 @@ mutual
 
 -- ---- the file
 
+program_append : (xs ys : List Item) → program (xs ++ ys) ≡ program xs ++ program ys
+program_append [] ys = refl
+program_append (i.Block lines ∷ xs) ys = program_append xs ys
+program_append (i.Stmt x ∷ xs) ys = ap (λ zs. syntax_of x ∷ zs) (program_append xs ys)
+
+no_program : (groups : List (List Bytes)) (ys : List Item) → program (blocks groups ++ ys) ≡ program ys
+no_program [] ys = refl
+no_program ([] ∷ groups) ys = no_program groups ys
+no_program ((text ∷ group) ∷ groups) ys = no_program groups ys
+
 as_items : (xs : List Expr) → program (map i.Stmt xs) ≡ map syntax_of xs
 as_items [] = refl
 as_items (x ∷ xs) = ap (λ z. syntax_of x ∷ z) (as_items xs)
 
-items_agree : (lines : List GapLine) (xs : List Part) → program (bzl_items lines xs) ≡ statements_in (map parsed xs)
+items_agree : (lines : List GapLine) (xs : List Part) → program (items_from lines xs) ≡ statements_in (map parsed xs)
 items_agree lines [] = refl
-items_agree lines (p.Leaf l ∷ xs) = no_program (groups_of lines) (bzl_items [] xs) ∙ items_agree [] xs
+items_agree lines (p.Leaf l ∷ xs) = no_program (groups_of lines) (items_from [] xs) ∙ items_agree [] xs
 items_agree lines (Node' kind size parts ∷ xs) =
     let groups : List (List Bytes) = groups_of lines in
     let own = (stated (Node' kind size parts)).statement (last_group groups) (indented_lines_before (map stated xs) []) in
-    no_program (all_but_last groups) (map i.Stmt own.0 ++ bzl_items own.1 xs)
-    ∙ program_append (map i.Stmt own.0) (bzl_items own.1 xs)
+    no_program (all_but_last groups) (map i.Stmt own.0 ++ items_from own.1 xs)
+    ∙ program_append (map i.Stmt own.0) (items_from own.1 xs)
     ∙ both (λ us vs. us ++ vs)
     (as_items own.0 ∙ (part_agrees (Node' kind size parts)).statements (last_group groups) (indented_lines_before (map stated xs) []))
     (items_agree own.1 xs)
 
-pub bzl_views_keep_programs : BzlViewsKeepPrograms
-bzl_views_keep_programs tree = items_agree (indented_lines_before (map stated tree.parts) []) tree.parts
+pub views_keep_programs : ViewsKeepPrograms
+views_keep_programs tree = items_agree (indented_lines_before (map stated tree.parts) []) tree.parts

@@ -1,8 +1,8 @@
 -- The tokens of a legal tree, in their order, are those of its program, but for separators; so each is there as often.
-use Rattle.std.proofs.Common.{ℕ, zero, suc, ◌+◌, Bool, true, false, not, ◌&&◌, List, [], ◌∷◌, ◌++◌, ◌≡◌, refl, sym, ap, ◌∙◌, map, take, drop, length, subst, inl, inr, append_assoc, append-nil, length-append, true≢false, if◌then◌else◌, arith}
+use Rattle.std.proofs.Common.{ℕ, zero, suc, ◌+◌, Bool, true, false, not, ◌&&◌, List, [], ◌∷◌, ◌++◌, ◌≡◌, ◌≤◌, ◌<◌, ◌⊎◌, refl, sym, ap, ◌∙◌, map, take, drop, length, subst, inl, inr, append_assoc, append-nil, length-append, true≢false, if◌then◌else◌, arith}
 use Rattle.std.specs.Prelude.{bytes_eq}
 use Rattle.std.specs.List.{flat_map, AllByRecursion}
-use Rattle.std.proofs.lemmas.Bool.{cases_Bool, and_parts, or_left, or_right, eqb-true, cond-true, cond-false}
+use Rattle.std.proofs.lemmas.Bool.{cases_Bool, and_parts, or_left, or_right, cond-true, cond-false}
 use Rattle.std.proofs.lemmas.Grind.{flat_map-append}
 use Rattle.std.proofs.lemmas.Slice.Eq.{bytes_eq-Decides}
 use Rattle.bz_token.specs.declared.class.Class.{Class}
@@ -12,32 +12,30 @@ use Rattle.bz_grammar.specs.declared.kind.Kind.TheVariants as k
 use Rattle.bz_grammar.specs.declared.tree.Node.{Node}
 use Rattle.bz_grammar.specs.declared.tree.Part.{Part, Row_of-Part, end_of-Part, more_of-Part, Node', items-the_row-Part}
 use Rattle.bz_grammar.specs.declared.tree.Part.TheVariants as p
-use Rattle.bz_grammar.proofs.Build.{file_lines}
-use Rattle.bz_grammar.specs.Legal.{IsNonterminal, LegalBuild, Legal, LegalPart, LegalRow}
+use Rattle.bz_grammar.specs.Kinds.{kind_number}
+use Rattle.bz_grammar.specs.Legal.{IsBuild, IsBuildPart, IsBuildRow, IsNonterminal, LegalBuild, Legal, LegalPart, LegalRow}
 use Rattle.bz_grammar.specs.Shapes as s
 use Rattle.bz_grammar.specs.Shapes.{Nonterminal, Terminal, Shape, Fits, Several, bzl_shape, nonterminal_has_kind, tok, done, has_token, is_class, is_one_of}
 use Rattle.bz_grammar.specs.Spell.{leaves_of, leaves_part, leaves_row}
 use Rattle.bz_grammar.proofs.Balance.{inner_nonterminal, leaves_rows, no_such, same_class}
-use Rattle.bz_grammar.proofs.Numbers.{same_kind}
 use Rattle.bz_grammar.proofs.Terminals.{subset, subset-one_of}
 use Rattle.bz_items.specs.Characters.{Bytes}
 use Rattle.bz_value.specs.declared.value.Form.{Form}
 use Rattle.bz_value.specs.declared.value.Expr.{Expr, Token, Form', Row_of-Expr, end_of-Expr, more_of-Expr, items-the_row-Expr}
 use Rattle.bz_value.specs.declared.value.Expr.TheVariants as e
 use Rattle.bz_value.specs.Counted.{total}
-use Rattle.bz_value.specs.Frames.{Frame, row, sequence, compound, frame, is_header, is_inner_frame, lead}
+use Rattle.bz_value.specs.Frames.{Frame, row, sequence, compound, frame, is_inner_frame, lead}
 use Rattle.bz_value.specs.LineShapes.{line_shape}
 use Rattle.bz_value.proofs.LegalBy.{LegalBy, LegalRowBy}
 use Rattle.bz_hosts.specs.Suites.{put_header, stated}
 use Rattle.bz_hosts.proofs.InnerParts.{InLine, in_line, inner_legal, line_framed, nonterminal_inner}
-use Rattle.bz_hosts.proofs.QuietGaps.{in_statements, legal_statements}
-use Rattle.bz_hosts.proofs.SeenParts.{all_mapped}
+use Rattle.bz_hosts.proofs.QuietGaps.{in_statements}
 use Rattle.bz_passes.specs.Syntax.{token_sum, row_token_sum, one_if_token, token_times}
 use Rattle.bz_passes.proofs.Keeping.{both}
 use Rattle.bz_passes.proofs.Parts.{parts_after, items_after, parts_are, items_are}
 use Rattle.bz_hosts.proofs.Colons.{NoColon, no_colons, nonterminal_plain, token_plain}
-use Rattle.bz_build_format.specs.Fixed.{BzlFixedPoint, FixedPoint, FormattingKeepsTokens, FormattingKeepsWords, TreeProgramsKeepTokens, is_bzl_separator, is_mark_between, leaf_times, leaf_words, marks_between}
-use Rattle.bz_build_format.specs.TreePrograms.{bare_form, before_marks, node_syntax, part_syntax, row_syntax, lines_program, tree_program, bzl_tree_program, headers_in, suite_syntax, suites_in, line_statements, node_statements, parsed, parsed_row, statements_in, suite_statements}
+use Rattle.bz_build_format.specs.Fixed.{BzlFixedPoint, FixedPoint, FormattingKeepsTokens, FormattingKeepsWords, TreeProgramsKeepTokens, is_bzl_separator, is_mark_between, leaf_times, leaf_words, marks_between, tree_words}
+use Rattle.bz_build_format.specs.TreePrograms.{bare_form, before_marks, node_syntax, part_syntax, row_syntax, tree_program, headers_in, suite_syntax, suites_in, line_statements, node_statements, parsed, parsed_row, statements_in, suite_statements}
 use Rattle.bz_build_format.proofs.ShapeWalks.{leads, led}
 
 -- ---- where separators are
@@ -285,198 +283,202 @@ module _ (silent : Class → Bytes → Bool) (quiet : (l : Leaf) → is_one_of m
   line_words : (xs : List Part) → Fits IsNonterminal (bzl_shape k.Line) xs → AllByRecursion Kept xs → all_words (before_marks (map part_syntax xs)) ≡ parts_words xs
   line_words xs h g = row_left (bzl_shape k.Line) at_item refl xs g h
 
-  -- ---- BUILD files
+  -- ---- what is known of parts
 
-  lines_kept : (xs : List Part) → Several (IsNonterminal s.line) (Fits IsNonterminal (tok s.end done)) xs → AllByRecursion LegalPart xs → all_words (lines_program xs) ≡ parts_words xs
-  lines_kept [] h g = absurd h
-  lines_kept (p.Leaf l ∷ []) (inl h) g = sym (nothing_before (part_words (p.Leaf l)) [] (quiet_part s.end (p.Leaf l) refl h.0))
-  lines_kept (p.Leaf l ∷ y ∷ xs) (inl h) g = absurd h.1
-  lines_kept (p.Leaf l ∷ xs) (inr h) g = no_such h.0
-  lines_kept (Node' kind m r ∷ xs) (inl h) g = no_such h.0
-  lines_kept (Node' kind m r ∷ xs) (inr h) g =
-      let ys : List Part = items-the_row-Part _ r in
-      let is : kind ≡ k.Line = same_kind kind k.Line (eqb-true _ _ h.0) in
-      let fits : Fits IsNonterminal (bzl_shape k.Line) ys = subst (λ kd. Fits IsNonterminal (bzl_shape kd) ys) is g.0.0 in
-      flat_map-append expr_words (before_marks (row_syntax r)) (lines_program xs)
-      ∙ both (λ us vs. us ++ vs) (ap (λ zs. all_words (before_marks zs)) (syntax_map _ r) ∙ (line_words ys fits (row_kept _ r (legal_statements _ r fits g.0.1)) ∙ sym (row_leaves _ r))) (lines_kept xs h.1 g.1)
+  record Known (x : Part) : Type 0 where
+    kept : InLine x → Kept x
+    statement : IsNonterminal s.stmt x → all_words (parsed x).statements ≡ part_words x
+    suite : IsNonterminal s.suite x → all_words (parsed x).suite ≡ part_words x
 
-  -- ---- .bzl files
+  part_parsed : (x : Part) → (parsed x).part ≡ part_syntax x
+  part_parsed (p.Leaf l) = refl
+  part_parsed (Node' kind m r) = refl
 
-  module _ (colons : (l : Leaf) → is_one_of s.colon_mark l ≡ true → silent l.class l.token ≡ true) where
-    -- ---- what is known of parts
+  same_colon : (x : Part) → (parsed x).is_colon ≡ (stated x).is_colon
+  same_colon (p.Leaf l) = refl
+  same_colon (Node' kind m r) = refl
 
-    record Known (x : Part) : Type 0 where
-      kept : InLine x → Kept x
-      statement : IsNonterminal s.stmt x → all_words (parsed x).statements ≡ part_words x
-      suite : IsNonterminal s.suite x → all_words (parsed x).suite ≡ part_words x
+  parts_parsed : (xs : List Part) → map (λ x. x.part) (map parsed xs) ≡ map part_syntax xs
+  parts_parsed [] = refl
+  parts_parsed (x ∷ xs) = both (λ y ys. y ∷ ys) (part_parsed x) (parts_parsed xs)
 
-    part_parsed : (x : Part) → (parsed x).part ≡ part_syntax x
-    part_parsed (p.Leaf l) = refl
-    part_parsed (Node' kind m r) = refl
+  parsed_rows : (m : _) (r : Row_of-Part m) → parsed_row r ≡ map parsed (items-the_row-Part m r)
+  parsed_rows m end_of-Part = refl
+  parsed_rows m (more_of-Part x rest) = ap (λ z. parsed x ∷ z) (parsed_rows _ rest)
 
-    same_colon : (x : Part) → (parsed x).is_colon ≡ (stated x).is_colon
-    same_colon (p.Leaf l) = refl
-    same_colon (Node' kind m r) = refl
+  -- ---- headers
 
-    parts_parsed : (xs : List Part) → map (λ x. x.part) (map parsed xs) ≡ map part_syntax xs
-    parts_parsed [] = refl
-    parts_parsed (x ∷ xs) = both (λ y ys. y ∷ ys) (part_parsed x) (parts_parsed xs)
+  is_colon_mark : (x : Part) → has_token s.colon_mark x ≡ true → (parsed x).is_colon ≡ true
+  is_colon_mark (p.Leaf l) h = h
+  is_colon_mark (Node' kind m r) h = no_such h
 
-    parsed_rows : (m : _) (r : Row_of-Part m) → parsed_row r ≡ map parsed (items-the_row-Part m r)
-    parsed_rows m end_of-Part = refl
-    parsed_rows m (more_of-Part x rest) = ap (λ z. parsed x ∷ z) (parsed_rows _ rest)
+  -- the first header has the others as its alternatives
+  put_words : (first : Bool) (kind : Kind) (ps own others : List Expr) → all_words (put_header first (suite_syntax kind ps own) others) ≡ expr_words (node_syntax (frame kind) kind ps) ++ (all_words own ++ all_words others)
+  put_words true kind ps own others = append-nil (expr_words (suite_syntax kind ps own others)) ∙ suite_words kind ps own others
+  put_words false kind ps own others =
+      let head : Words = expr_words (node_syntax (frame kind) kind ps) in
+      ap (λ ws. ws ++ all_words others) (suite_words kind ps own [] ∙ ap (λ ws. head ++ ws) (append-nil (all_words own))) ∙ append_assoc head (all_words own) (all_words others)
 
-    -- ---- headers
+  -- colons are silent
+  abbrev Colons : Type 0
+  Colons = (l : Leaf) → is_one_of s.colon_mark l ≡ true → silent l.class l.token ≡ true
 
-    is_colon_mark : (x : Part) → has_token s.colon_mark x ≡ true → (parsed x).is_colon ≡ true
-    is_colon_mark (p.Leaf l) h = h
-    is_colon_mark (Node' kind m r) h = no_such h
+  module _ (kind : Kind) (inner : is_inner_frame (frame kind) ≡ true) (colons : Colons) where
+    abbrev start : Turn
+    start = first_turn (frame kind) kind
 
-    -- the first header has the others as its alternatives
-    put_words : (first : Bool) (kind : Kind) (ps own others : List Expr) → all_words (put_header first (suite_syntax kind ps own) others) ≡ expr_words (node_syntax (frame kind) kind ps) ++ (all_words own ++ all_words others)
-    put_words true kind ps own others = append-nil (expr_words (suite_syntax kind ps own others)) ∙ suite_words kind ps own others
-    put_words false kind ps own others =
-        let head : Words = expr_words (node_syntax (frame kind) kind ps) in
-        ap (λ ws. ws ++ all_words others) (suite_words kind ps own [] ∙ ap (λ ws. head ++ ws) (append-nil (all_words own))) ∙ append_assoc head (all_words own) (all_words others)
+    abbrev head_words : List Expr → Words
+    head_words ps = expr_words (node_syntax (frame kind) kind ps)
 
-    module _ (kind : Kind) (inner : is_inner_frame (frame kind) ≡ true) where
-      abbrev start : Turn
-      start = first_turn (frame kind) kind
+    -- of headers that begin here; after parts of a header; after its colon. first: whether the first of them takes the others
+    abbrev Ahead : Bool → Spot → List Part → Type 0
+    Ahead first begins xs = all_words (headers_in first kind [] (map parsed xs)) ≡ parts_words xs
+    Ahead first (header t) xs =
+        (ps : List Expr) (ws : Words) → ((es : List Expr) (vs : Words) → Left t es vs → head_words (ps ++ es) ≡ ws ++ vs) → all_words (headers_in first kind ps (map parsed xs)) ≡ ws ++ parts_words xs
+    Ahead first owner xs = (ps : List Expr) (ws : Words) → head_words ps ≡ ws → all_words (suites_in first kind ps (map parsed xs)) ≡ ws ++ parts_words xs
+    Ahead first nowhere xs = ⊥
 
-      abbrev head_words : List Expr → Words
-      head_words ps = expr_words (node_syntax (frame kind) kind ps)
+    abbrev Both : Spot → List Part → Type 0
+    Both z xs = (first : Bool) → Ahead first z xs
 
-      -- of headers that begin here; after parts of a header; after its colon. first: whether the first of them takes the others
-      abbrev Ahead : Bool → Spot → List Part → Type 0
-      Ahead first begins xs = all_words (headers_in first kind [] (map parsed xs)) ≡ parts_words xs
-      Ahead first (header t) xs =
-          (ps : List Expr) (ws : Words) → ((es : List Expr) (vs : Words) → Left t es vs → head_words (ps ++ es) ≡ ws ++ vs) → all_words (headers_in first kind ps (map parsed xs)) ≡ ws ++ parts_words xs
-      Ahead first owner xs = (ps : List Expr) (ws : Words) → head_words ps ≡ ws → all_words (suites_in first kind ps (map parsed xs)) ≡ ws ++ parts_words xs
-      Ahead first nowhere xs = ⊥
+    plain_more : (first : Bool) (t : Turn) (b : Bool) (x : Part) (xs : List Part) → (b ≡ true → part_words x ≡ []) → NoColon x → Kept x → Ahead first (header (turned t b)) xs → Ahead first (header t) (x ∷ xs)
+    plain_more first t b x xs q n g h ps ws f =
+        ap all_words (cond-false (parsed x).is_colon _ _ (same_colon x ∙ n))
+        ∙ (h (ps ++ (parsed x).part ∷ []) (ws ++ part_words x) (λ es vs l. ap head_words (append_assoc ps ((parsed x).part ∷ []) es ∙ ap (λ y. ps ++ y ∷ es) (part_parsed x))
+        ∙ (f (part_syntax x ∷ es) (part_words x ++ vs) (one_more t b x es vs q g l) ∙ sym (append_assoc ws (part_words x) vs)))
+        ∙ append_assoc ws (part_words x) (parts_words xs))
 
-      abbrev Both : Spot → List Part → Type 0
-      Both z xs = (first : Bool) → Ahead first z xs
+    colon_more : (first : Bool) (t : Turn) (x : Part) (xs : List Part) → may_end t ≡ true → has_token s.colon_mark x ≡ true → Ahead first owner xs → Ahead first (header t) (x ∷ xs)
+    colon_more first t x xs e m h ps ws f =
+        ap all_words (cond-true (parsed x).is_colon _ _ (is_colon_mark x m))
+        ∙ (h ps ws (ap head_words (sym (append-nil ps)) ∙ (f [] [] (none_left t e) ∙ append-nil ws)) ∙ ap (λ vs. ws ++ vs) (sym (nothing_before (part_words x) (parts_words xs) (no_words s.colon_mark x colons m))))
 
-      plain_more : (first : Bool) (t : Turn) (b : Bool) (x : Part) (xs : List Part) → (b ≡ true → part_words x ≡ []) → NoColon x → Kept x → Ahead first (header (turned t b)) xs → Ahead first (header t) (x ∷ xs)
-      plain_more first t b x xs q n g h ps ws f =
-          ap all_words (cond-false (parsed x).is_colon _ _ (same_colon x ∙ n))
-          ∙ (h (ps ++ (parsed x).part ∷ []) (ws ++ part_words x) (λ es vs l. ap head_words (append_assoc ps ((parsed x).part ∷ []) es ∙ ap (λ y. ps ++ y ∷ es) (part_parsed x))
-          ∙ (f (part_syntax x ∷ es) (part_words x ++ vs) (one_more t b x es vs q g l) ∙ sym (append_assoc ws (part_words x) vs)))
-          ∙ append_assoc ws (part_words x) (parts_words xs))
+    token_more : (first plain colon end : Bool) (t : Turn) (ts : List Terminal) (x : Part) (xs : List Part) → no_colons ts ≡ plain → subset ts s.colon_mark ≡ colon → may_end t ≡ end → has_token ts x ≡ true → Kept x
+        → Ahead first (in_header plain colon end (on_token t ts)) xs → Ahead first (header t) (x ∷ xs)
+    token_more first true colon end t ts x xs p c e m g h = plain_more first t (subset ts marks_between) x xs (λ b. quiet_part ts x b m) (token_plain ts x p m) g h
+    token_more first false true true t ts x xs p c e m g h = colon_more first t x xs e (token_within ts x c m) h
+    token_more first false true false t ts x xs p c e m g h = absurd h
+    token_more first false false end t ts x xs p c e m g h = absurd h
 
-      colon_more : (first : Bool) (t : Turn) (x : Part) (xs : List Part) → may_end t ≡ true → has_token s.colon_mark x ≡ true → Ahead first owner xs → Ahead first (header t) (x ∷ xs)
-      colon_more first t x xs e m h ps ws f =
-          ap all_words (cond-true (parsed x).is_colon _ _ (is_colon_mark x m))
-          ∙ (h ps ws (ap head_words (sym (append-nil ps)) ∙ (f [] [] (none_left t e) ∙ append-nil ws)) ∙ ap (λ vs. ws ++ vs) (sym (nothing_before (part_words x) (parts_words xs) (no_words s.colon_mark x colons m))))
+    sort_more : (first inner_sort : Bool) (t : Turn) (q : Nonterminal) (x : Part) (xs : List Part) → inner_nonterminal q ≡ inner_sort → IsNonterminal q x → Known x → Ahead first (past_sort inner_sort (on_sort t q)) xs → Ahead first (header t) (x ∷ xs)
+    sort_more first true t q x xs o i g h = plain_more first t false x xs no_such (nonterminal_plain q x i) (g.kept (in_line x (nonterminal_inner q x o i))) h
+    sort_more first false t q x xs o i g h = absurd h
 
-      token_more : (first plain colon end : Bool) (t : Turn) (ts : List Terminal) (x : Part) (xs : List Part) → no_colons ts ≡ plain → subset ts s.colon_mark ≡ colon → may_end t ≡ end → has_token ts x ≡ true → Kept x
-          → Ahead first (in_header plain colon end (on_token t ts)) xs → Ahead first (header t) (x ∷ xs)
-      token_more first true colon end t ts x xs p c e m g h = plain_more first t (subset ts marks_between) x xs (λ b. quiet_part ts x b m) (token_plain ts x p m) g h
-      token_more first false true true t ts x xs p c e m g h = colon_more first t x xs e (token_within ts x c m) h
-      token_more first false true false t ts x xs p c e m g h = absurd h
-      token_more first false false end t ts x xs p c e m g h = absurd h
+    from_start : (first : Bool) (x : Part) (xs : List Part) → Ahead first (header start) (x ∷ xs) → Ahead first begins (x ∷ xs)
+    from_start first x xs h = h [] [] (node_kept (frame kind) kind inner)
 
-      sort_more : (first inner_sort : Bool) (t : Turn) (q : Nonterminal) (x : Part) (xs : List Part) → inner_nonterminal q ≡ inner_sort → IsNonterminal q x → Known x → Ahead first (past_sort inner_sort (on_sort t q)) xs → Ahead first (header t) (x ∷ xs)
-      sort_more first true t q x xs o i g h = plain_more first t false x xs no_such (nonterminal_plain q x i) (g.kept (in_line x (nonterminal_inner q x o i))) h
-      sort_more first false t q x xs o i g h = absurd h
+    token_known : (ts : List Terminal) (x : Part) → has_token ts x ≡ true → Known x → Kept x
+    token_known ts (p.Leaf l) m g = g.kept tt
+    token_known ts (Node' kd n r) m g = no_such m
 
-      from_start : (first : Bool) (x : Part) (xs : List Part) → Ahead first (header start) (x ∷ xs) → Ahead first begins (x ∷ xs)
-      from_start first x xs h = h [] [] (node_kept (frame kind) kind inner)
+    token_ahead : (z : Spot) (ts : List Terminal) (x : Part) (xs : List Part) → has_token ts x ≡ true → Known x → Both (spot_after start z ts) xs → Both z (x ∷ xs)
+    token_ahead begins ts x xs m g h first = from_start first x xs (token_more first (no_colons ts) (subset ts s.colon_mark) (may_end start) start ts x xs refl refl refl m (token_known ts x m g) (h first))
+    token_ahead (header t) ts x xs m g h first = token_more first (no_colons ts) (subset ts s.colon_mark) (may_end t) t ts x xs refl refl refl m (token_known ts x m g) (h first)
+    token_ahead owner ts x xs m g h first = absurd (h first)
+    token_ahead nowhere ts x xs m g h first = absurd (h first)
 
-      token_known : (ts : List Terminal) (x : Part) → has_token ts x ≡ true → Known x → Kept x
-      token_known ts (p.Leaf l) m g = g.kept tt
-      token_known ts (Node' kd n r) m g = no_such m
+    sort_ahead : (z : Spot) (q : Nonterminal) (x : Part) (xs : List Part) → IsNonterminal q x → Known x → Both (spot_past start z q) xs → Both z (x ∷ xs)
+    sort_ahead begins q x xs i g h first = from_start first x xs (sort_more first (inner_nonterminal q) start q x xs refl i g (h first))
+    sort_ahead (header t) q x xs i g h first = sort_more first (inner_nonterminal q) t q x xs refl i g (h first)
+    sort_ahead owner s.suite x xs i g h first = λ ps ws f.
+        put_words first kind ps (parsed x).suite (headers_in false kind [] (map parsed xs)) ∙ both (λ us vs. us ++ vs) f (both (λ us vs. us ++ vs) (g.suite i) (h false))
+    sort_ahead owner _ x xs i g h first = absurd (h first)
+    sort_ahead nowhere q x xs i g h first = absurd (h first)
 
-      token_ahead : (z : Spot) (ts : List Terminal) (x : Part) (xs : List Part) → has_token ts x ≡ true → Known x → Both (spot_after start z ts) xs → Both z (x ∷ xs)
-      token_ahead begins ts x xs m g h first = from_start first x xs (token_more first (no_colons ts) (subset ts s.colon_mark) (may_end start) start ts x xs refl refl refl m (token_known ts x m g) (h first))
-      token_ahead (header t) ts x xs m g h first = token_more first (no_colons ts) (subset ts s.colon_mark) (may_end t) t ts x xs refl refl refl m (token_known ts x m g) (h first)
-      token_ahead owner ts x xs m g h first = absurd (h first)
-      token_ahead nowhere ts x xs m g h first = absurd (h first)
+    none_ahead : (z : Spot) → is_spot begins z ≡ true → Both z []
+    none_ahead begins h first = refl
+    none_ahead _ h first = no_such h
 
-      sort_ahead : (z : Spot) (q : Nonterminal) (x : Part) (xs : List Part) → IsNonterminal q x → Known x → Both (spot_past start z q) xs → Both z (x ∷ xs)
-      sort_ahead begins q x xs i g h first = from_start first x xs (sort_more first (inner_nonterminal q) start q x xs refl i g (h first))
-      sort_ahead (header t) q x xs i g h first = sort_more first (inner_nonterminal q) t q x xs refl i g (h first)
-      sort_ahead owner s.suite x xs i g h first = λ ps ws f.
-          put_words first kind ps (parsed x).suite (headers_in false kind [] (map parsed xs)) ∙ both (λ us vs. us ++ vs) f (both (λ us vs. us ++ vs) (g.suite i) (h false))
-      sort_ahead owner _ x xs i g h first = absurd (h first)
-      sort_ahead nowhere q x xs i g h first = absurd (h first)
+    headers_kept : leads (spot_after start) (spot_past start) is_spot (is_spot begins) (bzl_shape kind) begins ≡ true → (xs : List Part) → Fits IsNonterminal (bzl_shape kind) xs → AllByRecursion Known xs
+        → all_words (headers_in true kind [] (map parsed xs)) ≡ parts_words xs
+    headers_kept w xs h g = led (spot_after start) (spot_past start) is_spot same_spot Known Both token_ahead sort_ahead (bzl_shape kind) (is_spot begins) begins w none_ahead xs g h true
 
-      none_ahead : (z : Spot) → is_spot begins z ≡ true → Both z []
-      none_ahead begins h first = refl
-      none_ahead _ h first = no_such h
+  -- ---- nodes
 
-      headers_kept : leads (spot_after start) (spot_past start) is_spot (is_spot begins) (bzl_shape kind) begins ≡ true → (xs : List Part) → Fits IsNonterminal (bzl_shape kind) xs → AllByRecursion Known xs
-          → all_words (headers_in true kind [] (map parsed xs)) ≡ parts_words xs
-      headers_kept w xs h g = led (spot_after start) (spot_past start) is_spot same_spot Known Both token_ahead sort_ahead (bzl_shape kind) (is_spot begins) begins w none_ahead xs g h true
+  known_kept : (xs : List Part) → AllByRecursion InLine xs → AllByRecursion Known xs → AllByRecursion Kept xs
+  known_kept [] i g = tt
+  known_kept (x ∷ xs) i g = (g.0.kept i.0, known_kept xs i.1 g.1)
 
-    -- ---- nodes
+  line_kept : (xs : List Part) → Fits IsNonterminal (bzl_shape k.Line) xs → AllByRecursion Known xs → all_words (line_statements (map parsed xs)) ≡ parts_words xs
+  line_kept xs h g = ap (λ zs. all_words (before_marks zs)) (parts_parsed xs) ∙ line_words xs h (known_kept xs (in_statements xs h) g)
 
-    known_kept : (xs : List Part) → AllByRecursion InLine xs → AllByRecursion Known xs → AllByRecursion Kept xs
-    known_kept [] i g = tt
-    known_kept (x ∷ xs) i g = (g.0.kept i.0, known_kept xs i.1 g.1)
+  -- a statement has no header, or its colons are silent
+  spoken : (kind : Kind) → kind_number k.Def ≤ kind_number kind → Colons ⊎ (kind_number kind < kind_number k.Def) → Colons
+  spoken kind le (inl colons) = colons
+  spoken kind le (inr lt) = absurd (omega (arith, le, lt))
 
-    line_kept : (xs : List Part) → Fits IsNonterminal (bzl_shape k.Line) xs → AllByRecursion Known xs → all_words (line_statements (map parsed xs)) ≡ parts_words xs
-    line_kept xs h g = ap (λ zs. all_words (before_marks zs)) (parts_parsed xs) ∙ line_words xs h (known_kept xs (in_statements xs h) g)
+  node_statement : (kind : Kind) (xs : List Part) → Colons ⊎ (kind_number kind < kind_number k.Def) → nonterminal_has_kind s.stmt kind ≡ true → Fits IsNonterminal (bzl_shape kind) xs → AllByRecursion Known xs → all_words (node_statements kind (map parsed xs)) ≡ parts_words xs
+  node_statement k.Line xs c i h g = line_kept xs h g
+  node_statement k.Def xs c i h g = headers_kept k.Def refl (spoken k.Def (omega arith) c) refl xs h g
+  node_statement k.IfStmt xs c i h g = headers_kept k.IfStmt refl (spoken k.IfStmt (omega arith) c) refl xs h g
+  node_statement k.ForStmt xs c i h g = headers_kept k.ForStmt refl (spoken k.ForStmt (omega arith) c) refl xs h g
+  node_statement _ xs c i h g = no_such i
 
-    node_statement : (kind : Kind) (xs : List Part) → nonterminal_has_kind s.stmt kind ≡ true → Fits IsNonterminal (bzl_shape kind) xs → AllByRecursion Known xs → all_words (node_statements kind (map parsed xs)) ≡ parts_words xs
-    node_statement k.Line xs i h g = line_kept xs h g
-    node_statement k.Def xs i h g = headers_kept k.Def refl refl xs h g
-    node_statement k.IfStmt xs i h g = headers_kept k.IfStmt refl refl xs h g
-    node_statement k.ForStmt xs i h g = headers_kept k.ForStmt refl refl xs h g
-    node_statement _ xs i h g = no_such i
+  -- statements one after the other, and then what K says
+  several_kept : (K : List Part → Type 0) → ((xs : List Part) → K xs → all_words (statements_in (map parsed xs)) ≡ parts_words xs) → (xs : List Part) → Several (IsNonterminal s.stmt) K xs → AllByRecursion Known xs
+      → all_words (statements_in (map parsed xs)) ≡ parts_words xs
+  several_kept K f [] h g = f [] h
+  several_kept K f (x ∷ xs) (inl h) g = f (x ∷ xs) h
+  several_kept K f (x ∷ xs) (inr h) g =
+      flat_map-append expr_words (parsed x).statements (statements_in (map parsed xs)) ∙ both (λ us vs. us ++ vs) (g.0.statement h.0) (several_kept K f xs h.1 g.1)
 
-    -- statements one after the other, and then what K says
-    several_kept : (K : List Part → Type 0) → ((xs : List Part) → K xs → all_words (statements_in (map parsed xs)) ≡ parts_words xs) → (xs : List Part) → Several (IsNonterminal s.stmt) K xs → AllByRecursion Known xs
-        → all_words (statements_in (map parsed xs)) ≡ parts_words xs
-    several_kept K f [] h g = f [] h
-    several_kept K f (x ∷ xs) (inl h) g = f (x ∷ xs) h
-    several_kept K f (x ∷ xs) (inr h) g =
-        flat_map-append expr_words (parsed x).statements (statements_in (map parsed xs)) ∙ both (λ us vs. us ++ vs) (g.0.statement h.0) (several_kept K f xs h.1 g.1)
+  done_kept : (xs : List Part) → Fits IsNonterminal done xs → all_words (statements_in (map parsed xs)) ≡ parts_words xs
+  done_kept [] h = refl
+  done_kept (x ∷ xs) h = absurd h
 
-    done_kept : (xs : List Part) → Fits IsNonterminal done xs → all_words (statements_in (map parsed xs)) ≡ parts_words xs
-    done_kept [] h = refl
-    done_kept (x ∷ xs) h = absurd h
+  suite_kept : (xs : List Part) → Fits IsNonterminal (bzl_shape k.Suite) xs → AllByRecursion Known xs → all_words (statements_in (drop 1 (map parsed xs))) ≡ parts_words xs
+  suite_kept [] h g = absurd h
+  suite_kept (x ∷ []) h g = absurd h.1
+  suite_kept (x ∷ y ∷ xs) h g =
+      several_kept (Fits IsNonterminal done) done_kept (y ∷ xs) (inr h.1) g.1 ∙ sym (nothing_before (part_words x) (parts_words (y ∷ xs)) (quiet_part s.newline x refl h.0))
 
-    suite_kept : (xs : List Part) → Fits IsNonterminal (bzl_shape k.Suite) xs → AllByRecursion Known xs → all_words (statements_in (drop 1 (map parsed xs))) ≡ parts_words xs
-    suite_kept [] h g = absurd h
-    suite_kept (x ∷ []) h g = absurd h.1
-    suite_kept (x ∷ y ∷ xs) h g =
-        several_kept (Fits IsNonterminal done) done_kept (y ∷ xs) (inr h.1) g.1 ∙ sym (nothing_before (part_words x) (parts_words (y ∷ xs)) (quiet_part s.newline x refl h.0))
+  node_suite : (kind : Kind) (xs : List Part) → nonterminal_has_kind s.suite kind ≡ true → Fits IsNonterminal (bzl_shape kind) xs → AllByRecursion Known xs → all_words (suite_statements kind (map parsed xs)) ≡ parts_words xs
+  node_suite k.Line xs i h g = line_kept xs h g
+  node_suite k.Suite xs i h g = suite_kept xs h g
+  node_suite _ xs i h g = no_such i
 
-    node_suite : (kind : Kind) (xs : List Part) → nonterminal_has_kind s.suite kind ≡ true → Fits IsNonterminal (bzl_shape kind) xs → AllByRecursion Known xs → all_words (suite_statements kind (map parsed xs)) ≡ parts_words xs
-    node_suite k.Line xs i h g = line_kept xs h g
-    node_suite k.Suite xs i h g = suite_kept xs h g
-    node_suite _ xs i h g = no_such i
+  -- of a part that may be in a BUILD file, or where colons are silent
+  first_of : {A B : Type 0} → Colons ⊎ (A × B) → Colons ⊎ A
+  first_of (inl colons) = inl colons
+  first_of (inr h) = inr h.0
 
-    mutual
-      part_known : (x : Part) → LegalPart x → Known x
-      part_known (p.Leaf l) h = record { kept = λ i. part_kept (p.Leaf l) tt; statement = λ i. no_such i; suite = λ i. no_such i }
-      part_known (Node' kind m r) h =
-          let known : AllByRecursion Known (items-the_row-Part _ r) = row_known _ r h.1 in
-          record {
-            kept = λ i. part_kept (Node' kind m r) (inner_legal (Node' kind m r) i h);
-            statement = λ i. ap (λ xs. all_words (node_statements kind xs)) (parsed_rows _ r) ∙ (node_statement kind (items-the_row-Part _ r) i h.0 known ∙ sym (row_leaves _ r));
-            suite = λ i. ap (λ xs. all_words (suite_statements kind xs)) (parsed_rows _ r) ∙ (node_suite kind (items-the_row-Part _ r) i h.0 known ∙ sym (row_leaves _ r));
-          }
+  others_of : {A B : Type 0} → Colons ⊎ (A × B) → Colons ⊎ B
+  others_of (inl colons) = inl colons
+  others_of (inr h) = inr h.1
 
-      row_known : (m : _) (r : Row_of-Part m) → LegalRow r → AllByRecursion Known (items-the_row-Part m r)
-      row_known m end_of-Part h = tt
-      row_known m (more_of-Part x rest) h = (part_known x h.0, row_known _ rest h.1)
+  mutual
+    part_known : (x : Part) → LegalPart x → Colons ⊎ IsBuildPart x → Known x
+    part_known (p.Leaf l) h c = record { kept = λ i. part_kept (p.Leaf l) tt; statement = λ i. no_such i; suite = λ i. no_such i }
+    part_known (Node' kind m r) h c =
+        let known : AllByRecursion Known (items-the_row-Part _ r) = row_known _ r h.1 (others_of c) in
+        record {
+          kept = λ i. part_kept (Node' kind m r) (inner_legal (Node' kind m r) i h);
+          statement = λ i. ap (λ xs. all_words (node_statements kind xs)) (parsed_rows _ r) ∙ (node_statement kind (items-the_row-Part _ r) (first_of c) i h.0 known ∙ sym (row_leaves _ r));
+          suite = λ i. ap (λ xs. all_words (suite_statements kind xs)) (parsed_rows _ r) ∙ (node_suite kind (items-the_row-Part _ r) i h.0 known ∙ sym (row_leaves _ r));
+        }
 
-    -- ---- the file
+    row_known : (m : _) (r : Row_of-Part m) → LegalRow r → Colons ⊎ IsBuildRow r → AllByRecursion Known (items-the_row-Part m r)
+    row_known m end_of-Part h c = tt
+    row_known m (more_of-Part x rest) h c = (part_known x h.0 (first_of c), row_known _ rest h.1 (others_of c))
 
-    -- the end of a file is no statement
-    end_kept : (xs : List Part) → Fits IsNonterminal (tok s.end done) xs → all_words (statements_in (map parsed xs)) ≡ parts_words xs
-    end_kept [] h = absurd h
-    end_kept (p.Leaf l ∷ []) h = sym (nothing_before (part_words (p.Leaf l)) [] (quiet_part s.end (p.Leaf l) refl h.0))
-    end_kept (Node' kind m r ∷ xs) h = no_such h.0
-    end_kept (p.Leaf l ∷ y ∷ xs) h = absurd h.1
+  parts_known : (xs : List Part) → AllByRecursion LegalPart xs → Colons ⊎ AllByRecursion IsBuildPart xs → AllByRecursion Known xs
+  parts_known [] h c = tt
+  parts_known (x ∷ xs) h c = (part_known x h.0 (first_of c), parts_known xs h.1 (others_of c))
 
-    -- the tokens of a tree are those of its program
-    tree_kept : (tree : Node) → Legal tree → flat_map (leaf_words silent) (leaves_of tree) ≡ all_words (bzl_tree_program tree)
-    tree_kept tree h =
-        let fits : Fits IsNonterminal (bzl_shape k.File) tree.parts = subst (λ kd. Fits IsNonterminal (bzl_shape kd) tree.parts) h.file.root h.file.shapes.0 in
-        parts_leaves tree.parts ∙ sym (several_kept (Fits IsNonterminal (tok s.end done)) end_kept tree.parts fits (all_mapped LegalPart Known part_known tree.parts h.file.shapes.1))
+  -- ---- the file
+
+  -- the end of a file is no statement
+  end_kept : (xs : List Part) → Fits IsNonterminal (tok s.end done) xs → all_words (statements_in (map parsed xs)) ≡ parts_words xs
+  end_kept [] h = absurd h
+  end_kept (p.Leaf l ∷ []) h = sym (nothing_before (part_words (p.Leaf l)) [] (quiet_part s.end (p.Leaf l) refl h.0))
+  end_kept (Node' kind m r ∷ xs) h = no_such h.0
+  end_kept (p.Leaf l ∷ y ∷ xs) h = absurd h.1
+
+  -- the tokens of a tree are those of its program
+  tree_kept : (tree : Node) → Legal tree → Colons ⊎ IsBuild tree → flat_map (leaf_words silent) (leaves_of tree) ≡ all_words (tree_program tree)
+  tree_kept tree h c =
+      let fits : Fits IsNonterminal (bzl_shape k.File) tree.parts = subst (λ kd. Fits IsNonterminal (bzl_shape kd) tree.parts) h.file.root h.file.shapes.0 in
+      parts_leaves tree.parts ∙ sym (several_kept (Fits IsNonterminal (tok s.end done)) end_kept tree.parts fits (parts_known tree.parts h.file.shapes.1 c))
 
 -- ---- how often
 
@@ -528,9 +530,8 @@ module _ (class : Class) (token : Bytes) (other : is_mark_between class token �
 
   tree_count : (n : Node) → LegalBuild n → token_times class token (tree_program n) ≡ leaf_times class token n
   tree_count n h =
-      let fits : Fits IsNonterminal (s.shape k.File) n.parts = file_lines n h in
       sym (counted (expr_words silent quiet) (token_sum (one_if_token class token)) expr_count (tree_program n))
-      ∙ (ap length (lines_kept silent quiet n.parts fits h.legal.file.shapes.1 ∙ sym (parts_leaves silent quiet n.parts))
+      ∙ (ap length (sym (tree_kept silent quiet n h.legal (inr h.build)))
       ∙ counted (leaf_words silent) (λ l. one_if_token class token l.class l.token) (λ l. word_count (is_class l.class class && bytes_eq l.token token) (l.class, l.token)) (leaves_of n))
 
 pub tree_tokens : TreeProgramsKeepTokens
@@ -544,6 +545,6 @@ formatted_tokens fixed text formatted formats tree new h i class token string se
 
 pub formatted_words : BzlFixedPoint → FormattingKeepsWords
 formatted_words fixed text formatted formats tree new h i =
-    tree_kept is_bzl_separator (λ l m. or_left _ _ m) (λ l m. or_right _ _ m) new i.0
-    ∙ (ap (all_words is_bzl_separator (λ l m. or_left _ _ m)) ((fixed text formatted formats).program tree new h i)
-    ∙ sym (tree_kept is_bzl_separator (λ l m. or_left _ _ m) (λ l m. or_right _ _ m) tree h.0))
+    let quiet : (l : Leaf) → is_one_of marks_between l ≡ true → is_bzl_separator l.class l.token ≡ true = λ l m. or_left _ _ m in
+    let kept : (n : Node) → Legal n → tree_words is_bzl_separator n ≡ all_words is_bzl_separator quiet (tree_program n) = λ n g. tree_kept is_bzl_separator quiet n g (inl (λ l m. or_right _ _ m)) in
+    kept new i.0 ∙ (ap (all_words is_bzl_separator quiet) ((fixed text formatted formats).program tree new h i) ∙ sym (kept tree h.0))

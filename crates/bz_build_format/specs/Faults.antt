@@ -9,7 +9,7 @@ use Rattle.bz_grammar.specs.Legal.{Accepted, NoBzlTree, ReadsBzl}
 use Rattle.bz_grammar.specs.Spell.{depth_of, depth_limit, limit}
 use Rattle.bz_items.specs.Characters.{Bytes}
 use Rattle.bz_value.specs.declared.refusal.Refusal.TheVariants as r
-use Rattle.bz_hosts.specs.Suites.{bzl_view_of}
+use Rattle.bz_hosts.specs.View.{view_of}
 use Rattle.bz_layout.specs.LaidOut.{laid_out}
 use Rattle.bz_layout.specs.Written.{layout}
 use Rattle.bz_layout.specs.Flags.{flags}
@@ -34,15 +34,15 @@ FormatsTo text (Err Memory) = Unit {0}
 
 -- the layout of what the tree of a .bzl file says, levelled
 abbrev pub bzl_formatted : Node → Bytes
-bzl_formatted tree = layout (flags (bzl_view_of tree))
+bzl_formatted tree = layout (flags (view_of tree))
 
 -- its tree
 abbrev pub formatted_tree : Node → Node
-formatted_tree tree = laid_out (flags (bzl_view_of tree))
+formatted_tree tree = laid_out (flags (view_of tree))
 
 -- It reads as this tree, which says the same.
 abbrev pub Lasts : Node → Type 0
-Lasts tree = ReadsBzl (bzl_formatted tree) (formatted_tree tree) × (bzl_view_of (formatted_tree tree) ≡ flags (bzl_view_of tree))
+Lasts tree = ReadsBzl (bzl_formatted tree) (formatted_tree tree) × (view_of (formatted_tree tree) ≡ flags (view_of tree))
 
 -- A text that reads as the tree of a .bzl file is formatted to the layout of what it says, which lasts, where that is within the
 -- limits of length and depth; of every other text a fault is reported. Memory may be refused at each.

@@ -10,18 +10,17 @@ use Rattle.bz_grammar.specs.Shapes.{Terminal, is_class, is_one_of, close_curly, 
 use Rattle.bz_grammar.specs.Spell.{leaves_of}
 use Rattle.bz_value.specs.declared.value.Item.{Item}
 use Rattle.bz_value.specs.Counted.{total}
-use Rattle.bz_value.specs.Proper.{IsProper}
+use Rattle.bz_value.specs.BuildValues.{IsProperBuild}
 use Rattle.bz_items.specs.Characters.{Bytes}
 use Rattle.bz_hosts.specs.Kept.{occurrences}
 use Rattle.bz_hosts.specs.View.{view_of}
 use Rattle.bz_passes.specs.Passes.{tidied}
 use Rattle.bz_passes.specs.Programs.{KeepsProgram}
 use Rattle.bz_passes.specs.Syntax.{one_if_token, token_times}
-use Rattle.bz_hosts.specs.Suites.{bzl_view_of}
 use Rattle.bz_layout.specs.Flags.{flags}
 use Rattle.bz_build_format.specs.Faults.{FormatsBzlTo}
 use Rattle.bz_build_format.specs.Meaning.{gives, written, Formats}
-use Rattle.bz_build_format.specs.TreePrograms.{tree_program, bzl_tree_program}
+use Rattle.bz_build_format.specs.TreePrograms.{tree_program}
 
 -- The formatted text of a text: formatting gives it, formatting it gives it again, its value is that of the text, tidied,
 -- each comment is in it as often as in the text, and the program is kept; so each token of that which is no string is in it
@@ -44,18 +43,18 @@ FixedPoint = (text formatted : Bytes) → Formats text (gives formatted None) �
 pub record IsFormattedBzl (text formatted : Bytes) : Type 0 where
   pub given : FormatsBzlTo text (Ok formatted)
   pub again : FormatsBzlTo formatted (Ok formatted)
-  pub value : (tree new : Node) → ReadsBzl text tree → ReadsBzl formatted new → bzl_view_of new ≡ flags (bzl_view_of tree)
+  pub value : (tree new : Node) → ReadsBzl text tree → ReadsBzl formatted new → view_of new ≡ flags (view_of tree)
   pub comments : (tree new : Node) → ReadsBzl text tree → ReadsBzl formatted new → (comment : Bytes) → occurrences comment new ≡ occurrences comment tree
-  pub program : (tree new : Node) → ReadsBzl text tree → ReadsBzl formatted new → bzl_tree_program new ≡ bzl_tree_program tree
+  pub program : (tree new : Node) → ReadsBzl text tree → ReadsBzl formatted new → tree_program new ≡ tree_program tree
 
 -- Whatever text formatting gives is such.
 abbrev pub BzlFixedPoint : Type 0
 BzlFixedPoint = (text formatted : Bytes) → FormatsBzlTo text (Ok formatted) → IsFormattedBzl text formatted
 
--- The text that is written of a proper value, as of what a command makes of one, keeps the value's program.
+-- The text that is written of a proper value of a BUILD file, as of what a command makes of one, keeps the value's program.
 abbrev pub WritingKeepsProgram : Type 0
 WritingKeepsProgram =
-    (items : List Item) (text : Bytes) (printed : Option Bytes) → IsProper items → written items printed ≡ gives text printed
+    (items : List Item) (text : Bytes) (printed : Option Bytes) → IsProperBuild items → written items printed ≡ gives text printed
     → (tree : Node) → Reads text tree → KeepsProgram items (view_of tree)
 
 -- ---- how often a token of a text is there

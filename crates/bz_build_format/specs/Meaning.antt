@@ -4,7 +4,7 @@ use Rattle.bz_grammar.specs.declared.tree.Node.{Node}
 use Rattle.bz_grammar.specs.Spell.{depth_of, depth_limit, limit}
 use Rattle.bz_grammar.specs.Legal.{Reads}
 use Rattle.bz_value.specs.declared.value.Item.{Item}
-use Rattle.bz_value.specs.Proper.{IsProper}
+use Rattle.bz_value.specs.BuildValues.{IsProperBuild}
 use Rattle.bz_items.specs.Characters.{Bytes}
 use Rattle.bz_hosts.specs.View.{view_of}
 use Rattle.bz_layout.specs.Written.{layout}
@@ -15,7 +15,7 @@ use Rattle.bz_value.specs.declared.refusal.Refusal.TheVariants.{TooLarge, TooDee
 
 -- The tree is the layout of these items, which are tidy.
 pub record IsWritten (items : List Item) (tree : Node) : Type 0 where
-  pub proper : IsProper items
+  pub proper : IsProperBuild items
   pub tidy : tidied items ≡ items
   pub laid_out : laid_out items ≡ tree
 

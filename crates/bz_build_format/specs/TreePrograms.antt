@@ -1,5 +1,5 @@
--- What a compiler reads of the tree of a text: no gaps, no brackets, and no commas, semicolons and newlines between the parts that
--- they separate.
+-- What a compiler reads of the tree of a text: its statements with their headers and suites, and no gaps, no brackets, and no commas,
+-- semicolons and newlines between the parts that they separate.
 use Rattle.std.specs.Prelude.{◌≡◌, suc, Bool, true, false, List, [], ◌∷◌, ◌++◌, drop, if◌then◌else◌, map, take}
 use Rattle.bz_grammar.specs.declared.kind.Kind.{Kind}
 use Rattle.bz_grammar.specs.declared.kind.Kind.TheVariants as k
@@ -12,8 +12,8 @@ use Rattle.bz_value.specs.declared.value.Expr.TheVariants as e
 use Rattle.bz_value.specs.declared.value.Form.{Form}
 use Rattle.bz_value.specs.Comments.{no_comments}
 use Rattle.bz_value.specs.Frames.{Frame, sequence, frame, is_header, lead}
-use Rattle.bz_hosts.specs.Suites.{bzl_view_of, put_header}
 use Rattle.bz_hosts.specs.View.{view_of}
+use Rattle.bz_hosts.specs.Suites.{put_header}
 use Rattle.bz_passes.specs.Syntax.{program}
 
 -- the parts in front of each comma, semicolon or newline, and of the closing bracket: every other one
@@ -39,20 +39,7 @@ abbrev mutual
   row_syntax end_of-Part = []
   row_syntax (more_of-Part x rest) = part_syntax x ∷ row_syntax rest
 
--- the statements of the lines of a file; its end is no statement
-abbrev pub lines_program : List Part → List Expr
-lines_program [] = []
-lines_program (p.Leaf l ∷ xs) = lines_program xs
-lines_program (Node' kind _ parts ∷ xs) = before_marks (row_syntax parts) ++ lines_program xs
-
-abbrev pub tree_program : Node → List Expr
-tree_program n = lines_program n.parts
-
--- The program of the value of a tree is that of the tree.
-abbrev pub ViewsKeepPrograms : Type 0
-ViewsKeepPrograms = (tree : Node) → program (view_of tree) ≡ tree_program tree
-
--- ---- .bzl files: the statements with their suites
+-- ---- the statements, with their suites
 
 -- What a part says: as a part of a row; whether it is a colon; its statements; and those of a suite.
 pub record Parsed : Type 0 where
@@ -109,9 +96,9 @@ abbrev mutual
   parsed_row end_of-Part = []
   parsed_row (more_of-Part x rest) = parsed x ∷ parsed_row rest
 
-abbrev pub bzl_tree_program : Node → List Expr
-bzl_tree_program n = statements_in (map parsed n.parts)
+abbrev pub tree_program : Node → List Expr
+tree_program n = statements_in (map parsed n.parts)
 
--- The program of what a tree says is that of the tree.
-abbrev pub BzlViewsKeepPrograms : Type 0
-BzlViewsKeepPrograms = (tree : Node) → program (bzl_view_of tree) ≡ bzl_tree_program tree
+-- The program of the value of a tree is that of the tree.
+abbrev pub ViewsKeepPrograms : Type 0
+ViewsKeepPrograms = (tree : Node) → program (view_of tree) ≡ tree_program tree

@@ -3,20 +3,18 @@ ghost use Rattle.std.specs.Prelude.{◌≡◌, ◌≢◌, ◌⊎◌, IfOk};
 ghost use Rattle.bz_build_format.specs.Faults.{FormatsTo, FormatsBzlTo};
 ghost use Rattle.bz_build_format.specs.Fixed.{IsFormatted, IsFormattedBzl};
 
-use crate::chunks::chunks_formatted;
-use crate::laws::{formatted_bzl_once, formatted_once};
+use crate::chunks::{FileKind, chunks_formatted};
+use crate::laws::{formatted_suites_once, formatted_once};
 use crate::writing::written_text;
-use bz_bzl_layout::{
-    bzl_layout_is_accepted, bzl_layout_reads_back, level, level_keeps_layout, level_stays, set_bzl,
-};
-use bz_bzl_value::{BzlFile, bzl_view_is_proper, bzl_views_join, view_bzl};
 use bz_grammar::ReadFault;
-use bz_hosts::{into_view, views_join};
+use bz_hosts::{build_views, into_view, views_are_proper};
 use bz_items::Text;
-use bz_layout::{SetFault, layouts_join};
-use bz_passes::tidied_apart;
+use bz_layout::{
+    SetFault, flags_keep_layout, layout_is_accepted, layout_is_too_deep, layout_reads_back,
+    text_of_items,
+};
 use bz_tree::{parse, parse_bzl};
-use bz_value::{File, Refusal};
+use bz_value::Refusal;
 use std::alloc::Global;
 use thiserror::Error;
 
@@ -55,10 +53,8 @@ pub fn format(alloc: Global, text: &[u8]) -> Result<Text, FormatFault>
     ensures fixed { IfOk result (λ formatted. IsFormatted text.now formatted) }
 {
     formatted_once();
-    views_join();
-    tidied_apart();
-    layouts_join();
-    if let Some(formatted) = chunks_formatted::<File>(alloc, text) {
+    build_views();
+    if let Some(formatted) = chunks_formatted(alloc, FileKind::Build, text) {
         return Ok(formatted);
     }
     let tree = match parse(alloc, text) {
@@ -76,33 +72,29 @@ pub fn format(alloc: Global, text: &[u8]) -> Result<Text, FormatFault>
     }
 }
 
-/// The formatted text of a .bzl text: what it says, levelled and laid out. The program is the same, and to format it once more
-/// gives it again. Errors: as of `format`.
+/// The formatted text of a .bzl text: what it says, laid out. (It would be levelled first, which changes no byte of a layout, and isn't
+/// done.) The program is the same, and to format it once more gives it again. Errors: as of `format`.
 pub fn format_bzl(alloc: Global, text: &[u8]) -> Result<Text, FormatFault>
     ensures formats { FormatsBzlTo text.now result }
     ensures fixed { IfOk result (λ formatted. IsFormattedBzl text.now formatted) }
 {
-    formatted_bzl_once();
-    bzl_views_join();
-    bzl_view_is_proper();
-    layouts_join();
-    bzl_layout_is_accepted();
-    bzl_layout_reads_back();
-    level_keeps_layout();
-    level_stays();
-    if let Some(formatted) = chunks_formatted::<BzlFile>(alloc, text) {
+    formatted_suites_once();
+    views_are_proper();
+    flags_keep_layout();
+    layout_is_accepted();
+    layout_is_too_deep();
+    layout_reads_back();
+    if let Some(formatted) = chunks_formatted(alloc, FileKind::Suites, text) {
         return Ok(formatted);
     }
     let tree = match parse_bzl(alloc, text) {
         Ok(tree) => tree,
         Err(unread) => return Err(of_read_fault(unread)),
     };
-    let Ok(mut file) = view_bzl(alloc, &tree) else {
+    let Ok(file) = into_view(alloc, tree) else {
         return Err(FormatFault::Memory);
     };
-    drop(tree);
-    level(&mut file);
-    match set_bzl(alloc, &file) {
+    match text_of_items(alloc, file.items.as_slice(), text.len()) {
         Ok(new) => Ok(new),
         Err(SetFault::TooLarge) => Err(FormatFault::TooLarge),
         Err(SetFault::TooDeep) => Err(FormatFault::TooDeep),

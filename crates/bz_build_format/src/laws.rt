@@ -1,14 +1,13 @@
 //! Facts about the definitions, for readers and for the proofs of other crates: the functions do nothing.
 ghost use Rattle.bz_build_format.specs.Fixed.{BzlFixedPoint, FixedPoint, FormattingKeepsTokens, FormattingKeepsWords, TreeProgramsKeepTokens, WritingKeepsProgram};
-ghost use Rattle.bz_build_format.specs.TreePrograms.{ViewsKeepPrograms, BzlViewsKeepPrograms};
+ghost use Rattle.bz_build_format.specs.TreePrograms.{ViewsKeepPrograms};
 
-use bz_bzl_layout::{level_keeps_comments, level_keeps_program, level_stays};
-use bz_bzl_value::bzl_comments_kept;
 use bz_grammar::laws::{one_bzl_reading, one_reading};
-use bz_hosts::{comments_kept, views_are_proper};
-use bz_layout::{layout_is_accepted, layout_reads_back};
+use bz_hosts::{build_views, comments_kept, views_are_proper};
+use bz_layout::{build_layout_is_build, layout_is_accepted, layout_reads_back};
 use bz_passes::{
-    comments_stay, program_stays, proper_stays, tidy_settles, tidy_stays, tokens_stay,
+    build_stays, comments_stay, level_keeps_comments, level_keeps_program, level_stays,
+    program_stays, proper_stays, tidy_settles, tidy_stays, tokens_stay,
 };
 
 /// A formatted text is formatted to itself, its value is that of the text it was made of, tidied, each comment is in it
@@ -18,10 +17,13 @@ pub fn formatted_once()
 {
     one_reading();
     views_are_proper();
+    build_views();
     comments_kept();
     layout_is_accepted();
+    build_layout_is_build();
     layout_reads_back();
     proper_stays();
+    build_stays();
     tidy_settles();
     tidy_stays();
     comments_stay();
@@ -46,42 +48,37 @@ pub fn tokens_kept()
     formatted_once();
 }
 
-/// The text that is written of a proper value, as of what a command makes of one, keeps the value's program.
-#[tactic(auto, using(crate::proofs::Formatting::written_program))]
+/// The text that is written of a proper value of a BUILD file, as of what a command makes of one, keeps the value's program.
 pub fn writing_keeps_program()
     ensures { WritingKeepsProgram }
 {
     one_reading();
     layout_is_accepted();
+    build_layout_is_build();
     layout_reads_back();
     proper_stays();
+    build_stays();
     tidy_settles();
     program_stays();
 }
 
-/// The program of what a tree says is that of the tree: nothing is lost but gaps, brackets and the marks between parts.
-#[tactic(auto, using(crate::proofs::SeenPrograms::bzl_views_keep_programs))]
-pub fn bzl_views_keep_programs()
-    ensures { BzlViewsKeepPrograms }
-{}
-
 /// A formatted text is formatted to itself, it says what the text says that it was made of, levelled, each comment is in it
 /// as often as in that text, and the program is the same.
-pub fn formatted_bzl_once()
+pub fn formatted_suites_once()
     ensures { BzlFixedPoint }
 {
     one_bzl_reading();
     level_stays();
-    bzl_comments_kept();
+    comments_kept();
     level_keeps_comments();
     level_keeps_program();
-    bzl_views_keep_programs();
+    views_keep_programs();
 }
 
-/// The formatted text of a .bzl text has the same tokens in the same order, but for commas, semicolons, colons, brackets and newlines.
+/// The formatted text of one with suites has the same tokens in the same order, but for commas, semicolons, colons, brackets and newlines.
 #[tactic(auto, using(crate::proofs::TreeWords::formatted_words))]
 pub fn words_kept()
     ensures { FormattingKeepsWords }
 {
-    formatted_bzl_once();
+    formatted_suites_once();
 }

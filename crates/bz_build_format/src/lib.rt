@@ -1,4 +1,4 @@
-//! The formatted text of a BUILD file: its value, tidied and laid out; and of a .bzl file: what it says, levelled and laid out.
+//! The formatted text of a BUILD file: its value, tidied and laid out; and of a file that may have suites: what it says, laid out.
 //! Parts of a tree that come anew, read of their texts: as few lines as differ.
 #![tactic(auto)]
 
@@ -12,8 +12,8 @@ mod writing;
 
 pub use formatter::{FormatFault, format, format_bzl};
 pub use laws::{
-    bzl_views_keep_programs, formatted_bzl_once, formatted_once, tokens_kept, views_keep_programs,
-    words_kept, writing_keeps_program,
+    formatted_suites_once, formatted_once, tokens_kept, views_keep_programs, words_kept,
+    writing_keeps_program,
 };
 pub use reading::{is_mostly_other, read_text, read_windows};
 pub use writing::{reads_back, set, written_text};

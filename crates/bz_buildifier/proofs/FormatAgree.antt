@@ -28,38 +28,38 @@ use Rattle.bz_buildifier.proofs.FormatWhole.{exact_run}
 
 -- ---- what formatting a text answers is fixed
 
-record OneEach : Type 0 where
-  pub build : OneReading
-  pub bzl : OneBzlReading
+-- the tree of a BUILD file is one of any file
+one_build : OneBzlReading → OneReading
+one_build one text tree other reads others = one text tree other (reads.0.legal, reads.1, reads.2) (others.0.legal, others.1, others.2)
 
-one_meaning : OneEach → (text : Bytes) (one other : Meaning) → Formats text one → Formats text other → other ≡ one
+one_meaning : OneBzlReading → (text : Bytes) (one other : Meaning) → Formats text one → Formats text other → other ≡ one
 one_meaning laws text one other formats others =
-    others.2 ∙ ap (λ (n : Node). written (view_of n) None) (laws.build text others.0 formats.0 others.1 formats.1) ∙ sym formats.2
+    others.2 ∙ ap (λ (n : Node). written (view_of n) None) (one_build laws text others.0 formats.0 others.1 formats.1) ∙ sym formats.2
 
-one_formatted : OneEach → (bzl : Bool) (text one other : Bytes) → FormatsAs bzl text (Ok one) → FormatsAs bzl text (Ok other) → other ≡ one
+one_formatted : OneBzlReading → (bzl : Bool) (text one other : Bytes) → FormatsAs bzl text (Ok one) → FormatsAs bzl text (Ok other) → other ≡ one
 one_formatted laws true text one other formats others =
-    others.2 ∙ ap bzl_formatted (laws.bzl text others.0 formats.0 others.1 formats.1) ∙ sym formats.2
+    others.2 ∙ ap bzl_formatted (laws text others.0 formats.0 others.1 formats.1) ∙ sym formats.2
 one_formatted laws false text one other formats others =
     let same = one_meaning laws text (gives one None) (gives other None) formats others in cc
 
-ok_or_large : OneEach → (bzl : Bool) (text new : Bytes) → FormatsAs bzl text (Ok new) → FormatsAs bzl text (Err f.TooLarge) → ⊥
+ok_or_large : OneBzlReading → (bzl : Bool) (text new : Bytes) → FormatsAs bzl text (Ok new) → FormatsAs bzl text (Err f.TooLarge) → ⊥
 ok_or_large laws true text new formats large =
-    let same : bzl_formatted large.0 ≡ new = ap bzl_formatted (laws.bzl text large.0 formats.0 large.1 formats.1) ∙ sym formats.2 in
+    let same : bzl_formatted large.0 ≡ new = ap bzl_formatted (laws text large.0 formats.0 large.1 formats.1) ∙ sym formats.2 in
     let long : limit < length new = subst (λ (bytes : Bytes). limit < length bytes) same large.2 in
     let short : length new ≤ limit = formats.3 in omega (arith, long, short)
 ok_or_large laws false text new formats large =
     let same = one_meaning laws text (gives new None) (refuses r.TooLarge) formats large in absurd (cc same)
 
-ok_or_deep : OneEach → (bzl : Bool) (text new : Bytes) → FormatsAs bzl text (Ok new) → FormatsAs bzl text (Err f.TooDeep) → ⊥
+ok_or_deep : OneBzlReading → (bzl : Bool) (text new : Bytes) → FormatsAs bzl text (Ok new) → FormatsAs bzl text (Err f.TooDeep) → ⊥
 ok_or_deep laws true text new formats deep =
-    let same : formats.0 ≡ deep.0 = laws.bzl text formats.0 deep.0 formats.1 deep.1 in
+    let same : formats.0 ≡ deep.0 = laws text formats.0 deep.0 formats.1 deep.1 in
     deep.4 (formatted_tree formats.0) (subst (λ (n : Node). ReadsBzl (bzl_formatted n) (formatted_tree formats.0)) same formats.4.0)
 ok_or_deep laws false text new formats deep =
     let same = one_meaning laws text (gives new None) (refuses r.TooDeep) formats deep in absurd (cc same)
 
-large_or_deep : OneEach → (bzl : Bool) (text : Bytes) → FormatsAs bzl text (Err f.TooLarge) → FormatsAs bzl text (Err f.TooDeep) → ⊥
+large_or_deep : OneBzlReading → (bzl : Bool) (text : Bytes) → FormatsAs bzl text (Err f.TooLarge) → FormatsAs bzl text (Err f.TooDeep) → ⊥
 large_or_deep laws true text large deep =
-    let same : bzl_formatted large.0 ≡ bzl_formatted deep.0 = ap bzl_formatted (laws.bzl text large.0 deep.0 large.1 deep.1) in
+    let same : bzl_formatted large.0 ≡ bzl_formatted deep.0 = ap bzl_formatted (laws text large.0 deep.0 large.1 deep.1) in
     let long : limit < length (bzl_formatted deep.0) = subst (λ (bytes : Bytes). limit < length bytes) same large.2 in
     let short : length (bzl_formatted deep.0) ≤ limit = deep.2 in omega (arith, long, short)
 large_or_deep laws false text large deep =
@@ -95,7 +95,7 @@ same_effect one other same = subst (λ (e : Effect). Agree one e) (sym same) (re
 not_memory_effect : (name text : Bytes) → (refused name text f.Memory).cut ≡ c.Whole → ⊥
 not_memory_effect name text is = cc is
 
-same_refusal : OneEach → (bzl : Bool) (text name : Bytes) (fault other : FormatFault) → FormatsAs bzl text (Err fault) → FormatsAs bzl text (Err other)
+same_refusal : OneBzlReading → (bzl : Bool) (text name : Bytes) (fault other : FormatFault) → FormatsAs bzl text (Err fault) → FormatsAs bzl text (Err other)
     → (refused name text fault).cut ≡ c.Whole → (refused name text other).cut ≡ c.Whole → Agree (refused name text fault) (refused name text other)
 same_refusal laws bzl text name (f.Unread fault) (f.Unread other) one two whole whole' =
     record { out = refl; lines = (inr (name, text, fault, other, refl, refl), tt); status = refl; cut = refl; closes = refl }
@@ -112,7 +112,7 @@ same_refusal laws bzl text name (f.Unread fault) f.Memory one two whole whole' =
 same_refusal laws bzl text name f.TooLarge f.Memory one two whole whole' = absurd (not_memory_effect name text whole')
 same_refusal laws bzl text name f.TooDeep f.Memory one two whole whole' = absurd (not_memory_effect name text whole')
 
-not_both : OneEach → (bzl : Bool) (text name new : Bytes) (fault : FormatFault) → FormatsAs bzl text (Ok new) → FormatsAs bzl text (Err fault) → (refused name text fault).cut ≡ c.Whole → ⊥
+not_both : OneBzlReading → (bzl : Bool) (text name new : Bytes) (fault : FormatFault) → FormatsAs bzl text (Ok new) → FormatsAs bzl text (Err fault) → (refused name text fault).cut ≡ c.Whole → ⊥
 not_both laws bzl text name new (f.Unread fault) formats reported whole = unread_or_ok bzl text new fault reported formats
 not_both laws bzl text name new f.TooLarge formats reported whole = ok_or_large laws bzl text new formats reported
 not_both laws bzl text name new f.TooDeep formats reported whole = ok_or_deep laws bzl text new formats reported
@@ -134,7 +134,7 @@ data Answered (bzl : Bool) (name text : Bytes) (output : Bytes → Effect) (left
       → Answered bzl name text output left folder effect after
   was_formatted : (new : Bytes) → FormatsAs bzl text (Ok new) → effect ≡ output new → after ≡ left new → Answered bzl name text output left folder effect after
 
-answers_agree : OneEach → (bzl : Bool) (name text : Bytes) (output : Bytes → Effect) (left : Bytes → Folder) (folder : Folder) (one other : Effect) (after after' : Folder)
+answers_agree : OneBzlReading → (bzl : Bool) (name text : Bytes) (output : Bytes → Effect) (left : Bytes → Folder) (folder : Folder) (one other : Effect) (after after' : Folder)
     → Answered bzl name text output left folder one after → Answered bzl name text output left folder other after' → Agree one other × (after' ≡ after)
 answers_agree laws bzl name text output left folder one other after after' (was_refused fault formats is whole stays) (was_refused fault' formats' is' whole' stays') = (
   alike_as (refused name text fault) (refused name text fault') one other is is' (same_refusal laws bzl text name fault fault' formats formats'
@@ -173,7 +173,7 @@ never_both folder name text none there = let same = sym none ∙ there in cc sam
 same_text : (folder : Folder) (name text other : Bytes) → get folder name ≡ Some text → get folder name ≡ Some other → other ≡ text
 same_text folder name text other there there' = let same = sym there' ∙ there in cc
 
-one_found : OneEach → (mode : Mode) (file_type : FileType) (name : Bytes) (folder after after' : Folder) (one other : Effect)
+one_found : OneBzlReading → (mode : Mode) (file_type : FileType) (name : Bytes) (folder after after' : Folder) (one other : Effect)
     → Found mode file_type name folder one after → Found mode file_type name folder other after' → Agree one other × (after' ≡ after)
 one_found laws mode file_type name folder after after' one other (inl a) (inl b) = (same_effect one other (b.1 ∙ sym a.1), b.2 ∙ sym a.2)
 one_found laws mode file_type name folder after after' one other (inl a) (inr b) = absurd (never_both folder name b.0 a.0 b.1)
@@ -194,7 +194,7 @@ grown_agree run run' one other agree alike = record {
   closes = rw (agree.closes, alike.closes) refl;
 }
 
-runs_agree : OneEach → (mode : Mode) (file_type : FileType) (names : List Bytes) (run run' one other : Effect) (folder after after' : Folder) → Agree run run'
+runs_agree : OneBzlReading → (mode : Mode) (file_type : FileType) (names : List Bytes) (run run' one other : Effect) (folder after after' : Folder) → Agree run run'
     → Exact mode file_type names run folder one after → Exact mode file_type names run' folder other after' → Agree one other × (after' ≡ after)
 runs_agree laws mode file_type [] run run' one other folder after after' agree exact exact' = (
   subst (λ (r : Effect). Agree r other) (sym exact.0) (subst (λ (r : Effect). Agree run r) (sym exact'.0) agree),
@@ -207,7 +207,7 @@ runs_agree laws mode file_type (name ∷ names) run run' one other folder after 
     (grown_agree run run' exact.0 exact'.0 agree step.0) exact.3
     (subst (λ (mid : Folder). Exact mode file_type names (grown run' exact'.0) mid other after') step.1 exact'.3)
 
-files_agree : OneEach → (mode : Mode) (file_type : FileType) (names : List Bytes) (one other : Effect) (folder after after' : Folder)
+files_agree : OneBzlReading → (mode : Mode) (file_type : FileType) (names : List Bytes) (one other : Effect) (folder after after' : Folder)
     → FilesFormatted mode file_type names begun folder one after → FilesFormatted mode file_type names begun folder other after'
     → one.cut ≡ c.Whole → other.cut ≡ c.Whole → All (λ name. IsAside name → ⊥) names → Agree one other × SameFolders after after'
 files_agree laws mode file_type names one other folder after after' runs runs' whole whole' others =
@@ -239,7 +239,7 @@ begun_cut effect run is whole = sym (ap (λ (r : Effect). r.cut) is) ∙ whole
 
 -- ---- whole runs
 
-run_of_agree : OneEach → (mode : Mode) (file_type : FileType) (names : List Bytes) (input : Bytes) (one other : Effect) (folder after after' : Folder)
+run_of_agree : OneBzlReading → (mode : Mode) (file_type : FileType) (names : List Bytes) (input : Bytes) (one other : Effect) (folder after after' : Folder)
     → RunOf mode file_type names (Some input) folder one after → RunOf mode file_type names (Some input) folder other after'
     → one.cut ≡ c.Whole → other.cut ≡ c.Whole → All (λ name. IsAside name → ⊥) names → Agree one other × SameFolders after after'
 run_of_agree laws mode file_type [] input one other folder after after' run run' whole whole' others =
@@ -260,7 +260,7 @@ one_line words m.clap_fault line other some is is' = absurd (some refl)
 one_line words (m.no_mode name) line other some is is' = is' ∙ sym is
 one_line words (m.no_type name) line other some is is' = is' ∙ sym is
 
-of_agree : OneEach → (words : List Bytes) (read : Result m.FormatLine m.FormatUsage) (input : Bytes) (one other : Effect) (folder after after' : Folder)
+of_agree : OneBzlReading → (words : List Bytes) (read : Result m.FormatLine m.FormatUsage) (input : Bytes) (one other : Effect) (folder after after' : Folder)
     → FormatOutcomeOf words read (Some input) folder one after → FormatOutcomeOf words read (Some input) folder other after'
     → one.cut ≡ c.Whole → other.cut ≡ c.Whole → (read ≡ Err m.clap_fault → ⊥) → IfOk read (λ line. All (λ name. IsAside name → ⊥) line.files)
     → Agree one other × SameFolders after after'
@@ -273,10 +273,10 @@ of_agree laws words (Err usage) input one other folder after after' outcome outc
 of_agree laws words (Ok line) input one other folder after after' outcome outcome' whole whole' some others =
     run_of_agree laws line.mode line.file_type line.files input one other folder after after' outcome outcome' whole whole' others
 
-pub outcomes_agree : OneReading → OneBzlReading → OutcomesAgree
-outcomes_agree build bzl words input folder after after' one other (inl wants) outcome' whole whole' some others =
+pub outcomes_agree : OneBzlReading → OutcomesAgree
+outcomes_agree laws words input folder after after' one other (inl wants) outcome' whole whole' some others =
     absurd (cc (sym (ap (λ (r : Effect). r.cut) wants.0) ∙ whole))
-outcomes_agree build bzl words input folder after after' one other (inr outcome) (inl wants) whole whole' some others =
+outcomes_agree laws words input folder after after' one other (inr outcome) (inl wants) whole whole' some others =
     absurd (cc (sym (ap (λ (r : Effect). r.cut) wants.0) ∙ whole'))
-outcomes_agree build bzl words input folder after after' one other (inr outcome) (inr outcome') whole whole' some others =
-    of_agree (record { build = build; bzl = bzl }) words (m.format_line words) input one other folder after after' outcome outcome' whole whole' some others
+outcomes_agree laws words input folder after after' one other (inr outcome) (inr outcome') whole whole' some others =
+    of_agree laws words (m.format_line words) input one other folder after after' outcome outcome' whole whole' some others

@@ -2,7 +2,7 @@
 ghost use Rattle.bz_buildifier.specs.Laws.{OutcomesAgree, CutRunsAreBegun, WholeRunsAreExact};
 ghost use Rattle.bz_buildifier.specs.Worked.{WorkedFormats};
 
-use bz_grammar::laws::{one_bzl_reading, one_reading};
+use bz_grammar::laws::one_bzl_reading;
 
 /// What buildifier's words, modes and faults mean, worked out by hand.
 pub fn worked_formats()
@@ -26,6 +26,5 @@ pub fn cut_runs_are_begun()
 pub fn outcomes_agree()
     ensures { OutcomesAgree }
 {
-    one_reading();
     one_bzl_reading();
 }

@@ -10,6 +10,7 @@ use Rattle.bz_token.specs.declared.class.Class.TheVariants as c
 use Rattle.bz_token.specs.Bytes.{is_digit}
 use Rattle.bz_token.specs.Lexemes.{IsLexeme, IsDigits, Each, whole}
 use Rattle.bz_label.specs.Tables.{is_list_attribute}
+use Rattle.bz_value.specs.LineShapes.{Grammar}
 use Rattle.bz_items.specs.Characters.{Bytes}
 use Rattle.bz_command_syntax.specs.Proper.{AreUtf8, IsAttribute}
 use Rattle.bz_command_syntax.proofs.NameTests.{identifiers_are_names}
@@ -50,54 +51,55 @@ digits : (word : Bytes) → is_decimal word ≡ true → IsDigits word
 digits [] h = absurd (true≢false (sym h))
 digits (byte ∷ word) h = let w = and_parts (nat_lt 0 (length (byte ∷ word))) (list_all is_ascii_digit (byte ∷ word)) h in each_digit (byte ∷ word) w.1
 
-single_value : (current attribute word : Bytes) → IsUtf8 word → IsValue (single_setting current attribute word)
-single_value current attribute word u =
-    by_case IsValue (is_constant word) (token c.Name word) (if is_decimal word then token c.Number word else string_of current attribute word)
-    (λ h. new_value (token c.Name word) (token_new c.Name word (constant_name word h) u) refl)
-    (λ n. by_case IsValue (is_decimal word) (token c.Number word) (string_of current attribute word)
-    (λ h. new_value (token c.Number word) (token_new c.Number word (whole word (digits word h)) u) refl)
-    (λ m. string_value (string_text current attribute word) (string_strung current attribute word u)))
+module _ (grammar : Grammar) where
+  single_value : (current attribute word : Bytes) → IsUtf8 word → IsValue grammar (single_setting current attribute word)
+  single_value current attribute word u =
+      by_case (IsValue grammar) (is_constant word) (token c.Name word) (if is_decimal word then token c.Number word else string_of current attribute word)
+      (λ h. new_value grammar (token c.Name word) (token_new grammar c.Name word (constant_name word h) u) refl)
+      (λ n. by_case (IsValue grammar) (is_decimal word) (token c.Number word) (string_of current attribute word)
+      (λ h. new_value grammar (token c.Number word) (token_new grammar c.Number word (whole word (digits word h)) u) refl)
+      (λ m. string_value grammar (string_text current attribute word) (string_strung current attribute word u)))
 
-many_value : (current attribute : Bytes) (words : List Bytes) → AreUtf8 words → IsValue (list_of (map (string_of current attribute) words))
-many_value current attribute words u = list_value (map (string_of current attribute) words) (words_are_items current attribute words u)
+  many_value : (current attribute : Bytes) (words : List Bytes) → AreUtf8 words → IsValue grammar (list_of (map (string_of current attribute) words))
+  many_value current attribute words u = list_value grammar (map (string_of current attribute) words) (words_are_items grammar current attribute words u)
 
-setting_value : (current attribute : Bytes) (words : List Bytes) → AreUtf8 words → IsValue (setting current attribute words)
-setting_value current attribute [] u = many_value current attribute [] u
-setting_value current attribute (word ∷ []) u =
-    by_test IsValue (is_list_attribute attribute) (list_of (string_of current attribute word ∷ [])) (single_setting current attribute word)
-    (many_value current attribute (word ∷ []) u) (single_value current attribute word u.0)
-setting_value current attribute (word ∷ other ∷ words) u = many_value current attribute (word ∷ other ∷ words) u
+  setting_value : (current attribute : Bytes) (words : List Bytes) → AreUtf8 words → IsValue grammar (setting current attribute words)
+  setting_value current attribute [] u = many_value current attribute [] u
+  setting_value current attribute (word ∷ []) u =
+      by_test (IsValue grammar) (is_list_attribute attribute) (list_of (string_of current attribute word ∷ [])) (single_setting current attribute word)
+      (many_value current attribute (word ∷ []) u) (single_value current attribute word u.0)
+  setting_value current attribute (word ∷ other ∷ words) u = many_value current attribute (word ∷ other ∷ words) u
 
--- ---- what each command on whole attributes makes of the arguments of a rule is arguments
+  -- ---- what each command on whole attributes makes of the arguments of a rule is arguments
 
--- ---- set
+  -- ---- set
 
-pub set_keeps : (current name : Bytes) (words : List Bytes) → IsAttribute name → AreUtf8 words → Keeps (set current name words)
-set_keeps current name words a u xs h =
-    let new : Expr = setting current name words in
-    by_test AreArguments (option_map_or (is_set new) (attribute name xs) false) xs (put name new xs) h (put_kept name new xs a (setting_value current name words u) h)
+  pub set_keeps : (current name : Bytes) (words : List Bytes) → IsAttribute name → AreUtf8 words → Keeps grammar (set current name words)
+  set_keeps current name words a u xs h =
+      let new : Expr = setting current name words in
+      by_test (AreArguments grammar) (option_map_or (is_set new) (attribute name xs) false) xs (put name new xs) h (put_kept grammar name new xs a (setting_value current name words u) h)
 
-pub set_if_absent_keeps : (current name : Bytes) (words : List Bytes) → IsAttribute name → AreUtf8 words → Keeps (set_if_absent current name words)
-set_if_absent_keeps current name words a u xs h = by_test Made (has_attribute name xs) (Ok xs) (set current name words xs) h (set_keeps current name words a u xs h)
+  pub set_if_absent_keeps : (current name : Bytes) (words : List Bytes) → IsAttribute name → AreUtf8 words → Keeps grammar (set_if_absent current name words)
+  set_if_absent_keeps current name words a u xs h = by_test (Made grammar) (has_attribute name xs) (Ok xs) (set current name words xs) h (set_keeps current name words a u xs h)
 
--- ---- remove
+  -- ---- remove
 
-pub remove_keeps : (attributes : Attributes) → Keeps (remove attributes)
-remove_keeps t.All xs h = all_kept (IsItem s.argument) (λ x. not (is_other_attribute x)) xs h
-remove_keeps (t.Named name) xs h = without_kept name xs h
+  pub remove_keeps : (attributes : Attributes) → Keeps grammar (remove attributes)
+  remove_keeps t.All xs h = all_kept (IsItem grammar s.argument) (λ x. not (is_other_attribute x)) xs h
+  remove_keeps (t.Named name) xs h = without_kept grammar name xs h
 
--- ---- rename and copy
+  -- ---- rename and copy
 
-pub rename_keeps : (from to : Bytes) → IsAttribute to → Keeps (rename from to)
-rename_keeps from to a xs h =
-    let change : List Expr → List Expr = on_first (with_text to) in
-    let new : List Expr = on_first_that (is_attribute from) (on_row k.Named change) xs in
-    by_test Made (not (has_attribute from xs)) (Err NoAttribute) (if has_attribute to xs then Err AttributeExists else Ok new) tt
-    (by_test Made (has_attribute to xs) (Err AttributeExists) (Ok new) tt
-    (first_that_kept (IsItem s.argument) (is_attribute from) (on_row k.Named change) (argument_changed change (name_kept to ((identifiers_are_names to).0 a.0) a.1)) xs h))
+  pub rename_keeps : (from to : Bytes) → IsAttribute to → Keeps grammar (rename from to)
+  rename_keeps from to a xs h =
+      let change : List Expr → List Expr = on_first (with_text to) in
+      let new : List Expr = on_first_that (is_attribute from) (on_row k.Named change) xs in
+      by_test (Made grammar) (not (has_attribute from xs)) (Err NoAttribute) (if has_attribute to xs then Err AttributeExists else Ok new) tt
+      (by_test (Made grammar) (has_attribute to xs) (Err AttributeExists) (Ok new) tt
+      (first_that_kept (IsItem grammar s.argument) (is_attribute from) (on_row k.Named change) (argument_changed grammar change (name_kept grammar to ((identifiers_are_names to).0 a.0) a.1)) xs h))
 
-pub copy_keeps : (name : Bytes) (found : Option Expr) → IsAttribute name → IfSome found IsValue → Keeps (copy name found)
-copy_keeps name found a v xs h = of_value found (Err NoSource) (λ value. Ok (put name value xs)) v tt (λ value v. put_kept name value xs a v h)
+  pub copy_keeps : (name : Bytes) (found : Option Expr) → IsAttribute name → IfSome found (IsValue grammar) → Keeps grammar (copy name found)
+  copy_keeps name found a v xs h = of_value grammar found (Err NoSource) (λ value. Ok (put name value xs)) v tt (λ value v. put_kept grammar name value xs a v h)
 
-pub copy_no_overwrite_keeps : (name : Bytes) (found : Option Expr) → IsAttribute name → IfSome found IsValue → Keeps (copy_no_overwrite name found)
-copy_no_overwrite_keeps name found a v xs h = by_test Made (has_attribute name xs) (Ok xs) (copy name found xs) h (copy_keeps name found a v xs h)
+  pub copy_no_overwrite_keeps : (name : Bytes) (found : Option Expr) → IsAttribute name → IfSome found (IsValue grammar) → Keeps grammar (copy_no_overwrite name found)
+  copy_no_overwrite_keeps name found a v xs h = by_test (Made grammar) (has_attribute name xs) (Ok xs) (copy name found xs) h (copy_keeps name found a v xs h)

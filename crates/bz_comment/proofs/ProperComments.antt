@@ -1,5 +1,5 @@
 -- What the commands on comments make of the arguments of a rule is arguments, and of a statement a statement.
-use Rattle.std.proofs.Common.{◌≡◌, zero, suc, Bool, true, false, List, [], ◌∷◌, ◌++◌, length, subst, arith, IsUtf8}
+use Rattle.std.proofs.Common.{◌≡◌, zero, suc, Bool, true, false, List, [], ◌∷◌, ◌++◌, length, refl, subst, arith, IsUtf8}
 use Rattle.std.specs.Prelude.{◌==◌, Option, Some, None, Ok, Err, IfSome}
 use Rattle.std.specs.List.{list_any}
 use Rattle.std.proofs.lemmas.Bool.{eqb-false, not-true, or_parts}
@@ -14,7 +14,8 @@ use Rattle.bz_items.specs.Characters.{Bytes, line_feed, number_sign, space}
 use Rattle.bz_value.specs.Comments.{HostComments, no_comments}
 use Rattle.bz_value.specs.Commented.{with_comments}
 use Rattle.bz_value.specs.Gaps.{trimmed}
-use Rattle.bz_value.specs.Proper.{IsComment, AreComments, comments_of, IsProperItem}
+use Rattle.bz_value.specs.Proper.{IsComment, AreComments, comments_of, IsProperItemIn}
+use Rattle.bz_value.specs.LineShapes.{Grammar}
 use Rattle.bz_value.proofs.GapComments.{suffix_fine}
 use Rattle.bz_value.proofs.Lines.{NoneBefore, line_stops}
 use Rattle.bz_command_syntax.specs.Commands.{is_one_line}
@@ -53,66 +54,67 @@ comment_fine text one u =
 
 -- ---- expressions with other comments
 
-item_commented : (nonterminal : Nonterminal) (cs : HostComments) (x : Expr) → AreComments cs → IsItem nonterminal x → IsItem nonterminal (with_comments x cs)
-item_commented nonterminal cs (Token t) a h = ((h.0.0, a, h.0.2), h.1)
-item_commented nonterminal cs (Form' kind s parts s' items end split open_break comments) a h = ((h.0.0, a, h.0.2), h.1)
-
-statement_commented : (cs : HostComments) (x : Expr) → AreComments cs → IsProperItem (i.Stmt x) → IsProperItem (i.Stmt (with_comments x cs))
-statement_commented cs (Token t) a h = (h.0, h.1, a)
-statement_commented cs (Form' kind s parts s' items end split open_break comments) a h = (h.0, h.1, a)
-
 more_comments : (text : Bytes) (cs : HostComments) → IsComment (comment_made text) → AreComments cs → AreComments (record cs { before = cs.before ++ comment_made text ∷ [] })
 more_comments text cs f h = (All-append IsComment cs.before (comment_made text ∷ []) h.0 (All-cons IsComment (comment_made text) [] f (All-nil IsComment)), h.1)
 
 nothing : AreComments no_comments
 nothing = (All-nil IsComment, tt)
 
--- what a change of comments keeps
-abbrev KeepsItems : (Expr → Expr) → Type 0
-KeepsItems change = (nonterminal : Nonterminal) (x : Expr) → IsItem nonterminal x → IsItem nonterminal (change x)
+module _ (grammar : Grammar) where
+  item_commented : (nonterminal : Nonterminal) (cs : HostComments) (x : Expr) → AreComments cs → IsItem grammar nonterminal x → IsItem grammar nonterminal (with_comments x cs)
+  item_commented nonterminal cs (Token t) a h = ((h.0.0, a, h.0.2), h.1)
+  item_commented nonterminal cs (Form' kind s parts s' items end split open_break comments) a h = ((h.0.0, a, h.0.2), h.1)
 
-commented_items : (text : Bytes) → IsComment (comment_made text) → KeepsItems (with_comment text)
-commented_items text f nonterminal x h = item_commented nonterminal _ x (more_comments text (comments_of x) f h.0.1) h
+  statement_commented : (cs : HostComments) (x : Expr) → AreComments cs → IsProperItemIn grammar (i.Stmt x) → IsProperItemIn grammar (i.Stmt (with_comments x cs))
+  statement_commented cs (Token t) a h = (h.0, h.1, a)
+  statement_commented cs (Form' kind s parts s' items end split open_break comments) a h = (h.0, h.1, a)
 
-uncommented_items : KeepsItems without_comments
-uncommented_items nonterminal x h = item_commented nonterminal no_comments x nothing h
+  -- what a change of comments keeps
+  abbrev KeepsItems : (Expr → Expr) → Type 0
+  KeepsItems change = (nonterminal : Nonterminal) (x : Expr) → IsItem grammar nonterminal x → IsItem grammar nonterminal (change x)
 
--- ---- statements
+  commented_items : (text : Bytes) → IsComment (comment_made text) → KeepsItems (with_comment text)
+  commented_items text f nonterminal x h = item_commented nonterminal _ x (more_comments text (comments_of x) f h.0.1) h
 
-pub statement_keeps : (text : Bytes) → is_one_line text ≡ true → IsUtf8 text → (x : Expr) → IsProperItem (i.Stmt x) → IsProperItem (i.Stmt (with_comment text x))
-statement_keeps text one u x h = statement_commented _ x (more_comments text (comments_of x) (comment_fine text one u) h.2) h
+  uncommented_items : KeepsItems without_comments
+  uncommented_items nonterminal x h = item_commented nonterminal no_comments x nothing h
 
-pub remove_statement_keeps : (x : Expr) → IsProperItem (i.Stmt x) → IsProperItem (i.Stmt (without_comments x))
-remove_statement_keeps x h = statement_commented no_comments x nothing h
+  -- ---- statements
 
--- ---- hosts among arguments
+  pub statement_keeps : (text : Bytes) → is_one_line text ≡ true → IsUtf8 text → (x : Expr) → IsProperItemIn grammar (i.Stmt x) → IsProperItemIn grammar (i.Stmt (with_comment text x))
+  statement_keeps text one u x h = statement_commented _ x (more_comments text (comments_of x) (comment_fine text one u) h.2) h
 
-module _ (change : Expr → Expr) (keeps : KeepsItems change) where
-  value_keeps : (test : Expr → Bool) (x : Expr) → IsValue x → IsValue (on_first_item test change x)
-  value_keeps test x v =
-      let within : List Expr → List Expr = on_first_that test change in
-      let stays : Stays (on_items k.List within) = list_in_place within (λ xs a. first_that_kept (IsItem s.test) test change (keeps s.test) xs a) in
-      let operands : List Expr → List Expr = on_first_that (has_item test) (on_items k.List within) in
-      value_in_place x (on_first_item test change x)
-      (by_test (InPlace x) (has_kind k.Sum x) (on_row k.Sum operands x) (on_items k.List within x)
-      (row_stays k.Sum operands (first_that_stays (has_item test) (on_items k.List within) stays) x) (stays x)) v
+  pub remove_statement_keeps : (x : Expr) → IsProperItemIn grammar (i.Stmt x) → IsProperItemIn grammar (i.Stmt (without_comments x))
+  remove_statement_keeps x h = statement_commented no_comments x nothing h
 
-  item_keeps : (name : Bytes) (test : Expr → Bool) (found : Option Expr) (xs : List Expr) → IfSome found IsValue → AreArguments xs → Made (on_named_item name test change found xs)
-  item_keeps name test None xs v h = tt
-  item_keeps name test (Some value) xs v h =
-      by_made Made name (has_lists value) (list_any test (items_in value)) (on_first_item test change value) xs (λ is. with_value_kept name (on_first_item test change value) xs (value_keeps test value v) h) (λ refusal. tt)
+  -- ---- hosts among arguments
 
-  host_keeps : (current : Bytes) (host : Host) → Keeps (on_host current host change)
-  host_keeps current h.Rule xs h = h
-  host_keeps current (h.Attribute name) xs h =
-      by_test Made (has_attribute name xs) (Ok (on_first_that (is_attribute name) change xs)) (Err NoAttribute)
-      (first_that_kept (IsItem s.argument) (is_attribute name) change (keeps s.argument) xs h) tt
-  host_keeps current (h.Item name word) xs h = item_keeps name (is_item current name word) (attribute name xs) xs (attribute_value name xs h) h
+  module _ (change : Expr → Expr) (keeps : KeepsItems change) where
+    value_keeps : (test : Expr → Bool) (x : Expr) → IsValue grammar x → IsValue grammar (on_first_item test change x)
+    value_keeps test x v =
+        let within : List Expr → List Expr = on_first_that test change in
+        let stays : Stays grammar (on_items k.List within) = list_in_place grammar within (λ xs a. first_that_kept (IsItem grammar s.test) test change (keeps s.test) xs a) in
+        let operands : List Expr → List Expr = on_first_that (has_item test) (on_items k.List within) in
+        value_in_place grammar x (on_first_item test change x)
+        (by_test (InPlace grammar x) (has_kind k.Sum x) (on_row k.Sum operands x) (on_items k.List within x)
+        (row_stays grammar k.Sum refl operands (first_that_stays grammar (has_item test) (on_items k.List within) stays) x) (stays x)) v
 
--- ---- the commands
+    item_keeps : (name : Bytes) (test : Expr → Bool) (found : Option Expr) (xs : List Expr) → IfSome found (IsValue grammar) → AreArguments grammar xs → Made grammar (on_named_item name test change found xs)
+    item_keeps name test None xs v h = tt
+    item_keeps name test (Some value) xs v h =
+        by_made (Made grammar) name (has_lists value) (list_any test (items_in value)) (on_first_item test change value) xs (λ is. with_value_kept grammar name (on_first_item test change value) xs (value_keeps test value v) h) (λ refusal. tt)
 
-pub comment_keeps : (current : Bytes) (host : Host) (text : Bytes) → IsHost host → is_one_line text ≡ true → IsUtf8 text → Keeps (comment current host text)
-comment_keeps current host text is one u = host_keeps (with_comment text) (commented_items text (comment_fine text one u)) current host
+    host_keeps : (current : Bytes) (host : Host) → Keeps grammar (on_host current host change)
+    host_keeps current h.Rule xs h = h
+    host_keeps current (h.Attribute name) xs h =
+        by_test (Made grammar) (has_attribute name xs) (Ok (on_first_that (is_attribute name) change xs)) (Err NoAttribute)
+        (first_that_kept (IsItem grammar s.argument) (is_attribute name) change (keeps s.argument) xs h) tt
+    host_keeps current (h.Item name word) xs h = item_keeps name (is_item current name word) (attribute name xs) xs (attribute_value grammar name xs h) h
 
-pub remove_comment_keeps : (current : Bytes) (host : Host) → IsHost host → Keeps (remove_comment current host)
-remove_comment_keeps current host is = host_keeps without_comments uncommented_items current host
+  -- ---- the commands
+
+  pub comment_keeps : (current : Bytes) (host : Host) (text : Bytes) → IsHost host → is_one_line text ≡ true → IsUtf8 text → Keeps grammar (comment current host text)
+  comment_keeps current host text is one u = host_keeps (with_comment text) (commented_items text (comment_fine text one u)) current host
+
+  pub remove_comment_keeps : (current : Bytes) (host : Host) → IsHost host → Keeps grammar (remove_comment current host)
+  remove_comment_keeps current host is = host_keeps without_comments uncommented_items current host

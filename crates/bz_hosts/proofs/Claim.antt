@@ -16,10 +16,10 @@ use Rattle.bz_value.specs.declared.value.Form.{Form}
 use Rattle.bz_value.specs.Comments.{no_comments}
 use Rattle.bz_value.specs.Frames.{Frame, row, sequence, compound, frame, lead, is_binary, is_comprehension, is_inner_frame}
 use Rattle.bz_value.specs.Gaps.{all_in}
-use Rattle.bz_value.specs.LineShapes.{line_shape, value_shape}
+use Rattle.bz_value.specs.LineShapes.{line_shape, whole_shape}
 use Rattle.bz_value.proofs.LegalBy.{LegalBy, LegalRowBy}
 use Rattle.bz_value.proofs.Wider.{values_wider}
-use Rattle.bz_hosts.specs.View.{Seen, seen, seen_row, plain, first_seen_gap, loose_in, row_exprs, items_in, is_split, is_open, seen_node}
+use Rattle.bz_hosts.specs.Seen.{Seen, seen, seen_row, plain, first_seen_gap, loose_in, row_exprs, items_in, is_split, is_open, seen_node}
 use Rattle.bz_hosts.proofs.SeenParts.{seen_rows}
 use Rattle.bz_hosts.specs.Hosts.{Region, host, Comment, Measured, sizes, measured, in_node, Hosted, by_frame, inside_expr}
 use Rattle.bz_hosts.proofs.Around.{SeesAt}
@@ -61,7 +61,7 @@ module _ (all : List Region) (h b e n : ℕ) (under : h ≤ n) where
   body_case head l [] a r r' i i' v = absurd a
   body_case head l (x ∷ xs) a r r' i i' v = cut_texts all h b e n head l x xs under a r r' i i' v
 
-  pub node_texts : (kind : Kind) (f : Frame) → frame kind ≡ f → is_inner_frame f ≡ true → (xs : List Part) → Fits IsNonterminal (value_shape kind) xs → AllByRecursion Regions xs → AllByRecursion (InHost all) xs →
+  pub node_texts : (kind : Kind) (f : Frame) → frame kind ≡ f → is_inner_frame f ≡ true → (xs : List Part) → Fits IsNonterminal (whole_shape kind) xs → AllByRecursion Regions xs → AllByRecursion (InHost all) xs →
       SeesAt all (Some (host h b e)) (suc n) (n + sizes (map measured xs)) (in_node f kind n (map measured xs)) →
       Texts all h n (n + sizes (map measured xs)) (after_parts n xs) (seen_node f kind (map seen xs)).loose (in_node f kind n (map measured xs)) (inside_expr (plain (seen_node f kind (map seen xs))))
   node_texts kind row d q xs fits r i v =

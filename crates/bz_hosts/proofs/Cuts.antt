@@ -17,7 +17,7 @@ use Rattle.bz_grammar.specs.Spots.{Spot, Within, opens, plain, role, after_part}
 use Rattle.bz_grammar.proofs.Balance.{no_such, inner_nonterminal}
 use Rattle.bz_grammar.proofs.Terminals.{disjoint, disjoint-one_of}
 use Rattle.bz_value.specs.Frames.{Frame, sequence, frame, lead}
-use Rattle.bz_value.specs.LineShapes.{value_shape}
+use Rattle.bz_value.specs.LineShapes.{whole_shape}
 use Rattle.bz_hosts.specs.Hosts.{is_word_class}
 use Rattle.bz_hosts.proofs.Alternating.{IsItem, IsMark, Alternating}
 use Rattle.bz_hosts.proofs.InnerParts.{GoesOn, all_turn, kind_goes, leaf_goes, nonterminal_inner, of_terminals, token_goes, token_opens}
@@ -173,7 +173,7 @@ abbrev pub CutIn : Frame → Kind → List Part → Type 0
 CutIn (sequence opener closer) kind xs = Cut (lead kind) xs
 CutIn _ kind xs = Unit {0}
 
-pub kind_cut : (kind : Kind) (xs : List Part) → Fits IsNonterminal (value_shape kind) xs → CutIn (frame kind) kind xs
+pub kind_cut : (kind : Kind) (xs : List Part) → Fits IsNonterminal (whole_shape kind) xs → CutIn (frame kind) kind xs
 kind_cut k.Call [] h = absurd h
 kind_cut k.Call (x ∷ xs) h = after_one 0 x xs tt (opened s.open_round (items s.argument s.close_round) refl (items_alternating s.close_round refl refl s.argument refl) xs h.1)
 kind_cut k.Load [] h = absurd h
@@ -186,5 +186,5 @@ kind_cut k.Def (x ∷ []) h = absurd h.1
 kind_cut k.Def (x ∷ y ∷ xs) h = after_one 1 x (y ∷ xs) (token s.name y h.1.0, tt) (after_one 0 y xs tt (opened s.open_round (items s.param s.close_round) refl (items_alternating s.close_round refl refl s.param refl) xs h.1.1))
 kind_cut _ xs h = tt
 
-pub sequence_cut : (kind : Kind) (opener closer : ℕ) (xs : List Part) → frame kind ≡ sequence opener closer → Fits IsNonterminal (value_shape kind) xs → Cut (lead kind) xs
+pub sequence_cut : (kind : Kind) (opener closer : ℕ) (xs : List Part) → frame kind ≡ sequence opener closer → Fits IsNonterminal (whole_shape kind) xs → Cut (lead kind) xs
 sequence_cut kind opener closer xs e h = subst (λ f. CutIn f kind xs) e (kind_cut kind xs h)

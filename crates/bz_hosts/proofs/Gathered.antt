@@ -1,5 +1,5 @@
 -- The texts that a place gathers from the comments of a gap, and places that differ.
-use Rattle.std.proofs.Common.{◌≡◌, ℕ, suc, ◌+◌, Bool, true, false, List, [], ◌∷◌, ◌++◌, inl, inr, refl, sym, ap, ◌∙◌, map, if◌then◌else◌}
+use Rattle.std.proofs.Common.{◌≡◌, ℕ, suc, ◌+◌, Bool, true, false, List, [], ◌∷◌, ◌++◌, inl, inr, refl, sym, ap, ◌∙◌, map, if◌then◌else◌, append_assoc, append-nil}
 use Rattle.std.proofs.lemmas.Bool.{cases_Bool, eq-eqb, ne_eqb}
 use Rattle.bz_items.specs.Characters.{Bytes}
 use Rattle.bz_value.specs.Gaps.{GapLine, lines_of, as_list, after_first_line, comments_in, first_comment, suffix_in, others_in, all_in}
@@ -91,3 +91,29 @@ module _ (all : List Region) where
 
   pub gap_all : (q p : CommentPlace) (n : ℕ) (gap : Bytes) → GapPlaces all n p p → texts_at all q (comments_at n gap) ≡ pick p q (all_in gap)
   gap_all q p n gap h = gap_texts q p p n gap h ∙ (sym (pick_joined p q (as_list (suffix_in gap)) (others_in gap)) ∙ ap (pick p q) (sym (all_split (lines_of gap))))
+
+-- ---- texts joined of several, most of which are none
+
+pub three_none : (a b c : List Bytes) → a ≡ [] → b ≡ [] → c ≡ [] → a ++ (b ++ c) ≡ []
+three_none a b c h i j = rw (h, i, j) refl
+
+pub three_first : (a b c u : List Bytes) → a ≡ u → b ≡ [] → c ≡ [] → a ++ (b ++ c) ≡ u
+three_first a b c u h i j = rw (h, i, j) (append-nil u)
+
+pub three_second : (a b c u : List Bytes) → a ≡ [] → b ≡ u → c ≡ [] → a ++ (b ++ c) ≡ u
+three_second a b c u h i j = rw (h, i, j) (append-nil u)
+
+pub three_third : (a b c u : List Bytes) → a ≡ [] → b ≡ [] → c ≡ u → a ++ (b ++ c) ≡ u
+three_third a b c u h i j = rw (h, i, j) refl
+
+pub five_none : (a b c d e : List Bytes) → a ≡ [] → b ≡ [] → c ≡ [] → d ≡ [] → e ≡ [] → a ++ (b ++ ((c ++ d) ++ e)) ≡ []
+five_none a b c d e h i j k l = rw (h, i, j, k, l) refl
+
+pub five_first : (a b c d e u : List Bytes) → a ≡ u → b ≡ [] → c ≡ [] → d ≡ [] → e ≡ [] → a ++ (b ++ ((c ++ d) ++ e)) ≡ u
+five_first a b c d e u h i j k l = rw (h, i, j, k, l) (append-nil u)
+
+pub five_third : (a b c d e u : List Bytes) → a ≡ [] → b ≡ [] → c ≡ u → d ≡ [] → e ≡ [] → a ++ (b ++ ((c ++ d) ++ e)) ≡ u
+five_third a b c d e u h i j k l = rw (h, i, j, k, l) (append-nil (u ++ []) ∙ append-nil u)
+
+pub five_rest : (a b c d e : List Bytes) → a ≡ [] → c ≡ [] → a ++ (b ++ ((c ++ d) ++ e)) ≡ (b ++ d) ++ e
+five_rest a b c d e h i = rw (h, i) (sym (append_assoc b d e))

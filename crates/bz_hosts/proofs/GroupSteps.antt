@@ -4,17 +4,13 @@ use Rattle.std.specs.Option.{option_copied}
 use Rattle.bz_value.specs.declared.value.Item.{Item}
 use Rattle.bz_value.specs.declared.value.Item.TheVariants as i
 use Rattle.bz_items.specs.Characters.{Bytes}
-use Rattle.bz_value.specs.Gaps.{GapLine, lines_of, put_on_first, groups_of, all_but_last, last_group}
-use Rattle.bz_hosts.specs.View.{blocks}
+use Rattle.bz_value.specs.Gaps.{GapLine, lines_of, groups_of, all_but_last, last_group}
+use Rattle.bz_hosts.specs.Seen.{blocks}
 use Rattle.bz_hosts.specs.private.Walks.{prepend}
 use Rattle.bz_hosts.proofs.Numbered.{has_group}
 
 prepend_none : (ls : List GapLine) → prepend [] (groups_of ls) ≡ groups_of ls
 prepend_none ls = let w = has_group ls in ap (prepend []) w.is ∙ sym w.is
-
-prepend_line : (lines : List Bytes) (text : Bytes) (gs : List (List Bytes)) → prepend lines (put_on_first text gs) ≡ prepend (lines ++ text ∷ []) gs
-prepend_line lines text [] = refl
-prepend_line lines text (g ∷ gs) = ap (λ l. l ∷ gs) (sym (append_assoc lines (text ∷ []) g))
 
 block_first : (group : List Bytes) (gs : List (List Bytes)) → blocks ((group ++ []) ∷ gs) ≡ blocks (group ∷ []) ++ blocks gs
 block_first [] gs = refl
@@ -33,13 +29,6 @@ group_ends group ls = let w = has_group ls in subst (group_at group) (sym w.is) 
 abbrev pub Pushed : List Item → List Bytes → List GapLine → List Item → List Bytes → List GapLine → Type 0
 Pushed new last rest old group lines = (more : List GapLine) → (new ++ blocks (all_but_last (prepend last (groups_of (rest ++ more)))) ≡ old ++ blocks (all_but_last (prepend group (groups_of (lines ++ more)))))
     × (last_group (prepend last (groups_of (rest ++ more))) ≡ last_group (prepend group (groups_of (lines ++ more))))
-
-pub line_pushed : (gap : Bytes) (indent : ℕ) (text : Bytes) (newline : Bool) (rest lines : List GapLine) (last next group : List Bytes) (items old : List Item) → lines_of gap ≡ record { indent = indent; comment = Some text; newline = newline } ∷ rest →
-    next ≡ last ++ text ∷ [] → Pushed items last (lines_of gap) old group lines → Pushed items next rest old group lines
-line_pushed gap indent text newline rest lines last next group items old e n h more =
-    let same : prepend next (groups_of (rest ++ more)) ≡ prepend last (groups_of (lines_of gap ++ more)) =
-    ap (λ t. prepend t (groups_of (rest ++ more))) n ∙ (sym (prepend_line last text (groups_of (rest ++ more))) ∙ sym (ap (λ ls. prepend last (groups_of (ls ++ more))) e)) in
-    (ap (λ gs. items ++ blocks (all_but_last gs)) same ∙ (h more).0, ap last_group same ∙ (h more).1)
 
 pub block_pushed : (gap : Bytes) (indent : ℕ) (newline : Bool) (rest lines : List GapLine) (last next group : List Bytes) (items after old : List Item) → lines_of gap ≡ record { indent = indent; comment = None; newline = newline } ∷ rest →
     next ≡ [] → after ≡ items ++ blocks (last ∷ []) → Pushed items last (lines_of gap) old group lines → Pushed after next rest old group lines

@@ -10,46 +10,46 @@ use Rattle.bz_value.specs.Commented.{with_comments}
 use Rattle.bz_value.specs.Comments.{HostComments}
 use Rattle.bz_value.specs.Gaps.{suffix_in, all_in}
 use Rattle.bz_items.specs.Characters.{Bytes}
-use Rattle.bz_hosts.specs.View.{Seen, seen, plain, first_seen_gap, items_in, is_split, seq_in}
+use Rattle.bz_hosts.specs.Seen.{Seen, seen, plain, first_seen_gap, items_in, is_split, seq_in}
 use Rattle.bz_hosts.specs.private.Walks.{above_after, is_unsigned, item_gap}
 use Rattle.bz_hosts.proofs.NodeViews.{seen_comments}
-use Rattle.bz_hosts.proofs.RowSteps.{part_here, two_further}
+use Rattle.bz_hosts.proofs.RowSteps.{seen_here, two_further}
 use Rattle.bz_hosts.proofs.UnsignedGaps.{nothing_after}
 
 abbrev pub host_comments : List Bytes → Option Bytes → HostComments
 host_comments before suffix = record { before = before; suffix = suffix }
 
 -- what the last expression becomes
-abbrev pub Hosted : List Expr → List Expr → HostComments → Type 0
-Hosted old new comments = (xs : List Expr) (x : Part) → old ≡ xs ++ plain (seen x) ∷ [] → new ≡ xs ++ (seen x).make comments false ∷ []
+abbrev pub BecomesHost : List Expr → List Expr → HostComments → Type 0
+BecomesHost old new comments = (xs : List Expr) (x : Part) → old ≡ xs ++ plain (seen x) ∷ [] → new ≡ xs ++ (seen x).make comments false ∷ []
 
-last_same : {X : Type 0} (xs ys : List X) (x y : X) → xs ++ x ∷ [] ≡ ys ++ y ∷ [] → (xs ≡ ys) × (x ≡ y)
-last_same [] [] x y h = (refl, cc)
-last_same [] (b ∷ []) x y h = cc
-last_same [] (b ∷ c ∷ ys) x y h = cc
-last_same (a ∷ []) [] x y h = cc
-last_same (a ∷ c ∷ xs) [] x y h = cc
-last_same (a ∷ xs) (b ∷ ys) x y h = let first : a ≡ b = cc in let rest = last_same xs ys x y cc in (rw (first, rest.0) refl, rest.1)
+same_ends : {X : Type 0} (xs ys : List X) (x y : X) → xs ++ x ∷ [] ≡ ys ++ y ∷ [] → (xs ≡ ys) × (x ≡ y)
+same_ends [] [] x y h = (refl, cc)
+same_ends [] (b ∷ []) x y h = cc
+same_ends [] (b ∷ c ∷ ys) x y h = cc
+same_ends (a ∷ []) [] x y h = cc
+same_ends (a ∷ c ∷ xs) [] x y h = cc
+same_ends (a ∷ xs) (b ∷ ys) x y h = let first : a ≡ b = cc in let rest = same_ends xs ys x y cc in (rw (first, rest.0) refl, rest.1)
 
 -- without comments
 pub host_quiet : (ps : List Part) (at : ℕ) (above : List Bytes) (here next : Bool) (es : List Expr) → above ≡ [] →
     here ≡ is_unsigned (first_seen_gap (map seen (drop at ps))) → here ≡ true → next ≡ is_unsigned (first_seen_gap (map seen (drop (at + 1) ps))) → next ≡ true →
-    (above ≡ above_after (map seen (drop at ps))) × Hosted es es (host_comments above (suffix_in (item_gap (map seen (drop at ps)))))
+    (above ≡ above_after (map seen (drop at ps))) × BecomesHost es es (host_comments above (suffix_in (item_gap (map seen (drop at ps)))))
 host_quiet ps at above here next es n h t k u =
     let none = nothing_after ps at (sym h ∙ t) (sym k ∙ u) in (n ∙ sym none.0, λ xs x h. h ∙ ap (λ cs. xs ++ (seen x).make cs false ∷ []) (sym (ap (λ o. host_comments above o) none.1 ∙ ap (λ t. host_comments t None) n)))
 
 -- with comments
 pub host_commented : (old left new : List Expr) (last host : Expr) (comments : HostComments) (above before : List Bytes) (suffix : Option Bytes) (gap g : Bytes) → old ≡ left ++ last ∷ [] → new ≡ left ++ host ∷ [] →
-    host ≡ with_comments last comments → comments ≡ host_comments before suffix → before ≡ above → suffix ≡ suffix_in gap → gap ≡ g → Hosted old new (host_comments above (suffix_in g))
+    host ≡ with_comments last comments → comments ≡ host_comments before suffix → before ≡ above → suffix ≡ suffix_in gap → gap ≡ g → BecomesHost old new (host_comments above (suffix_in g))
 host_commented old left new last host comments above before suffix gap g o n w c b s e xs x h =
-    let same = last_same left xs last (plain (seen x)) (sym o ∙ h) in
+    let same = same_ends left xs last (plain (seen x)) (sym o ∙ h) in
     n ∙ rw (w, same.0, same.1, c, b, s, e, seen_comments x false (host_comments above (suffix_in g))) refl
 
 pub statement_hosted : (old left : List Expr) (last host : Expr) (comments : HostComments) (above before : List Bytes) (suffix : Option Bytes) (gap g : Bytes) (items new : List Item) → old ≡ left ++ last ∷ [] → new ≡ items ++ i.Stmt host ∷ [] →
     host ≡ with_comments last comments → comments ≡ host_comments before suffix → before ≡ above → suffix ≡ suffix_in gap → gap ≡ g →
     (x : Part) → old ≡ plain (seen x) ∷ [] → (left ≡ []) × (new ≡ items ++ i.Stmt ((seen x).make (host_comments above (suffix_in g)) false) ∷ [])
 statement_hosted old left last host comments above before suffix gap g items new o n w c b s e x h =
-    let same = last_same left [] last (plain (seen x)) (sym o ∙ h) in
+    let same = same_ends left [] last (plain (seen x)) (sym o ∙ h) in
     (same.0, n ∙ rw (w, same.1, c, b, s, e, seen_comments x false (host_comments above (suffix_in g))) refl)
 
 -- ---- the items of a sequence
@@ -69,11 +69,11 @@ no_item above (s ∷ t ∷ ss) l = absurd (omega arith)
 -- an item and the mark after it, of parts of which those after the item are as they were
 pub item_more : (ps qs rest : List Part) (at : ℕ) (y : Part) (above mid next : List Bytes) (es pushed new : List Expr) → at + 1 < length ps → y ≡ get_or ps at y → drop (at + 1) qs ≡ drop (at + 1) ps → rest ≡ drop (at + 2) ps →
     mid ≡ above ++ (seen y).loose → pushed ≡ es ++ plain (seen y) ∷ [] → next ≡ above_after (map seen (drop (at + 1) qs)) →
-    Hosted pushed new (host_comments mid (suffix_in (item_gap (map seen (drop (at + 1) qs))))) →
+    BecomesHost pushed new (host_comments mid (suffix_in (item_gap (map seen (drop (at + 1) qs))))) →
     (new ++ (items_in next (map seen rest)).0 ≡ es ++ (items_in above (map seen (drop at ps))).0) × ((items_in next (map seen rest)).1 ≡ (items_in above (map seen (drop at ps))).1)
 item_more ps qs rest at y above mid next es pushed new l i same r b k n made =
     let ss : List Seen = map seen (drop (at + 1) ps) in
-    let whole : map seen (drop at ps) ≡ seen y ∷ ss = part_here ps at y (omega arith) i in
+    let whole : map seen (drop at ps) ≡ seen y ∷ ss = seen_here ps at y (omega arith) i in
     let some : 0 < length ss = omega (arith, length-map (drop (at + 1) ps) seen, length-drop (at + 1) ps) in
     let after : map seen rest ≡ drop 1 ss = two_further ps rest at r in
     let more : List Expr × List Bytes = items_in (above_after ss) (drop 1 ss) in

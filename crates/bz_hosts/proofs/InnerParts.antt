@@ -16,10 +16,11 @@ use Rattle.bz_grammar.specs.Shapes.{Nonterminal, Terminal, Shape, Fits, Listed, 
 use Rattle.bz_grammar.specs.Legal.{IsNonterminal, LegalPart, LegalRow}
 use Rattle.bz_grammar.specs.Spots.{Spot, Within, onward, Role, opens, closes, ends, plain, role, following_token, after_node, after_part}
 use Rattle.bz_grammar.proofs.Balance.{no_such, same_class, inner_nonterminal, not_file, not_lines}
-use Rattle.bz_value.specs.Frames.{frame, is_binary, is_inner_frame, is_statement}
-use Rattle.bz_value.specs.LineShapes.{line_shape, value_shape}
+use Rattle.bz_value.specs.Frames.{frame, is_binary, is_inner_frame}
+use Rattle.bz_value.specs.LineShapes.{line_shape, whole_shape}
 use Rattle.bz_value.proofs.LegalBy.{LegalBy, LegalRowBy}
 use Rattle.bz_value.specs.Proper.{is_operator_class}
+use Rattle.bz_hosts.proofs.SeenParts.{all_mapped}
 
 -- ---- a test on shapes for a fact of all their parts
 
@@ -153,7 +154,7 @@ pub inner_parts : (kind : Kind) → inner_kind kind ≡ true → (xs : List Part
 inner_parts kind h xs i = every_part (λ x. is_inner x ≡ true) inner_tokens inner_nonterminal token_inner nonterminal_inner (bzl_shape kind) (kind_inner kind h) xs i
 
 -- The grammars of lines and of values are that of .bzl files there.
-pub inner_bzl : (kind : Kind) → inner_kind kind ≡ true → (xs : List Part) → Fits IsNonterminal (value_shape kind) xs → Fits IsNonterminal (bzl_shape kind) xs
+pub inner_bzl : (kind : Kind) → inner_kind kind ≡ true → (xs : List Part) → Fits IsNonterminal (whole_shape kind) xs → Fits IsNonterminal (bzl_shape kind) xs
 inner_bzl k.Def i xs h = no_such i
 inner_bzl k.IfStmt i xs h = no_such i
 inner_bzl k.ForStmt i xs h = no_such i
@@ -185,15 +186,11 @@ pub in_line : (x : Part) → is_inner x ≡ true → InLine x
 in_line (p.Leaf l) h = tt
 in_line (Node' kind n r) h = h
 
-pub all_in_line : (xs : List Part) → AllByRecursion (λ x. is_inner x ≡ true) xs → AllByRecursion InLine xs
-all_in_line [] h = tt
-all_in_line (x ∷ xs) h = (in_line x h.0, all_in_line xs h.1)
-
 mutual
-  -- what is in a line of a .bzl file holds none of what is in no line
+  -- what is in a line holds none of what is in no line
   pub inner_legal : (x : Part) → InLine x → LegalPart x → LegalBy line_shape x
   inner_legal (p.Leaf l) i h = tt
-  inner_legal (Node' kind n r) i h = (inner_line kind i _ h.0, inner_row _ r (all_in_line _ (inner_parts kind i _ h.0)) h.1)
+  inner_legal (Node' kind n r) i h = (inner_line kind i _ h.0, inner_row _ r (all_mapped (λ x. is_inner x ≡ true) InLine in_line _ (inner_parts kind i _ h.0)) h.1)
 
   pub inner_row : (m : _) (r : Row_of-Part m) → AllByRecursion InLine (items-the_row-Part m r) → LegalRow r → LegalRowBy line_shape r
   inner_row m end_of-Part i h = tt
@@ -279,7 +276,7 @@ abbrev begins_nonterminal : Shape → Bool
 begins_nonterminal (s.sub a r) = true
 begins_nonterminal _ = false
 
-kind_binary : (kind : Kind) → is_binary kind ≡ true → (begins_nonterminal (value_shape kind) && every plain_tokens inner_nonterminal (value_shape kind)) ≡ true
+kind_binary : (kind : Kind) → is_binary kind ≡ true → (begins_nonterminal (whole_shape kind) && every plain_tokens inner_nonterminal (whole_shape kind)) ≡ true
 kind_binary k.Or h = refl
 kind_binary k.And h = refl
 kind_binary k.Compare h = refl
@@ -292,12 +289,12 @@ kind_binary k.Product h = refl
 kind_binary _ h = no_such h
 
 -- no part of one is a bracket
-pub binary_goes : (kind : Kind) → is_binary kind ≡ true → (xs : List Part) → Fits IsNonterminal (value_shape kind) xs → AllByRecursion GoesOn xs
-binary_goes kind h xs i = every_part GoesOn plain_tokens inner_nonterminal token_goes nonterminal_goes (value_shape kind) (and_parts _ _ (kind_binary kind h)).1 xs i
+pub binary_goes : (kind : Kind) → is_binary kind ≡ true → (xs : List Part) → Fits IsNonterminal (whole_shape kind) xs → AllByRecursion GoesOn xs
+binary_goes kind h xs i = every_part GoesOn plain_tokens inner_nonterminal token_goes nonterminal_goes (whole_shape kind) (and_parts _ _ (kind_binary kind h)).1 xs i
 
 -- and it begins with an operand
-pub binary_begins : (kind : Kind) → is_binary kind ≡ true → (x : Part) (xs : List Part) → Fits IsNonterminal (value_shape kind) (x ∷ xs) → (a : Nonterminal) × IsNonterminal a x
-binary_begins kind h x xs i = front (value_shape kind) (and_parts _ _ (kind_binary kind h)).0 i
+pub binary_begins : (kind : Kind) → is_binary kind ≡ true → (x : Part) (xs : List Part) → Fits IsNonterminal (whole_shape kind) (x ∷ xs) → (a : Nonterminal) × IsNonterminal a x
+binary_begins kind h x xs i = front (whole_shape kind) (and_parts _ _ (kind_binary kind h)).0 i
   where
     front : (r : Shape) → begins_nonterminal r ≡ true → Fits IsNonterminal r (x ∷ xs) → (a : Nonterminal) × IsNonterminal a x
     front (s.sub a r) b j = (a, j.0)
@@ -316,14 +313,3 @@ pub nonterminal_unsigned : (a : Nonterminal) (l : Leaf) → IsNonterminal a (p.L
 nonterminal_unsigned a l i =
     let none = λ (class : Class) (token : List ℕ) (e : not (is_operator_class class) ≡ true). not-true (is_operator_class class) e in
     of_terminals (λ class token. is_operator_class class ≡ false) unsigned none none (leaves_at a) l (leaves_unsigned a) i
-
--- ---- statements
-
--- (the other kinds of such a sort are none of BUILD files)
-pub small_statement : (kind : Kind) (xs : List Part) → Fits IsNonterminal (shape kind) xs → nonterminal_has_kind s.small kind ≡ true → is_statement kind ≡ true
-small_statement k.Bare xs f h = refl
-small_statement k.Assign xs f h = refl
-small_statement k.Load xs f h = refl
-small_statement k.Return xs f h = absurd f
-small_statement k.Flow xs f h = absurd f
-small_statement _ xs f h = no_such h

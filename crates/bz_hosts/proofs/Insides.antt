@@ -11,7 +11,7 @@ use Rattle.bz_value.specs.Frames.{frame}
 use Rattle.bz_value.specs.Gaps.{has_newline}
 use Rattle.bz_value.specs.Proper.{comments_of, is_operator}
 use Rattle.bz_value.proofs.FormParts.{parts_in, items_in}
-use Rattle.bz_hosts.specs.View.{seen, plain, first_seen_gap, begins_seen_operator, row_exprs}
+use Rattle.bz_hosts.specs.Seen.{seen, plain, first_seen_gap, begins_seen_operator, row_exprs}
 use Rattle.bz_hosts.specs.Hosts.{Hosted, hosted_by, by_frame, inside_expr, inside_row, inside_items, inside_header, inside_others}
 
 -- the items of a sequence, each with what is in it

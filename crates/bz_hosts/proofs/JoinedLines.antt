@@ -15,8 +15,11 @@ use Rattle.bz_grammar.specs.Joined.{last_token, AreWholeLines, file_with, LinesJ
 use Rattle.bz_grammar.proofs.Spells.{leaves_Node}
 use Rattle.bz_value.specs.declared.value.Item.{Item}
 use Rattle.bz_value.specs.Gaps.{GapLine, lines_of, after_first_line, groups_of}
-use Rattle.bz_hosts.specs.View.{seen, seen_row, first_seen_gap, last_gap, line_items, blocks, file_items, view_of}
+use Rattle.bz_hosts.specs.Seen.{seen, seen_row, first_seen_gap, last_gap, blocks}
+use Rattle.bz_hosts.specs.private.Lines.{line_items, file_items}
+use Rattle.bz_hosts.specs.View.{view_of}
 use Rattle.bz_hosts.specs.Joined.{lines_left, EndsWithLine, ViewsJoin, EmptyReads}
+use Rattle.bz_hosts.proofs.BuildFiles.{build_view}
 use Rattle.bz_hosts.proofs.NodeViews.{seen_parts}
 
 -- ---- items
@@ -66,12 +69,15 @@ ends_both xs m w l h = record {
 }
 
 pub views_join : LinesJoin → ViewsJoin
-views_join law s t n m h r q le = (
-  file_with (h.lines ++ m.parts),
-  law s t n m h.lines h.end h.parts h.whole h.nothing r q le,
-  items_joined [] h.lines h.end m.parts h.left h.nothing ∙ ap (λ ps. file_items [] ps ++ view_of m) (sym h.parts),
-  ends_both h.lines m h.whole h.left,
-)
+views_join law s t n m h r q le =
+    let read = law s t n m h.lines h.end h.parts h.whole h.nothing r q le in (
+      file_with (h.lines ++ m.parts),
+      read,
+      build_view (file_with (h.lines ++ m.parts)) read.0
+          ∙ (items_joined [] h.lines h.end m.parts h.left h.nothing
+          ∙ (ap (λ ps. file_items [] ps ++ file_items [] m.parts) (sym h.parts) ∙ (ap (λ is. is ++ file_items [] m.parts) (sym (build_view n r.0)) ∙ ap (λ is. view_of n ++ is) (sym (build_view m q.0))))),
+      ends_both h.lines m h.whole h.left,
+    )
 
 -- ---- the empty file
 

@@ -13,11 +13,10 @@ use Rattle.bz_value.specs.Frames.{Frame, sequence, frame, lead, is_binary}
 use Rattle.bz_items.specs.Characters.{Bytes}
 use Rattle.bz_value.specs.Gaps.{suffix_in, others_in, all_in, has_newline}
 use Rattle.bz_value.specs.Proper.{is_operator}
-use Rattle.bz_hosts.specs.View.{Seen, seen, seen_node, plain, first_seen_gap, begins_seen_operator, loose_in, loose_after, row_exprs, items_in, form_of_frame, loose_of}
+use Rattle.bz_hosts.specs.Seen.{Seen, seen, seen_node, plain, first_seen_gap, begins_seen_operator, loose_in, loose_after, row_exprs, items_in, form_of_frame, loose_of}
 use Rattle.bz_hosts.proofs.Alternating.{Alternating}
 use Rattle.bz_hosts.proofs.Cuts.{is_token, mark_token, BracketAt, CutIn, kind_cut}
-use Rattle.bz_hosts.proofs.ProperParts.{dropped}
-use Rattle.bz_hosts.proofs.SeenParts.{seen_rows}
+use Rattle.bz_hosts.proofs.SeenParts.{seen_rows, all_cut}
 use Rattle.bz_hosts.proofs.Sums.{gap_amount, gap_parts, node_amount, made_amount, part_amount, leaf_amount, row_leaves}
 use Rattle.bz_value.proofs.Totals.{append_total, inner_amount}
 use Rattle.bz_value.specs.LineShapes.{line_shape}
@@ -43,8 +42,8 @@ module _ (number : Bytes → ℕ) where
 
   -- ---- rows
 
-  loose_more : (s : Seen) (ss : List Seen) → total number (loose_after (s ∷ ss)) ≡ gap_amount number s.gap + (total number s.loose + total number (loose_after ss))
-  loose_more s ss =
+  loose_amount : (s : Seen) (ss : List Seen) → total number (loose_after (s ∷ ss)) ≡ gap_amount number s.gap + (total number s.loose + total number (loose_after ss))
+  loose_amount s ss =
       let a = append_total number (all_in s.gap) s.loose in
       let b = append_total number (all_in s.gap ++ s.loose) (loose_after ss) in
       omega arith
@@ -61,7 +60,7 @@ module _ (number : Bytes → ℕ) where
       let here = h.0 in
       let rest = row_after binary operator before xs h.1 in
       let made = bare_amount x broken in
-      let loose = loose_more (seen x) (map seen xs) in
+      let loose = loose_amount (seen x) (map seen xs) in
       omega arith
 
   -- of a row, the gap before it is outside
@@ -70,7 +69,7 @@ module _ (number : Bytes → ℕ) where
   row_kept binary inside newline [] h = refl
   row_kept binary inside newline (x ∷ xs) h =
       let rest = row_after binary inside newline (x ∷ xs) h in
-      let loose = loose_more (seen x) (map seen xs) in
+      let loose = loose_amount (seen x) (map seen xs) in
       let both = append_total number (seen x).loose (loose_after (map seen xs)) in
       omega arith
 
@@ -88,12 +87,12 @@ module _ (number : Bytes → ℕ) where
   head_after zero (x ∷ xs) h t =
       let here = h.0 in
       let none = token_holds x t.0 in
-      let loose = loose_more (seen x) [] in
+      let loose = loose_amount (seen x) [] in
       omega arith
   head_after (suc n) (x ∷ xs) h t =
       let here = h.0 in
       let rest = head_after n xs h.1 t in
-      let loose = loose_more (seen x) (take (suc n) (map seen xs)) in
+      let loose = loose_amount (seen x) (take (suc n) (map seen xs)) in
       omega arith
 
   pub head_kept : (n : ℕ) (xs : List Part) → AllKept xs → BracketAt n xs →
@@ -101,7 +100,7 @@ module _ (number : Bytes → ℕ) where
   head_kept n [] h t = absurd t
   head_kept n (x ∷ xs) h t =
       let rest = head_after n (x ∷ xs) h t in
-      let loose = loose_more (seen x) (take n (map seen xs)) in
+      let loose = loose_amount (seen x) (take n (map seen xs)) in
       let both = append_total number (seen x).loose (loose_after (take n (map seen xs))) in
       omega arith
 
@@ -152,7 +151,7 @@ module _ (number : Bytes → ℕ) where
   pub found_kept : (n : ℕ) (xs : List Part) → AllKept xs → Alternating s.comma_mark (drop n xs) → found_amount (drop n (map seen xs)) ≡ total (part_amount number) (drop n xs)
   found_kept n xs h t =
       let body : List Part = drop n xs in
-      let all = items_kept (all_in (first_seen_gap (map seen body))) body (dropped KeptPart n xs h) t in
+      let all = items_kept (all_in (first_seen_gap (map seen body))) body (all_cut KeptPart n xs h).1 t in
       let same = ap found_amount (drop-map seen n xs) in
       omega arith
 

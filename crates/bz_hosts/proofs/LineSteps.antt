@@ -10,11 +10,12 @@ use Rattle.bz_value.specs.declared.value.Item.{Item}
 use Rattle.bz_value.specs.declared.value.Item.TheVariants as i
 use Rattle.bz_items.specs.Characters.{Bytes}
 use Rattle.bz_value.specs.Gaps.{GapLine, lines_of, after_first_line, groups_of, all_but_last, last_group, suffix_in}
-use Rattle.bz_hosts.specs.View.{Seen, seen, plain, first_seen_gap, last_gap, blocks, statement, statements_in, line_items, file_items}
+use Rattle.bz_hosts.specs.Seen.{Seen, seen, plain, first_seen_gap, last_gap, blocks, statement, statements_in}
+use Rattle.bz_hosts.specs.private.Lines.{line_items, file_items}
 use Rattle.bz_hosts.specs.private.Walks.{line_gap}
 use Rattle.bz_hosts.proofs.HostSteps.{host_comments}
 use Rattle.bz_hosts.proofs.NodeViews.{seen_parts}
-use Rattle.bz_hosts.proofs.RowSteps.{part_here, two_further}
+use Rattle.bz_hosts.proofs.RowSteps.{seen_here, two_further}
 
 -- ---- the suffix of a statement
 
@@ -60,7 +61,7 @@ statement_more ps qs rest at y above before next pushed items new l here same r 
     let held : new ≡ items ++ done ∷ [] =
     made y k ∙ (ap (λ t. items ++ i.Stmt ((seen y).make (host_comments t (suffix_in (line_gap (map seen (drop (at + 1) qs))))) false) ∷ []) b ∙
     ap (λ rs. items ++ statement above (suffix_in (line_gap (map seen rs))) (seen y) ∷ []) same) in
-    let step : statements_in above (map seen (drop at ps)) ≡ done ∷ more = ap (statements_in above) (part_here ps at y (omega arith) here) ∙ statement_step above (seen y) ss some in
+    let step : statements_in above (map seen (drop at ps)) ≡ done ∷ more = ap (statements_in above) (seen_here ps at y (omega arith) here) ∙ statement_step above (seen y) ss some in
     let left : statements_in next (map seen rest) ≡ more = ap (statements_in next) (two_further ps rest at r) ∙ ap (λ t. statements_in t (drop 1 ss)) n in
     ap (λ t. new ++ t) left ∙ (ap (λ t. t ++ more) held ∙ (append_assoc items (done ∷ []) more ∙ ap (λ t. items ++ t) (sym step)))
 

@@ -8,7 +8,7 @@ use Rattle.bz_grammar.specs.Spots.{Spot, Within}
 use Rattle.bz_grammar.proofs.Balance.{no_such}
 use Rattle.bz_value.specs.declared.value.Expr.{Expr, Token, Form', Row_of-Expr, end_of-Expr, more_of-Expr}
 use Rattle.bz_value.specs.Frames.{Frame, row, sequence, compound, frame, is_binary, is_inner_frame}
-use Rattle.bz_value.specs.LineShapes.{line_shape, value_shape}
+use Rattle.bz_value.specs.LineShapes.{line_shape, whole_shape}
 use Rattle.bz_value.specs.Proper.{after_expr, in_frame, roots, ProperBy, ProperRowBy, ProperHeadBy, ProperItemsBy}
 use Rattle.bz_value.specs.Roots.{root, row_in, each_with_comma}
 use Rattle.bz_hosts.proofs.InnerParts.{is_inner, inner_kind, inner_parts, inner_bzl, inner_line, inner_framed}
@@ -37,7 +37,7 @@ framed_inner (sequence opener closer) xs ys A B C A' B' C' q i a b h = let w = a
 framed_inner compound xs ys A B C A' B' C' q i a b h = no_such q
 
 mutual
-  pub narrow_expr : (here : Spot) (x : Expr) → InExpr x → ProperBy value_shape here x → ProperBy line_shape here x
+  pub narrow_expr : (here : Spot) (x : Expr) → InExpr x → ProperBy whole_shape here x → ProperBy line_shape here x
   narrow_expr here (Token t) i h = h
   narrow_expr here (Form' kind s parts s' items end split open_break comments) i h =
       let fits : Fits IsNonterminal (bzl_shape kind) (row_in (frame kind) (roots parts) (roots items)) = inner_bzl kind i _ h.0 in (
@@ -48,14 +48,14 @@ mutual
             h.1,
       )
 
-  pub narrow_row : (binary : Bool) (outer here : Spot) (m : _) (r : Row_of-Expr m) → AreInner (roots r) → ProperRowBy value_shape binary outer here r → ProperRowBy line_shape binary outer here r
+  pub narrow_row : (binary : Bool) (outer here : Spot) (m : _) (r : Row_of-Expr m) → AreInner (roots r) → ProperRowBy whole_shape binary outer here r → ProperRowBy line_shape binary outer here r
   narrow_row binary outer here m end_of-Expr i h = tt
   narrow_row binary outer here m (more_of-Expr x rest) i h = (narrow_expr here x (rooted x i.0) h.0, h.1, h.2, narrow_row binary outer (after_expr outer here x) _ rest i.1 h.3)
 
-  pub narrow_head : (here : Spot) (m : _) (r : Row_of-Expr m) → AreInner (roots r) → ProperHeadBy value_shape here r → ProperHeadBy line_shape here r
+  pub narrow_head : (here : Spot) (m : _) (r : Row_of-Expr m) → AreInner (roots r) → ProperHeadBy whole_shape here r → ProperHeadBy line_shape here r
   narrow_head here m end_of-Expr i h = tt
   narrow_head here m (more_of-Expr x rest) i h = (narrow_expr here x (rooted x i.0) h.0, h.1, narrow_head here _ rest i.1 h.2)
 
-  pub narrow_items : (m : _) (r : Row_of-Expr m) → AreInner (roots r) → ProperItemsBy value_shape r → ProperItemsBy line_shape r
+  pub narrow_items : (m : _) (r : Row_of-Expr m) → AreInner (roots r) → ProperItemsBy whole_shape r → ProperItemsBy line_shape r
   narrow_items m end_of-Expr i h = tt
   narrow_items m (more_of-Expr x rest) i h = (narrow_expr Within x (rooted x i.0) h.0, h.1, h.2, narrow_items _ rest i.1 h.3)

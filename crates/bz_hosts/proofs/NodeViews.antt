@@ -15,7 +15,7 @@ use Rattle.bz_value.specs.Comments.{HostComments, no_comments}
 use Rattle.bz_value.specs.Frames.{Frame, sequence, frame, has_brackets, lead}
 use Rattle.bz_items.specs.Characters.{Bytes}
 use Rattle.bz_value.specs.Gaps.{has_newline}
-use Rattle.bz_hosts.specs.View.{seen, seen_row, seen_node, plain, first_seen_gap, is_open, is_split, form_of_frame, loose_of, seq_in}
+use Rattle.bz_hosts.specs.Seen.{seen, seen_row, seen_node, plain, first_seen_gap, is_split, form_of_frame, loose_of, seq_in}
 use Rattle.bz_hosts.proofs.SeenParts.{seen_rows}
 
 pub seen_parts : (n : Node) → seen_row (row_of n).1 ≡ map seen n.parts
@@ -55,11 +55,6 @@ sequence_made (sequence opener closer) kind ps qs n es q cs h j i e g k =
 sequence_made _ kind ps qs n es q cs h j i e g k = absurd (true≢false (sym h))
 
 -- ---- parts of a row
-
--- right after the first part
-pub opened : (ps : List Part) → has_newline (first_seen_gap (map seen (drop 1 ps))) ≡ is_open (map seen ps)
-opened [] = refl
-opened (x ∷ ps) = refl
 
 -- no newline before the part with this index
 pub no_split_at : (ps : List Part) (at : ℕ) → has_newline (first_seen_gap (map seen (drop at ps))) ≡ false → is_split (map seen (drop (suc at) ps)) ≡ is_split (map seen (drop at ps))

@@ -12,11 +12,11 @@ use Rattle.bz_grammar.specs.Legal.{IsNonterminal}
 use Rattle.bz_value.specs.Frames.{Frame, sequence, frame, lead}
 use Rattle.bz_items.specs.Characters.{Bytes}
 use Rattle.bz_value.specs.Gaps.{all_in}
-use Rattle.bz_value.specs.LineShapes.{line_shape, value_shape}
+use Rattle.bz_value.specs.LineShapes.{line_shape, whole_shape}
 use Rattle.bz_value.proofs.LegalBy.{LegalBy, LegalRowBy, each_legal, as_bzl}
 use Rattle.bz_value.proofs.Wider.{values_wider}
 use Rattle.bz_value.proofs.GapComments.{all_joined}
-use Rattle.bz_hosts.specs.View.{Seen, seen, plain, loose_in, items_in}
+use Rattle.bz_hosts.specs.Seen.{Seen, seen, plain, loose_in, items_in}
 use Rattle.bz_hosts.proofs.SeenParts.{all_mapped, all_parted}
 use Rattle.bz_hosts.specs.Hosts.{Region, host, between, Comment, comments_at, Measured, sizes, measured, in_row, in_node, hosts_from, CommentPlace, above, texts_at, Hosted, ended, hosted_at, inside_expr}
 use Rattle.bz_hosts.proofs.Around.{AllInside, all_wider, Sees, SeesAt, sees_after, sees_before_bracket, sees_in_sequence}
@@ -106,7 +106,7 @@ module _ (kind : Kind) (xs : List Part) (c : Cut (lead kind) xs) where
   pub parted : (P : Part → Type 0) → AllByRecursion P xs → AllByRecursion P head_of × AllByRecursion P body_of
   parted P h = let w = all_parted P head_of (p.Leaf c.opener ∷ body_of) (subst (AllByRecursion P) c.parts h) in (w.0, w.1.1)
 
-pub node_inside : (kind : Kind) (f : Frame) → frame kind ≡ f → (xs : List Part) → Fits IsNonterminal (value_shape kind) xs → AllByRecursion Regions xs → (n : ℕ) → AllInside n (n + sizes (map measured xs)) (in_node f kind n (map measured xs))
+pub node_inside : (kind : Kind) (f : Frame) → frame kind ≡ f → (xs : List Part) → Fits IsNonterminal (whole_shape kind) xs → AllByRecursion Regions xs → (n : ℕ) → AllInside n (n + sizes (map measured xs)) (in_node f kind n (map measured xs))
 node_inside kind (sequence opener closer) e xs h r n =
     let c : Cut (lead kind) xs = sequence_cut kind opener closer xs e h in
     let w = parted kind xs c Regions r in

@@ -10,7 +10,7 @@ use Rattle.bz_grammar.specs.Shapes.{Fits, bzl_shape}
 use Rattle.bz_grammar.specs.Spell.{leaves_part, leaves_row}
 use Rattle.bz_grammar.specs.Legal.{IsNonterminal, LegalPart, LegalRow}
 use Rattle.bz_items.specs.Characters.{Bytes}
-use Rattle.bz_hosts.specs.View.{seen, seen_row, first_seen_gap}
+use Rattle.bz_hosts.specs.Seen.{seen, seen_row, first_seen_gap}
 use Rattle.bz_hosts.specs.Hosts.{Comment, comments_at, comments_from, Measured, sizes, measured, measured_row}
 
 abbrev pub size : Part → ℕ

@@ -1,5 +1,5 @@
 -- What is seen of a part of a legal tree is proper where the part is.
-use Rattle.std.proofs.Common.{◌≡◌, ℕ, zero, suc, Bool, true, false, not, ◌&&◌, List, [], ◌∷◌, refl, sym, subst, map, take, drop, if◌then◌else◌}
+use Rattle.std.proofs.Common.{◌≡◌, ℕ, suc, Bool, true, false, not, ◌&&◌, List, [], ◌∷◌, refl, sym, subst, map, take, drop, if◌then◌else◌}
 use Rattle.std.specs.List.{AllByRecursion}
 use Rattle.std.proofs.lemmas.Bool.{and_parts}
 use Rattle.std.proofs.lemmas.List.{drop-map}
@@ -23,18 +23,18 @@ use Rattle.bz_value.specs.Frames.{Frame, row, sequence, compound, frame, lead, i
 use Rattle.bz_items.specs.Characters.{Bytes}
 use Rattle.bz_value.specs.Gaps.{all_in, has_newline}
 use Rattle.bz_value.specs.Roots.{root, row_in}
-use Rattle.bz_value.specs.LineShapes.{line_shape, value_shape}
+use Rattle.bz_value.specs.LineShapes.{line_shape, whole_shape}
 use Rattle.bz_value.specs.Proper.{IsComment, is_operator, in_frame, ProperBy}
 use Rattle.bz_value.proofs.FormParts.{AsRowBy, AsSequenceBy, AsCompoundBy, form_proper_by}
 use Rattle.bz_value.proofs.GapComments.{all_fine}
 use Rattle.bz_value.proofs.Rooted.{Same, over, more, fits_same, row_same, places, kept_parts, kept_items, value_fits}
 use Rattle.bz_value.proofs.LegalBy.{LegalBy, LegalRowBy, wider_part}
 use Rattle.bz_value.proofs.Wider.{IsWider, values_wider}
-use Rattle.bz_hosts.specs.View.{Seen, seen, seen_node, plain, first_seen_gap, row_exprs, items_in, is_split, is_open}
+use Rattle.bz_hosts.specs.Seen.{Seen, seen, seen_node, plain, first_seen_gap, row_exprs, items_in, is_split, is_open}
 use Rattle.bz_hosts.proofs.Alternating.{Alternating}
 use Rattle.bz_hosts.proofs.Cuts.{Cut, sequence_cut}
 use Rattle.bz_hosts.proofs.InnerParts.{ends_line, is_inner, inner_parts, inner_bzl, inner_framed, in_line, inner_legal}
-use Rattle.bz_hosts.proofs.SeenParts.{seen_rows, Decoded, AllDecoded, gap_decoded, all_parted, root_made, row_decoded}
+use Rattle.bz_hosts.proofs.SeenParts.{seen_rows, Decoded, AllDecoded, gap_decoded, all_parted, root_made, row_decoded, all_cut}
 use Rattle.bz_hosts.proofs.RowParts.{Fit, AllFit, row_proper}
 use Rattle.bz_hosts.proofs.SequenceParts.{sequence_stands, head_proper, head_roots, ItemsProper, items_proper, items_roots}
 
@@ -43,12 +43,6 @@ use Rattle.bz_hosts.proofs.SequenceParts.{sequence_stands, head_proper, head_roo
 pub row_roots : (binary inside newline : Bool) (xs : List Part) → Same xs (map root (row_exprs binary inside newline (map seen xs)))
 row_roots binary inside newline [] = over
 row_roots binary inside newline (x ∷ xs) = more x _ _ _ (root_made x no_comments _) (row_roots binary (binary && is_operator (plain (seen x))) (if inside then newline else has_newline (seen x).gap) xs)
-
-pub dropped : {X : Type 0} (P : X → Type 0) (n : ℕ) (xs : List X) → AllByRecursion P xs → AllByRecursion P (drop n xs)
-dropped P zero [] h = tt
-dropped P (suc n) [] h = tt
-dropped P zero (x ∷ xs) h = h
-dropped P (suc n) (x ∷ xs) h = dropped P n xs h.1
 
 -- ---- a token
 
@@ -77,7 +71,7 @@ module _ (grammar : Kind → Shape) where
   Ready x = is_inner x ≡ true → Fit grammar x
 
   -- fits: what a form keeps of a node's parts has the shape of its kind again
-  module _ (wider : IsWider grammar value_shape) (fits : (kind : Kind) (ps : List Part) → Fits IsNonterminal (grammar kind) ps → Fits IsNonterminal (grammar kind) (row_in (frame kind) (kept_parts (frame kind) kind ps) (kept_items (frame kind) kind ps))) where
+  module _ (wider : IsWider grammar whole_shape) (fits : (kind : Kind) (ps : List Part) → Fits IsNonterminal (grammar kind) ps → Fits IsNonterminal (grammar kind) (row_in (frame kind) (kept_parts (frame kind) kind ps) (kept_items (frame kind) kind ps))) where
     -- what is kept of the parts has the shape of the kind, where its roots are these
     kept_fits : (kind : Kind) (f : Frame) → frame kind ≡ f → (xs ys us : List Part) → Fits IsNonterminal (grammar kind) xs → Same (kept_parts f kind xs) ys → Same (kept_items f kind xs) us → Fits IsNonterminal (grammar kind) (row_in (frame kind) ys us)
     kept_fits kind f e xs ys us h v w =
@@ -100,8 +94,8 @@ module _ (grammar : Kind → Shape) where
         let cut : Cut (lead kind) xs = sequence_cut kind opener closer xs e (wider kind xs h) in
         let stands = sequence_stands kind here xs cut at_ in
         let same : body ≡ map seen (drop (suc n) xs) = drop-map seen (suc n) xs in
-        let decoded : AllDecoded (map seen (drop (suc n) xs)) = subst AllDecoded same (dropped Decoded (suc n) (map seen xs) t) in
-        let inside : FoundProper (drop (suc n) xs) body = subst (FoundProper (drop (suc n) xs)) (sym same) (found_proper here (drop (suc n) xs) decoded (dropped (Fit grammar) (suc n) xs g) stands.1 cut.alternating) in
+        let decoded : AllDecoded (map seen (drop (suc n) xs)) = subst AllDecoded same (all_cut Decoded (suc n) (map seen xs) t).1 in
+        let inside : FoundProper (drop (suc n) xs) body = subst (FoundProper (drop (suc n) xs)) (sym same) (found_proper here (drop (suc n) xs) decoded (all_cut (Fit grammar) (suc n) xs g).1 stands.1 cut.alternating) in
         let form : Form = record { kind = kind; parts = es; seq = record { items = found.0; end = found.1; split = is_split body }; open_break = false; comments = cs } in
         let as_sequence : AsSequenceBy grammar here form = (head_proper grammar here n xs g stands.0, inside.items.0, All-from_recursion IsComment found.1 inside.items.1, refl) in
         form_proper_by grammar here form (kept_fits kind (sequence opener closer) e xs (map root es) (map root found.0) h (head_roots n xs) inside.roots) (subst (λ z. in_frame z (AsRowBy grammar here form) (AsSequenceBy grammar here form) (AsCompoundBy grammar form)) (sym e) as_sequence)
@@ -131,6 +125,6 @@ module _ (grammar : Kind → Shape) where
 
 -- ---- by the grammar of values
 
--- what is seen of an inner part of a .bzl file
-pub line_proper : (x : Part) → LegalPart x → AllByRecursion IsLexed (leaves_part x) → AllByRecursion IsCodedLeaf (leaves_part x) → is_inner x ≡ true → Fit value_shape x
-line_proper x h l u i = part_proper value_shape (λ kind xs g. g) value_fits x (wider_part line_shape value_shape values_wider x (inner_legal x (in_line x i) h), l, u) i
+-- what is seen of an inner part of a file
+pub line_proper : (x : Part) → LegalPart x → AllByRecursion IsLexed (leaves_part x) → AllByRecursion IsCodedLeaf (leaves_part x) → is_inner x ≡ true → Fit whole_shape x
+line_proper x h l u i = part_proper whole_shape (λ kind xs g. g) value_fits x (wider_part line_shape whole_shape values_wider x (inner_legal x (in_line x i) h), l, u) i

@@ -11,17 +11,16 @@ use Rattle.bz_grammar.specs.Shapes.{Terminal, Fits, Listed, has_token, list, tok
 use Rattle.bz_grammar.specs.Legal.{IsNonterminal, LegalPart, LegalRow}
 use Rattle.bz_grammar.specs.Spots.{Spot, Begins, Along, onward, after_part, GapStands, Stands, AtLeaves, AtRow, AtParts}
 use Rattle.bz_items.specs.Characters.{Bytes}
-use Rattle.bz_grammar.proofs.Balance.{inner_nonterminal, legal_row, no_such}
+use Rattle.bz_grammar.proofs.Balance.{inner_nonterminal, no_such}
 use Rattle.bz_value.specs.Gaps.{as_list, all_in}
 use Rattle.bz_value.specs.LineShapes.{line_shape}
 use Rattle.bz_value.proofs.AlongGaps.{along}
 use Rattle.bz_value.proofs.LegalBy.{LegalRowBy}
-use Rattle.bz_hosts.specs.View.{seen, seen_row, first_seen_gap}
+use Rattle.bz_hosts.specs.Seen.{seen, seen_row, first_seen_gap}
 use Rattle.bz_hosts.proofs.Alternating.{Alternating}
 use Rattle.bz_hosts.proofs.Cuts.{listed_alternating}
 use Rattle.bz_hosts.proofs.InnerParts.{ends_line, is_inner, InLine, in_line, inner_row, every_part, token_inner, nonterminal_inner, inner_parts, nonterminal_goes, token_goes}
 use Rattle.bz_hosts.proofs.RowParts.{on_twice}
-use Rattle.bz_hosts.proofs.SeenParts.{all_mapped}
 
 pub along_silent : (gap : Bytes) → IsGap false false gap → all_in gap ≡ []
 along_silent gap h = let w = along false gap h in w.2 ∙ ap as_list (w.3 refl)
@@ -43,9 +42,6 @@ mutual
   row_silent : (m : _) (r : Row_of-Part m) → AllByRecursion (λ x. is_inner x ≡ true) (items-the_row-Part m r) → LegalRow r → AtRow Stands Along Along r → all_in (first_seen_gap (seen_row r)) ≡ []
   row_silent m end_of-Part i g h = refl
   row_silent m (more_of-Part x rest) i g h = part_silent x g.0 i.0 h.0
-
-pub parts_silent : (m : _) (r : Row_of-Part m) → LegalRow r → AllByRecursion Silent (items-the_row-Part m r)
-parts_silent m r g = all_mapped LegalPart Silent part_silent (items-the_row-Part m r) (legal_row m r g)
 
 -- statement, semicolon, statement, .. Newline: before semicolons and before each statement but the first
 abbrev pub Quiet : List Part → Type 0

@@ -12,11 +12,11 @@ use Rattle.bz_grammar.proofs.Balance.{no_such}
 use Rattle.bz_value.specs.Comments.{HostComments, no_comments}
 use Rattle.bz_value.specs.Frames.{is_binary}
 use Rattle.bz_value.specs.Gaps.{has_newline}
-use Rattle.bz_value.specs.LineShapes.{value_shape}
+use Rattle.bz_value.specs.LineShapes.{whole_shape}
 use Rattle.bz_value.specs.Proper.{is_operator, after_expr, ProperBy}
 use Rattle.bz_value.proofs.FormParts.{operator_first, ArePartsBy}
 use Rattle.bz_value.proofs.Wider.{IsWider}
-use Rattle.bz_hosts.specs.View.{seen, plain, first_seen_gap, begins_seen_operator, row_exprs}
+use Rattle.bz_hosts.specs.Seen.{seen, plain, first_seen_gap, begins_seen_operator, row_exprs}
 use Rattle.bz_hosts.proofs.InnerParts.{GoesOn, binary_goes, binary_begins, nonterminal_unsigned}
 use Rattle.bz_hosts.proofs.SeenParts.{comments_made, break_made, no_break_made, operator_made, after_made, part_along}
 
@@ -100,7 +100,7 @@ module _ (grammar : Kind → Shape) where
         subst (λ z. ArePartsBy grammar true outer z (row_exprs true sign before (map seen xs))) (sym made) (after_first sign before outer here e (λ i n. by_before n) xs h.1 g.1 rest_at),
       )
 
-  module _ (wider : IsWider grammar value_shape) where
+  module _ (wider : IsWider grammar whole_shape) where
     binary_row : (kind : Kind) → is_binary kind ≡ true → (outer here : Spot) (xs : List Part) → Fits IsNonterminal (grammar kind) xs → AllFit xs → AtParts Stands outer here xs → ArePartsBy grammar true outer here (row_exprs true false false (map seen xs))
     binary_row kind k outer here [] f h at_ = tt
     binary_row kind k outer here (x ∷ xs) f h at_ =

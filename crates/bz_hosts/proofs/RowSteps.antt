@@ -8,7 +8,7 @@ use Rattle.bz_value.specs.Comments.{no_comments}
 use Rattle.bz_items.specs.Characters.{Bytes}
 use Rattle.bz_value.specs.Gaps.{others_in, all_in, has_newline}
 use Rattle.bz_value.specs.Proper.{is_operator}
-use Rattle.bz_hosts.specs.View.{Seen, seen, plain, begins_seen_operator, row_exprs, first_seen_gap, last_gap, loose_in, loose_after}
+use Rattle.bz_hosts.specs.Seen.{Seen, seen, plain, begins_seen_operator, row_exprs, first_seen_gap, last_gap, loose_in, loose_after}
 use Rattle.bz_hosts.specs.private.Walks.{above_after, item_gap}
 
 pub gap_of_last : (ps : List Part) (k : ℕ) (y : Part) → suc k ≡ length ps → y ≡ get_or ps k y → (seen y).gap ≡ last_gap (map seen ps)
@@ -72,8 +72,8 @@ loose_done ps at old all l j = sym (append-nil old) ∙ (ap (λ qs. old ++ loose
 
 -- ---- the parts of a row
 
-pub part_here : (ps : List Part) (at : ℕ) (y : Part) → at < length ps → y ≡ get_or ps at y → map seen (drop at ps) ≡ seen y ∷ map seen (drop (at + 1) ps)
-part_here ps at y l i = ap (λ qs. map seen qs) (drop_more ps at y l ∙ ap (λ z. z ∷ drop (at + 1) ps) (sym i))
+pub seen_here : (ps : List Part) (at : ℕ) (y : Part) → at < length ps → y ≡ get_or ps at y → map seen (drop at ps) ≡ seen y ∷ map seen (drop (at + 1) ps)
+seen_here ps at y l i = ap (λ qs. map seen qs) (drop_more ps at y l ∙ ap (λ z. z ∷ drop (at + 1) ps) (sym i))
 
 pub two_further : (ps rest : List Part) (at : ℕ) → rest ≡ drop (at + 2) ps → map seen rest ≡ drop 1 (map seen (drop (at + 1) ps))
 two_further ps rest at r =
@@ -153,7 +153,7 @@ head_cut (suc n) (t ∷ ss) s rest h = ap (λ ls. t.loose ++ ls) (after_cut n ss
 pub bracket_loose : (ps qs : List Part) (lead : ℕ) (y : Part) (old row gap new : List Bytes) → lead < length ps → y ≡ get_or ps lead y → qs ≡ take lead ps → row ≡ old ++ loose_in (map seen qs) →
     gap ≡ row ++ gap_inside lead (first_seen_gap (map seen (drop lead ps))) → new ≡ gap ++ (seen y).loose → new ≡ old ++ loose_in (take (suc lead) (map seen ps))
 bracket_loose ps qs lead y old row gap new l i q r g n =
-    let here : map seen (drop lead ps) ≡ seen y ∷ map seen (drop (lead + 1) ps) = part_here ps lead y l i in
+    let here : map seen (drop lead ps) ≡ seen y ∷ map seen (drop (lead + 1) ps) = seen_here ps lead y l i in
     let own : List Bytes = gap_inside lead (seen y).gap in
     let front : List Bytes = loose_in (take lead (map seen ps)) in
     let cut = head_cut lead (map seen ps) (seen y) (map seen (drop (lead + 1) ps)) (drop-map seen lead ps ∙ here) in

@@ -1,5 +1,6 @@
 -- What is seen of a part, whatever its kind: its root, where what follows it is, its comments and its gap.
-use Rattle.std.proofs.Common.{◌≡◌, ℕ, zero, suc, Bool, true, false, List, [], ◌∷◌, ◌++◌, refl, ap, map, take}
+use Rattle.std.proofs.lemmas.List.{take-append-drop}
+use Rattle.std.proofs.Common.{◌≡◌, ℕ, zero, suc, Bool, true, false, List, [], ◌∷◌, ◌++◌, refl, ap, map, take, drop, subst, sym}
 use Rattle.std.specs.List.{AllByRecursion}
 use Rattle.std.specs.Str.{IsUtf8}
 use Rattle.std.proofs.lemmas.Str.{IsUtf8-nil}
@@ -22,16 +23,13 @@ use Rattle.bz_value.specs.Proper.{IsComment, comments_of, has_break, is_operator
 use Rattle.bz_value.proofs.AlongGaps.{along}
 use Rattle.bz_value.proofs.GapComments.{Group, all_joined, all_fine}
 use Rattle.bz_value.proofs.Rooted.{SameRoot, one_of_same}
-use Rattle.bz_hosts.specs.View.{Seen, seen, seen_row, seen_node, plain, first_seen_gap, loose_in, loose_after}
+use Rattle.bz_hosts.specs.Seen.{Seen, seen, seen_row, seen_node, plain, first_seen_gap, loose_in, loose_after}
 
 pub seen_rows : (m : _) (r : Row_of-Part m) → seen_row r ≡ map seen (items-the_row-Part m r)
 seen_rows m end_of-Part = refl
 seen_rows m (more_of-Part x rest) = ap (λ t. seen x ∷ t) (seen_rows _ rest)
 
 -- ---- facts of what is made of a part, for any comments and break
-
-pub node_gap : (kind : Kind) (ss : List Seen) (f : Frame) → (seen_node f kind ss).gap ≡ first_seen_gap ss
-node_gap kind ss f = refl
 
 -- the part's root
 pub root_made : (x : Part) (cs : HostComments) (b : Bool) → SameRoot x (root ((seen x).make cs b))
@@ -86,6 +84,10 @@ AllDecoded ss = AllByRecursion Decoded ss
 pub all_parted : {X : Type 0} (P : X → Type 0) (xs ys : List X) → AllByRecursion P (xs ++ ys) → AllByRecursion P xs × AllByRecursion P ys
 all_parted P [] ys h = (tt, h)
 all_parted P (x ∷ xs) ys h = let w = all_parted P xs ys h.1 in ((h.0, w.0), w.1)
+
+-- of the first n, and of the others
+pub all_cut : {X : Type 0} (P : X → Type 0) (n : ℕ) (xs : List X) → AllByRecursion P xs → AllByRecursion P (take n xs) × AllByRecursion P (drop n xs)
+all_cut P n xs h = all_parted P (take n xs) (drop n xs) (subst (AllByRecursion P) (sym (take-append-drop n xs)) h)
 
 pub all_mapped : {X : Type 0} (P Q : X → Type 0) → ((x : X) → P x → Q x) → (xs : List X) → AllByRecursion P xs → AllByRecursion Q xs
 all_mapped P Q f [] h = tt

@@ -18,7 +18,7 @@ use Rattle.bz_value.specs.Proper.{IsComment, MaybeComment, AreComments, ProperBy
 use Rattle.bz_value.proofs.FormParts.{AreHeadBy, AreItemsBy}
 use Rattle.bz_value.proofs.GapComments.{Group, all_joined, suffix_fine, others_fine, all_fine}
 use Rattle.bz_value.proofs.Rooted.{Same, over, more, places}
-use Rattle.bz_hosts.specs.View.{Seen, seen, plain, items_in}
+use Rattle.bz_hosts.specs.Seen.{Seen, seen, plain, items_in}
 use Rattle.bz_hosts.proofs.Alternating.{Alternating}
 use Rattle.bz_hosts.proofs.Cuts.{BracketAt, Cut, comma_goes, is_token, item_goes}
 use Rattle.bz_hosts.proofs.SeenParts.{Decoded, AllDecoded, comments_made, no_break_made, root_made}

@@ -7,23 +7,22 @@ use Rattle.std.proofs.lemmas.Bool.Decides.{nat_tests}
 use Rattle.std.proofs.lemmas.List.{map-append}
 use Rattle.bz_lex.specs.declared.leaf.Leaf.{Leaf}
 use Rattle.bz_grammar.specs.declared.tree.Part.{Part, Node'}
-use Rattle.bz_grammar.specs.declared.tree.Part.TheVariants as p
-use Rattle.bz_grammar.specs.Shapes as s
 use Rattle.bz_value.specs.declared.value.Expr.{Expr}
 use Rattle.bz_value.specs.Comments.{HostComments}
 use Rattle.bz_items.specs.Characters.{Bytes}
 use Rattle.bz_value.specs.Gaps.{as_list, suffix_in, others_in, all_in}
 use Rattle.bz_value.specs.Proper.{comments_of}
-use Rattle.bz_hosts.specs.View.{seen, plain, items_in}
+use Rattle.bz_hosts.specs.Seen.{seen, plain, items_in}
 use Rattle.bz_hosts.proofs.SeenParts.{comments_made}
 use Rattle.bz_hosts.specs.Hosts.{Region, host, between, beginning_in, Comment, comments_at, sizes, measured, hosts_from, CommentPlace, suffix_of, above, end_of, texts_at, Hosted, hosted, hosted_at, hosted_by, inside_expr}
 use Rattle.bz_hosts.proofs.Around.{AllInside, Sees, SeesAt, Ended, sees_after, sees_before, sees_in_host, sees_past_host, sees_ended}
-use Rattle.bz_hosts.proofs.Gathered.{key, pick, pick_same, pick_other, pick_joined, GapPlaces, texts_joined, gap_texts, gap_all}
-use Rattle.bz_hosts.proofs.HostsJoined.{Lines, three_none, three_first, three_second, three_third, five_none, five_first, five_third, five_rest}
+use Rattle.bz_hosts.proofs.Gathered.{key, pick, pick_same, pick_other, pick_joined, GapPlaces, texts_joined, gap_texts, gap_all, three_none, three_first, three_second, three_third, five_none, five_first, five_third, five_rest}
 use Rattle.bz_hosts.proofs.Parts.{size, inner, in_parts, after_parts}
 use Rattle.bz_hosts.proofs.Alternating.{IsItem, IsMark, Alternating, Regions, hosts_closed, hosts_last, hosts_more, hosts_inside}
 use Rattle.bz_hosts.proofs.Insides.{inside_list, inside_made}
 use Rattle.bz_hosts.proofs.Texts.{Inner, PartTexts, InHost}
+use Rattle.bz_grammar.specs.declared.tree.Part.TheVariants as p
+use Rattle.bz_grammar.specs.Shapes as s
 
 -- ---- places in a sequence
 
@@ -110,7 +109,7 @@ module _ (all : List Region) (o hi n : ℕ) (x : Part) (l : Leaf) (opened : o < 
   last_texts =
       let b : ℕ = n + size x in
       let rs : List Region = (measured x).inside n in
-      let loose : Lines = (seen x).loose in
+      let loose : List Bytes = (seen x).loose in
       let some = r.some in
       let sees : SeesAt all (Some (between o hi)) (suc n) hi (host n b b ∷ (rs ++ [])) = λ q v w. subst (Sees all q (Some (between o hi)) hi) (hosts_last s.comma_mark n x l item mark) (s' q v w) in
       let part : PartTexts all n n x = i n b b n (omega arith) (λ q v w. sees_before all q (Some (host n b b)) hi b hi b rs [] tt (omega arith) (omega arith) (omega arith)
@@ -118,7 +117,7 @@ module _ (all : List Region) (o hi n : ℕ) (x : Part) (l : Leaf) (opened : o < 
       let places : GapPlaces all b (suffix_of n) (end_of o) = gap_ended all b n o hi []
       (sees_ended all b (Some (between o hi)) hi n b b hi rs [] (omega arith) (omega arith) (omega arith) (r.within n) tt (omega arith) (sees b (omega arith) (omega arith))) in
       let collected : (q : CommentPlace) → texts_at all q (after_parts n (x ∷ p.Leaf l ∷ [])) ≡ texts_at all q (inner n x) ++ (pick (suffix_of n) q (as_list (suffix_in l.gap)) ++ pick (end_of o) q (others_in l.gap)) =
-      λ q. texts_joined all q (inner n x) (comments_at b l.gap ++ []) ∙ ap (λ (z : Lines). texts_at all q (inner n x) ++ z)
+      λ q. texts_joined all q (inner n x) (comments_at b l.gap ++ []) ∙ ap (λ (z : List Bytes). texts_at all q (inner n x) ++ z)
       (texts_joined all q (comments_at b l.gap) [] ∙ (append-nil (texts_at all q (comments_at b l.gap)) ∙ gap_texts all q (suffix_of n) (end_of o) b l.gap places)) in
       record {
         outer = λ q u.
@@ -129,11 +128,11 @@ module _ (all : List Region) (o hi n : ℕ) (x : Part) (l : Leaf) (opened : o < 
             let here : From n hi (above n) = (omega arith, omega arith) in
             let inside : map (hosted_at all cs) rs ≡ inside_expr (plain (seen x)) = part.hosts cs (λ q j.
             let j0 = j.0 in
-            f q (inl (omega arith, omega (arith, j.1))) ∙ (ap (λ (z : Lines). z ++ texts_at all q (after_parts n (x ∷ p.Leaf l ∷ []))) (pick_other (above n) q before (λ e. omega arith))
+            f q (inl (omega arith, omega (arith, j.1))) ∙ (ap (λ (z : List Bytes). z ++ texts_at all q (after_parts n (x ∷ p.Leaf l ∷ []))) (pick_other (above n) q before (λ e. omega arith))
             ∙ (collected q ∙ three_first _ _ _ (texts_at all q (inner n x)) refl (pick_other (suffix_of n) q (as_list (suffix_in l.gap)) (λ e. omega arith)) (pick_other (end_of o) q (others_in l.gap) (λ e. omega arith))))) in
             let at_above : texts_at all (above n) cs ≡ before ++ loose =
-            f (above n) (inl here) ∙ (ap (λ (z : Lines). z ++ texts_at all (above n) (after_parts n (x ∷ p.Leaf l ∷ []))) (pick_same (above n) before)
-            ∙ ap (λ (z : Lines). before ++ z) (collected (above n) ∙ three_first _ _ _ loose (part.outer (above n) (λ j. omega (arith, j.0)) ∙ pick_same (above n) loose) refl refl)) in
+            f (above n) (inl here) ∙ (ap (λ (z : List Bytes). z ++ texts_at all (above n) (after_parts n (x ∷ p.Leaf l ∷ []))) (pick_same (above n) before)
+            ∙ ap (λ (z : List Bytes). before ++ z) (collected (above n) ∙ three_first _ _ _ loose (part.outer (above n) (λ j. omega (arith, j.0)) ∙ pick_same (above n) loose) refl refl)) in
             let at_suffix : texts_at all (suffix_of n) cs ≡ as_list (suffix_in l.gap) =
             f (suffix_of n) (inl here) ∙ (collected (suffix_of n) ∙ three_second _ _ _ (as_list (suffix_in l.gap)) (part.outer (suffix_of n) (λ j. omega (arith, j.0))) (pick_same (suffix_of n) (as_list (suffix_in l.gap))) refl) in
             let at_end : texts_at all (end_of o) cs ≡ others_in l.gap =
@@ -153,7 +152,7 @@ module _ (all : List Region) (o hi n : ℕ) (x : Part) (l : Leaf) (z : Part) (xs
       let n' : ℕ = suc b in
       let rs : List Region = (measured x).inside n in
       let rs' : List Region = hosts_from s.comma_mark n' (map measured (z ∷ xs)) in
-      let loose : Lines = (seen x).loose in
+      let loose : List Bytes = (seen x).loose in
       let gap : Bytes = (seen z).gap in
       let place : CommentPlace = first_place o n' (z ∷ xs) in
       let some = r.some in
@@ -177,9 +176,9 @@ module _ (all : List Region) (o hi n : ℕ) (x : Part) (l : Leaf) (z : Part) (xs
       let collected : (q : CommentPlace) → texts_at all q whole ≡ texts_at all q (inner n x) ++ (pick place q (all_in l.gap) ++ ((pick (suffix_of n) q (as_list (suffix_in gap)) ++ pick place q (others_in gap)) ++ texts_at all q following)) =
       λ q. ap (λ (y : ℕ). texts_at all q (inner n x ++ (comments_at b l.gap ++ in_parts y (z ∷ xs)))) one
       ∙ (texts_joined all q (inner n x) (comments_at b l.gap ++ (comments_at n' gap ++ following))
-      ∙ ap (λ (y : Lines). texts_at all q (inner n x) ++ y) (texts_joined all q (comments_at b l.gap) (comments_at n' gap ++ following)
-      ∙ (ap (λ (y : Lines). y ++ texts_at all q (comments_at n' gap ++ following)) (gap_all all q place b l.gap at_comma)
-      ∙ ap (λ (y : Lines). pick place q (all_in l.gap) ++ y) (texts_joined all q (comments_at n' gap) following ∙ ap (λ (y : Lines). y ++ texts_at all q following) (gap_texts all q (suffix_of n) place n' gap at_next))))) in
+      ∙ ap (λ (y : List Bytes). texts_at all q (inner n x) ++ y) (texts_joined all q (comments_at b l.gap) (comments_at n' gap ++ following)
+      ∙ (ap (λ (y : List Bytes). y ++ texts_at all q (comments_at n' gap ++ following)) (gap_all all q place b l.gap at_comma)
+      ∙ ap (λ (y : List Bytes). pick place q (all_in l.gap) ++ y) (texts_joined all q (comments_at n' gap) following ∙ ap (λ (y : List Bytes). y ++ texts_at all q following) (gap_texts all q (suffix_of n) place n' gap at_next))))) in
       let place_mine : Mine o n' hi place = first_mine o n' hi (z ∷ xs) (omega arith) in
       let place_later : (q : CommentPlace) → key q ≡ suc (n + n) → key place ≡ key q → ⊥ = λ q e d. mine_later o n n' hi place opened (omega arith) (d ∙ e) place_mine in
       let place_beyond : (q : CommentPlace) → Inner n b q → key place ≡ key q → ⊥ = λ q j d. mine_beyond o n b n' hi place opened (omega arith) place_mine (subst (λ (y : ℕ). (suc (suc (n + n)) ≤ y) × (y < b + b)) (sym d) j) in
@@ -193,12 +192,12 @@ module _ (all : List Region) (o hi n : ℕ) (x : Part) (l : Leaf) (z : Part) (xs
             let here : From n hi (above n) = (omega arith, omega arith) in
             let inside : map (hosted_at all cs) rs ≡ inside_expr (plain (seen x)) = part.hosts cs (λ q j.
             let j0 = j.0 in
-            f q (inl (omega arith, omega (arith, j.1))) ∙ (ap (λ (y : Lines). y ++ texts_at all q whole) (pick_other (above n) q before (λ e. omega arith))
+            f q (inl (omega arith, omega (arith, j.1))) ∙ (ap (λ (y : List Bytes). y ++ texts_at all q whole) (pick_other (above n) q before (λ e. omega arith))
             ∙ (collected q ∙ five_first _ _ _ _ _ (texts_at all q (inner n x)) refl (pick_other place q (all_in l.gap) (place_beyond q j)) (pick_other (suffix_of n) q (as_list (suffix_in gap)) (λ e. omega arith))
             (pick_other place q (others_in gap) (place_beyond q j)) (rest.outer q (λ k. mine_beyond o n b n' hi q opened (omega arith) k j))))) in
             let at_above : texts_at all (above n) cs ≡ before ++ loose =
-            f (above n) (inl here) ∙ (ap (λ (y : Lines). y ++ texts_at all (above n) whole) (pick_same (above n) before)
-            ∙ ap (λ (y : Lines). before ++ y) (collected (above n) ∙ five_first _ _ _ _ _ loose (part.outer (above n) (λ j. omega (arith, j.0)) ∙ pick_same (above n) loose)
+            f (above n) (inl here) ∙ (ap (λ (y : List Bytes). y ++ texts_at all (above n) whole) (pick_same (above n) before)
+            ∙ ap (λ (y : List Bytes). before ++ y) (collected (above n) ∙ five_first _ _ _ _ _ loose (part.outer (above n) (λ j. omega (arith, j.0)) ∙ pick_same (above n) loose)
             (pick_other place (above n) (all_in l.gap) (place_later (above n) refl)) refl (pick_other place (above n) (others_in gap) (place_later (above n) refl))
             (rest.outer (above n) (mine_later o n n' hi (above n) opened (omega arith) refl)))) in
             let at_suffix : texts_at all (suffix_of n) cs ≡ as_list (suffix_in gap) =
@@ -207,10 +206,10 @@ module _ (all : List Region) (o hi n : ℕ) (x : Part) (l : Leaf) (z : Part) (xs
             (pick_other place (suffix_of n) (others_in gap) (place_later (suffix_of n) refl)) (rest.outer (suffix_of n) (mine_later o n n' hi (suffix_of n) opened (omega arith) refl))) in
             let next = rest.found cs (all_in l.gap ++ others_in gap) (λ q j.
             let differ : suc (n + n) ≡ key q → ⊥ = λ e. mine_later o n n' hi q opened (omega arith) (sym e) j in
-            f q (mine_wider o n n' hi q (omega arith) j) ∙ (ap (λ (y : Lines). y ++ texts_at all q whole) (pick_other (above n) q before differ)
+            f q (mine_wider o n n' hi q (omega arith) j) ∙ (ap (λ (y : List Bytes). y ++ texts_at all q whole) (pick_other (above n) q before differ)
             ∙ (collected q ∙ (five_rest _ (pick place q (all_in l.gap)) _ (pick place q (others_in gap)) (texts_at all q following)
             (part.outer q (mine_beyond o n b n' hi q opened (omega arith) j) ∙ pick_other (above n) q loose differ) (pick_other (suffix_of n) q (as_list (suffix_in gap)) differ)
-            ∙ ap (λ (y : Lines). y ++ texts_at all q following) (sym (pick_joined place q (all_in l.gap) (others_in gap))))))) in (
+            ∙ ap (λ (y : List Bytes). y ++ texts_at all q following) (sym (pick_joined place q (all_in l.gap) (others_in gap))))))) in (
               ap (map (hosted_at all cs)) (hosts_more s.comma_mark n x l (z ∷ xs) item mark) ∙ host_with all n b n' x (record { before = before ++ loose; suffix = suffix_in gap }) cs rs'
                   (inside_list (items_in (all_in l.gap ++ others_in gap) (map seen (z ∷ xs))).0) at_above at_suffix inside next.0,
               next.1,

@@ -3,21 +3,20 @@ use Rattle.std.proofs.Common.{◌≡◌, ℕ, suc, ◌+◌, ◌<◌, ◌≤◌, 
 use Rattle.std.specs.List.{AllByRecursion, flat_map}
 use Rattle.bz_lex.specs.declared.leaf.Leaf.{Leaf}
 use Rattle.bz_grammar.specs.declared.tree.Part.{Part, Node'}
-use Rattle.bz_grammar.specs.declared.tree.Part.TheVariants as p
-use Rattle.bz_grammar.specs.Shapes as s
 use Rattle.bz_value.specs.declared.value.Item.{Item}
 use Rattle.bz_items.specs.Characters.{Bytes}
 use Rattle.bz_value.specs.Gaps.{as_list, suffix_in, others_in, all_in}
-use Rattle.bz_hosts.specs.View.{seen, plain, statement, statements_in}
+use Rattle.bz_hosts.specs.Seen.{seen, plain, statement, statements_in}
 use Rattle.bz_hosts.proofs.QuietGaps.{Quiet}
 use Rattle.bz_hosts.specs.Hosts.{Region, host, Comment, comments_at, sizes, measured, hosts_from, CommentPlace, suffix_of, above, outside, texts_at, hosted_at, inside_expr, inside_item}
 use Rattle.bz_hosts.proofs.Around.{AllInside, Sees, SeesAt, Ended, sees_after, sees_before, sees_in_host, sees_past_host, sees_ended}
-use Rattle.bz_hosts.proofs.Gathered.{key, pick, pick_same, pick_other, pick_none, GapPlaces, none_in, texts_joined, gap_texts}
+use Rattle.bz_hosts.proofs.Gathered.{key, pick, pick_same, pick_other, pick_none, GapPlaces, none_in, texts_joined, gap_texts, three_none, three_first, three_second, three_third}
 use Rattle.bz_hosts.proofs.Parts.{size, inner, in_parts, after_parts}
 use Rattle.bz_hosts.proofs.Alternating.{IsItem, IsMark, Alternating, Regions, hosts_closed, hosts_last, hosts_more, hosts_inside}
 use Rattle.bz_hosts.proofs.Texts.{PartTexts, InHost}
-use Rattle.bz_hosts.proofs.HostsJoined.{Lines, three_none, three_first, three_second, three_third}
 use Rattle.bz_hosts.proofs.Sequences.{From, host_with}
+use Rattle.bz_grammar.specs.declared.tree.Part.TheVariants as p
+use Rattle.bz_grammar.specs.Shapes as s
 
 -- Comments of statements from the leaf n on: none has a place of other leaves; and where all comments have at these places no
 -- other texts, the regions hold what the items do.
@@ -39,7 +38,7 @@ gap_ended all m first hi rs h = record { on_line = λ t. rw h.ends refl; below =
 pub gap_suffix : (all : List Region) (m first : ℕ) (gap : Bytes) → GapPlaces all m (suffix_of first) outside → (q : CommentPlace) → 0 < key q → texts_at all q (comments_at m gap) ≡ pick (suffix_of first) q (as_list (suffix_in gap))
 gap_suffix all m first gap h q k =
     gap_texts all q (suffix_of first) outside m gap h
-    ∙ (ap (λ (z : Lines). pick (suffix_of first) q (as_list (suffix_in gap)) ++ z) (pick_other outside q (others_in gap) (λ e. omega arith)) ∙ append-nil (pick (suffix_of first) q (as_list (suffix_in gap))))
+    ∙ (ap (λ (z : List Bytes). pick (suffix_of first) q (as_list (suffix_in gap)) ++ z) (pick_other outside q (others_in gap) (λ e. omega arith)) ∙ append-nil (pick (suffix_of first) q (as_list (suffix_in gap))))
 
 -- ---- a statement before others
 
@@ -49,7 +48,7 @@ module _ (all : List Region) (n n' hi next : ℕ) (x : Part) (suffix : Option By
   statement_texts : LineTexts all n hi whole (host n (n + size x) next ∷ ((measured x).inside n ++ rs)) (statement [] suffix (seen x) ∷ items)
   statement_texts =
       let b : ℕ = n + size x in
-      let loose : Lines = (seen x).loose in
+      let loose : List Bytes = (seen x).loose in
       let here : From n hi (above n) = (omega arith, omega arith) in
       record {
         outer = λ q k o.
@@ -87,8 +86,8 @@ module _ (all : List Region) (n hi : ℕ) (x : Part) (l : Leaf) (r : Regions x) 
       let places : GapPlaces all next (suffix_of n) outside =
       gap_ended all next n hi [] (sees_ended all next None hi n b hi hi rs [] (omega arith) (omega arith) (omega arith) (r.within n) tt (omega arith) (sees next (omega arith) (omega arith))) in
       let collected : (q : CommentPlace) → 0 < key q → texts_at all q whole ≡ texts_at all q (inner n x) ++ (pick (suffix_of n) q (as_list (suffix_in l'.gap)) ++ texts_at all q []) =
-      λ q k. ap (texts_at all q) same ∙ (texts_joined all q (inner n x) (comments_at next l'.gap ++ []) ∙ ap (λ (z : Lines). texts_at all q (inner n x) ++ z)
-      (texts_joined all q (comments_at next l'.gap) [] ∙ ap (λ (z : Lines). z ++ []) (gap_suffix all next n l'.gap places q k))) in
+      λ q k. ap (texts_at all q) same ∙ (texts_joined all q (inner n x) (comments_at next l'.gap ++ []) ∙ ap (λ (z : List Bytes). texts_at all q (inner n x) ++ z)
+      (texts_joined all q (comments_at next l'.gap) [] ∙ ap (λ (z : List Bytes). z ++ []) (gap_suffix all next n l'.gap places q k))) in
       subst (λ (z : List Region). LineTexts all n hi whole z (statement [] (suffix_in l'.gap) (seen x) ∷ [])) (sym is)
       (statement_texts all n hi hi next x (suffix_in l'.gap) whole [] [] [] some (omega arith) (omega arith) part collected (nothing_there all hi hi))
 
@@ -145,7 +144,7 @@ module _ (all : List Region) (n hi : ℕ) (x : Part) (l : Leaf) (r : Regions x) 
       let part : PartTexts all n n x = inside_it z (u ∷ xs) item mark up a r' s' in
       let same : whole ≡ inner n x ++ following = split z (u ∷ xs) silent ∙ ap (λ (y : List Comment). inner n x ++ (y ++ following)) (silent_gap n' (seen z).gap silent') in
       let collected : (q : CommentPlace) → 0 < key q → texts_at all q whole ≡ texts_at all q (inner n x) ++ (pick (suffix_of n) q (as_list None) ++ texts_at all q following) =
-      λ q k. ap (texts_at all q) same ∙ (texts_joined all q (inner n x) following ∙ ap (λ (y : Lines). texts_at all q (inner n x) ++ (y ++ texts_at all q following)) (sym (pick_none (suffix_of n) q))) in
+      λ q k. ap (texts_at all q) same ∙ (texts_joined all q (inner n x) following ∙ ap (λ (y : List Bytes). texts_at all q (inner n x) ++ (y ++ texts_at all q following)) (sym (pick_none (suffix_of n) q))) in
       subst (λ (y : List Region). LineTexts all n hi whole y (statements_in [] (map seen (x ∷ p.Leaf l ∷ z ∷ u ∷ xs)))) (sym (hosts_more s.semicolon n x l (z ∷ u ∷ xs) item mark))
       (statement_texts all n n' hi n' x None whole following (hosts_from s.semicolon n' (map measured (z ∷ u ∷ xs))) (statements_in [] (map seen (z ∷ u ∷ xs))) some (omega arith) (omega arith) part collected
       (next (sees_later z (u ∷ xs) item mark up a r' s')))

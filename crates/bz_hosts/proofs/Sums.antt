@@ -13,7 +13,7 @@ use Rattle.bz_value.specs.Counted.{total, suffix_amount, host_amount, amount, it
 use Rattle.bz_value.specs.Frames.{Frame, frame}
 use Rattle.bz_items.specs.Characters.{Bytes}
 use Rattle.bz_value.specs.Gaps.{GapLine, lines_of, as_list, comments_in, first_comment, after_first_line, put_on_first, before_groups, groups_of, all_but_last, last_group, suffix_in, others_in, all_in}
-use Rattle.bz_hosts.specs.View.{Seen, seen, seen_row, seen_node, plain, blocks, form_of_frame}
+use Rattle.bz_hosts.specs.Seen.{Seen, seen, seen_row, seen_node, plain, blocks, form_of_frame}
 
 module _ (number : Bytes → ℕ) where
   -- ---- gaps

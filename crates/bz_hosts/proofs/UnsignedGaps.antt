@@ -6,7 +6,7 @@ use Rattle.bz_grammar.specs.declared.tree.Part.{Part}
 use Rattle.bz_lex.specs.Gaps.{is_indent}
 use Rattle.bz_items.specs.Characters.{Bytes, backslash, line_feed, number_sign, space}
 use Rattle.bz_value.specs.Gaps.{GapLine, lines_from, rest_of_line, lines_of, as_list, comments_in, suffix_in, others_in, all_in, some_newline, has_newline}
-use Rattle.bz_hosts.specs.View.{Seen, seen, first_seen_gap}
+use Rattle.bz_hosts.specs.Seen.{Seen, seen, first_seen_gap}
 use Rattle.bz_hosts.proofs.Gathered.{none_in}
 use Rattle.bz_hosts.specs.private.Walks.{above_after, is_unsigned, item_gap}
 

@@ -1,16 +1,14 @@
 -- Hosts of comments by their places in the whole text. The leaves of a tree are numbered from 0, in the order of the text.
 -- A host is a statement or an item of a sequence; a sequence is what is between the brackets of a Call, List, Dict,
 -- Tuple or Load. Both are given by the numbers of their leaves alone.
-use Rattle.std.specs.Prelude.{ℕ, zero, suc, ◌+◌, Bool, true, false, ◌&&◌, List, [], ◌∷◌, ◌++◌, Option, Some, None, length, map, take, drop, nat_eq, nat_lt, nat_le, if◌then◌else◌}
+use Rattle.std.specs.Prelude.{ℕ, zero, suc, ◌+◌, Bool, true, false, ◌&&◌, List, [], ◌∷◌, ◌++◌, Option, Some, None, map, take, drop, nat_eq, nat_lt, nat_le, if◌then◌else◌}
 use Rattle.std.specs.Option.{option_map_or}
 use Rattle.bz_token.specs.declared.class.Class.{Class}
 use Rattle.bz_token.specs.declared.class.Class.TheVariants as c
 use Rattle.bz_lex.specs.declared.leaf.Leaf.{Leaf}
 use Rattle.bz_grammar.specs.declared.kind.Kind.{Kind}
-use Rattle.bz_grammar.specs.declared.tree.Node.{Node}
 use Rattle.bz_grammar.specs.declared.tree.Part.{Part, Row_of-Part, end_of-Part, more_of-Part, Node'}
 use Rattle.bz_grammar.specs.declared.tree.Part.TheVariants as p
-use Rattle.bz_grammar.specs.Spell.{leaves_of}
 use Rattle.bz_grammar.specs.Shapes as s
 use Rattle.bz_grammar.specs.Shapes.{Terminal, has_token}
 use Rattle.bz_value.specs.declared.value.Expr.{Expr, Token, Form', Row_of-Expr, end_of-Expr, more_of-Expr}
@@ -102,15 +100,6 @@ abbrev mutual
   pub measured_row : {m : _} → Row_of-Part m → List Measured
   measured_row end_of-Part = []
   measured_row (more_of-Part x rest) = measured x ∷ measured_row rest
-
--- the hosts and sequences of a line, whose statements semicolons separate; the end of a file has none
-abbrev pub in_line : ℕ → Part → List Region
-in_line n (p.Leaf l) = []
-in_line n (Node' kind _ r) = hosts_from s.semicolon n (measured_row r)
-
-abbrev pub regions_from : ℕ → List Part → List Region
-regions_from n [] = []
-regions_from n (x ∷ xs) = in_line n x ++ regions_from (n + (measured x).size) xs
 
 -- ---- places
 
@@ -218,24 +207,6 @@ right_above lines (suc n) = option_map_or (λ text. right_above lines n ++ text 
 abbrev pub bare_lines : ℕ → List GapLine → List ℕ
 bare_lines n [] = []
 bare_lines n (line ∷ lines) = option_map_or (λ text. []) line.comment (n ∷ []) ++ bare_lines (suc n) lines
-
--- Comment lines that follow each other form a group. A group whose last line is followed by a line without token and
--- comment, or by no token at all, is on its own; otherwise it is above the next statement.
-abbrev pub hosted_from : List Region → List Comment → List Leaf → ℕ → List Part → List Hosted
-hosted_from rs cs leaves n [] = []
-hosted_from rs cs leaves n (p.Leaf l ∷ xs) =
-    let lines : List GapLine = lines_before leaves n in
-    hosts_alone (map (right_above lines) (bare_lines 0 lines ++ length lines ∷ [])) ++ hosted_from rs cs leaves (suc n) xs
-hosted_from rs cs leaves n (Node' kind z r ∷ xs) =
-    let lines : List GapLine = lines_before leaves n in
-    let line : Part = Node' kind z r in
-    hosts_alone (map (right_above lines) (bare_lines 0 lines))
-    ++ with_group (right_above lines (length lines)) (map (hosted_at rs cs) (in_line n line))
-    ++ hosted_from rs cs leaves (n + (measured line).size) xs
-
--- the comments of a tree with their hosts, in the order in which the hosts begin
-abbrev pub hosted_in : Node → List Hosted
-hosted_in n = hosted_from (regions_from 0 n.parts) (comments_from 0 (leaves_of n)) (leaves_of n) 0 n.parts
 
 -- ---- the comments in a file value, in the same order
 

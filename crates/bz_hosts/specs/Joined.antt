@@ -9,7 +9,8 @@ use Rattle.bz_grammar.specs.Spell.{limit}
 use Rattle.bz_grammar.specs.Legal.{Reads}
 use Rattle.bz_grammar.specs.Joined.{AreWholeLines}
 use Rattle.bz_value.specs.Gaps.{GapLine, lines_of, after_first_line}
-use Rattle.bz_hosts.specs.View.{last_gap, seen_row, view_of}
+use Rattle.bz_hosts.specs.Seen.{last_gap, seen_row}
+use Rattle.bz_hosts.specs.View.{view_of}
 
 -- What the last of these lines leaves to what follows: the lines in the gap of its Newline after an escaped newline.
 -- left: those of the Newline before.

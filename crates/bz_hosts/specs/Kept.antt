@@ -2,7 +2,7 @@
 use Rattle.std.specs.Prelude.{◌≡◌, ℕ, List}
 use Rattle.std.specs.List.{flat_map}
 use Rattle.bz_grammar.specs.declared.tree.Node.{Node}
-use Rattle.bz_grammar.specs.Legal.{LegalBuild}
+use Rattle.bz_grammar.specs.Legal.{Legal}
 use Rattle.bz_grammar.specs.Spell.{leaves_of}
 use Rattle.bz_value.specs.Counted.{total, one_if, times}
 use Rattle.bz_items.specs.Characters.{Bytes}
@@ -19,4 +19,4 @@ occurrences text tree = total (one_if text) (comments_of_tree tree)
 
 -- Each comment of a legal tree is in its file value as often as in its gaps.
 abbrev pub CommentsKept : Type 0
-CommentsKept = (tree : Node) → LegalBuild tree → (text : Bytes) → times text (view_of tree) ≡ occurrences text tree
+CommentsKept = (tree : Node) → Legal tree → (text : Bytes) → times text (view_of tree) ≡ occurrences text tree

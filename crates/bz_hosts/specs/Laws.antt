@@ -2,15 +2,21 @@
 use Rattle.std.specs.Prelude.{◌≡◌}
 use Rattle.std.specs.List.{flat_map}
 use Rattle.bz_grammar.specs.declared.tree.Node.{Node}
-use Rattle.bz_grammar.specs.Legal.{LegalBuild}
+use Rattle.bz_grammar.specs.Legal.{IsBuild, Legal}
+use Rattle.bz_value.specs.BuildValues.{AreBuild}
 use Rattle.bz_value.specs.Proper.{IsProper}
-use Rattle.bz_hosts.specs.Hosts.{inside_item, hosted_in}
+use Rattle.bz_hosts.specs.Hosts.{inside_item}
+use Rattle.bz_hosts.specs.SuiteHosts.{hosted_in}
 use Rattle.bz_hosts.specs.View.{view_of}
 
--- what a legal tree is seen as is proper
+-- What a legal tree says is proper.
 abbrev pub ViewsAreProper : Type 0
-ViewsAreProper = (tree : Node) → LegalBuild tree → IsProper (view_of tree)
+ViewsAreProper = (tree : Node) → Legal tree → IsProper (view_of tree)
 
--- The view of a legal tree has each comment at the host that its place in the whole text gives it.
+-- What the tree of a BUILD file says has none of the newer kinds.
+abbrev pub BuildViews : Type 0
+BuildViews = (tree : Node) → IsBuild tree → AreBuild (view_of tree)
+
+-- What a legal tree says has each comment at the host that its place in the whole text gives it, and each suite its end comments.
 abbrev pub HostsByPlace : Type 0
-HostsByPlace = (n : Node) → LegalBuild n → flat_map inside_item (view_of n) ≡ hosted_in n
+HostsByPlace = (tree : Node) → Legal tree → flat_map inside_item (view_of tree) ≡ hosted_in tree

@@ -1,9 +1,8 @@
--- What a .bzl file says: its statements without gaps, each comment at its host.
+-- What statements are read as, those with suites too, each comment at its host.
 use Rattle.std.specs.Prelude.{ℕ, Bool, true, false, List, [], ◌∷◌, ◌++◌, Option, Some, None, map, drop, length, if◌then◌else◌, nat_le}
 use Rattle.bz_lex.specs.Gaps.{indent}
 use Rattle.bz_grammar.specs.declared.kind.Kind.{Kind}
 use Rattle.bz_grammar.specs.declared.kind.Kind.TheVariants as k
-use Rattle.bz_grammar.specs.declared.tree.Node.{Node}
 use Rattle.bz_grammar.specs.declared.tree.Part.{Part, Row_of-Part, end_of-Part, more_of-Part, Node'}
 use Rattle.bz_grammar.specs.declared.tree.Part.TheVariants as p
 use Rattle.bz_grammar.specs.Shapes.{is_kind, is_one_of, colon_mark}
@@ -12,9 +11,9 @@ use Rattle.bz_value.specs.declared.value.Expr.TheVariants as e
 use Rattle.bz_value.specs.declared.value.Item.{Item}
 use Rattle.bz_value.specs.declared.value.Item.TheVariants as i
 use Rattle.bz_value.specs.Frames.{frame, is_header}
-use Rattle.bz_value.specs.Gaps.{GapLine, lines_of, comments_in, after_first_line, all_in, groups_of, all_but_last, last_group}
+use Rattle.bz_value.specs.Gaps.{GapLine, lines_of, comments_in, after_first_line, all_in}
 use Rattle.bz_items.specs.Characters.{Bytes}
-use Rattle.bz_hosts.specs.View.{Seen, seen, seen_node, plain, first_seen_gap, last_gap, statements_in, blocks}
+use Rattle.bz_hosts.specs.Seen.{Seen, seen, seen_node, plain, first_seen_gap, last_gap, statements_in}
 
 -- ---- lines
 
@@ -164,20 +163,3 @@ abbrev mutual
   pub stated_row : {m : _} → Row_of-Part m → List Stated
   stated_row end_of-Part = []
   stated_row (more_of-Part x rest) = stated x ∷ stated_row rest
-
--- ---- the file
-
--- Comment lines that follow each other form a group. A group whose last line is followed by a line without token and
--- comment, or by no token at all, is a Block of its own; otherwise it is above the next statement.
--- lines: those before the first of these parts
-abbrev pub bzl_items : List GapLine → List Part → List Item
-bzl_items lines [] = []
-bzl_items lines (p.Leaf l ∷ xs) = blocks (groups_of lines) ++ bzl_items [] xs
-bzl_items lines (Node' kind size row ∷ xs) =
-    let groups : List (List Bytes) = groups_of lines in
-    let own : ReadStatements (List Expr) = (stated (Node' kind size row)).statement (last_group groups) (indented_lines_before (map stated xs) []) in
-    blocks (all_but_last groups) ++ (map i.Stmt own.0 ++ bzl_items own.1 xs)
-
--- what a .bzl file's tree says
-abbrev pub bzl_view_of : Node → List Item
-bzl_view_of n = bzl_items (indented_lines_before (map stated n.parts) []) n.parts

@@ -16,7 +16,8 @@ use Rattle.bz_value.specs.declared.value.Item.TheVariants as i
 use Rattle.bz_value.specs.Comments.{HostComments, no_comments}
 use Rattle.bz_value.specs.Counted.{times}
 use Rattle.bz_items.specs.Characters.{Bytes}
-use Rattle.bz_hosts.specs.Hosts.{block, hosted, ended, hosted_in}
+use Rattle.bz_hosts.specs.Hosts.{block, hosted, ended}
+use Rattle.bz_hosts.specs.SuiteHosts.{hosted_in}
 use Rattle.bz_hosts.specs.Kept.{comments_of_tree, occurrences}
 use Rattle.bz_hosts.specs.View.{view_of}
 

@@ -2,7 +2,7 @@
 ghost use Rattle.std.specs.Prelude.{◌≡◌, ◌&&◌, ◌+◌, ◌<◌, ◌≤◌, [], map, drop, length, false, IsTrue, MatchOption};
 ghost use Rattle.bz_value.specs.Gaps.{has_newline};
 ghost use Rattle.bz_value.specs.Proper.{is_operator};
-ghost use Rattle.bz_hosts.specs.View.{begins_seen_operator, first_seen_gap, is_split, last_gap, plain, seen};
+ghost use Rattle.bz_hosts.specs.Seen.{begins_seen_operator, first_seen_gap, is_split, last_gap, plain, seen};
 ghost use Rattle.bz_hosts.specs.private.Walks.{is_unsigned};
 
 use bz_grammar::Part;
@@ -46,7 +46,7 @@ fn first_gap_at(parts: &[Part], at: usize) -> Option<&Gap>
 }
 
 /// The gap before the first token of a part.
-pub fn gap_before(part: &Part) -> &[u8]
+pub(crate) fn gap_before(part: &Part) -> &[u8]
     ensures { result.now ≡ (seen part.now).gap }
 {
     match part {
@@ -56,7 +56,7 @@ pub fn gap_before(part: &Part) -> &[u8]
 }
 
 /// The gap before the part with this index; past the last part there is none.
-pub fn gap_at(parts: &[Part], at: usize) -> &[u8]
+pub(crate) fn gap_at(parts: &[Part], at: usize) -> &[u8]
     ensures { result.now ≡ first_seen_gap (map seen (drop at parts.now)) }
 {
     first_gap_at(parts, at).map_or(&[], |gap| gap.as_slice())
@@ -64,7 +64,7 @@ pub fn gap_at(parts: &[Part], at: usize) -> &[u8]
 
 /// Whether it is seen at a glance that no comment is before the part with this index.
 #[inline(always)]
-pub fn is_quiet_at(parts: &[Part], at: usize) -> bool
+pub(crate) fn is_quiet_at(parts: &[Part], at: usize) -> bool
     ensures { result ≡ is_unsigned (first_seen_gap (map seen (drop at parts.now))) }
 {
     match first_gap_at(parts, at) {
@@ -74,7 +74,7 @@ pub fn is_quiet_at(parts: &[Part], at: usize) -> bool
 }
 
 /// The gap before the last of these parts.
-pub fn gap_of_last(parts: &[Part]) -> &[u8]
+pub(crate) fn gap_of_last(parts: &[Part]) -> &[u8]
     ensures { result.now ≡ last_gap (map seen parts.now) }
 {
     match parts {
@@ -84,14 +84,14 @@ pub fn gap_of_last(parts: &[Part]) -> &[u8]
 }
 
 /// Whether an unescaped newline is before the part with this index.
-pub fn breaks_before(parts: &[Part], at: usize) -> bool
+pub(crate) fn breaks_before(parts: &[Part], at: usize) -> bool
     ensures { result ≡ has_newline (first_seen_gap (map seen (drop at parts.now))) }
 {
     first_gap_at(parts, at).is_some_and(breaks)
 }
 
 /// Whether an unescaped newline is before a part from this index on.
-pub fn breaks_from(parts: &[Part], from: usize) -> bool
+pub(crate) fn breaks_from(parts: &[Part], from: usize) -> bool
     ensures { result ≡ is_split (map seen (drop from parts.now)) }
 {
     for at in from..parts.len() {
@@ -103,7 +103,7 @@ pub fn breaks_from(parts: &[Part], from: usize) -> bool
 }
 
 /// Whether a part follows the one with this index.
-pub fn is_followed(parts: &[Part], at: usize) -> bool
+pub(crate) fn is_followed(parts: &[Part], at: usize) -> bool
     ensures yes { IsTrue result → at + 1 < length parts.now }
     ensures no { result ≡ false → length parts.now ≤ at + 1 }
 {
@@ -111,14 +111,14 @@ pub fn is_followed(parts: &[Part], at: usize) -> bool
 }
 
 /// Whether the part is a token of an operator, where the row that it is in is one of operands and operators.
-pub fn is_operator_in(binary: bool, part: &Part) -> bool
+pub(crate) fn is_operator_in(binary: bool, part: &Part) -> bool
     ensures { result ≡ (binary && is_operator (plain (seen part.now))) }
 {
     binary && matches!(part, Part::Leaf(leaf) if is_operator_class(leaf.class))
 }
 
 /// Whether the part with this index is a token of an operator.
-pub fn is_operator_at(parts: &[Part], at: usize) -> bool
+pub(crate) fn is_operator_at(parts: &[Part], at: usize) -> bool
     ensures { result ≡ begins_seen_operator (map seen (drop at parts.now)) }
 {
     parts.get(at).is_some_and(|part| is_operator_in(true, part))

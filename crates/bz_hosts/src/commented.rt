@@ -3,7 +3,7 @@ ghost use Rattle.std.specs.Prelude.{◌≡◌, [], ◌∷◌, ◌++◌, ◌<◌,
 ghost use Rattle.bz_grammar.specs.declared.tree.Part.{Part};
 ghost use Rattle.bz_value.specs.declared.value.Expr.{Expr};
 ghost use Rattle.bz_value.specs.Gaps.{suffix_in as suffix_decoded};
-ghost use Rattle.bz_hosts.specs.View.{plain, seen};
+ghost use Rattle.bz_hosts.specs.Seen.{plain, seen};
 ghost use Rattle.bz_hosts.specs.private.Walks.{above_after, item_gap, line_gap};
 
 use crate::before::is_quiet_at;

@@ -2,7 +2,7 @@
 ghost use Rattle.std.specs.Prelude.{◌≡◌, [], ◌∷◌, ◌++◌, ◌≤◌, map, take, drop, suc, false, IfOk, OnOk};
 ghost use Rattle.bz_value.specs.Comments.{no_comments};
 ghost use Rattle.bz_value.specs.Frames.{frame};
-ghost use Rattle.bz_hosts.specs.View.{form_of_frame, loose_in, loose_of, plain, row_exprs, seen, seq_in};
+ghost use Rattle.bz_hosts.specs.Seen.{form_of_frame, loose_in, loose_of, plain, row_exprs, seen, seq_in};
 
 use crate::before::{breaks_from, is_followed, is_operator_in};
 use crate::commented::comment_last;
@@ -85,7 +85,7 @@ pub(crate) fn push_form(
 /// The same of a node of this kind with these parts.
 #[cycle(seen)]
 #[inline(always)]
-pub fn push_parts(
+pub(crate) fn push_parts(
     alloc: Global,
     kind: Kind,
     parts: &[Part],

@@ -1,7 +1,7 @@
 //! Groups of comment lines at file level.
 ghost use Rattle.std.specs.Prelude.{◌≡◌, [], ◌∷◌, ◌++◌, List, OnOk, IfOk};
 ghost use Rattle.bz_value.specs.Gaps.{GapLine, all_but_last, groups_of, last_group, lines_of};
-ghost use Rattle.bz_hosts.specs.View.{blocks};
+ghost use Rattle.bz_hosts.specs.Seen.{blocks};
 ghost use Rattle.bz_hosts.specs.private.Walks.{prepend};
 
 use bz_items::{Items, Memory, Text};
@@ -45,7 +45,7 @@ fn push_lines(
 
 /// Appends the groups of comment lines of two gaps that follow each other, but for those right above what follows them, and
 /// returns those.
-pub fn push_groups(
+pub(crate) fn push_groups(
     alloc: Global,
     left: &[u8],
     gap: &[u8],
@@ -60,7 +60,7 @@ pub fn push_groups(
 }
 
 /// Appends all groups of comment lines of two gaps that follow each other.
-pub fn push_all_groups(
+pub(crate) fn push_all_groups(
     alloc: Global,
     left: &[u8],
     gap: &[u8],

@@ -2,7 +2,10 @@
 
 ghost use Rattle.bz_hosts.specs.Joined.{EmptyReads, ViewsJoin};
 ghost use Rattle.bz_hosts.specs.Kept.{CommentsKept};
-ghost use Rattle.bz_hosts.specs.Laws.{HostsByPlace, ViewsAreProper};
+ghost use Rattle.bz_hosts.specs.Laws.{BuildViews, HostsByPlace, ViewsAreProper};
+ghost use Rattle.bz_hosts.specs.SuiteHostRows.{WorkedSuiteHosts};
+ghost use Rattle.bz_hosts.specs.SuitesJoined.{SuitesJoin};
+ghost use Rattle.bz_hosts.specs.SuitesWorked.{WorkedSuites};
 ghost use Rattle.bz_hosts.specs.Worked.{WorkedHosts, WorkedViews};
 
 use bz_grammar::laws::lines_join;
@@ -12,9 +15,14 @@ pub fn comments_kept()
     ensures { CommentsKept }
 {}
 
-/// What a legal tree is seen as is a proper file value.
+/// What a legal tree says is a proper file value.
 pub fn views_are_proper()
     ensures { ViewsAreProper }
+{}
+
+/// What the tree of a BUILD file says has none of the kinds that BUILD files have not.
+pub fn build_views()
+    ensures { BuildViews }
 {}
 
 /// The view of a text after one that ends with a line is its own, after that of the other one; and that of no text is nothing.
@@ -25,12 +33,24 @@ pub fn views_join()
     lines_join();
 }
 
+/// What a text says that begins without comments, after a text that ends with a statement, is its own after that of the other one.
+pub fn suites_join()
+    ensures { SuitesJoin }
+{
+    lines_join();
+}
+
 /// Worked rows of the view: for each a text, its tree, and the file value, or how often its comments occur in it.
 pub fn worked_views()
     ensures { WorkedViews }
 {}
 
-/// The view of a legal tree has each comment at the host that its place in the text gives it.
+/// Worked rows of what files with suites say: for each a text, its tree, and its items.
+pub fn worked_suites()
+    ensures { WorkedSuites }
+{}
+
+/// The view of a legal tree has each comment at the host that its place in the whole text gives it, and each suite its end comments.
 pub fn hosts_by_place()
     ensures { HostsByPlace }
 {}
@@ -38,4 +58,9 @@ pub fn hosts_by_place()
 /// Worked rows: for each a text, its tree, and its comments with their hosts.
 pub fn worked_hosts()
     ensures { WorkedHosts }
+{}
+
+/// Worked rows of files with suites: for each a tree, and its comments with their hosts, by their places and by what the tree says.
+pub fn worked_suite_hosts()
+    ensures { WorkedSuiteHosts }
 {}

@@ -5,17 +5,18 @@ mod before;
 mod commented;
 mod expr;
 mod groups;
+mod headers;
 mod joined;
 mod laws;
 mod marks;
 mod moved;
+mod rest;
+mod suites;
 mod viewing;
 
-pub use before::{gap_at, gap_before, gap_of_last};
-pub use expr::push_parts;
-pub use groups::{push_all_groups, push_groups};
-pub use joined::ends_with_line;
+pub use joined::{begins_bare, ends_with_line};
 pub use laws::{
-    comments_kept, hosts_by_place, views_are_proper, views_join, worked_hosts, worked_views,
+    build_views, comments_kept, hosts_by_place, suites_join, views_are_proper, views_join,
+    worked_hosts, worked_suite_hosts, worked_suites, worked_views,
 };
-pub use viewing::{into_view, push_statements, view};
+pub use viewing::{into_view, view, view_front};

@@ -2,7 +2,7 @@
 ghost use Rattle.std.specs.Prelude.{◌≡◌, ◌++◌, ◌<◌, ◌&&◌, ◌||◌, not, map, drop, length, if◌then◌else◌, OnOk};
 ghost use Rattle.bz_value.specs.Frames.{is_comprehension};
 ghost use Rattle.bz_value.specs.Gaps.{all_in, has_newline, others_in};
-ghost use Rattle.bz_hosts.specs.View.{begins_seen_operator, first_seen_gap, is_open, seen};
+ghost use Rattle.bz_hosts.specs.Seen.{begins_seen_operator, first_seen_gap, is_open, seen};
 ghost use Rattle.bz_hosts.specs.private.Walks.{above_after, item_gap, line_gap};
 
 use crate::before::{breaks_before, gap_at, gap_of_last, is_followed, is_operator_at, is_quiet_at};

@@ -3,7 +3,7 @@
 ghost use Rattle.std.specs.Prelude.{◌≡◌, ◌∷◌, [], ◌++◌, ◌-◌, ◌<◌, ◌≤◌, length, map, drop, false, IfOk, OnOk};
 ghost use Rattle.bz_value.specs.Comments.{no_comments};
 ghost use Rattle.bz_value.specs.Frames.{frame};
-ghost use Rattle.bz_hosts.specs.View.{form_of_frame, loose_in, loose_of, row_exprs, seen, seq_in};
+ghost use Rattle.bz_hosts.specs.Seen.{form_of_frame, loose_in, loose_of, row_exprs, seen, seq_in};
 
 use crate::before::{breaks_from, is_followed, is_operator_in};
 use crate::commented::comment_last;

@@ -1,52 +1,110 @@
 //! The view of a tree as a file value, of one that stays and of one that is given up.
-ghost use Rattle.std.specs.Prelude.{◌≡◌, [], ◌++◌, map, IfOk, OnOk};
-ghost use Rattle.bz_grammar.specs.Legal.{IsBuild};
+ghost use Rattle.std.specs.Prelude.{◌≡◌, [], ◌++◌, map, IfOk, IsTrue, OnOk};
+ghost use Rattle.std.specs.List.{AllByRecursion};
 ghost use Rattle.bz_value.specs.Counted.{times};
 ghost use Rattle.bz_items.specs.Characters.{Bytes};
 ghost use Rattle.bz_hosts.specs.Kept.{occurrences};
-ghost use Rattle.bz_hosts.specs.View.{file_items, seen, statements_in, view_of};
+ghost use Rattle.bz_hosts.specs.Seen.{seen, statements_in};
+ghost use Rattle.bz_hosts.specs.Suites.{indented_lines_before, stated};
+ghost use Rattle.bz_hosts.specs.SuitesJoined.{EndsWithStatement};
+ghost use Rattle.bz_hosts.specs.View.{items_from, view_of};
+ghost use Rattle.bz_hosts.specs.private.Lines.{AreLines, IsSimpleLine, file_items};
 
 use crate::before::{gap_at, gap_of_last, is_followed};
 use crate::commented::push_statement;
 use crate::expr::push_expr;
 use crate::groups::{push_all_groups, push_groups};
+use crate::headers::is_kind;
+use crate::joined::ends_in_line;
 use crate::moved::{DEPTH, drop_row, give_back, push_moved};
-use bz_grammar::{Part, Tree};
+use crate::suites::items_of;
+use bz_grammar::{Kind, Part, Tree};
 use bz_items::{Items, Memory, Text};
 use bz_value::{File, Item, past_first_line};
 use std::alloc::Global;
 use std::mem;
 
-/// The file value of the tree of a BUILD file: its statements without gaps, each comment at its host, and as often in the value as in the tree's
-/// gaps. The error: memory was refused.
+/// The file value of a tree: its statements without gaps, those of suites too, each comment at its host, and as often in the value as
+/// in the tree's gaps. The error: memory was refused.
 pub fn view(alloc: Global, tree: &Tree) -> Result<File, Memory>
-    requires { IsBuild tree.now }
     ensures value { IfOk result (λ file. file ≡ view_of tree.now) }
     ensures comments { IfOk result (λ file. (text : Bytes) → times text file ≡ occurrences text tree.now) }
 {
-    Ok(File {
-        items: items_of(alloc, tree.root.parts.as_slice())?,
-    })
+    let (items, _) = items_of(alloc, tree.root.parts.as_slice())?;
+    Ok(File { items })
 }
 
-/// The file value that `view` makes, of a tree that is given up: its tokens are moved, and each line of it is dropped as soon as its
-/// items are made, a long one piece by piece, so that the whole tree is not held beside the whole value. The error: memory was refused.
+/// What `view` gives, and whether the text of the tree ends with the newline of a statement that leaves no line to what follows: then
+/// one that `begins_bare` may follow it. The error: memory was refused.
+#[tactic(auto, using(crate::proofs::JoinedFiles::ends_with_statement))]
+pub fn view_front(alloc: Global, tree: &Tree) -> Result<(File, bool), Memory>
+    ensures file { IfOk result (λ seen. seen.0 ≡ view_of tree.now) }
+    ensures ends { IfOk result (λ seen. IsTrue seen.1 → EndsWithStatement tree.now) }
+{
+    let parts = tree.root.parts.as_slice();
+    let (items, is_spent) = items_of(alloc, parts)?;
+    let ends = is_spent && ends_in_line(parts);
+    Ok((File { items }, ends))
+}
+
+/// The file value that `view` makes, of a tree that is given up: where it has no suites its tokens are moved, and each line of it is
+/// dropped as soon as its items are made, a long one piece by piece, so that the whole tree is not held beside the whole value. The
+/// error: memory was refused.
 pub fn into_view(alloc: Global, tree: Tree) -> Result<File, Memory>
-    requires { IsBuild tree }
     ensures value { IfOk result (λ file. file ≡ view_of tree) }
     ensures comments { IfOk result (λ file. (text : Bytes) → times text file ≡ occurrences text tree) }
 {
     let Tree { root } = tree;
-    Ok(File {
-        items: into_items(alloc, root.parts)?,
-    })
+    let items = given_up(alloc, root.parts)?;
+    Ok(File { items })
+}
+
+/// The items of the parts of a file, which are given up.
+#[tactic(auto, using(crate::proofs::BuildFiles::lines_say_the_same))]
+fn given_up(alloc: Global, parts: Items<Part>) -> Result<Items<Item>, Memory>
+    ensures { IfOk result (λ items. items ≡ items_from (indented_lines_before (map stated parts) []) parts) }
+{
+    if are_lines(parts.as_slice()) {
+        let items = into_items(alloc, parts)?;
+        return Ok(items);
+    }
+    let (items, _) = items_of(alloc, parts.as_slice())?;
+    Ok(items)
+}
+
+/// Whether a part is a line of statements.
+fn is_line(part: &Part) -> bool
+    ensures { IsTrue result → IsSimpleLine part.now }
+{
+    match part {
+        Part::Leaf(_) => false,
+        Part::Node(node) => is_kind(node.kind, Kind::Line),
+    }
+}
+
+/// Whether all these parts are lines of statements.
+fn are_all_lines(parts: &[Part]) -> bool
+    ensures { IsTrue result → AllByRecursion IsSimpleLine parts.now }
+{
+    parts.iter().all(is_line)
+}
+
+/// Whether these parts of a file are lines of statements, and its end.
+#[tactic(auto, using(crate::proofs::BuildFiles::lines_and_end))]
+fn are_lines(parts: &[Part]) -> bool
+    ensures { IsTrue result → AreLines parts.now }
+{
+    let Some((Part::Leaf(_), lines)) = parts.split_last() else {
+        return false;
+    };
+    are_all_lines(lines)
 }
 
 /// Of this many items or fewer the room beside them is let be.
 const FEW: usize = 64;
 
 /// The same items, without the room beside them, which is as much again after a growth.
-fn without_room(items: Items<Item>) -> Items<Item>
+pub(crate) fn without_room(items: Items<Item>) -> Items<Item>
     ensures { result ≡ items }
 {
     let mut made = items.into_vec();
@@ -56,33 +114,8 @@ fn without_room(items: Items<Item>) -> Items<Item>
     Items::from_vec(made)
 }
 
-/// The items of the lines of a file and of its end.
-fn items_of(alloc: Global, lines: &[Part]) -> Result<Items<Item>, Memory>
-    ensures { IfOk result (λ items. items ≡ file_items [] lines.now) }
-{
-    // most files have an item a line
-    let mut items = Items::from_vec(Vec::with_capacity(alloc, lines.len())?);
-    // what the gap of the Newline before says after its first line
-    let mut left: &[u8] = &[];
-    for line in lines {
-        match line {
-            Part::Leaf(end) => {
-                push_all_groups(alloc, left, end.gap.as_slice(), &mut items)?;
-                left = &[];
-            }
-            Part::Node(line) => {
-                let parts = line.parts.as_slice();
-                let above = push_groups(alloc, left, gap_at(parts, 0), &mut items)?;
-                push_statements(alloc, parts, above, &mut items)?;
-                left = past_first_line(gap_of_last(parts));
-            }
-        }
-    }
-    Ok(without_room(items))
-}
-
 /// Appends the statements of a line, the first with these comments above it.
-pub fn push_statements(
+pub(crate) fn push_statements(
     alloc: Global,
     parts: &[Part],
     above: Items<Text>,

@@ -1,14 +1,27 @@
 -- What a command on the value beside a session does is what the history says.
 use Rattle.std.proofs.Common.{◌≡◌, [], ◌⊎◌, ◌<◌, ◌∙◌, ℕ, inl, inr, List, length, Result, Ok, Err, Option, refl, sym, subst, ap}
-use Rattle.std.specs.Prelude.{OnErr}
-use Rattle.bz_journal.specs.Clauses.{Answer, Bytes, Do, EndsAt, GivesAlike, History, Item, MakesOrWants, Means, Node, Overfills, Refusal, Reply, RunsIn}
+use Rattle.std.specs.Prelude.{IfOk, OnErr}
+use Rattle.bz_command.specs.Laws.{EffectsStayProper}
+use Rattle.bz_command_syntax.specs.Proper.{IsProperCommand}
+use Rattle.bz_value.specs.BuildValues.{BuildValuesAreProper}
+use Rattle.bz_value.specs.LineShapes.{build_grammar}
+use Rattle.bz_journal.specs.Clauses.{Answer, AreBuild, Bytes, Do, EndsAt, GivesAlike, History, Item, MakesOrWants, Means, Node, Overfills, Refusal, Reply, RunsIn}
 use Rattle.bz_journal.specs.Clauses.{SessionState, WrittenIsLaidOut, after_meaning, effect, gives, lines_of, present, printed, printed_answer, refuses}
 use Rattle.bz_journal.specs.Clauses.{session_history, spell_node, tidied, unchanged, view_of, written}
-use Rattle.bz_journal.specs.Words.{IsProper, Memory, Operation, Ran, Reads, Target, TooLarge}
+use Rattle.bz_journal.specs.Words.{IsProper, IsProperBuild, Memory, Operation, Ran, Reads, Target, TooLarge}
 use Rattle.bz_build_format.proofs.Writes.{written_too_large}
 use Rattle.bz_journal.specs.Meaning.{Meaning, EffectMeans}
 use Rattle.bz_journal.specs.Editing.{IsTidyLayoutOf}
 use Rattle.bz_journal.proofs.Acting.{acts_by, acts_refused, acts_same}
+
+-- what a command that was read makes of the value of a BUILD file is one
+pub made_build : EffectsStayProper → BuildValuesAreProper → (operation : Operation) (target : Target) (current : Bytes) (lines : List ℕ) (items : List Item)
+    → IsProperCommand operation → IsProper items → AreBuild items → IfOk (effect operation target current lines items) AreBuild
+made_build stay same operation target current lines items command proper build = by_made (effect operation target current lines items) refl
+  where
+    by_made : (made : Result (List Item) Refusal) → effect operation target current lines items ≡ made → IfOk made AreBuild
+    by_made (Ok new) is = ((same new).0 (stay build_grammar operation target current lines items new command ((same items).1 (proper, build)) is)).1
+    by_made (Err refusal) is = tt
 
 -- ---- what a command means by its effect on the value that was seen of a tree, and what it prints of that, by lines that give the same as those of the tree
 
@@ -72,7 +85,7 @@ module _ (operation : Operation) (target : Target) (current : Bytes) (tree : Nod
 
 -- of a value that was written the tree is the layout
 pub value_taken : WrittenIsLaidOut → (items : List Item) (answer : Option Bytes) (note : Bytes) (h after : History) (reply : Reply) (tree : Node)
-    → IsProper items → h.cursor < length h.texts
+    → IsProperBuild items → h.cursor < length h.texts
     → (◌≡◌ {A = Answer × History} (Ok reply, after) (after_meaning note h (written items answer))) ⊎ ((◌≡◌ {A = Answer} (Ok reply) (Err Memory)) × (after ≡ h))
     → Reads (spell_node tree) tree → spell_node tree ≡ present after → IsTidyLayoutOf items tree
 value_taken laid_out items answer note h after reply tree proper within (inr memory) reads is = let none : ◌≡◌ {A = Answer} (Ok reply) (Err Memory) = memory.0 in absurd (cc)

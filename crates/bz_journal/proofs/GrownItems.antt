@@ -2,11 +2,13 @@
 use Rattle.std.proofs.Common.{◌≡◌, ◌≢◌, ◌≤◌, ◌<◌, ◌+◌, ◌-◌, ℕ, Bool, true, false, ◌||◌, List, [], ◌∷◌, Option, Result, Ok, Err, refl, sym, ap, ◌∙◌, subst, arith, drop, get_or, length, true≢false}
 use Rattle.std.proofs.lemmas.List.{drop_more}
 use Rattle.std.proofs.lemmas.List.Elements.{All-weaker, recursion_from_All}
-use Rattle.bz_journal.specs.Clauses.{AreProperMade, Bytes, Grows, IsProperItem, Item, Overfills, Refusal, alone_length, limit, marked_places, meant}
+use Rattle.std.specs.Prelude.{IfOk}
+use Rattle.bz_journal.specs.Clauses.{AreBuild, AreProperMade, Bytes, Grows, IsProperItem, Item, Overfills, Refusal, alone_length, limit, marked_places, meant}
 use Rattle.bz_journal.specs.Words.{Expr, IsProper, NewItem, Operation, on_meant}
 use Rattle.bz_label.specs.declared.target.Which.{Which}
 use Rattle.bz_command_syntax.specs.Proper.{IsProperCommand}
 use Rattle.bz_value.specs.Counted.{total}
+use Rattle.bz_value.specs.LineShapes.{whole_grammar}
 use Rattle.bz_value.specs.declared.value.Item.TheVariants as i
 use Rattle.bz_command.specs.Effect.{on_each, source_of, with_item_first}
 use Rattle.bz_journal.specs.private.Filling.{item_made}
@@ -20,10 +22,10 @@ Follows items all left differs rest (Ok new) = left ≤ total alone_length new �
 Follows items all left differs rest (Err refusal) = all ≡ Err refusal
 
 -- what is past the limit one by one is so as a whole
-follows_all : (items : List Item) (all : Result (List Item) Refusal) → Follows items all (limit + 1) false items all
-follows_all items (Err refusal) = refl
-follows_all items (Ok new) =
-    let within = held_alone new in
+follows_all : (items : List Item) (all : Result (List Item) Refusal) → IfOk all AreBuild → Follows items all (limit + 1) false items all
+follows_all items (Err refusal) build = refl
+follows_all items (Ok new) build =
+    let within = held_alone new build in
     λ own other. (other refl, omega (arith, own, within))
 
 either_differs : (a b : Bool) (new x : Item) (others rest : List Item) → (b ≡ true → new ≢ x) → ((a || b) ≡ false → others ≢ rest) → a ≡ false → new ∷ others ≢ x ∷ rest
@@ -49,8 +51,8 @@ pub record AreTried (change : Item → NewItem) (items : List Item) (all : Resul
 
 -- before all
 pub first_tried : (change : Item → NewItem) (marks : List Bool) (items : List Item) (places : List ℕ) → places ≡ marked_places 0 marks → length marks ≡ length items
-    → AreTried change items (on_meant change marks items) (limit + 1) false places
-first_tried change marks items places are many = record { at = 0; marks = marks; count = omega (arith, many); meant_are = are; follow = follows_all items (on_meant change marks items) }
+    → IfOk (on_meant change marks items) AreBuild → AreTried change items (on_meant change marks items) (limit + 1) false places
+first_tried change marks items places are many build = record { at = 0; marks = marks; count = omega (arith, many); meant_are = are; follow = follows_all items (on_meant change marks items) build }
 
 module _ (change : Item → NewItem) (items : List Item) (all : Result (List Item) Refusal) (left : ℕ) (differs : Bool) where
   -- one item after the first one, which stays or is tried
@@ -116,7 +118,7 @@ pub ones_proper : (operation : Operation) (current : Bytes) (found : Option Expr
     → AreProperMade (item_made operation current found) xs
 unfolding item_made
 ones_proper operation current found items xs p h same_value same_items =
-    rw (same_items, same_value) (All-weaker IsProperItem _ (each_keeps current items (recursion_from_All IsProperItem items h) operation p) items h)
+    rw (same_items, same_value) (All-weaker IsProperItem _ (each_keeps whole_grammar current items (recursion_from_All IsProperItem items h) operation p) items h)
 
 -- ---- what a command makes of a file is what is made of the items that it is meant for, of these and the value that is copied as they are handed on
 

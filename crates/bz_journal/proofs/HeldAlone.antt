@@ -1,7 +1,10 @@
 -- What items have in files of their own they have in one file: of the passes only the one over loads looks at more than one item, and that
 -- one only moves them.
-use Rattle.std.proofs.Common.{ℕ, ◌+◌, ◌≡◌, ◌≤◌, List, [], ◌∷◌, length, map, refl, sym, ap, ap₂, ◌∙◌, arith}
+use Rattle.std.proofs.Common.{ℕ, ◌+◌, ◌≡◌, ◌≤◌, List, [], ◌∷◌, length, map, refl, sym, ap, ap₂, ◌∙◌, subst, arith}
 use Rattle.std.proofs.lemmas.List.{append-nil}
+use Rattle.std.proofs.lemmas.List.Elements.{recursion_from_All}
+use Rattle.std.specs.List.{AllByRecursion}
+use Rattle.bz_value.specs.BuildValues.{AreBuild, IsBuildItem}
 use Rattle.bz_value.specs.declared.value.Item.{Item}
 use Rattle.bz_value.specs.Counted.{total}
 use Rattle.bz_layout.specs.Flags.{flags, item_with_flags}
@@ -9,9 +12,9 @@ use Rattle.bz_layout.specs.Written.{item_text, layout}
 use Rattle.bz_layout.proofs.Measured.{layout_first}
 use Rattle.bz_passes.specs.Changes.{after_passes}
 use Rattle.bz_passes.specs.Joined.{item_tidied}
-use Rattle.bz_passes.specs.Passes.{load_precedes, loads, on_statement, on_taken, taken, tidied}
+use Rattle.bz_passes.specs.Passes.{load_precedes, loads, on_statement, on_taken, passed, taken, tidied}
+use Rattle.bz_passes.proofs.Cases.{build_passed, tidied_alone}
 use Rattle.bz_passes.proofs.Composed.{five_composed}
-use Rattle.bz_passes.proofs.Pieces.{tidied_alone}
 use Rattle.bz_passes.proofs.Sorting.{sort_total}
 use Rattle.bz_journal.specs.private.Filling.{alone_length}
 
@@ -19,9 +22,9 @@ abbrev own_length : Item → ℕ
 own_length item = length (item_text item)
 
 -- a file of one item has its own lines
-alone_is : (item : Item) → alone_length item ≡ own_length (item_tidied item)
+alone_is : (item : Item) → IsBuildItem item → alone_length item ≡ own_length (item_tidied item)
 unfolding alone_length
-alone_is item = ap (λ (xs : List Item). length (layout xs)) (tidied_alone item) ∙ ap length (append-nil (item_text (item_tidied item)))
+alone_is item build = ap (λ (xs : List Item). length (layout xs)) (tidied_alone item build) ∙ ap length (append-nil (item_text (item_tidied item)))
 
 -- those of the first one of some are in the layout
 pub first_below : (items rest : List Item) (item : Item) → items ≡ item ∷ rest → length (item_text item) ≤ length (layout items)
@@ -31,9 +34,9 @@ first_below items rest item is =
     omega (arith, first, same)
 
 -- those of all are in the layout
-each_alone : (items : List Item) → total alone_length items ≡ total own_length (map item_tidied items)
-each_alone [] = refl
-each_alone (item ∷ items) = ap₂ (λ (own rest : ℕ). own + rest) (alone_is item) (each_alone items)
+each_alone : (items : List Item) → AllByRecursion IsBuildItem items → total alone_length items ≡ total own_length (map item_tidied items)
+each_alone [] build = refl
+each_alone (item ∷ items) build = ap₂ (λ (own rest : ℕ). own + rest) (alone_is item build.0) (each_alone items build.1)
 
 all_within : (items : List Item) → total own_length items ≤ length (layout items)
 all_within [] = omega arith
@@ -46,7 +49,7 @@ changed_total : (number : Item → ℕ) (change : Item → Item) (items : List I
 changed_total number change [] = refl
 changed_total number change (item ∷ items) = ap (λ n. number (change item) + n) (changed_total number change items)
 
-same_total : (items : List Item) → total own_length (tidied items) ≡ total own_length (map item_tidied items)
+same_total : (items : List Item) → total own_length (passed items) ≡ total own_length (map item_tidied items)
 same_total items =
     let settled : Item → ℕ = λ item. own_length (item_with_flags item) in
     ap (λ (xs : List Item). total own_length (flags (loads xs))) (five_composed items)
@@ -55,9 +58,9 @@ same_total items =
     ∙ (changed_total settled (on_statement (taken after_passes)) items
     ∙ sym (changed_total own_length item_tidied items))))
 
-pub held_alone : (items : List Item) → total alone_length items ≤ length (layout (tidied items))
-held_alone items =
-    let each = each_alone items in
+pub held_alone : (items : List Item) → AreBuild items → total alone_length items ≤ length (layout (tidied items))
+held_alone items build =
+    let each = each_alone items (recursion_from_All IsBuildItem items build) in
     let same = same_total items in
-    let whole = all_within (tidied items) in
-    omega (arith, each, same, whole)
+    let whole = all_within (passed items) in
+    subst (λ (xs : List Item). total alone_length items ≤ length (layout xs)) (sym (build_passed items build)) (omega (arith, each, same, whole))

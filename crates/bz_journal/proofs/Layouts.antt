@@ -2,28 +2,28 @@
 use Rattle.std.proofs.Common.{◌≡◌, ◌<◌, ◌∙◌, List, length, refl, sym, ap, subst, Option, Ok}
 use Rattle.bz_journal.specs.Clauses.{Answer, Bytes, History, Item, Node, Reply, WrittenIsLaidOut, after_meaning, gives, laid_out, present, printed, refuses}
 use Rattle.bz_journal.specs.Clauses.{tidied, view_of, written}
-use Rattle.bz_journal.specs.Words.{IsProper, Reads}
+use Rattle.bz_journal.specs.Words.{IsProperBuild, Reads}
 use Rattle.bz_grammar.specs.Laws.{OneReading}
-use Rattle.bz_layout.specs.Laws.{LayoutIsAccepted, LayoutReadsBack}
-use Rattle.bz_passes.specs.Laws.{ProperStays, TidySettles, TidyStays}
+use Rattle.bz_value.specs.LineShapes.{whole_grammar}
+use Rattle.bz_layout.specs.Laws.{BuildLayoutIsBuild, LayoutIsAccepted, LayoutReadsBack}
+use Rattle.bz_passes.specs.Laws.{BuildStays, ProperStays, TidySettles, TidyStays}
 use Rattle.bz_journal.specs.Meaning.{Meaning}
 use Rattle.bz_journal.specs.Editing.{IsTidyLayoutOf}
 use Rattle.bz_journal.proofs.Formatting.{text_after}
+use Rattle.bz_build_format.proofs.Formatting.{read_back}
 use Rattle.bz_build_format.proofs.Writes.{IsGiven, given}
 
 -- by what the layers below promise: of reading, of the layout of a proper value, and of tidying
-module _ (one : OneReading) (accepted : LayoutIsAccepted) (back : LayoutReadsBack) (proper : ProperStays) (settled : TidySettles) (stays : TidyStays) where
+module _ (one : OneReading) (accepted : LayoutIsAccepted) (build : BuildLayoutIsBuild) (back : LayoutReadsBack) (proper : ProperStays) (builds : BuildStays) (settled : TidySettles) (stays : TidyStays) where
   by_meaning : (m : Meaning) (items : List Item) (requested : Option Bytes) (note : Bytes) (h after : History) (reply : Reply) (tree : Node)
-      → written items requested ≡ m → IsProper items → h.cursor < length h.texts → ◌≡◌ {A = Answer × History} (Ok reply, after) (after_meaning note h m)
+      → written items requested ≡ m → IsProperBuild items → h.cursor < length h.texts → ◌≡◌ {A = Answer × History} (Ok reply, after) (after_meaning note h m)
       → Reads (present after) tree → IsTidyLayoutOf items tree
   by_meaning (gives text printed) items requested note h after reply tree gives_it own within led there =
-      let is : IsGiven items text requested printed = given items text requested printed gives_it in
       let reads : Reads text tree = subst (λ (t : Bytes). Reads t tree) (text_after note h after text printed reply within led) there in
-      let tidy : List Item = tidied items in
-      let proper_tidy : IsProper tidy = proper items own in
-      let laid_reads : Reads text (laid_out tidy) = subst (λ (t : Bytes). Reads t (laid_out tidy)) (sym is.layout_is) (accepted tidy proper_tidy is.long is.deep) in
-      let same : laid_out tidy ≡ tree = one text (laid_out tidy) tree laid_reads reads in
-      (record { proper = proper_tidy; tidy = stays items; laid_out = same }, ap view_of (sym same) ∙ back tidy proper_tidy ∙ settled items, reads.1 ∙ is.layout_is)
+      let laid = read_back accepted build back proper builds settled items text requested printed own gives_it in
+      let same : laid_out (tidied items) ≡ tree = one text (laid_out (tidied items)) tree laid.0 reads in
+      let is : IsGiven items text requested printed = given items text requested printed gives_it in
+      (record { proper = (proper whole_grammar items own.0, builds items own.1); tidy = stays items; laid_out = same }, ap view_of (sym same) ∙ laid.1, reads.1 ∙ is.layout_is)
   by_meaning (refuses refusal) items requested note h after reply tree is own within led there = let answer = ap (λ (z : Answer × History). z.0) led in absurd (cc)
 
   pub written_is_laid_out : WrittenIsLaidOut

@@ -2,11 +2,11 @@
 use Rattle.std.proofs.Common.{◌≡◌, ◌↔◌, ◌≤◌, ◌∙◌, List, [], ◌∷◌, Option, length, refl, sym, ap, subst}
 use Rattle.bz_journal.specs.Clauses.{AreLinesOf, AreOver, Bytes, IsTree, Item, Node, depth_limit, depth_of, laid_out, layout, limit, spell_node, tidied}
 use Rattle.bz_journal.specs.Clauses.{with_windows}
-use Rattle.bz_journal.specs.Words.{IsProper, Part, PartWindow, Reads, Window}
+use Rattle.bz_journal.specs.Words.{IsProperBuild, Part, PartWindow, Reads, Window}
 use Rattle.bz_grammar.specs.declared.kind.Kind.{Kind}
 use Rattle.bz_grammar.specs.Laws.{OneReading}
 use Rattle.bz_value.specs.Windows.{AreWithin}
-use Rattle.bz_layout.specs.Laws.{LayoutIsAccepted}
+use Rattle.bz_layout.specs.Laws.{BuildLayoutIsBuild, LayoutIsAccepted}
 use Rattle.bz_build_format.specs.Meaning.{gives, written}
 use Rattle.bz_build_format.proofs.Writes.{written_given}
 
@@ -29,9 +29,11 @@ pub lines_written : (windows : List PartWindow) (tree : Node) (file : List Item)
 lines_written windows tree file printed are = sym (written_given file (tidied file) (spell_node (with_windows windows tree)) refl are.reads.1 are.reads.2 are.deep printed)
 
 -- with windows that make it the layout, the tree is what that reads as
-pub lines_read : LayoutIsAccepted → (windows : List PartWindow) (tree : Node) (items : List Item) → IsProper items → length (layout items) ≤ limit → depth_of (laid_out items) ≤ depth_limit
+pub lines_read : LayoutIsAccepted → BuildLayoutIsBuild → (windows : List PartWindow) (tree : Node) (items : List Item) → IsProperBuild items → length (layout items) ≤ limit → depth_of (laid_out items) ≤ depth_limit
     → with_windows windows tree ≡ laid_out items → Reads (layout items) (with_windows windows tree)
-lines_read accepted windows tree items proper short deep same = subst (λ (n : Node). Reads (layout items) n) (sym same) (accepted items proper short deep)
+lines_read accepted build windows tree items own short deep same =
+    let reads = accepted items own.0 short deep in
+    subst (λ (n : Node). Reads (layout items) n) (sym same) (record { legal = reads.0; build = build items own.1 }, reads.1, reads.2)
 
 -- what came is among the items that are there now
 pub are_within : (ws : List Window) (before after : List Item) → AreOver ws before after → AreWithin ws after

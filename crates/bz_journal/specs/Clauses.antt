@@ -15,7 +15,7 @@ pub use Rattle.bz_journal.specs.Shown.{HoldsSteps, OpensText, session_history}
 pub use Rattle.bz_journal.specs.State.{IsSession, SessionState, session_trail}
 pub use Rattle.bz_journal.specs.Worked.{WorkedHistories}
 pub use Rattle.bz_journal.specs.declared.action.Reply.{Reply}
-pub use Rattle.bz_journal.specs.Words.{AreListed, AreOver, AreSmall, AreThere, Bytes, Edit, Holds256, IsBuild, IsFormatted, IsIndexOf, IsOtherVersion, IsProperItem, IsSmall}
+pub use Rattle.bz_journal.specs.Words.{AreBuild, AreListed, AreOver, AreSmall, AreThere, Bytes, Edit, Holds256, IsBuild, IsFormatted, IsIndexOf, IsOtherVersion, IsProperItem, IsSmall}
 pub use Rattle.bz_journal.specs.Words.{IsStale, IsTrail, IsTree, IsWritten, Item, Journal, NoJournal, Node, PairFault, Refusal, SetFault, StandsFor, are_even}
 pub use Rattle.bz_journal.specs.Words.{depth_limit, depth_of, effect, fronts, fronts_in, is_node, laid_out, layout, limit, lines_of, marked_places, meant, newlines, node_parts}
 pub use Rattle.bz_journal.specs.Words.{printed, sha256, spell_node, spell_part, steps_back, steps_forward, texts_of, tidied, trail_at, view_of}

@@ -1,6 +1,6 @@
 -- The value beside a session, and the trees that a command leaves.
 use Rattle.std.specs.Prelude.{◌≡◌, ◌<◌, List, Option, length, map, take, Ok, IfSome}
-use Rattle.bz_journal.specs.Words.{AreListed, Bytes, IsIndexOf, IsProper, IsWritten, Item, Node, Reads, layout, lines_of, sha256, spell_node, tidied, view_of}
+use Rattle.bz_journal.specs.Words.{AreListed, Bytes, IsIndexOf, IsProperBuild, IsWritten, Item, Node, Reads, layout, lines_of, sha256, spell_node, tidied, view_of}
 use Rattle.bz_journal.specs.declared.action.Reply.{Reply}
 use Rattle.bz_journal.specs.declared.answering.Lookups.{Lookups}
 use Rattle.bz_journal.specs.declared.doing.Seen.{Seen}
@@ -31,9 +31,9 @@ IsTidyLayoutOf items tree = IsWritten (tidied items) tree × (view_of tree ≡ t
 
 -- ---- laws
 
--- Where items are written and the answer is no refusal, the tree of the present text is the layout of them tidied.
+-- Where the items of a BUILD file are written and the answer is no refusal, the tree of the present text is the layout of them tidied.
 abbrev pub WrittenIsLaidOut : Type 0
 WrittenIsLaidOut =
     (items : List Item) (printed : Option Bytes) (note : Bytes) (h after : History) (reply : Reply) (tree : Node)
-    → IsProper items → h.cursor < length h.texts → ◌≡◌ {A = Answer × History} (Ok reply, after) (after_meaning note h (written items printed))
+    → IsProperBuild items → h.cursor < length h.texts → ◌≡◌ {A = Answer × History} (Ok reply, after) (after_meaning note h (written items printed))
     → Reads (present after) tree → IsTidyLayoutOf items tree

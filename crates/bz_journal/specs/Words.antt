@@ -42,6 +42,7 @@ pub use Rattle.bz_resume.specs.declared.fault.ResumeFault.{ResumeFault}
 pub use Rattle.bz_resume.specs.declared.pair_fault.PairFault.{PairFault}
 pub use Rattle.bz_rule.specs.Held.{held_name}
 pub use Rattle.bz_rule.specs.Index.{Index, IsIndexOf, marked_places, places_from}
+pub use Rattle.bz_value.specs.BuildValues.{AreBuild, IsProperBuild}
 pub use Rattle.bz_value.specs.Proper.{IsProper, IsProperItem}
 pub use Rattle.bz_value.specs.Windows.{AreOver}
 pub use Rattle.bz_value.specs.declared.refusal.Refusal.{Refusal}

@@ -1,7 +1,7 @@
 //! Actions in a course, and what is kept beside it from one command to the next: the value of the present text, so that a command need not
 //! make it anew. Where that text is the layout of a tidy value only what changes is tidied and laid out.
 ghost use Rattle.std.specs.Prelude.{◌≤◌, OnOk, length};
-ghost use Rattle.bz_journal.specs.Clauses.{AreOver, Do, EndsAt, Format, HasActed, HasMade, IsFormatted, IsSeenIn, Node, action_in, after_meaning, note_limit, present, session_history, view_of, written};
+ghost use Rattle.bz_journal.specs.Clauses.{AreBuild, AreOver, Do, EndsAt, Format, HasActed, HasMade, IsFormatted, IsSeenIn, Node, action_in, after_meaning, note_limit, present, session_history, view_of, written};
 
 use crate::action::{Action, Reply};
 use crate::answering::{Last, Lookups, answer, last_of, look_up};
@@ -13,6 +13,7 @@ use crate::moving::begins_after;
 use bz_build_format::{formatted_once, reads_back};
 use bz_command_syntax::Command;
 use bz_grammar::laws::one_reading;
+use bz_hosts::build_views;
 use bz_items::{Items, Text};
 use bz_label::Target;
 use bz_rule::take_apart;
@@ -94,6 +95,7 @@ fn take_up(
 ) -> Result<Reply, Refusal>
     requires short { length note.now ≤ note_limit }
     requires seen { IsSeenIn course.old.tree seen.old }
+    requires build_value { AreBuild file }
     requires over { AreOver windows (view_of course.old.tree) file }
     ensures end { EndsAt (after_meaning note.now (session_history course.old) (written file printed)) course.old result course.new }
     ensures seen { IsSeenIn course.new.tree seen.new }
@@ -145,6 +147,7 @@ fn edit(
     ensures made { HasMade (Do command.now target.now) note.now course.old result course.new }
     ensures seen { IsSeenIn course.new.tree seen.new }
 {
+    build_views();
     let here = course.present();
     reads_back(here);
     let last = seen.last;
@@ -188,6 +191,7 @@ fn format(course: &mut Course, seen: &mut Seen, note: &str) -> Result<Reply, Ref
     ensures seen { IsSeenIn course.new.tree seen.new }
 {
     formatted_once();
+    build_views();
     let here = course.present();
     reads_back(here);
     let file = value_of(seen.value.take(), here)?;

@@ -1,11 +1,11 @@
 //! Whether what a command makes is past the limit of a text, seen rule by rule before all of it is made.
 ghost use Rattle.std.specs.Prelude.{◌≡◌, ◌⊎◌, ◌≤◌, Err, IfErr, IfOk, IsTrue, length};
-ghost use Rattle.bz_journal.specs.Clauses.{AreProperMade, Grows, IsProperItem, Overfills, alone_length, effect, item_made_by, items_made_by, layout, marked_places, meant};
+ghost use Rattle.bz_journal.specs.Clauses.{AreBuild, AreProperMade, Grows, IsProperItem, Overfills, alone_length, effect, item_made_by, items_made_by, layout, marked_places, meant};
 
 use bz_command::{Work, changed_copy, copied, places_if_large};
 use bz_grammar::LENGTH_LIMIT;
 use bz_items::Items;
-use bz_layout::{SetFault, item_text, text_of_file};
+use bz_layout::{SetFault, item_text, text_of_items};
 use bz_passes::tidy;
 use bz_rule::take_apart;
 use bz_value::{File, Item, Refusal};
@@ -17,7 +17,7 @@ fn length_of(alloc: Global, file: &File) -> Result<usize, Refusal>
     ensures size { IfOk result (λ size. size ≤ length (layout file.now)) }
     ensures err { IfErr result (λ refusal. refusal ≡ Refusal.Memory) }
 {
-    match text_of_file(alloc, file, 0) {
+    match text_of_items(alloc, file.items.as_slice(), 0) {
         Ok(text) => Ok(text.len()),
         Err(SetFault::TooLarge) => Ok(LENGTH_LIMIT + 1),
         Err(SetFault::TooDeep) => match file.items.as_slice().split_first() {
@@ -67,6 +67,7 @@ fn try_on(work: Work<'_, '_>, counts: bool, item: &Item) -> Result<(bool, usize)
 fn are_past(work: Work<'_, '_>, places: &[usize], items: &[Item]) -> Result<bool, Refusal>
     requires places { places.now ≡ marked_places 0 (meant work.target.now.which work.lines.now items.now) }
     requires proper { AreProperMade (item_made_by work) items.now }
+    requires build { IfOk (items_made_by work items.now) AreBuild }
     ensures ok { IfOk result (λ past. IsTrue past → Overfills items.now (items_made_by work.entry items.now)) }
     ensures err { IfErr result (λ refusal. (items_made_by work.entry items.now ≡ Err refusal) ⊎ (refusal ≡ Refusal.Memory)) }
 {
@@ -83,6 +84,7 @@ fn are_past(work: Work<'_, '_>, places: &[usize], items: &[Item]) -> Result<bool
 /// Whether what a command makes of a file, which has about this many bytes, is past the limit of a text: then it need not be made. `false` says
 /// nothing. Errors: the effect's refusal; `Memory`: a growth was refused.
 pub(crate) fn overfills(work: Work<'_, '_>, len: usize, file: &File) -> Result<bool, Refusal>
+    requires { IfOk (effect work.command.now work.target.now work.current.now work.lines.now file.now) AreBuild }
     ensures ok { IfOk result (λ over. IsTrue over → Overfills file.now (effect work.entry.command.now work.entry.target.now work.entry.current.now work.entry.lines.now file.now)) }
     ensures err { IfErr result (λ refusal. (effect work.entry.command.now work.entry.target.now work.entry.current.now work.entry.lines.now file.now ≡ Err refusal) ⊎ (refusal ≡ Refusal.Memory)) }
 {

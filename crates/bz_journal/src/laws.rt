@@ -6,8 +6,8 @@ ghost use Rattle.bz_journal.specs.Clauses.{AlikeActs, AlikeGoesOn, HoldsSteps, I
 use crate::past::{Form, Past};
 use crate::session::Session;
 use bz_grammar::laws::one_reading;
-use bz_layout::{layout_is_accepted, layout_reads_back};
-use bz_passes::{proper_stays, tidy_settles, tidy_stays};
+use bz_layout::{build_layout_is_build, layout_is_accepted, layout_reads_back};
+use bz_passes::{build_stays, proper_stays, tidy_settles, tidy_stays};
 
 /// Worked rows: what undo, redo and new texts make of small histories.
 pub fn worked_histories()
@@ -59,8 +59,10 @@ pub(crate) fn written_is_laid_out()
 {
     one_reading();
     layout_is_accepted();
+    build_layout_is_build();
     layout_reads_back();
     proper_stays();
+    build_stays();
     tidy_settles();
     tidy_stays();
 }

@@ -1,6 +1,6 @@
 //! The lines of a new value that are other ones than in the present tree.
 ghost use Rattle.std.specs.Prelude.{◌≡◌, ◌<◌, ◌≤◌, Err, IfOk, length};
-ghost use Rattle.bz_journal.specs.Clauses.{AreLinesOf, AreLookupsOf, AreOver, IsBuild, IsSeenIn, IsWritten, MakesLines, Refusal, SetFault, depth_limit, depth_of, laid_out, layout, limit, spell_node, view_of};
+ghost use Rattle.bz_journal.specs.Clauses.{AreBuild, AreLinesOf, AreLookupsOf, AreOver, IsBuild, IsSeenIn, IsWritten, MakesLines, Refusal, SetFault, depth_limit, depth_of, laid_out, layout, limit, spell_node, view_of};
 
 use crate::answering::Lookups;
 use crate::doing::Seen;
@@ -10,8 +10,8 @@ use bz_command::LoadedPaths;
 use bz_edit::PartWindow;
 use bz_grammar::Tree;
 use bz_items::Items;
-use bz_layout::{SetFault, layout_is_accepted, text_of_file, text_windows};
-use bz_passes::{tidy, tidy_windows};
+use bz_layout::{SetFault, build_layout_is_build, layout_is_accepted, text_of_items, text_windows};
+use bz_passes::{build_stays, tidy_build, tidy_windows};
 use bz_rule::{Names, take_apart};
 use bz_value::{File, Refusal, Window};
 
@@ -51,6 +51,7 @@ fn lines_of_windows(
     len: usize,
 ) -> Result<(Items<PartWindow>, usize), SetFault>
     requires build { IsBuild tree.now }
+    requires build_value { AreBuild file.now }
     requires over { AreOver windows.now (view_of tree.now) file.now }
     requires written { IsWritten (view_of tree.now) tree.now }
     requires len { len ≡ length (spell_node tree.now) }
@@ -60,6 +61,7 @@ fn lines_of_windows(
     ensures too_deep { result ≡ Err SetFault.TooDeep → (length (layout file.now) ≤ limit) × (depth_limit < depth_of (laid_out file.now)) }
 {
     layout_is_accepted();
+    build_layout_is_build();
     reads_back(tree);
     let alloc = file.items.alloc();
     let laid = text_windows(alloc, file, windows, tree, len)?;
@@ -79,6 +81,7 @@ fn made_by_windows(
     lookups: &mut Lookups,
 ) -> Result<Made, Refusal>
     requires build { IsBuild tree.now }
+    requires build_value { AreBuild file }
     requires lookups { AreLookupsOf lookups.old tree.now }
     requires over { AreOver windows (view_of tree.now) file }
     requires written { IsWritten (view_of tree.now) tree.now }
@@ -86,6 +89,7 @@ fn made_by_windows(
     ensures made { MakesLines file tree.now result }
     ensures looked { AreLookupsOf lookups.new tree.now }
 {
+    build_stays();
     let alloc = file.items.alloc();
     if tidy_windows(alloc, &mut file, &mut windows).is_err() {
         take_apart(file);
@@ -122,6 +126,7 @@ pub(crate) fn made_of(
     tree: &Tree,
 ) -> Result<Made, Refusal>
     requires build { IsBuild tree.now }
+    requires build_value { AreBuild file }
     requires seen { IsSeenIn tree.now seen.old }
     requires over { AreOver windows (view_of tree.now) file }
     ensures made { MakesLines file tree.now result }
@@ -132,8 +137,8 @@ pub(crate) fn made_of(
     }
     drop(windows);
     let alloc = file.items.alloc();
-    let tidy = tidy(alloc, file)?;
-    let text = match text_of_file(alloc, &tidy, tree.len()) {
+    let tidy = tidy_build(alloc, file)?;
+    let text = match text_of_items(alloc, tidy.items.as_slice(), tree.len()) {
         Ok(text) => text,
         Err(fault) => {
             take_apart(tidy);

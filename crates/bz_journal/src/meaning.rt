@@ -1,18 +1,18 @@
 //! What a command makes of the value of a tree.
 ghost use Rattle.std.specs.Prelude.{◌≡◌, ◌⊎◌, Ok, IfOk, IfErr, IfSome};
-ghost use Rattle.bz_journal.specs.Clauses.{AreListed, IsBuild, IsIndexOf, Means, Refusal, RunsIn, effect, gives, lines_begun, printed, printed_answer, refuses, spell_node, text_or, view_of};
+ghost use Rattle.bz_journal.specs.Clauses.{AreBuild, AreListed, IsBuild, IsIndexOf, Means, Refusal, RunsIn, effect, gives, lines_begun, printed, printed_answer, refuses, spell_node, text_or, view_of};
 
 use crate::answering::{Lookups, look_up_lines};
 use crate::filling::overfills;
 use bz_build_format::{reads_back, written_text};
-use bz_command::{Ran, Work, run_in};
+use bz_command::{Ran, Work, effects_stay_proper, run_in};
 use bz_command_syntax::Command;
 use bz_grammar::Tree;
-use bz_hosts::{into_view, view};
+use bz_hosts::{build_views, into_view, view};
 use bz_items::{Memory, Text};
 use bz_label::Target;
 use bz_rule::take_apart;
-use bz_value::{File, Refusal};
+use bz_value::{File, Refusal, build_values_are_proper};
 use std::alloc::Global;
 
 /// What is answered beside the text: of a command that prints, what it prints.
@@ -24,7 +24,6 @@ pub(crate) fn printed_answer(command: &Command, printed: Text) -> Option<Text>
 
 /// The value of a tree: the one that is kept, or one that is made. The error: memory was refused.
 pub(crate) fn value_of(kept: Option<File>, tree: &Tree) -> Result<File, Memory>
-    requires build { IsBuild tree.now }
     requires kept { IfSome kept (λ items. items ≡ view_of tree.now) }
     ensures { IfOk result (λ file. file ≡ view_of tree.now) }
 {
@@ -34,8 +33,21 @@ pub(crate) fn value_of(kept: Option<File>, tree: &Tree) -> Result<File, Memory>
     }
 }
 
-/// Runs a command on a value, in place, by what was looked up; the value is that of a text of about `len` bytes. Errors: those of the command;
-/// `TooLarge` where what it makes is seen to be past the limit before it is made.
+/// What a command makes of the value of a BUILD file is one.
+#[tactic(auto, using(crate::proofs::Edited::made_build))]
+fn makes_build(command: &Command, target: &Target, current: &[u8], lines: &[u32], file: &File)
+    requires { AreBuild file.now }
+    ensures { IfOk (effect command.now target.now current.now lines.now file.now) AreBuild }
+{
+    effects_stay_proper();
+    build_values_are_proper();
+    // what is read of both, so that they are known to be proper
+    let _operation = &command.operation;
+    let _items = &file.items;
+}
+
+/// Runs a command on the value of a BUILD file, in place, by what was looked up; the value is that of a text of about `len` bytes. Errors:
+/// those of the command; `TooLarge` where what it makes is seen to be past the limit before it is made.
 pub(crate) fn run_beside(
     command: &Command,
     target: &Target,
@@ -46,10 +58,12 @@ pub(crate) fn run_beside(
 ) -> Result<Ran, Refusal>
     requires names { IfSome lookups.now.names (λ index. IsIndexOf index file.old) }
     requires paths { IfSome lookups.now.paths (λ loaded. AreListed loaded file.old) }
+    requires build { AreBuild file.old }
     ensures { RunsIn (effect command.now target.now current.now (lines_begun lookups.now) file.old) (printed command.now target.now current.now (lines_begun lookups.now) file.old) file.old result file.new }
 {
     let alloc = file.items.alloc();
     let lines = lookups.begins();
+    makes_build(command, target, current, lines, file);
     if overfills(Work::new(alloc, command, target, current, lines), len, file)? {
         return Err(Refusal::TooLarge);
     }
@@ -71,6 +85,7 @@ pub(crate) fn meant(
     ensures err { IfErr result (λ refusal. Means command.now target.now current.now (spell_node tree) (refuses refusal) ⊎ (refusal ≡ Refusal.Memory)) }
 {
     reads_back(&tree);
+    build_views();
     let mut lookups = Lookups::none();
     look_up_lines(command, target, &mut lookups, &tree)?;
     let mut file = into_view(alloc, tree)?;

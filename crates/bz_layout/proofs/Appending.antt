@@ -4,7 +4,7 @@ use Rattle.bz_items.specs.Characters.{Bytes}
 use Rattle.bz_grammar.specs.Spell.{depth_of}
 use Rattle.bz_value.specs.declared.value.Item.{Item}
 use Rattle.bz_layout.specs.Appended.{LayoutsJoin, DepthsJoin}
-use Rattle.bz_layout.specs.Depths.{depth_items}
+use Rattle.bz_layout.specs.private.Depths.{depth_items}
 use Rattle.bz_layout.specs.LaidOut.{laid_out}
 use Rattle.bz_layout.specs.Written.{item_text, gap_between, past_item, layout}
 use Rattle.bz_layout.proofs.Deep.{laid_out_depth}

@@ -14,11 +14,11 @@ use Rattle.bz_value.specs.declared.value.Item.TheVariants as i
 use Rattle.bz_items.specs.Characters.{Bytes, line_feed}
 use Rattle.bz_value.specs.Empty.{is_empty}
 use Rattle.bz_value.specs.Gaps.{GapLine, before_groups, groups_of, all_but_last, last_group, lines_of}
-use Rattle.bz_value.specs.LineShapes.{value_shape}
-use Rattle.bz_value.specs.Proper.{IsComment, comments_of, IsProperItemBy, IsProperBzl}
-use Rattle.bz_value.specs.Statements.{has_suite, is_whole_statement}
-use Rattle.bz_hosts.specs.View.{blocks}
-use Rattle.bz_hosts.specs.Suites.{stated, indented_lines_before, bzl_items, bzl_view_of}
+use Rattle.bz_value.specs.Proper.{IsComment, comments_of, IsProperItem, IsProper}
+use Rattle.bz_value.specs.Statements.{has_suite}
+use Rattle.bz_hosts.specs.Seen.{blocks}
+use Rattle.bz_hosts.specs.Suites.{stated, indented_lines_before}
+use Rattle.bz_hosts.specs.View.{items_from, view_of}
 use Rattle.bz_layout.specs.Written.{Indented, indented_lines, comment_lines, are_both}
 use Rattle.bz_layout.specs.LaidOut.{PartAt, gap_to_margin, left_of, newline_part, part_of, statement_part, before_next, lines_from, laid_out}
 use Rattle.bz_layout.specs.Flags.{with_flags, flags}
@@ -108,20 +108,20 @@ statement_node x back gap m = by_suite (has_suite x.0) (λ e. back.suite e)
     by_suite false h = (_, refl)
 
 -- what is read of a node that the file begins with
-abbrev items_from : Lines → Part → List Part → List Item
-items_from now y xs =
+abbrev items_read : Lines → Part → List Part → List Item
+items_read now y xs =
     let own : List Expr × Lines = (stated y).statement (last_group (groups_of now)) (indented_lines_before (map stated xs) []) in
-    blocks (all_but_last (groups_of now)) ++ (map i.Stmt own.0 ++ bzl_items own.1 xs)
+    blocks (all_but_last (groups_of now)) ++ (map i.Stmt own.0 ++ items_from own.1 xs)
 
-node_items : (now : Lines) (y : Part) (n : Node) (xs : List Part) → y ≡ p.Node n → bzl_items now (y ∷ xs) ≡ items_from now y xs
-node_items now y n xs e = subst (λ z. bzl_items now (z ∷ xs) ≡ items_from now z xs) (sym e) refl
+node_items : (now : Lines) (y : Part) (n : Node) (xs : List Part) → y ≡ p.Node n → items_from now (y ∷ xs) ≡ items_read now y xs
+node_items now y n xs e = subst (λ z. items_from now (z ∷ xs) ≡ items_read now z xs) (sym e) refl
 
 -- what is known of a statement
-known : (x : Expr) → IsProperItemBy is_whole_statement value_shape (i.Stmt x) → IsBack (x, part_of x)
+known : (x : Expr) → IsProperItem (i.Stmt x) → IsBack (x, part_of x)
 known x h = expr_back x (readable Begins x h.1)
 
 -- the lines before the first part of a file
-file_before : (items : List Item) → AllByRecursion (IsProperItemBy is_whole_statement value_shape) items → (gap : Bytes) (lines : Lines) → AreLines gap lines → indented_lines_before (map stated (lines_from gap items)) [] ≡ lines ++ file_lines items
+file_before : (items : List Item) → AllByRecursion IsProperItem items → (gap : Bytes) (lines : Lines) → AreLines gap lines → indented_lines_before (map stated (lines_from gap items)) [] ≡ lines ++ file_lines items
 file_before [] h gap lines k = whole_lines gap lines k ∙ sym (append-nil lines)
 file_before (i.Block texts ∷ items) h gap lines k =
     let next : IsBetween (before_next (i.Block texts) items) = between_known (i.Block texts) items in
@@ -132,8 +132,8 @@ file_before (i.Block texts ∷ items) h gap lines k =
 file_before (i.Stmt x ∷ items) h gap lines k = ap lines_of (statement_first 0 gap (x, part_of x) (known x h.0)) ∙ gap_lines 0 gap lines (comments_of x).before k (recursion_from_All IsComment (comments_of x).before h.0.2.0)
 
 -- items, the first after lines that say these Blocks
-items_back : (items : List Item) → AllByRecursion (IsProperItemBy is_whole_statement value_shape) items → (gap : Bytes) (now waiting : Lines) (bs : List Item) → Waits waiting bs → from_comment now ≡ from_comment (waiting ++ file_lines items) →
-    bzl_items now (lines_from gap items) ≡ bs ++ flags items
+items_back : (items : List Item) → AllByRecursion IsProperItem items → (gap : Bytes) (now waiting : Lines) (bs : List Item) → Waits waiting bs → from_comment now ≡ from_comment (waiting ++ file_lines items) →
+    items_from now (lines_from gap items) ≡ bs ++ flags items
 items_back [] h gap now waiting bs waits e =
     let says : SaysSame (groups_of now) (groups_of (waiting ++ [])) = both_say now (waiting ++ []) e in
     ap (λ z. z ++ []) (says.all ∙ (ap (λ z. blocks (groups_of z)) (append-nil waiting) ∙ end_blocks waiting bs waits))
@@ -166,15 +166,15 @@ items_back (i.Stmt x ∷ items) h gap now waiting bs waits e =
     let read : List Bytes → Lines → List Expr × Lines = (stated y).statement in
     let own : List Expr × Lines = read before (lines_at cs ++ rest) in
     let one : IsReadAs own (with_flags x ∷ []) rest = statement_back (x, part_of x) back (line_statement x h.0.0) h.0.2.1 gap 0 rest (next.bounded (file_lines items) (file_bounded items)) in
-    let out : List Expr × Lines → List Item = λ z. map i.Stmt z.0 ++ bzl_items z.1 xs in
+    let out : List Expr × Lines → List Item = λ z. map i.Stmt z.0 ++ items_from z.1 xs in
     let node = statement_node (x, part_of x) back gap 0 in
     node_items now y node.0 xs node.1
     ∙ two (λ z w. z ++ w) (says.front ∙ waits.front before)
     (two (λ z w. out (read z w)) (says.last ∙ waits.last before) after
     ∙ two (λ z w. map i.Stmt z ++ w) one.value (items_back items h.1 gap' own.1 next.lines [] next.waits one.left))
 
--- the view of the tree of the layout of a proper value is the value, levelled
-pub items_read_back : (items : List Item) → IsProperBzl items → bzl_view_of (laid_out items) ≡ flags items
+-- the view of the tree of the layout of a proper value is the value with its flags settled
+pub items_read_back : (items : List Item) → IsProper items → view_of (laid_out items) ≡ flags items
 items_read_back items h =
-    let each : AllByRecursion (IsProperItemBy is_whole_statement value_shape) items = recursion_from_All (IsProperItemBy is_whole_statement value_shape) items h in
+    let each : AllByRecursion IsProperItem items = recursion_from_All IsProperItem items h in
     items_back items each [] (indented_lines_before (map stated (lines_from [] items)) []) [] [] nothing_waits (ap from_comment (file_before items each [] [] no_lines))

@@ -18,7 +18,7 @@ use Rattle.bz_value.specs.Gaps.{comments_in, lines_of, first_comment, after_firs
 use Rattle.bz_value.specs.Proper.{IsComment, MaybeComment, comments_of, has_break}
 use Rattle.bz_value.specs.Roots.{mark_leaf}
 use Rattle.bz_value.specs.Statements.{has_suite}
-use Rattle.bz_hosts.specs.View.{Seen, seen, plain, first_seen_gap}
+use Rattle.bz_hosts.specs.Seen.{Seen, seen, plain, first_seen_gap}
 use Rattle.bz_hosts.specs.Suites.{Stated, SuiteRead, stated, line_read, branches, with_suite, put_header, walked, suite_read, suite_form, only_comment, margin_of, indented_lines_before, end_comments, after_end}
 use Rattle.bz_hosts.proofs.NodeViews.{seen_Node}
 use Rattle.bz_layout.specs.Layout.{suffix_text, firsts}
@@ -30,7 +30,6 @@ use Rattle.bz_layout.proofs.BackLines.{Lines, lines_joined, no_lines, AreLeft, l
 use Rattle.bz_hosts.proofs.Colons.{NoColon}
 use Rattle.bz_layout.proofs.Gapped.{lines_at, commented, commented_back, suffix_line, lines_after, suffix_after, nothing_left}
 use Rattle.bz_layout.proofs.Made.{two, plain_left}
-use Rattle.bz_layout.proofs.PlainLaid.{up_to_colon}
 use Rattle.bz_layout.proofs.Readable.{IsHead, IsAlternative, IsStatement, AreLinesOf}
 use Rattle.bz_hosts.proofs.Stated.{stated_part, statement_Node, suite_Node, suffix_Node, line_is}
 use Rattle.bz_layout.proofs.Viewed.{SeenAs}
@@ -227,6 +226,18 @@ put_same false f g others h = ap (λ z. z ∷ others) (h [])
 -- the lines that a suite leaves
 abbrev pub own_left_of : ℕ → List (Expr × PartAt) → List Bytes → Indented
 own_left_of m xs end = last_left (m + 4) [] (firsts xs) ++ at_margin (m + 4) end
+
+-- ---- up to the colon
+
+-- The parts before the colon are those of the header; a suite follows.
+up_to_colon : (first : Bool) (kind : Kind) (parts : List Seen) (above : List Bytes) (left after : Lines) (front rest : List Part) → AllByRecursion NoColon front →
+    branches first kind parts above left (map stated (front ++ (mark_leaf colon ∷ rest))) after ≡ with_suite first kind (parts ++ map seen front) above left (map stated rest) after
+up_to_colon first kind parts above left after [] rest h = ap (λ z. with_suite first kind z above left (map stated rest) after) (sym (append-nil parts))
+up_to_colon first kind parts above left after (x ∷ front) rest h =
+    let others : List Stated = map stated (front ++ (mark_leaf colon ∷ rest)) in
+    ap (λ z. if z then with_suite first kind parts above left others after else branches first kind (parts ++ (stated x).part ∷ []) above left others after) h.0
+    ∙ (ap (λ z. branches first kind (parts ++ z ∷ []) above left others after) (stated_part x)
+    ∙ (up_to_colon first kind (parts ++ seen x ∷ []) above left after front rest h.1 ∙ ap (λ z. with_suite first kind z above left (map stated rest) after) (append_assoc parts (seen x ∷ []) (map seen front))))
 
 -- a header and its suite, before other parts of the statement
 pub header_back : (first : Bool) (kind : Kind) (gap : Bytes) (m : ℕ) (h : Expr × PartAt) (xs : List (Expr × PartAt)) (end : List Bytes) (comments : HostComments) (tail : List Part) (left after next rest : Lines) (others : List Expr) →

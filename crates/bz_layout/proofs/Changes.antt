@@ -16,6 +16,7 @@ use Rattle.bz_layout.specs.private.Windows.{line_count_in, AreCounted}
 use Rattle.bz_layout.proofs.Reaching.{size_put, gone_most}
 use Rattle.bz_layout.proofs.Spelled.{laid_out_spelled}
 use Rattle.bz_layout.proofs.Windows.{length_lines}
+use Rattle.bz_value.specs.BuildValues.{IsProperBuild}
 use Rattle.bz_value.specs.Proper.{IsProper}
 use Rattle.bz_value.specs.Windows.{AreOver}
 use Rattle.bz_value.specs.declared.value.Item.{Item}
@@ -47,9 +48,9 @@ whole_length tree items parts ts found w old gone less n h short same made lost 
     omega (arith, all, new, most, p.windows.count, p.windows.few, short, is, own, left, sum)
 
 -- what is made of the items of the file and the parts of the tree, over windows that count lines
-pub of_tree : {E : Type 0} {said : Bool} (tree : Node) (file items : List Item) (parts : List Part) (windows counted : List Window) (lines : ℕ) (made : Result (Option Writer) E) → items ≡ file → parts ≡ tree.parts → IsProper file → lines ≡ length parts - 1 →
+pub of_tree : {E : Type 0} {said : Bool} (tree : Node) (file items : List Item) (parts : List Part) (windows counted : List Window) (lines : ℕ) (made : Result (Option Writer) E) → items ≡ file → parts ≡ tree.parts → IsProperBuild file → lines ≡ length parts - 1 →
     ((before : List Item) → line_count_in before ≡ lines → AreOver windows before items → AreCounted said counted before items) →
-    IfOk made (λ found. (before : List Item) → lines_from [] before ≡ parts → IsProper before → IsProper items → AreCounted said counted before items →
+    IfOk made (λ found. (before : List Item) → lines_from [] before ≡ parts → IsProperBuild before → IsProperBuild items → AreCounted said counted before items →
     MatchOption found (limit < length (layout items)) (λ w. IsPut parts (lines_from [] items) w.made w.bytes w.done)) →
     IfOk made (λ found. (before : List Item) → IsLayoutOf before tree → AreOver windows before file → MatchOption found (limit < length (layout file)) (λ w. IsPut tree.parts (lines_from [] file) w.made w.bytes w.done))
 of_tree tree file items parts windows counted lines (Err error) e f proper is over h = tt
@@ -58,7 +59,7 @@ of_tree tree file items parts windows counted lines (Ok found) e f proper is ove
     let all : length parts ≡ suc (line_count_in before) = ap length (sym own) ∙ length_lines [] before in
     subst (λ ys. MatchOption found (limit < length (layout ys)) (λ w. IsPut tree.parts (lines_from [] ys) w.made w.bytes w.done)) e
     (subst (λ ps. MatchOption found (limit < length (layout items)) (λ w. IsPut ps (lines_from [] items) w.made w.bytes w.done)) f
-    (h before own l.proper (subst IsProper (sym e) proper) (over before (omega (arith, all, is)) (subst (AreOver windows before) (sym e) o))))
+    (h before own l.proper (subst IsProperBuild (sym e) proper) (over before (omega (arith, all, is)) (subst (AreOver windows before) (sym e) o))))
 
 pub past_limit : (items : List Item) → IsProper items → limit < length (flat_map spell_part (lines_from [] items)) → limit < length (layout items)
 past_limit items h long = subst (λ n. limit < n) (ap length (laid_out_spelled items h)) long

@@ -6,6 +6,7 @@ use Rattle.bz_grammar.specs.declared.kind.Kind.{Kind}
 use Rattle.bz_grammar.specs.declared.kind.Kind.TheVariants as k
 use Rattle.bz_grammar.specs.declared.tree.Part.{Part, Node', Row_of-Part, end_of-Part, more_of-Part, items-the_row-Part}
 use Rattle.bz_grammar.specs.declared.tree.Part.TheVariants as p
+use Rattle.bz_grammar.proofs.Trees.{deepest_both}
 use Rattle.bz_grammar.specs.Spell.{depth_part, depth_row, deepest, depth_of}
 use Rattle.bz_grammar.proofs.Spells.{depth_Node}
 use Rattle.bz_value.specs.declared.value.Form.{Form}
@@ -23,7 +24,7 @@ use Rattle.bz_value.specs.Statements.{has_suite}
 use Rattle.bz_layout.specs.Layout.{Piece, mark, rowed, headed, joined, stacked, body, is_broken, is_tuple, gap_after, margin_after, firsts}
 use Rattle.bz_layout.specs.LaidOut.{PartAt, part_of, parts_of, piece_part, gap_to_margin, newline_part, left_of, last_left, parts_in, with_more_parts, statement_part, statement_parts, alternative_parts, suite_part, suite_node, node_by_frame, before_next, lines_from, laid_out}
 use Rattle.bz_layout.specs.Written.{at_margin, indented_lines, comment_lines}
-use Rattle.bz_layout.specs.Depths.{depth_in, depth_expr, depth_exprs, depth_line, depth_lines, deepest_by, deepest_of, deepest_line, depth_form, depth_items}
+use Rattle.bz_layout.specs.private.Depths.{depth_in, depth_expr, depth_exprs, depth_line, depth_lines, deepest_by, deepest_of, deepest_line, depth_form, depth_items}
 use Rattle.bz_layout.proofs.Made.{parts_row, items_row, parts_of_row, items_of_row, two, parts_values}
 
 abbrev pub LayingOut : Type 0
@@ -70,10 +71,6 @@ body_depth false one m closer end xs h = joined_depth m [] closer one xs h
 
 -- ---- suites
 
-deepest_append : (xs ys : List Part) → deepest (xs ++ ys) ≡ max (deepest xs) (deepest ys)
-deepest_append [] ys = omega arith
-deepest_append (x ∷ xs) ys = let more = deepest_append xs ys in omega (arith, more)
-
 depth_parts : (m : _) (r : Row_of-Part m) → depth_row r ≡ deepest (items-the_row-Part m r)
 depth_parts m end_of-Part = refl
 depth_parts m (more_of-Part x rest) = ap (λ d. max (depth_part x) d) (depth_parts _ rest)
@@ -82,7 +79,7 @@ grown_depth : (x : Part) (more : List Part) → depth_part (with_more_parts x mo
 grown_depth (p.Leaf l) more = let node = depth_Node (record { kind = k.Suite; parts = p.Leaf l ∷ more }) in omega (arith, node)
 grown_depth (Node' kind size parts) more =
     let node = depth_Node (record { kind = kind; parts = items-the_row-Part _ parts ++ more }) in
-    omega (arith, node, deepest_append (items-the_row-Part _ parts) more, depth_parts _ parts)
+    omega (arith, node, deepest_both (items-the_row-Part _ parts) more, depth_parts _ parts)
 
 inside_depth : (x : Part) → suc (deepest (parts_in x)) ≡ max 1 (depth_part x)
 inside_depth (p.Leaf l) = omega arith
@@ -111,7 +108,7 @@ alternatives_depth m lines (x ∷ xs) h =
     let gap : Bytes = gap_to_margin m lines (comments_of x.0).before in
     let rest : List Part = alternative_parts m (indented_lines (left_of m x.0)) xs in
     let more : suc (deepest rest) ≡ max 1 (deepest_of (firsts xs)) = alternatives_depth m (indented_lines (left_of m x.0)) xs h.1 in
-    omega (arith, deepest_append (parts_in (x.1 gap m)) rest, inside_depth (x.1 gap m), h.0 gap m, more)
+    omega (arith, deepest_both (parts_in (x.1 gap m)) rest, inside_depth (x.1 gap m), h.0 gap m, more)
 
 suited_depth : (suffix : Option Bytes) (gap : Bytes) (m : ℕ) (hs xs : List LayingOut) (end : List Bytes) → AsDeep hs → AsDeep xs →
     depth_part (suite_node suffix gap m hs xs end) ≡ max (deepest_of (firsts hs)) (suc (suc (deepest_line (firsts xs))))

@@ -1,7 +1,7 @@
 -- What a part of a node is, known by its neighbours in the shape: the items of sequences, what is before a bracket, and
 -- what is in a comprehension.
 use Rattle.std.proofs.Common.{◌≡◌, ℕ, Bool, true, false, not, ◌||◌, List, [], ◌∷◌, ◌++◌, inl, inr, Some, None, refl, sym, subst, codes, ◌&&◌}
-use Rattle.std.specs.List.{AllByRecursion}
+use Rattle.std.specs.List.{list_all, AllByRecursion}
 use Rattle.std.proofs.lemmas.Bool.{and_parts, or_cases, both_ways, not-true, and_from, or_left, or_right}
 use Rattle.std.proofs.lemmas.Slice.Eq.{bytes_eq-Decides}
 use Rattle.bz_token.specs.declared.class.Class.{Class}
@@ -17,13 +17,13 @@ use Rattle.bz_grammar.specs.Legal.{IsNonterminal}
 use Rattle.bz_grammar.specs.Spots.{opens, role}
 use Rattle.bz_grammar.proofs.Balance.{same_class, no_such}
 use Rattle.bz_items.specs.Characters.{comma}
-use Rattle.bz_value.specs.Frames.{Frame, row, sequence, compound, frame, has_brackets, is_comprehension}
-use Rattle.bz_value.specs.LineShapes.{line_shape}
+use Rattle.bz_value.specs.Frames.{Frame, row, sequence, compound, frame, has_brackets, is_comprehension, is_compound}
+use Rattle.bz_value.specs.LineShapes.{line_shape, whole_shape}
 use Rattle.bz_value.specs.Proper.{in_frame}
 use Rattle.bz_value.specs.Roots.{mark_leaf, each_with_comma, row_in}
-use Rattle.bz_hosts.proofs.InnerParts.{inner_kind}
+use Rattle.bz_hosts.proofs.InnerParts.{of_terminals, inner_kind}
 use Rattle.bz_layout.specs.Spaces.{is_value, lone, space_after, space_before, is_spaced_after, is_spaced_before, is_lone, apart}
-use Rattle.bz_layout.proofs.Neighbours.{Element, T, S, Is, passes, Pair, Links, links, all_in, one_leaf, never_lone, spaced, is_word}
+use Rattle.bz_layout.proofs.Neighbours.{Element, T, S, Is, passes, Pair, Links, links, never_lone, spaced, is_word}
 
 -- ---- the spaces of the layout: what the elements of a shape require, the parts show
 
@@ -40,12 +40,12 @@ abbrev pub word_terminal : Terminal → Bool
 word_terminal (s.any class) = is_word class
 word_terminal (s.this class t) = false
 
-nonterminal_words : (a : Nonterminal) → all_in word_terminal (leaves_at a) ≡ true
+nonterminal_words : (a : Nonterminal) → list_all word_terminal (leaves_at a) ≡ true
 nonterminal_words (s.level n) = refl
 nonterminal_words _ = refl
 
-pub word_leaf : (ts : List Terminal) (l : Leaf) → all_in word_terminal ts ≡ true → is_one_of ts l ≡ true → is_word l.class ≡ true
-word_leaf ts l h i = one_leaf word_terminal (λ class t. is_word class ≡ true) (λ class t w. w) (λ class t f. no_such f) ts l h i
+pub word_leaf : (ts : List Terminal) (l : Leaf) → list_all word_terminal ts ≡ true → is_one_of ts l ≡ true → is_word l.class ≡ true
+word_leaf ts l h i = of_terminals (λ class t. is_word class ≡ true) word_terminal (λ class t w. w) (λ class t f. no_such f) ts l h i
 
 pub value_of : (a : Nonterminal) (x : Part) → IsNonterminal a x → is_value x ≡ true
 value_of a (p.Leaf l) h = word_leaf (leaves_at a) l (nonterminal_words a) h
@@ -55,16 +55,16 @@ not_lone : (y : Part) → is_value y ≡ true → is_lone y ≡ false
 not_lone (p.Leaf l) h = lone_word l.class l.token h
 not_lone (Node' k z r) h = refl
 
-after_of : (kind : Kind) (ts : List Terminal) (x : Part) → all_in (space_after kind) ts ≡ true → Is (T ts) x → is_spaced_after kind x ≡ true
-after_of kind ts (p.Leaf l) h i = one_leaf (space_after kind) (λ class t. space_after kind (s.this class t) ≡ true) (λ class t f. no_such f) (λ class t w. w) ts l h i
+after_of : (kind : Kind) (ts : List Terminal) (x : Part) → list_all (space_after kind) ts ≡ true → Is (T ts) x → is_spaced_after kind x ≡ true
+after_of kind ts (p.Leaf l) h i = of_terminals (λ class t. space_after kind (s.this class t) ≡ true) (space_after kind) (λ class t f. no_such f) (λ class t w. w) ts l h i
 after_of kind ts (Node' k z r) h i = no_such i
 
-before_of : (kind : Kind) (us : List Terminal) (y : Part) → all_in (space_before kind) us ≡ true → Is (T us) y → is_spaced_before kind y ≡ true
-before_of kind us (p.Leaf l) h i = one_leaf (space_before kind) (λ class t. space_before kind (s.this class t) ≡ true) (λ class t f. no_such f) (λ class t w. w) us l h i
+before_of : (kind : Kind) (us : List Terminal) (y : Part) → list_all (space_before kind) us ≡ true → Is (T us) y → is_spaced_before kind y ≡ true
+before_of kind us (p.Leaf l) h i = of_terminals (λ class t. space_before kind (s.this class t) ≡ true) (space_before kind) (λ class t f. no_such f) (λ class t w. w) us l h i
 before_of kind us (Node' k z r) h i = no_such i
 
-never_of : (us : List Terminal) (y : Part) → all_in never_lone us ≡ true → Is (T us) y → is_lone y ≡ false
-never_of us (p.Leaf l) h i = one_leaf never_lone (λ class t. lone (s.this class t) ≡ false) never_any (λ class t w. not-true _ w) us l h i
+never_of : (us : List Terminal) (y : Part) → list_all never_lone us ≡ true → Is (T us) y → is_lone y ≡ false
+never_of us (p.Leaf l) h i = of_terminals (λ class t. lone (s.this class t) ≡ false) never_lone never_any (λ class t w. not-true _ w) us l h i
 never_of us (Node' k z r) h i = no_such i
 
 by_after : (a b d : Bool) → a ≡ true → b ≡ false → ((a && not b) || d) ≡ true
@@ -82,8 +82,8 @@ spaced_apart kind (S a) (S b) x y i j h = by_values _ _ _ _ (value_of a x i) (va
 spaced_apart kind (S a) (T us) x y i j h = by_before _ _ _ (before_of kind us y h j)
 spaced_apart kind (T ts) (S b) x y i j h = by_after _ _ _ (after_of kind ts x h i) (not_lone y (value_of b y j))
 spaced_apart kind (T ts) (T us) x y i j h =
-    elim (or_cases (all_in (space_after kind) ts && all_in never_lone us) _ h) [
-      | inl e ↦ let w = and_parts (all_in (space_after kind) ts) _ e in by_after _ _ _ (after_of kind ts x w.0 i) (never_of us y w.1 j)
+    elim (or_cases (list_all (space_after kind) ts && list_all never_lone us) _ h) [
+      | inl e ↦ let w = and_parts (list_all (space_after kind) ts) _ e in by_after _ _ _ (after_of kind ts x w.0 i) (never_of us y w.1 j)
       | inr e ↦ by_before _ _ _ (before_of kind us y e j)
     ]
 
@@ -113,7 +113,7 @@ none_is m r a x i t ps rest h = none_after m x ps rest (links (other_than m) any
 -- ---- items are no tokens of their row
 
 abbrev pub valued : Element → Bool
-valued (T ts) = all_in word_terminal ts
+valued (T ts) = list_all word_terminal ts
 valued (S a) = true
 
 valued_part : (a : Element) (x : Part) → Is a x → valued a ≡ true → is_value x ≡ true
@@ -153,7 +153,7 @@ in_brackets r row t parts items h = tt
 in_brackets r (sequence o e) t parts items h = enclosed_values r (t refl) o parts items (mark_leaf e ∷ []) h
 in_brackets r compound t parts items h = tt
 
-brackets_pass : (kind : Kind) → has_brackets (frame kind) ≡ true → passes before_comma any_last None (line_shape kind) ≡ true
+brackets_pass : (kind : Kind) → has_brackets (frame kind) ≡ true → passes before_comma any_last None (whole_shape kind) ≡ true
 brackets_pass k.Call h = refl
 brackets_pass k.Load h = refl
 brackets_pass k.Tuple h = refl
@@ -163,8 +163,8 @@ brackets_pass k.Def h = refl
 brackets_pass _ h = no_such h
 
 -- the items of each sequence
-pub items_values : (kind : Kind) (parts items : List Part) → Fits IsNonterminal (line_shape kind) (row_in (frame kind) parts items) → in_frame (frame kind) (Unit {0}) (AreValues items) (Unit {0})
-items_values kind parts items h = in_brackets (line_shape kind) (frame kind) (brackets_pass kind) parts items h
+pub items_values : (kind : Kind) (parts items : List Part) → Fits IsNonterminal (whole_shape kind) (row_in (frame kind) parts items) → in_frame (frame kind) (Unit {0}) (AreValues items) (Unit {0})
+items_values kind parts items h = in_brackets (whole_shape kind) (frame kind) (brackets_pass kind) parts items h
 
 -- ---- comprehensions: an opening bracket, and then no tokens of their row but the last
 
@@ -203,21 +203,25 @@ opening : (t : List ℕ) → role c.Mark t ≡ opens → (x : Part) → has_toke
 opening t o (p.Leaf l) h = let w = this_leaf c.Mark t l h in subst (λ z. role z l.token ≡ opens) (sym w.0) (subst (λ z. role c.Mark z ≡ opens) (sym w.1) o)
 opening t o (Node' kind z r) h = no_such h
 
-pub comprehension : (kind : Kind) → is_comprehension kind ≡ true → (xs : List Part) → Fits IsNonterminal (line_shape kind) xs → Opened xs
+pub comprehension : (kind : Kind) → is_comprehension kind ≡ true → (xs : List Part) → Fits IsNonterminal (whole_shape kind) xs → Opened xs
 comprehension k.ListComp o [] h = absurd h
 comprehension k.ListComp o (x ∷ xs) h = (opening (codes "[") refl x h.0, after_opening (s.sub s.test (s.sub s.first_clause (s.each s.clause (s.tok s.close_square s.done)))) refl xs h.1)
 comprehension k.DictComp o [] h = absurd h
 comprehension k.DictComp o (x ∷ xs) h = (opening (codes "{") refl x h.0, after_opening (s.sub s.entry (s.sub s.first_clause (s.each s.clause (s.tok s.close_curly s.done)))) refl xs h.1)
 comprehension _ o xs h = no_such o
 
--- ---- no node is empty, and one without a newline and an end is no line and no file
+-- ---- no row is empty, and one without a newline and an end is no line and no file
 
-pub some_part : (kind : Kind) → Fits IsNonterminal (line_shape kind) [] → ⊥
-some_part k.File h = h
-some_part k.Param (inl h) = h
-some_part k.Param (inr (inl h)) = h
-some_part k.Param (inr (inr h)) = h
-some_part _ h = absurd h
+pub some_part : (kind : Kind) → is_compound (frame kind) ≡ false → Fits IsNonterminal (whole_shape kind) [] → ⊥
+some_part k.File e h = h
+some_part k.Param e (inl h) = h
+some_part k.Param e (inr (inl h)) = h
+some_part k.Param e (inr (inr h)) = h
+some_part k.IfStmt e (inl h) = h
+some_part k.IfStmt e (inr (inl h)) = h
+some_part k.IfStmt e (inr (inr h)) = h
+some_part k.Suite e h = no_such (sym e)
+some_part _ e h = absurd h
 
 abbrev pub in_line_class : Class → Bool
 in_line_class c.Newline = false
@@ -239,11 +243,11 @@ ends_line (s.any class) = not (in_line_class class)
 ends_line (s.this class t) = false
 
 abbrev line_last : Element → Bool
-line_last (T ts) = all_in ends_line ts
+line_last (T ts) = list_all ends_line ts
 line_last (S a) = false
 
-line_end : (ts : List Terminal) (l : Leaf) → all_in ends_line ts ≡ true → is_one_of ts l ≡ true → in_line_class l.class ≡ false
-line_end ts l h i = one_leaf ends_line (λ class t. in_line_class class ≡ false) (λ class t w. not-true _ w) (λ class t f. no_such f) ts l h i
+line_end : (ts : List Terminal) (l : Leaf) → list_all ends_line ts ≡ true → is_one_of ts l ≡ true → in_line_class l.class ≡ false
+line_end ts l h i = of_terminals (λ class t. in_line_class class ≡ false) ends_line (λ class t w. not-true _ w) (λ class t f. no_such f) ts l h i
 
 last_ends : (x : Part) (xs : List Part) → Links any_two line_last x xs → InLine (x ∷ xs) → ⊥
 last_ends (p.Leaf l) [] (T ts, i, o) h = both_ways (in_line_class l.class) (line_end ts l o i) h.0
@@ -256,8 +260,8 @@ no_line r t e [] h i = e h
 no_line r t e (x ∷ xs) h i = last_ends x xs (links any_two line_last r None x tt t (x ∷ xs) h) i
 
 pub within_line : (kind : Kind) (xs : List Part) → Fits IsNonterminal (line_shape kind) xs → InLine xs → inner_kind kind ≡ true
-within_line k.File xs h i = absurd (no_line (line_shape k.File) refl (some_part k.File) xs h i)
-within_line k.Line xs h i = absurd (no_line (line_shape k.Line) refl (some_part k.Line) xs h i)
+within_line k.File xs h i = absurd (no_line (line_shape k.File) refl (some_part k.File refl) xs h i)
+within_line k.Line xs h i = absurd (no_line (line_shape k.Line) refl (some_part k.Line refl) xs h i)
 within_line k.Def xs h i = absurd h
 within_line k.IfStmt xs h i = absurd h
 within_line k.ForStmt xs h i = absurd h

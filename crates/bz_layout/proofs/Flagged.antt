@@ -25,7 +25,7 @@ use Rattle.bz_layout.specs.Spaces.{is_spaced}
 use Rattle.bz_layout.specs.Written.{Indented, TextAt, at_margin, indented_lines, comment_lines, statement_text, statements_text, text_by_frame, text_of, texts_of, piece_text, gap_between, past_item, item_text, layout}
 use Rattle.bz_layout.specs.LaidOut.{PartAt, gap_to_margin, left_by_frame, left_of, left_others, left_last, last_left, newline_part, parts_in, with_more_parts, statement_part, statement_parts, alternative_parts, suite_part, piece_part, node_by_frame, part_of, parts_of, layouts, before_next, lines_from, laid_out}
 use Rattle.bz_layout.specs.Flags.{settled_split, with_flags, each_with_flags, item_with_flags, flags}
-use Rattle.bz_layout.specs.Writings.{writings}
+use Rattle.bz_layout.specs.private.Writings.{writings}
 use Rattle.bz_layout.proofs.ReadBack.{left_form, others_left}
 use Rattle.bz_layout.proofs.Made.{two, text_Form, part_Form, parts_values, values_of, written_row, none_mapped, parts_row, items_row, parts_of_row, items_of_row}
 use Rattle.std.proofs.lemmas.List.{length-map}

@@ -1,11 +1,11 @@
 -- Settling the flags keeps file values proper.
 use Rattle.std.proofs.Common.{◌≡◌, Bool, false, not, ◌&&◌, ◌||◌, List, [], ◌∷◌, if◌then◌else◌, refl, sym, ap, ◌∙◌, map, subst}
-use Rattle.std.specs.Prelude.{codes, bytes_eq, All}
+use Rattle.std.specs.Prelude.{codes, bytes_eq}
 use Rattle.bz_grammar.specs.declared.kind.Kind.TheVariants as k
 use Rattle.std.proofs.lemmas.List.Elements.{All-map, All-weaker}
 use Rattle.bz_grammar.specs.declared.kind.Kind.{Kind}
 use Rattle.bz_grammar.specs.Legal.{IsNonterminal}
-use Rattle.bz_grammar.specs.Shapes.{Shape, Fits, shape, is_kind}
+use Rattle.bz_grammar.specs.Shapes.{Shape, Fits, is_kind}
 use Rattle.bz_grammar.specs.Spots.{Spot, Begins, Within}
 use Rattle.bz_value.specs.declared.value.Form.{Form}
 use Rattle.bz_value.specs.declared.value.Expr.{Expr, Token, Form', Row_of-Expr, end_of-Expr, more_of-Expr, items-the_row-Expr}
@@ -13,10 +13,10 @@ use Rattle.bz_value.specs.declared.value.Item.{Item}
 use Rattle.bz_value.specs.declared.value.Item.TheVariants as i
 use Rattle.bz_value.specs.Frames.{Frame, row, sequence, compound, frame, is_binary}
 use Rattle.bz_value.specs.Empty.{is_empty}
-use Rattle.bz_value.specs.LineShapes.{value_shape}
+use Rattle.bz_value.specs.LineShapes.{Grammar, value_shape}
 use Rattle.bz_items.specs.Characters.{Bytes}
-use Rattle.bz_value.specs.Proper.{AreComments, is_operator, begins_operator, after_expr, roots, IsEmptyRow, IsSomeRow, IsBare, in_frame, ProperBy, ProperRowBy, ProperHeadBy, ProperItemsBy, ProperHeaderBy, ProperLinesBy, IsProperItemBy, IsProper, IsProperBzl}
-use Rattle.bz_value.specs.Statements.{has_statement_kind, has_simple_kind, has_header_kind, first_token_text, header_word, headed_by, is_alone, is_headed_by, is_branch, is_alternative, is_whole_statement, else_last, alternatives_fit}
+use Rattle.bz_value.specs.Proper.{AreComments, is_operator, begins_operator, after_expr, roots, IsEmptyRow, IsSomeRow, IsBare, in_frame, ProperBy, ProperRowBy, ProperHeadBy, ProperItemsBy, ProperHeaderBy, ProperLinesBy, IsProperItemIn, IsProperIn}
+use Rattle.bz_value.specs.Statements.{has_simple_kind, has_header_kind, first_token_text, header_word, headed_by, is_alone, is_headed_by, is_branch, is_alternative, is_whole_statement, else_last, alternatives_fit}
 use Rattle.bz_value.specs.Roots.{root, row_in}
 use Rattle.bz_value.proofs.FormParts.{operator_first, IsNone, ArePartsBy, AreHeadBy, AreItemsBy, AreLinesBy, AreHeaderBy, form_proper_by}
 use Rattle.bz_layout.specs.Flags.{settled_split, with_flags, each_with_flags, item_with_flags, flags}
@@ -36,10 +36,6 @@ same_spot outer here (Form' kind s parts s' items end split open_break comments)
 same_simple : (x : Expr) → has_simple_kind (with_flags x) ≡ has_simple_kind x
 same_simple (Token t) = refl
 same_simple (Form' kind s parts s' items end split open_break comments) = refl
-
-same_statement : (x : Expr) → has_statement_kind (with_flags x) ≡ has_statement_kind x
-same_statement (Token t) = refl
-same_statement (Form' kind s parts s' items end split open_break comments) = refl
 
 same_header : (x : Expr) → has_header_kind (with_flags x) ≡ has_header_kind x
 same_header (Token t) = refl
@@ -167,16 +163,10 @@ module _ (grammar : Kind → Shape) where
 
 -- ---- file values
 
-module _ (test : Expr → Bool) (same : (x : Expr) → test (with_flags x) ≡ test x) (grammar : Kind → Shape) where
-  item_flags : (x : Item) → IsProperItemBy test grammar x → IsProperItemBy test grammar (item_with_flags x)
+module _ (grammar : Grammar) where
+  item_flags : (x : Item) → IsProperItemIn grammar x → IsProperItemIn grammar (item_with_flags x)
   item_flags (i.Block texts) h = h
-  item_flags (i.Stmt x) h = (same x ∙ h.0, expr_flags grammar Begins x h.1, subst AreComments (sym (same_comments x)) h.2)
+  item_flags (i.Stmt x) h = (same_line x ∙ h.0, expr_flags (value_shape grammar) Begins x h.1, subst AreComments (sym (same_comments x)) h.2)
 
-  items_flags_by : (items : List Item) → All (IsProperItemBy test grammar) items → All (IsProperItemBy test grammar) (flags items)
-  items_flags_by items h = All-map (IsProperItemBy test grammar) item_with_flags items (All-weaker (IsProperItemBy test grammar) (λ x. IsProperItemBy test grammar (item_with_flags x)) item_flags items h)
-
-pub flags_proper : (items : List Item) → IsProper items → IsProper (flags items)
-flags_proper items h = items_flags_by has_statement_kind same_statement shape items h
-
-pub bzl_flags_proper : (items : List Item) → IsProperBzl items → IsProperBzl (flags items)
-bzl_flags_proper items h = items_flags_by is_whole_statement same_line value_shape items h
+  pub flags_proper : (items : List Item) → IsProperIn grammar items → IsProperIn grammar (flags items)
+  flags_proper items h = All-map (IsProperItemIn grammar) item_with_flags items (All-weaker (IsProperItemIn grammar) (λ x. IsProperItemIn grammar (item_with_flags x)) item_flags items h)

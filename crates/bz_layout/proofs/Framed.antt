@@ -1,5 +1,5 @@
 -- What the shape of a kind says of a row of parts: that it has a part, and where its signs are.
-use Rattle.std.proofs.Common.{◌≡◌, Bool, true, false, not, ◌&&◌, List, [], ◌∷◌, inl, inr, None, refl, sym, ap, ◌∙◌}
+use Rattle.std.proofs.Common.{◌≡◌, Bool, true, false, not, ◌&&◌, List, [], ◌∷◌, inl, inr, None, refl, ap, ◌∙◌}
 use Rattle.std.proofs.Math.Bool.{and-false}
 use Rattle.std.proofs.lemmas.Bool.{cases_Bool, not-true}
 use Rattle.bz_grammar.specs.declared.kind.Kind.{Kind}
@@ -10,7 +10,7 @@ use Rattle.bz_grammar.specs.Shapes.{Nonterminal, Fits}
 use Rattle.bz_grammar.specs.Legal.{IsNonterminal}
 use Rattle.bz_grammar.proofs.Balance.{no_such}
 use Rattle.bz_value.specs.Frames.{frame, is_binary, is_comprehension, is_compound}
-use Rattle.bz_value.specs.LineShapes.{value_shape}
+use Rattle.bz_value.specs.LineShapes.{whole_shape}
 use Rattle.bz_value.specs.Proper.{is_operator_class}
 use Rattle.bz_value.specs.Empty.{is_empty}
 use Rattle.bz_hosts.proofs.InnerParts.{nonterminal_unsigned, binary_begins}
@@ -46,7 +46,7 @@ operand : (a : Nonterminal) (x : Part) → IsNonterminal a x → is_sign_part x 
 operand a (p.Leaf l) h = nonterminal_unsigned a l h
 operand a (Node' kind z r) h = refl
 
-first_part : (kind : Kind) (x : Part) (xs : List Part) → Fits IsNonterminal (value_shape kind) (x ∷ xs) → (is_binary kind && is_sign_part x) ≡ false
+first_part : (kind : Kind) (x : Part) (xs : List Part) → Fits IsNonterminal (whole_shape kind) (x ∷ xs) → (is_binary kind && is_sign_part x) ≡ false
 first_part kind x xs h =
     elim (cases_Bool (is_binary kind)) [
       | inl e ↦ let w = binary_begins kind e x xs h in ap (λ z. is_binary kind && z) (operand w.0 x w.1) ∙ and-false (is_binary kind)
@@ -57,7 +57,7 @@ abbrev operand_last : Kind → Element → Bool
 operand_last kind (T ts) = not (is_binary kind)
 operand_last kind (S a) = true
 
-each_ends : (kind : Kind) → passes any_two (operand_last kind) None (value_shape kind) ≡ true
+each_ends : (kind : Kind) → passes any_two (operand_last kind) None (whole_shape kind) ≡ true
 each_ends k.File = refl
 each_ends _ = refl
 
@@ -68,26 +68,17 @@ last_part kind x (y ∷ ys) h = last_part kind y ys h.1
 
 -- ---- a part is after the bracket of a comprehension
 
-second_part : (kind : Kind) → is_comprehension kind ≡ true → (x : Part) (xs : List Part) → Fits IsNonterminal (value_shape kind) (x ∷ xs) → is_empty xs ≡ false
+second_part : (kind : Kind) → is_comprehension kind ≡ true → (x : Part) (xs : List Part) → Fits IsNonterminal (whole_shape kind) (x ∷ xs) → is_empty xs ≡ false
 second_part kind o x (y ∷ ys) h = refl
 second_part k.ListComp o x [] h = absurd h.1
 second_part k.DictComp o x [] h = absurd h.1
 second_part _ o x [] h = no_such o
 
-some_value : (kind : Kind) → is_compound (frame kind) ≡ false → Fits IsNonterminal (value_shape kind) [] → ⊥
-some_value k.Def e h = h
-some_value k.ForStmt e h = h
-some_value k.IfStmt e (inl h) = h
-some_value k.IfStmt e (inr (inl h)) = h
-some_value k.IfStmt e (inr (inr h)) = h
-some_value k.Suite e h = no_such (sym e)
-some_value kind e h = some_part kind h
-
-pub row_shape : (kind : Kind) (xs : List Part) → is_compound (frame kind) ≡ false → Fits IsNonterminal (value_shape kind) xs → RowShape kind xs
-row_shape kind [] e h = absurd (some_value kind e h)
+pub row_shape : (kind : Kind) (xs : List Part) → is_compound (frame kind) ≡ false → Fits IsNonterminal (whole_shape kind) xs → RowShape kind xs
+row_shape kind [] e h = absurd (some_part kind e h)
 row_shape kind (x ∷ xs) e h = record {
   full = refl;
   first = first_part kind x xs h;
-  last = last_part kind x xs (links any_two (operand_last kind) (value_shape kind) None x tt (each_ends kind) (x ∷ xs) h);
+  last = last_part kind x xs (links any_two (operand_last kind) (whole_shape kind) None x tt (each_ends kind) (x ∷ xs) h);
   second = λ o. second_part kind o x xs h;
 }

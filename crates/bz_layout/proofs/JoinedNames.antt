@@ -18,7 +18,7 @@ use Rattle.bz_rule.proofs.Forms.{fronts_Form}
 use Rattle.bz_layout.specs.Drafts.{Drafted, pushed}
 use Rattle.bz_layout.specs.Layout.{gap_after, margin_after}
 use Rattle.bz_layout.specs.Written.{text_of}
-use Rattle.bz_layout.specs.Writings.{row_text}
+use Rattle.bz_layout.specs.private.Writings.{row_text}
 use Rattle.bz_layout.specs.private.Spines.{is_lone_token, row_written, past_first, past_front}
 use Rattle.bz_layout.proofs.Pushing.{pushed_none, pushed_twice}
 use Rattle.bz_layout.proofs.Writing.{row_first, row_form, three_pushed}

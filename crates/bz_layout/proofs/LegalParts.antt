@@ -9,31 +9,32 @@ use Rattle.bz_grammar.specs.declared.kind.Kind.{Kind}
 use Rattle.bz_grammar.specs.declared.tree.Node.{Node}
 use Rattle.bz_grammar.specs.declared.tree.Part.{Part, Row_of-Part, end_of-Part, more_of-Part, items-the_row-Part}
 use Rattle.bz_grammar.specs.declared.tree.Part.TheVariants as p
-use Rattle.bz_grammar.specs.Shapes.{Shape, Fits, shape}
+use Rattle.bz_grammar.specs.Shapes.{Fits}
 use Rattle.bz_grammar.specs.Legal.{IsNonterminal}
 use Rattle.bz_grammar.specs.Spell.{leaves_part}
 use Rattle.bz_grammar.specs.Spots.{Spot}
+use Rattle.bz_grammar.proofs.Balance.{no_such}
 use Rattle.bz_grammar.proofs.Nested.{row_of, items_of_row}
 use Rattle.bz_grammar.proofs.Spells.{leaves_Node}
 use Rattle.bz_value.specs.declared.value.Expr.{Expr, Token, Form', Row_of-Expr, end_of-Expr, more_of-Expr}
 use Rattle.bz_items.specs.Characters.{Bytes, comma, space}
-use Rattle.bz_value.specs.Frames.{Frame, row, sequence, compound, frame}
-use Rattle.bz_value.specs.LineShapes.{line_shape}
+use Rattle.bz_value.specs.Frames.{Frame, row, sequence, compound, frame, is_compound}
+use Rattle.bz_value.specs.LineShapes.{line_shape, whole_shape}
 use Rattle.bz_value.specs.Proper.{comments_of, roots, in_frame, ProperBy}
 use Rattle.bz_value.specs.Roots.{row_in}
 use Rattle.bz_value.proofs.LegalBy.{LegalBy, node_legal}
-use Rattle.bz_value.proofs.Wider.{IsWider, wider_expr, lines_wider}
-use Rattle.bz_hosts.proofs.InnerParts.{inner_kind}
+use Rattle.bz_value.proofs.Wider.{values_wider}
+use Rattle.bz_hosts.proofs.InnerParts.{inner_kind, inner_bzl, inner_line}
+use Rattle.bz_hosts.proofs.SeenParts.{all_mapped}
 use Rattle.bz_layout.specs.Layout.{mark, is_broken, is_tuple, gap_after, margin_after, firsts, rowed, headed, joined, stacked, laid_in, laid}
 use Rattle.bz_value.specs.Empty.{is_empty}
 use Rattle.bz_layout.specs.LaidOut.{piece_part, part_of, parts_of}
 use Rattle.bz_layout.proofs.Touching.{Apart, Airy, AiryRow}
 use Rattle.bz_layout.proofs.Elements.{items_values, some_part}
-use Rattle.bz_layout.proofs.Joined.{HasSequences, line_sequences, build_sequences, head_fits}
-use Rattle.bz_layout.proofs.Fitted.{plain_same, Child, rooted, roots_of_row, AreRooted, Pieces, laid_fits}
+use Rattle.bz_layout.proofs.Fitted.{plain_same, Child, rooted, roots_fit, IsRooted, AreRooted, Pieces, laid_fits}
 use Rattle.bz_layout.proofs.Rows.{plain_spaced, IsAfter, AreAfter, laid_apart}
 use Rattle.bz_layout.proofs.Made.{laid_plain, line_plain}
-use Rattle.bz_layout.proofs.Spots.{no_line, EachProper, both_each}
+use Rattle.bz_layout.proofs.Spots.{no_line, EachProper, InFrame, both_each}
 
 -- ---- a node by its list of parts
 
@@ -104,104 +105,80 @@ first_in (sequence opener closer) kind split open_break gap m [] items end h e =
 first_in (sequence opener closer) kind split open_break gap m (x ∷ xs) items end h e = h.0.starts gap m
 first_in compound kind split open_break gap m parts items end h e = absurd e
 
-pub some_parts : (f : Frame) (kind : Kind) (parts items : List Part) → Fits IsNonterminal (line_shape kind) (row_in f parts items) → in_frame f (parts ≡ [] → ⊥) (Unit {0}) ⊥
-some_parts row kind parts items h = λ e. some_part kind (subst (Fits IsNonterminal (line_shape kind)) e h)
-some_parts (sequence opener closer) kind parts items h = tt
-some_parts compound kind parts items h = some_part kind h
+some_parts : (f : Frame) (kind : Kind) (parts items : List Part) → is_compound f ≡ false → frame kind ≡ f → Fits IsNonterminal (whole_shape kind) (row_in f parts items) → in_frame f (parts ≡ [] → ⊥) (Unit {0}) ⊥
+some_parts row kind parts items n e h = λ i. some_part kind (ap is_compound e) (subst (Fits IsNonterminal (whole_shape kind)) i h)
+some_parts (sequence opener closer) kind parts items n e h = tt
+some_parts compound kind parts items n e h = no_such (sym n)
 
 -- ---- a form of good parts
 
--- what is laid out of a child has shapes of a grammar and is apart, after its gap, and is its root
-pub record IsGood (grammar : Kind → Shape) (x : Child) : Type 0 where
+-- what is laid out of a child has shapes of lines and is apart, after its gap, and is its root
+pub record IsGood (x : Child) : Type 0 where
   pub stands : IsAfter x
-  pub legal : (gap : Bytes) (m : ℕ) → LegalBy grammar (x.1 gap m)
+  pub legal : (gap : Bytes) (m : ℕ) → LegalBy line_shape (x.1 gap m)
   pub airy : (gap : Bytes) (m : ℕ) → Airy (x.1 gap m)
 
-abbrev pub AreGood : (Kind → Shape) → List Child → Type 0
-AreGood grammar xs = AllByRecursion (IsGood grammar) xs
+abbrev pub AreGood : List Child → Type 0
+AreGood xs = AllByRecursion IsGood xs
 
--- ---- by a grammar in which sequences have the shapes that they have in lines, and which is no wider
+-- what is laid out of a form after a gap: of what is in a line, or of a header
+pub record AreFormParts (kind : Kind) (gap : Bytes) (ps : List Part) : Type 0 where
+  pub begins : Begin gap (flat_map leaves_part ps)
+  pub fits : Fits IsNonterminal (whole_shape kind) ps
+  pub legal : AllByRecursion (LegalBy line_shape) ps
+  pub between : Apart kind ps
+  pub airy : AllByRecursion Airy ps
 
-module _ (grammar : Kind → Shape) where
-  pub stand_so : (xs : List Child) → AreGood grammar xs → AreAfter xs
-  stand_so [] h = tt
-  stand_so (x ∷ xs) h = (h.0.stands, stand_so xs h.1)
-
-  pub rooted_so : (xs : List Child) → AreGood grammar xs → AreRooted xs
-  rooted_so [] h = tt
-  rooted_so (x ∷ xs) h = (h.0.stands.rooted_as, rooted_so xs h.1)
-
-  pub legal_so : (xs : List Child) → AreGood grammar xs → AllByRecursion (λ x. (gap : Bytes) (m : ℕ) → LegalBy grammar (x.1 gap m)) xs
-  legal_so [] h = tt
-  legal_so (x ∷ xs) h = (h.0.legal, legal_so xs h.1)
-
-  pub airy_so : (xs : List Child) → AreGood grammar xs → AllByRecursion (λ x. (gap : Bytes) (m : ℕ) → Airy (x.1 gap m)) xs
-  airy_so [] h = tt
-  airy_so (x ∷ xs) h = (h.0.airy, airy_so xs h.1)
-
-module _ (grammar : Kind → Shape) (sequences : HasSequences grammar) (wider : IsWider grammar line_shape) where
-  module _ (kind : Kind) (split open_break : Bool) (parts items : List Child) (end : List Bytes) (g : AreGood grammar parts) (i : AreGood grammar items) (line : inner_kind kind ≡ true) (fits : Fits IsNonterminal (grammar kind) (row_in (frame kind) (rooted parts) (rooted items))) where
-    abbrev laid_out_node : Bytes → ℕ → Node
-    laid_out_node gap m = record { kind = kind; parts = map piece_part (laid kind split open_break gap m parts items end) }
-
-    node_starts : (gap : Bytes) (m : ℕ) → Begin gap (leaves_part (p.Node (laid_out_node gap m)))
-    node_starts gap m = subst (Begin gap) (sym (leaves_Node (laid_out_node gap m))) (begin_with gap (laid_out_node gap m).parts (first_in (frame kind) kind split open_break gap m parts items end (stand_so grammar parts g) (some_parts (frame kind) kind (rooted parts) (rooted items) (wider kind _ fits))))
-
-    laid_out_legal : (gap : Bytes) (m : ℕ) → LegalBy grammar (p.Node (laid_out_node gap m))
-    laid_out_legal gap m =
-        node_legal grammar (laid_out_node gap m) (laid_fits grammar sequences kind split open_break gap m parts items end (rooted_so grammar parts g) (rooted_so grammar items i) fits)
-        (each_in (LegalBy grammar) (λ gap n. tt) (frame kind) kind split open_break gap m parts items end (legal_so grammar parts g) (legal_so grammar items i))
-
-    node_airy : (gap : Bytes) (m : ℕ) → Airy (p.Node (laid_out_node gap m))
-    node_airy gap m =
-        airy_node (laid_out_node gap m) line
-        (laid_apart kind split open_break gap m parts items end (stand_so grammar parts g) (stand_so grammar items i) (head_fits kind (rooted parts) (rooted items) (wider kind _ fits)) (items_values kind (rooted parts) (rooted items) (wider kind _ fits)))
-        (each_in Airy (λ gap n. tt) (frame kind) kind split open_break gap m parts items end (airy_so grammar parts g) (airy_so grammar items i))
-
-  -- any proper expression
-
-  roots_fit : (kind : Kind) (m n : _) (parts : Row_of-Expr m) (items : Row_of-Expr n) → Fits IsNonterminal (grammar kind) (row_in (frame kind) (roots parts) (roots items)) → Fits IsNonterminal (grammar kind) (row_in (frame kind) (rooted (parts_of parts)) (rooted (parts_of items)))
-  roots_fit kind m n parts items h =
-      subst (λ xs. Fits IsNonterminal (grammar kind) (row_in (frame kind) xs (rooted (parts_of items)))) (sym (roots_of_row m parts))
-      (subst (λ xs. Fits IsNonterminal (grammar kind) (row_in (frame kind) (roots parts) xs)) (sym (roots_of_row n items)) h)
-
-  mutual
-    pub good_by : (here : Spot) (x : Expr) → ProperBy grammar here x → IsGood grammar (x, part_of x)
-    good_by here (Token t) h = record {
-      stands = record {
-        starts = λ gap m. (record { class = t.class; gap = gap; token = t.text }, [], refl, refl);
-        rooted_as = plain_same (Token t);
-        spaced_as = plain_spaced (Token t);
-      };
-      legal = λ gap m. tt;
-      airy = λ gap m. tt;
+form_parts : (kind : Kind) (split open_break : Bool) (parts items : List Child) (end : List Bytes) → AreGood parts → AreGood items → is_compound (frame kind) ≡ false → Fits IsNonterminal (whole_shape kind) (row_in (frame kind) (rooted parts) (rooted items)) →
+    (gap : Bytes) (m : ℕ) → AreFormParts kind gap (map piece_part (laid kind split open_break gap m parts items end))
+form_parts kind split open_break parts items end g i plain fits gap m =
+    let after : (xs : List Child) → AreGood xs → AreAfter xs = all_mapped IsGood IsAfter (λ x h. h.stands) in
+    let roots : (xs : List Child) → AreGood xs → AreRooted xs = all_mapped IsGood IsRooted (λ x h. h.stands.rooted_as) in
+    let legal : (xs : List Child) → AreGood xs → Each (LegalBy line_shape) (λ gap n. tt) xs = all_mapped IsGood (λ x. (gap : Bytes) (m : ℕ) → LegalBy line_shape (x.1 gap m)) (λ x h. h.legal) in
+    let airy : (xs : List Child) → AreGood xs → Each Airy (λ gap n. tt) xs = all_mapped IsGood (λ x. (gap : Bytes) (m : ℕ) → Airy (x.1 gap m)) (λ x h. h.airy) in
+    record {
+      begins = begin_with gap (map piece_part (laid kind split open_break gap m parts items end)) (first_in (frame kind) kind split open_break gap m parts items end (after parts g) (some_parts (frame kind) kind (rooted parts) (rooted items) plain refl fits));
+      fits = laid_fits kind split open_break gap m parts items end (roots parts g) (roots items i) fits;
+      legal = each_in (LegalBy line_shape) (λ gap n. tt) (frame kind) kind split open_break gap m parts items end (legal parts g) (legal items i);
+      between = laid_apart kind split open_break gap m parts items end (after parts g) (after items i) (items_values kind (rooted parts) (rooted items) fits);
+      airy = each_in Airy (λ gap n. tt) (frame kind) kind split open_break gap m parts items end (airy parts g) (airy items i);
     }
-    good_by here (Form' kind z parts z' items end split open_break comments) h =
-        let x : Expr = Form' kind z parts z' items end split open_break comments in
-        let inner = both_each grammar (frame kind) kind here _ _ parts items end split open_break h.1 in
-        let ps : AreGood grammar (parts_of parts) = each_good _ parts inner.0 in
-        let is : AreGood grammar (parts_of items) = each_good _ items inner.1 in
-        let narrow : ProperBy line_shape here x = wider_expr grammar line_shape wider here x h in
-        let line : inner_kind kind ≡ true = no_line here x narrow in
-        let fits : Fits IsNonterminal (grammar kind) (row_in (frame kind) (rooted (parts_of parts)) (rooted (parts_of items))) = roots_fit kind _ _ parts items h.0 in
-        subst (λ f. IsGood grammar (x, f)) (sym (laid_plain x (line_plain here x narrow))) (record {
-          stands = record {
-            starts = node_starts kind split open_break (parts_of parts) (parts_of items) end ps is line fits;
-            rooted_as = plain_same x;
-            spaced_as = plain_spaced x;
-          };
-          legal = laid_out_legal kind split open_break (parts_of parts) (parts_of items) end ps is line fits;
-          airy = node_airy kind split open_break (parts_of parts) (parts_of items) end ps is line fits;
-        })
 
-    pub each_good : (m : _) (r : Row_of-Expr m) → EachProper grammar r → AreGood grammar (parts_of r)
-    each_good m end_of-Expr h = tt
-    each_good m (more_of-Expr x rest) h = (good_by h.0.0 x h.0.1, each_good _ rest h.1)
+mutual
+  pub laid_out_good : (here : Spot) (x : Expr) → ProperBy line_shape here x → IsGood (x, part_of x)
+  laid_out_good here (Token t) h = record {
+    stands = record {
+      starts = λ gap m. (record { class = t.class; gap = gap; token = t.text }, [], refl, refl);
+      rooted_as = plain_same (Token t);
+      spaced_as = plain_spaced (Token t);
+    };
+    legal = λ gap m. tt;
+    airy = λ gap m. tt;
+  }
+  laid_out_good here (Form' kind z parts z' items end split open_break comments) h =
+      let x : Expr = Form' kind z parts z' items end split open_break comments in
+      let plain : is_compound (frame kind) ≡ false = line_plain here x h in
+      let line : inner_kind kind ≡ true = no_line here x h in
+      let inner = both_each line_shape (frame kind) kind here _ _ parts items end split open_break h.1 in
+      let known = form_parts kind split open_break (parts_of parts) (parts_of items) end (each_good _ parts inner.0) (each_good _ items inner.1) plain (roots_fit kind _ _ parts items (values_wider kind _ h.0)) in
+      let node : Bytes → ℕ → Node = λ gap m. record { kind = kind; parts = map piece_part (laid kind split open_break gap m (parts_of parts) (parts_of items) end) } in
+      subst (λ f. IsGood (x, f)) (sym (laid_plain x plain)) (record {
+        stands = record {
+          starts = λ gap m. subst (Begin gap) (sym (leaves_Node (node gap m))) (known gap m).begins;
+          rooted_as = plain_same x;
+          spaced_as = plain_spaced x;
+        };
+        legal = λ gap m. node_legal line_shape (node gap m) (inner_line kind line _ (inner_bzl kind line _ (known gap m).fits)) (known gap m).legal;
+        airy = λ gap m. airy_node (node gap m) line (known gap m).between (known gap m).airy;
+      })
 
--- ---- in lines, and in BUILD files
+  each_good : (m : _) (r : Row_of-Expr m) → EachProper line_shape r → AreGood (parts_of r)
+  each_good m end_of-Expr h = tt
+  each_good m (more_of-Expr x rest) h = (laid_out_good h.0.0 x h.0.1, each_good _ rest h.1)
 
-pub laid_out_good : (here : Spot) (x : Expr) → ProperBy line_shape here x → IsGood line_shape (x, part_of x)
-laid_out_good here x h = good_by line_shape line_sequences (λ kind xs i. i) here x h
-
-pub build_good : (here : Spot) (x : Expr) → ProperBy shape here x → IsGood shape (x, part_of x)
-build_good here x h = good_by shape build_sequences lines_wider here x h
+-- of a form, by what is in it
+pub form_good : (here : Spot) (kind : Kind) (m n : _) (parts : Row_of-Expr m) (items : Row_of-Expr n) (end : List Bytes) (split open_break : Bool) → is_compound (frame kind) ≡ false → Fits IsNonterminal (whole_shape kind) (row_in (frame kind) (roots parts) (roots items)) →
+    InFrame line_shape (frame kind) kind here parts items end split open_break → (gap : Bytes) (margin : ℕ) → AreFormParts kind gap (map piece_part (laid kind split open_break gap margin (parts_of parts) (parts_of items) end))
+form_good here kind m n parts items end split open_break plain fits h =
+    let inner = both_each line_shape (frame kind) kind here _ _ parts items end split open_break h in
+    form_parts kind split open_break (parts_of parts) (parts_of items) end (each_good _ parts inner.0) (each_good _ items inner.1) plain (roots_fit kind _ _ parts items fits)

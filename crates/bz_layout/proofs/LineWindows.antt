@@ -12,7 +12,7 @@ use Rattle.bz_value.specs.declared.windows.Window.{Window}
 use Rattle.bz_value.specs.Windows.{AreOver, AreWithin}
 use Rattle.bz_layout.specs.private.Windows.{line_count_in, come_items, old_count, old_lines, come_end, AreCounted, AreLinesOver, HaveLines}
 use Rattle.bz_layout.proofs.Windows.{cut_window}
-use Rattle.bz_layout.specs.Depths.{depth_items}
+use Rattle.bz_layout.specs.private.Depths.{depth_items}
 use Rattle.bz_layout.specs.LaidOut.{laid_out}
 use Rattle.bz_layout.proofs.Deep.{laid_out_depth}
 use Rattle.bz_layout.proofs.Measured.{depth_first}

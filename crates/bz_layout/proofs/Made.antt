@@ -7,7 +7,7 @@ use Rattle.bz_grammar.specs.declared.kind.Kind.TheVariants as k
 use Rattle.bz_grammar.specs.declared.tree.Part.TheVariants as p
 use Rattle.bz_grammar.specs.Legal.{IsNonterminal}
 use Rattle.bz_grammar.specs.Shapes.{Fits}
-use Rattle.bz_grammar.specs.Spots.{Spot, Begins}
+use Rattle.bz_grammar.specs.Spots.{Spot}
 use Rattle.bz_value.specs.declared.value.Form.{Form}
 use Rattle.bz_value.specs.declared.value.Expr.{Expr, Token, Form', Row_of-Expr, end_of-Expr, more_of-Expr, items-the_row-Expr, items_hidden-the_row-Expr-0}
 use Rattle.bz_value.specs.declared.value.Expr.TheVariants as e
@@ -15,31 +15,23 @@ use Rattle.bz_items.specs.Characters.{Bytes}
 use Rattle.bz_value.specs.Empty.{is_empty}
 use Rattle.bz_value.specs.Frames.{Frame, row, sequence, compound, frame, is_compound}
 use Rattle.bz_value.specs.LineShapes.{line_shape}
-use Rattle.bz_value.specs.Proper.{comments_of, roots, ProperBy, IsProperItem}
+use Rattle.bz_value.specs.Proper.{comments_of, roots, ProperBy}
 use Rattle.bz_value.specs.Roots.{root, row_in}
 use Rattle.bz_value.specs.Statements.{has_suite}
+use Rattle.bz_value.proofs.FormParts.{items_in, parts_in}
 use Rattle.bz_value.specs.declared.value.Item.{Item}
 use Rattle.bz_value.specs.declared.value.Item.TheVariants as i
 use Rattle.bz_layout.specs.Layout.{laid, laid_in, firsts}
 use Rattle.bz_layout.specs.Written.{Indented, text_of, texts_of, text_by_frame, indented_lines, comment_lines}
 use Rattle.bz_layout.specs.LaidOut.{PartAt, part_of, parts_of, layouts, piece_part, node_by_frame, left_by_frame, left_of, line_part, before_next, lines_from}
-use Rattle.bz_layout.specs.Writings.{writings}
-use Rattle.bz_value.proofs.Wider.{line_expr}
-
-abbrev parts_after : Expr → (m : Count) × Row_of-Expr m
-parts_after (Form' kind s parts s' items end split open_break comments) = (_, parts)
-parts_after (Token t) = (_, end_of-Expr)
-
-abbrev items_after : Expr → (m : Count) × Row_of-Expr m
-items_after (Form' kind s parts s' items end split open_break comments) = (_, items)
-items_after (Token t) = (_, end_of-Expr)
+use Rattle.bz_layout.specs.private.Writings.{writings}
 
 -- the rows of a form
 abbrev pub parts_row : Form → (m : Count) × Row_of-Expr m
-parts_row f = parts_after (e.Form f)
+parts_row f = parts_in (e.Form f)
 
 abbrev pub items_row : Form → (m : Count) × Row_of-Expr m
-items_row f = items_after (e.Form f)
+items_row f = items_in (e.Form f)
 
 pub parts_of_row : (f : Form) → items-the_row-Expr (parts_row f).0 (parts_row f).1 ≡ f.parts
 parts_of_row f = items_hidden-the_row-Expr-0 f.parts
@@ -134,7 +126,3 @@ line_plain here (Form' kind s parts s' items end split open_break comments) h = 
     by_kind : (kind : Kind) → Fits IsNonterminal (line_shape kind) (row_in (frame kind) (roots parts) (roots items)) → is_compound (frame kind) ≡ false
     by_kind k.Suite g = absurd g
     by_kind _ g = refl
-
--- so has a statement of a BUILD file
-pub item_plain : (x : Expr) → IsProperItem (i.Stmt x) → has_suite x ≡ false
-item_plain x h = line_plain Begins x (line_expr Begins x h.1)

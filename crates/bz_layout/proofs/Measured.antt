@@ -5,7 +5,7 @@ use Rattle.bz_value.specs.declared.value.Item.{Item}
 use Rattle.bz_value.specs.declared.value.Item.TheVariants as i
 use Rattle.bz_layout.specs.Written.{item_text, layout}
 use Rattle.bz_layout.specs.LaidOut.{before_next}
-use Rattle.bz_layout.specs.Depths.{depth_items}
+use Rattle.bz_layout.specs.private.Depths.{depth_items}
 use Rattle.bz_layout.proofs.Spelled.{next_after}
 
 pub layout_first : (x : Item) (xs : List Item) → length (layout (x ∷ xs)) ≡ length (item_text x) + (length (before_next x xs) + length (layout xs))

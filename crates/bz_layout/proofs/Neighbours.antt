@@ -1,11 +1,10 @@
 -- Which parts of a node are beside each other, by a computed test on its shape.
-use Rattle.std.proofs.Common.{◌≡◌, ℕ, Bool, true, false, not, ◌&&◌, ◌||◌, List, [], ◌∷◌, inl, inr, Option, Some, None, refl, codes, sym, subst}
+use Rattle.std.proofs.Common.{◌≡◌, ℕ, Bool, true, false, not, ◌&&◌, ◌||◌, List, [], ◌∷◌, inl, inr, Option, Some, None, refl, codes}
 use Rattle.std.specs.Prelude.{nat_eq}
-use Rattle.std.proofs.lemmas.Bool.{and_parts, both_ways, or_cases}
-use Rattle.std.proofs.lemmas.Slice.Eq.{bytes_eq-Decides}
+use Rattle.std.specs.List.{list_all}
+use Rattle.std.proofs.lemmas.Bool.{and_parts, both_ways}
 use Rattle.bz_token.specs.declared.class.Class.{Class}
 use Rattle.bz_token.specs.declared.class.Class.TheVariants as c
-use Rattle.bz_lex.specs.declared.leaf.Leaf.{Leaf}
 use Rattle.bz_grammar.specs.declared.kind.Kind.{Kind}
 use Rattle.bz_grammar.specs.declared.kind.Kind.TheVariants as k
 use Rattle.bz_grammar.specs.declared.tree.Part.{Part}
@@ -13,7 +12,6 @@ use Rattle.bz_grammar.specs.Shapes as s
 use Rattle.bz_grammar.specs.Shapes.{Nonterminal, Terminal, Shape, Fits, Listed, Several, has_token, is_one_of, is_terminal}
 use Rattle.bz_grammar.specs.Legal.{IsNonterminal}
 use Rattle.bz_grammar.specs.Reading.{starts}
-use Rattle.bz_grammar.proofs.Balance.{no_such, same_class}
 use Rattle.bz_value.specs.LineShapes.{line_shape}
 use Rattle.bz_hosts.proofs.InnerParts.{inner_kind}
 use Rattle.bz_layout.specs.Spaces.{from_table, lone, is_dot_terminal, space_after, space_before}
@@ -128,24 +126,6 @@ module _ (ok : Element → Element → Bool) (last_ok : Element → Bool) where
       several_links a (Fits IsNonterminal r) (λ y ys i k. links r (Some (S a)) y i w2.1 ys k) w2.0 before x g w1.0 (λ ys k. links r before x g w.0 ys k) xs h
   links (s.times group r) before x g p xs h = absurd (both_ways false refl p)
 
-abbrev pub all_in : (Terminal → Bool) → List Terminal → Bool
-all_in p [] = true
-all_in p (t ∷ ts) = p t && all_in p ts
-
--- what holds of the class and the text of each terminal that passes a test holds of a leaf that is one of such terminals
-module _ (test : Terminal → Bool) (P : Class → List ℕ → Type 0) (any_class : (class : Class) (t : List ℕ) → test (s.any class) ≡ true → P class t) (this_text : (class : Class) (t : List ℕ) → test (s.this class t) ≡ true → P class t) where
-  leaf_as : (t : Terminal) (l : Leaf) → test t ≡ true → is_terminal t l ≡ true → P l.class l.token
-  leaf_as (s.any class) l h i = subst (λ z. P z l.token) (sym (same_class l.class class i)) (any_class class l.token h)
-  leaf_as (s.this class t) l h i =
-      let w = and_parts _ _ i in
-      subst (λ z. P z l.token) (sym (same_class l.class class w.0)) (subst (P class) (sym ((bytes_eq-Decides l.token t).0 w.1)) (this_text class t h))
-
-  pub one_leaf : (ts : List Terminal) (l : Leaf) → all_in test ts ≡ true → is_one_of ts l ≡ true → P l.class l.token
-  one_leaf [] l h i = no_such i
-  one_leaf (t ∷ ts) l h i =
-      let w = and_parts (test t) _ h in
-      elim (or_cases (is_terminal t l) (is_one_of ts l) i) [ inl e ↦ leaf_as t l w.0 e | inr e ↦ one_leaf ts l w.1 e ]
-
 -- ---- which neighbours the layout sets apart, and which may touch
 
 -- signs and stars
@@ -179,9 +159,9 @@ never_lone (s.this class t) = not (lone (s.this class t))
 
 abbrev pub spaced : Kind → Element → Element → Bool
 spaced kind (S a) (S b) = true
-spaced kind (S a) (T us) = all_in (space_before kind) us
-spaced kind (T ts) (S b) = all_in (space_after kind) ts
-spaced kind (T ts) (T us) = (all_in (space_after kind) ts && all_in never_lone us) || all_in (space_before kind) us
+spaced kind (S a) (T us) = list_all (space_before kind) us
+spaced kind (T ts) (S b) = list_all (space_after kind) ts
+spaced kind (T ts) (T us) = (list_all (space_after kind) ts && list_all never_lone us) || list_all (space_before kind) us
 
 abbrev pub is_primary : Nonterminal → Bool
 is_primary (s.level n) = nat_eq n 0
@@ -190,9 +170,9 @@ is_primary _ = false
 -- Neighbours that may touch: anything before a bracket, a comma or a colon; a primary that is no number before a dot; and
 -- after brackets, commas and colons anything, after signs and stars a part or a word, after a dot a name.
 abbrev pub safe : Element → Element → Bool
-safe (S a) (T us) = all_in lone us || (all_in is_dot_terminal us && is_primary a)
-safe (T ts) (S a) = all_in lone ts || (all_in prefixed ts && all_in well (starts a))
-safe (T ts) (T us) = all_in lone us || (all_in lone ts || ((all_in is_dot_terminal ts && all_in named us) || (all_in prefixed ts && all_in well us)))
+safe (S a) (T us) = list_all lone us || (list_all is_dot_terminal us && is_primary a)
+safe (T ts) (S a) = list_all lone ts || (list_all prefixed ts && list_all well (starts a))
+safe (T ts) (T us) = list_all lone us || (list_all lone ts || ((list_all is_dot_terminal ts && list_all named us) || (list_all prefixed ts && list_all well us)))
 safe (S a) (S b) = false
 
 abbrev pub neighbours : Kind → Element → Element → Bool
@@ -208,7 +188,7 @@ no_number _ = true
 
 -- a primary ends with a token that is no number
 abbrev pub finals : Kind → Element → Bool
-finals kind (T ts) = all_in no_number ts
+finals kind (T ts) = list_all no_number ts
 finals kind (S a) = not (is_primary_kind kind)
 
 -- So it is in each row of the table.

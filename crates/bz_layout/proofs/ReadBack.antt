@@ -1,13 +1,14 @@
 -- What is laid out of an expression reads back as the expression with its flags settled.
 use Rattle.std.proofs.Common.{◌≡◌, ℕ, suc, Bool, true, false, ◌&&◌, List, [], ◌∷◌, ◌++◌, ◌+◌, refl, sym, ap, ◌∙◌, subst, map, take, drop, length, append_assoc, true≢false}
-use Rattle.std.specs.Prelude.{Option, None, nat_eq}
-use Rattle.std.specs.List.{AllByRecursion}
+use Rattle.std.specs.Prelude.{Option, nat_eq}
 use Rattle.bz_grammar.specs.declared.kind.Kind.{Kind}
 use Rattle.bz_grammar.specs.declared.kind.Kind.TheVariants as k
 use Rattle.bz_grammar.specs.declared.tree.Node.{Node}
 use Rattle.bz_grammar.specs.declared.tree.Part.{Part}
 use Rattle.bz_grammar.specs.declared.tree.Part.TheVariants as p
-use Rattle.bz_grammar.specs.Shapes.{is_kind}
+use Rattle.bz_grammar.specs.Legal.{IsNonterminal}
+use Rattle.bz_grammar.specs.Shapes.{Fits, is_kind}
+use Rattle.bz_value.specs.LineShapes.{whole_shape}
 use Rattle.bz_grammar.proofs.Nested.{items_of_row}
 use Rattle.bz_value.specs.declared.value.Expr.{Expr, Token, Form', Row_of-Expr, end_of-Expr, more_of-Expr, items-the_row-Expr}
 use Rattle.bz_value.specs.declared.value.Expr.TheVariants as e
@@ -20,7 +21,7 @@ use Rattle.bz_value.specs.Proper.{IsComment, MaybeComment, comments_of, has_brea
 use Rattle.bz_value.specs.Roots.{mark_leaf}
 use Rattle.bz_value.specs.Statements.{has_suite}
 use Rattle.bz_value.proofs.GapComments.{all_joined}
-use Rattle.bz_hosts.specs.View.{Seen, seen, seen_node, plain, first_seen_gap, loose_in, loose_after, sequence_form, items_in, is_split, is_open}
+use Rattle.bz_hosts.specs.Seen.{Seen, seen, seen_node, plain, first_seen_gap, loose_in, loose_after, sequence_form, items_in, is_split, is_open}
 use Rattle.bz_hosts.specs.Suites.{stated, branches, indented_lines_before}
 use Rattle.bz_hosts.proofs.NodeViews.{seen_Node}
 use Rattle.bz_layout.specs.Layout.{rowed, body, headed, laid_in, is_broken, is_tuple, gap_after, margin_after, firsts}
@@ -30,14 +31,16 @@ use Rattle.bz_layout.specs.Flags.{with_flags, each_with_flags, settled_split}
 use Rattle.bz_layout.proofs.BackEnds.{from_comment, AreBounded}
 use Rattle.bz_layout.proofs.BackLines.{Lines, AreLeft, left_at}
 use Rattle.bz_layout.proofs.BackSuites.{IsReadAs, IsBack, AreBack, Branches, IsOwn, owner, own_left_of, coming, coming_bounded, last_are, node_first, header_back, alternatives_before, starts_from, alternatives_back}
-use Rattle.bz_hosts.proofs.Colons.{NoColon}
+use Rattle.bz_hosts.proofs.Colons.{NoColon, no_colons, token_plain, nonterminal_plain}
+use Rattle.bz_hosts.proofs.InnerParts.{every, every_part}
+use Rattle.bz_hosts.proofs.SeenParts.{all_mapped}
+use Rattle.bz_layout.proofs.Fitted.{IsRooted, AreRooted, plain_same, root_same, roots_fit, laid_fits}
 use Rattle.bz_layout.proofs.Gapped.{lines_at}
 use Rattle.bz_layout.proofs.Made.{two, parts_values, plain_node, left_none}
-use Rattle.bz_layout.proofs.PlainLaid.{PlainRoots, row_plain, stacked_plain, joined_plain, headed_plain}
 use Rattle.bz_layout.proofs.Readable.{Readable, EachReadable, AreInner, IsRow, IsSequence, IsSuite, Suits, IsHead, IsOne, IsAlternative, AreLinesOf, Facts}
 use Rattle.bz_hosts.proofs.Stated.{stated_part, statement_Node, compound_is}
-use Rattle.bz_layout.proofs.Viewed.{Reads, look, settled, not_binary, row_back, row_loose, gap_bare, open_back}
-use Rattle.bz_layout.proofs.ViewedItems.{body_of, body_back, headed_gap, headed_take, headed_drop, headed_loose}
+use Rattle.bz_layout.proofs.Viewed.{SeenAs, Reads, look, settled, not_binary, row_back, row_loose, gap_bare, open_back}
+use Rattle.bz_layout.proofs.ViewedItems.{body_back, headed_gap, headed_take, headed_drop, headed_loose}
 
 -- ---- forms
 
@@ -111,29 +114,25 @@ form_seen row kind split open_break g m hs xs end i bh bx h = row_seen kind spli
 form_seen (sequence opener closer) kind split open_break g m hs xs end i bh bx h = sequence_seen opener closer kind split open_break g m hs xs end (reads hs bh h.inner.0) (reads xs bx h.inner.1) h
 form_seen compound kind split open_break g m hs xs end i bh bx h = absurd (true≢false i)
 
+-- what is no suite is laid out as its root
+all_rooted : (xs : List (Expr × PartAt)) → Reads xs → AreRooted xs
+all_rooted = all_mapped SeenAs IsRooted (λ x h. h.rooted)
+
+none_rooted : (xs : List (Expr × PartAt)) → firsts xs ≡ [] → AreRooted xs
+none_rooted [] h = tt
+none_rooted (x ∷ xs) h = absurd (is_nothing x.0 (firsts xs) h)
+
+both_rooted : (f : Frame) (kind : Kind) (split open_break : Bool) (hs xs : List (Expr × PartAt)) (end : List Bytes) → is_compound f ≡ false → AreBack hs → AreBack xs → Facts f kind split open_break (firsts hs) (firsts xs) end → AreRooted hs × AreRooted xs
+both_rooted row kind split open_break hs xs end i bh bx h = (all_rooted hs (reads hs bh h.inner), none_rooted xs h.no_items)
+both_rooted (sequence opener closer) kind split open_break hs xs end i bh bx h = (all_rooted hs (reads hs bh h.inner.0), all_rooted xs (reads xs bx h.inner.1))
+both_rooted compound kind split open_break hs xs end i bh bx h = absurd (true≢false i)
+
 -- no colon is in a header
-body_plain : (broken one : Bool) (c : ℕ) → NoColon (mark_leaf c) → (m : ℕ) (end : List Bytes) (xs : List (Expr × PartAt)) → Reads xs → PlainRoots xs → AllByRecursion NoColon (map piece_part (body_of broken one m c end xs))
-body_plain true one c n m end xs r h = stacked_plain c n m None end xs r h
-body_plain false one c n m end xs r h = joined_plain c n m [] one xs r h
-
--- the brackets of a header are no colons, and it is no suite
-abbrev PlainMarks : Frame → Type 0
-PlainMarks row = Unit {0}
-PlainMarks (sequence o c) = NoColon (mark_leaf o) × NoColon (mark_leaf c)
-PlainMarks compound = ⊥
-
-marks_plain : (kind : Kind) → is_header kind ≡ true → PlainMarks (frame kind)
-marks_plain k.Def h = (refl, refl)
-marks_plain k.IfStmt h = tt
-marks_plain k.ForStmt h = tt
-marks_plain _ h = absurd (true≢false (sym h))
-
-form_plain : (f : Frame) (kind : Kind) (split open_break : Bool) (g : Bytes) (m : ℕ) (hs xs : List (Expr × PartAt)) (end : List Bytes) → PlainMarks f → is_header kind ≡ true → AreBack hs → AreBack xs → Facts f kind split open_break (firsts hs) (firsts xs) end →
-    AllByRecursion NoColon (map piece_part (laid_in f kind split open_break g m hs xs end))
-form_plain row kind split open_break g m hs xs end n k bh bx h = row_plain kind open_break m g m hs (reads hs bh h.inner) (h.plain k)
-form_plain (sequence o c) kind split open_break g m hs xs end n k bh bx h =
-    headed_plain o n.0 m g hs (body kind split m c xs end) (reads hs bh h.inner.0) (h.plain k).0 (body_plain (is_broken kind split (firsts xs) end) (is_tuple kind && nat_eq (length xs) 1) c n.1 m end xs (reads xs bx h.inner.1) (h.plain k).1)
-form_plain compound kind split open_break g m hs xs end n k bh bx h = absurd n
+plain_shape : (kind : Kind) → is_header kind ≡ true → every no_colons (λ a. true) (whole_shape kind) ≡ true
+plain_shape k.Def h = refl
+plain_shape k.IfStmt h = refl
+plain_shape k.ForStmt h = refl
+plain_shape _ h = absurd (true≢false (sym h))
 
 -- ---- forms by their fields
 
@@ -155,6 +154,8 @@ pub record IsForm (f : Frame) (kind : Kind) (split open_break : Bool) (ps xs : L
   pub left : (m : ℕ) → left_of m x.0 ≡ left_by_frame f (others_left m (own_left_of m xs end) (firsts ps))
   pub laid : (g : Bytes) (m : ℕ) → x.1 g m ≡ node_by_frame f kind split open_break (comments_of x.0).suffix g m ps xs end
   pub no_sign : is_operator x.0 ≡ false
+  pub rooted : has_suite x.0 ≡ false → IsRooted x
+  pub fits : AreRooted ps → AreRooted xs → (g : Bytes) (m : ℕ) → Fits IsNonterminal (whole_shape kind) (map piece_part (laid_in f kind split open_break g m ps xs end))
   pub head : (other : Kind) → IsHead other x.0 → (kind ≡ other) × (is_header other ≡ true)
   pub alone : (other : Kind) → IsAlternative other x.0 → IsAlone other ps
   pub back : AreBack ps
@@ -293,14 +294,15 @@ inner_is_back f kind split open_break ps xs end x i o h =
         sign = λ g m. ap (λ z. is_operator (plain z)) (made g m) ∙ (ap is_operator ((back g m).value no_comments false) ∙ sym o.no_sign);
         gap = λ g m. ap (λ z. z.gap) (made g m) ∙ (back g m).gap;
         loose = λ g m. ap (λ z. z.loose) (made g m) ∙ (back g m).loose;
-        plain = λ g m k. ap (λ z. (stated z).is_colon) (laid g m);
+        rooted = o.rooted e;
       };
       head = λ other e g m.
           let w = o.head other e in
-          let header : is_header kind ≡ true = ap is_header w.0 ∙ w.1 in (
+          let header : is_header kind ≡ true = ap is_header w.0 ∙ w.1 in
+          let rooted = both_rooted f kind split open_break ps xs end i o.back o.items_back h in (
             parts g m,
             laid g m ∙ ap (λ z. let n : Node = record { kind = z; parts = parts g m } in p.Node n) w.0,
-            form_plain f kind split open_break g m ps xs end (subst PlainMarks o.frame_is (marks_plain kind header)) header o.back o.items_back h,
+            every_part NoColon no_colons (λ a. true) token_plain (λ a y b j. nonterminal_plain a y j) (whole_shape kind) (plain_shape kind header) (parts g m) (o.fits rooted.0 rooted.1 g m),
           );
       suite = λ e. absurd (true≢false (sym e ∙ (o.suited ∙ i)));
     }
@@ -350,7 +352,7 @@ mutual
   expr_back (Token t) f = record {
     gap = λ g m. refl;
     left = λ m. tt;
-    seen_as = λ e. record { value = λ g m. refl; sign = λ g m. refl; gap = λ g m. refl; loose = λ g m. refl; plain = λ g m h. h };
+    seen_as = λ e. record { value = λ g m. refl; sign = λ g m. refl; gap = λ g m. refl; loose = λ g m. refl; rooted = plain_same (Token t) };
     head = λ kind h. absurd h;
     suite = λ e. absurd (true≢false (sym e));
   }
@@ -367,6 +369,8 @@ mutual
         left = λ m. left_form m (frame kind) _ _ parts items end;
         laid = λ g m. refl;
         no_sign = refl;
+        rooted = root_same a;
+        fits = λ r i g m. laid_fits kind split open_break g m ps xs end r i (roots_fit kind _ _ parts items f.3);
         head = λ other h. h;
         alone = λ other h. one_row other _ parts h.1;
         back = row_read _ parts f.1;

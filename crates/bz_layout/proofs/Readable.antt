@@ -2,34 +2,30 @@
 use Rattle.std.proofs.Common.{◌≡◌, ℕ, Bool, true, false, not, ◌&&◌, inl, inr, ◌⊎◌, List, [], ◌∷◌, ◌++◌, refl, sym, ap, ◌∙◌, map, length, if◌then◌else◌, subst, true≢false}
 use Rattle.std.specs.Prelude.{codes, bytes_eq}
 use Rattle.std.specs.List.{AllByRecursion}
-use Rattle.std.proofs.lemmas.Bool.{and_parts, or_cases, or_left, eqb-true}
-use Rattle.std.proofs.lemmas.List.Elements.{All-weaker, recursion_from_All}
+use Rattle.std.proofs.lemmas.Bool.{and_parts, or_cases, eqb-true}
+use Rattle.std.proofs.lemmas.List.Elements.{recursion_from_All}
 use Rattle.std.proofs.lemmas.List.{length-map}
 use Rattle.bz_grammar.specs.declared.kind.Kind.{Kind}
 use Rattle.bz_grammar.specs.declared.kind.Kind.TheVariants as k
 use Rattle.bz_grammar.specs.declared.tree.Part.{Part}
 use Rattle.bz_grammar.specs.Legal.{IsNonterminal}
-use Rattle.bz_grammar.specs.Shapes.{Fits, shape, is_kind}
-use Rattle.bz_grammar.specs.Spots.{Spot, Begins}
+use Rattle.bz_grammar.specs.Shapes.{Fits, is_kind}
+use Rattle.bz_grammar.specs.Spots.{Spot}
 use Rattle.bz_grammar.proofs.Balance.{no_such, inner_nonterminal}
 use Rattle.bz_grammar.proofs.Numbers.{same_kind}
 use Rattle.bz_hosts.proofs.InnerParts.{inner_kind, inner_tokens, every, every_part, token_inner, nonterminal_inner, is_inner}
 use Rattle.bz_hosts.proofs.SeenParts.{all_parted}
 use Rattle.bz_value.specs.declared.value.Expr.{Expr, Token, Form', Row_of-Expr, end_of-Expr, more_of-Expr, items-the_row-Expr}
-use Rattle.bz_value.specs.declared.value.Item.{Item}
-use Rattle.bz_value.specs.declared.value.Item.TheVariants as i
 use Rattle.bz_value.specs.Comments.{no_comments}
-use Rattle.bz_value.specs.Frames.{Frame, row, sequence, compound, frame, lead, is_binary, is_comprehension, has_brackets, is_header, is_compound, is_simple, is_statement}
+use Rattle.bz_value.specs.Frames.{Frame, row, sequence, compound, frame, lead, is_binary, is_comprehension, has_brackets, is_header, is_compound, is_simple}
 use Rattle.bz_items.specs.Characters.{Bytes}
-use Rattle.bz_value.specs.LineShapes.{value_shape}
-use Rattle.bz_value.specs.Proper.{IsComment, MaybeComment, comments_of, has_break, is_operator, begins_operator, roots, after_expr, IsEmptyRow, IsSomeRow, in_frame, ProperBy, ProperRowBy, ProperHeadBy, ProperItemsBy, ProperLinesBy, IsProperItemBy, IsProperItem, IsProper, IsProperBzl}
+use Rattle.bz_value.specs.LineShapes.{whole_shape}
+use Rattle.bz_value.specs.Proper.{IsComment, MaybeComment, comments_of, has_break, is_operator, begins_operator, roots, after_expr, IsEmptyRow, IsSomeRow, in_frame, ProperBy, ProperRowBy, ProperHeadBy, ProperItemsBy, ProperLinesBy}
 use Rattle.bz_value.specs.Roots.{root, mark_leaf, each_with_comma, row_in}
-use Rattle.bz_value.specs.Statements.{has_statement_kind, has_simple_kind, has_header_kind, has_suite, is_alternative, is_whole_statement, header_word, first_token_text, is_branch, alternatives_fit}
+use Rattle.bz_value.specs.Statements.{has_simple_kind, has_header_kind, has_suite, is_alternative, is_whole_statement, header_word, first_token_text, is_branch, alternatives_fit}
 use Rattle.bz_value.specs.Empty.{is_empty}
 use Rattle.bz_value.proofs.FormParts.{operator_first}
 use Rattle.bz_value.proofs.LeadParts.{lead_before}
-use Rattle.bz_value.proofs.Wider.{wider_expr, build_wider}
-use Rattle.bz_hosts.proofs.Colons.{NoColon, no_colons, token_plain, nonterminal_plain}
 use Rattle.bz_layout.proofs.Elements.{InLine, within_line}
 use Rattle.bz_layout.proofs.Framed.{row_shape, is_sign_part, begins_sign, ends_sign, after_first}
 use Rattle.bz_layout.proofs.Made.{roots_row, none_mapped}
@@ -57,10 +53,6 @@ AreItems (x ∷ xs) = AllByRecursion IsComment (comments_of x).before × MaybeCo
 abbrev pub AreInner : List Expr → Type 0
 AreInner xs = AllByRecursion (λ x. has_suite x ≡ false) xs
 
--- no colon among the roots of these
-abbrev pub ArePlain : List Expr → Type 0
-ArePlain xs = AllByRecursion NoColon (map root xs)
-
 -- a row: kind, flags split and open, parts, items, end comments
 pub record IsRow (kind : Kind) (split open_break : Bool) (parts items : List Expr) (end : List Bytes) : Type 0 where
   pub full : is_empty parts ≡ false
@@ -69,7 +61,6 @@ pub record IsRow (kind : Kind) (split open_break : Bool) (parts items : List Exp
   pub second : is_comprehension kind ≡ true → is_empty (after_first parts) ≡ false
   pub each : AreParts (is_binary kind) parts
   pub inner : AreInner parts
-  pub plain : is_header kind ≡ true → ArePlain parts
   pub no_items : items ≡ []
   pub no_end : end ≡ []
   pub not_split : split ≡ false
@@ -81,7 +72,6 @@ pub record IsSequence (kind : Kind) (open_break : Bool) (parts items : List Expr
   pub heads : AreHeads parts
   pub each : AreItems items
   pub inner : AreInner parts × AreInner items
-  pub plain : is_header kind ≡ true → ArePlain parts × ArePlain items
   pub ends_there : AllByRecursion IsComment end
   pub not_open : open_break ≡ false
 
@@ -132,6 +122,7 @@ abbrev mutual
   Readable (Token t) = Unit {0}
   Readable (Form' kind s parts s' items end split open_break comments) =
       Facts (frame kind) kind split open_break (items-the_row-Expr _ parts) (items-the_row-Expr _ items) end × EachReadable parts × EachReadable items
+      × Fits IsNonterminal (whole_shape kind) (row_in (frame kind) (roots parts) (roots items))
 
   pub EachReadable : {m : _} → Row_of-Expr m → Type 0
   EachReadable end_of-Expr = Unit {0}
@@ -162,16 +153,16 @@ pub begins_row : (m : _) (r : Row_of-Expr m) → begins_operator r ≡ operator_
 begins_row m end_of-Expr = refl
 begins_row m (more_of-Expr x rest) = refl
 
-pub parts_list : (binary : Bool) (outer here : Spot) (m : _) (r : Row_of-Expr m) → ProperRowBy value_shape binary outer here r → AreParts binary (items-the_row-Expr m r)
+pub parts_list : (binary : Bool) (outer here : Spot) (m : _) (r : Row_of-Expr m) → ProperRowBy whole_shape binary outer here r → AreParts binary (items-the_row-Expr m r)
 parts_list binary outer here m end_of-Expr h = tt
 parts_list binary outer here m (more_of-Expr x rest) h =
     (h.1, λ b. ap (λ z. binary && (is_operator x && not z)) (sym (begins_row _ rest)) ∙ (h.2 b).0, parts_list binary outer (after_expr outer here x) _ rest h.3)
 
-pub heads_list : (here : Spot) (m : _) (r : Row_of-Expr m) → ProperHeadBy value_shape here r → AreHeads (items-the_row-Expr m r)
+pub heads_list : (here : Spot) (m : _) (r : Row_of-Expr m) → ProperHeadBy whole_shape here r → AreHeads (items-the_row-Expr m r)
 heads_list here m end_of-Expr h = tt
 heads_list here m (more_of-Expr x rest) h = (h.1.0, h.1.1, heads_list here _ rest h.2)
 
-pub items_list : (m : _) (r : Row_of-Expr m) → ProperItemsBy value_shape r → AreItems (items-the_row-Expr m r)
+pub items_list : (m : _) (r : Row_of-Expr m) → ProperItemsBy whole_shape r → AreItems (items-the_row-Expr m r)
 items_list m end_of-Expr h = tt
 items_list m (more_of-Expr x rest) h = (recursion_from_All IsComment (comments_of x).before h.1.0, h.1.1, h.2, items_list _ rest h.3)
 
@@ -180,7 +171,7 @@ no_items_list m end_of-Expr h = refl
 no_items_list m (more_of-Expr x rest) h = absurd h
 
 -- lines of a sort
-lines_list : (test : Expr → Bool) (P : Expr → Type 0) → ((x : Expr) → test x ≡ true → P x) → (m : _) (r : Row_of-Expr m) → ProperLinesBy value_shape test r → AreLinesOf P (items-the_row-Expr m r)
+lines_list : (test : Expr → Bool) (P : Expr → Type 0) → ((x : Expr) → test x ≡ true → P x) → (m : _) (r : Row_of-Expr m) → ProperLinesBy whole_shape test r → AreLinesOf P (items-the_row-Expr m r)
 lines_list test P of m end_of-Expr h = tt
 lines_list test P of m (more_of-Expr x rest) h = (of x h.0, recursion_from_All IsComment (comments_of x).before h.2.0, h.2.1, lines_list test P of _ rest h.3)
 
@@ -233,7 +224,7 @@ alternative_of (Token t) h = no_such h
 alternative_of (Form' kind s parts s' items end split open_break comments) h = let w = and_parts (is_kind kind k.Suite) _ h in (same_kind kind k.Suite (eqb-true _ _ w.0), one_branch _ parts w.1)
 
 -- only an if has alternatives
-others_list : (head : Expr) (m : _) (r : Row_of-Expr m) → alternatives_fit head (items-the_row-Expr m r) ≡ true → ProperLinesBy value_shape is_alternative r → AreLinesOf (IsAlternative (kind_in head)) (items-the_row-Expr m r)
+others_list : (head : Expr) (m : _) (r : Row_of-Expr m) → alternatives_fit head (items-the_row-Expr m r) ≡ true → ProperLinesBy whole_shape is_alternative r → AreLinesOf (IsAlternative (kind_in head)) (items-the_row-Expr m r)
 others_list head m end_of-Expr e h = tt
 others_list head m (more_of-Expr x rest) e h =
     subst (λ z. AreLinesOf (IsAlternative z) (items-the_row-Expr _ (more_of-Expr x rest))) (sym (branch_head _ _ head (and_parts _ _ e).0).0) (lines_list is_alternative (IsAlternative k.IfStmt) alternative_of _ (more_of-Expr x rest) h)
@@ -241,7 +232,7 @@ others_list head m (more_of-Expr x rest) e h =
 -- ---- what the shapes say
 
 -- what is in rows and sequences is in the lines of a file
-inner_shape : (kind : Kind) (xs : List Part) → is_compound (frame kind) ≡ false → Fits IsNonterminal (value_shape kind) xs → (frame kind ≡ row → InLine xs) → every inner_tokens inner_nonterminal (value_shape kind) ≡ true
+inner_shape : (kind : Kind) (xs : List Part) → is_compound (frame kind) ≡ false → Fits IsNonterminal (whole_shape kind) xs → (frame kind ≡ row → InLine xs) → every inner_tokens inner_nonterminal (whole_shape kind) ≡ true
 inner_shape k.File xs e h i = no_such (within_line k.File xs h (i refl))
 inner_shape k.Line xs e h i = no_such (within_line k.Line xs h (i refl))
 inner_shape k.Suite xs e h i = no_such (sym e)
@@ -259,18 +250,8 @@ roots_inner : (xs : List Expr) → AllByRecursion (λ x. is_inner x ≡ true) (m
 roots_inner [] h = tt
 roots_inner (x ∷ xs) h = (root_inner x h.0, roots_inner xs h.1)
 
-all_inner : (kind : Kind) (xs : List Part) → is_compound (frame kind) ≡ false → Fits IsNonterminal (value_shape kind) xs → (frame kind ≡ row → InLine xs) → AllByRecursion (λ x. is_inner x ≡ true) xs
-all_inner kind xs e h i = every_part (λ x. is_inner x ≡ true) inner_tokens inner_nonterminal token_inner nonterminal_inner (value_shape kind) (inner_shape kind xs e h i) xs h
-
--- no colon is in a header
-plain_shape : (kind : Kind) → is_header kind ≡ true → every no_colons (λ a. true) (value_shape kind) ≡ true
-plain_shape k.Def h = refl
-plain_shape k.IfStmt h = refl
-plain_shape k.ForStmt h = refl
-plain_shape _ h = no_such h
-
-all_plain : (kind : Kind) (xs : List Part) → Fits IsNonterminal (value_shape kind) xs → is_header kind ≡ true → AllByRecursion NoColon xs
-all_plain kind xs h e = every_part NoColon no_colons (λ a. true) token_plain (λ a x b i. nonterminal_plain a x i) (value_shape kind) (plain_shape kind e) xs h
+all_inner : (kind : Kind) (xs : List Part) → is_compound (frame kind) ≡ false → Fits IsNonterminal (whole_shape kind) xs → (frame kind ≡ row → InLine xs) → AllByRecursion (λ x. is_inner x ≡ true) xs
+all_inner kind xs e h i = every_part (λ x. is_inner x ≡ true) inner_tokens inner_nonterminal token_inner nonterminal_inner (whole_shape kind) (inner_shape kind xs e h i) xs h
 
 -- between commas, and before more
 without_commas : (P : Part → Type 0) (xs ys : List Part) → AllByRecursion P (each_with_comma xs ++ ys) → AllByRecursion P xs
@@ -284,7 +265,7 @@ of_sequence P ps is x zs h = let w = all_parted P ps (x ∷ (each_with_comma is 
 -- ---- by the frame
 
 by_frame : (kind : Kind) (f : Frame) (here : Spot) (m n : _) (parts : Row_of-Expr m) (items : Row_of-Expr n) (end : List Bytes) (split open_break : Bool) → frame kind ≡ f →
-    Fits IsNonterminal (value_shape kind) (row_in f (map root (items-the_row-Expr m parts)) (map root (items-the_row-Expr n items))) → InFrame value_shape f kind here parts items end split open_break →
+    Fits IsNonterminal (whole_shape kind) (row_in f (map root (items-the_row-Expr m parts)) (map root (items-the_row-Expr n items))) → InFrame whole_shape f kind here parts items end split open_break →
     Facts f kind split open_break (items-the_row-Expr m parts) (items-the_row-Expr n items) end
 by_frame kind row here m n parts items end split open_break e fits h =
     let ps : List Expr = items-the_row-Expr _ parts in
@@ -295,8 +276,7 @@ by_frame kind row here m n parts items end split open_break e fits h =
       last = ap (λ z. is_binary kind && z) (sym (ends_same ps)) ∙ w.last;
       second = λ e. sym (others_same ps) ∙ w.second e;
       each = parts_list (is_binary kind) here here m parts h.0;
-      inner = roots_inner ps (all_inner kind (map root ps) (ap is_compound e) fits (λ r. subst InLine (roots_row m parts) (row_in_line value_shape (is_binary kind) here here m parts h.0)));
-      plain = all_plain kind (map root ps) fits;
+      inner = roots_inner ps (all_inner kind (map root ps) (ap is_compound e) fits (λ r. subst InLine (roots_row m parts) (row_in_line whole_shape (is_binary kind) here here m parts h.0)));
       no_items = no_items_list n items h.1;
       no_end = h.2;
       not_split = h.3;
@@ -307,11 +287,10 @@ by_frame kind (sequence o c) here m n parts items end split open_break e fits h 
     let is : List Expr = items-the_row-Expr _ items in
     let inner = of_sequence (λ x. is_inner x ≡ true) (map root ps) (map root is) (mark_leaf o) (mark_leaf c ∷ []) (all_inner kind _ (ap is_compound e) fits (λ r. absurd (true≢false (ap has_brackets (sym e ∙ r))))) in
     record {
-      leads = sym (length-map ps root) ∙ subst (λ z. in_frame z (Unit {0}) (length (map root ps) ≡ lead kind) (Unit {0})) e (lead_before kind (map root ps) (map root is) (subst (λ z. Fits IsNonterminal (value_shape kind) (row_in z (map root ps) (map root is))) (sym e) fits));
+      leads = sym (length-map ps root) ∙ subst (λ z. in_frame z (Unit {0}) (length (map root ps) ≡ lead kind) (Unit {0})) e (lead_before kind (map root ps) (map root is) (subst (λ z. Fits IsNonterminal (whole_shape kind) (row_in z (map root ps) (map root is))) (sym e) fits));
       heads = heads_list here m parts h.0;
       each = items_list n items h.1;
       inner = (roots_inner ps inner.0, roots_inner is inner.1);
-      plain = λ k. of_sequence NoColon (map root ps) (map root is) (mark_leaf o) (mark_leaf c ∷ []) (all_plain kind _ fits k);
       ends_there = recursion_from_All IsComment end h.2;
       not_open = h.3;
     }
@@ -329,35 +308,16 @@ by_frame kind compound here m n (more_of-Expr head rest) items end split open_br
 }
 
 mutual
-  pub readable : (here : Spot) (x : Expr) → ProperBy value_shape here x → Readable x
+  pub readable : (here : Spot) (x : Expr) → ProperBy whole_shape here x → Readable x
   readable here (Token t) h = tt
   readable here (Form' kind s parts s' items end split open_break comments) h =
       let ps : List Expr = items-the_row-Expr _ parts in
       let is : List Expr = items-the_row-Expr _ items in
-      let inner = both_each value_shape (frame kind) kind here _ _ parts items end split open_break h.1 in
-      let fits : Fits IsNonterminal (value_shape kind) (row_in (frame kind) (map root ps) (map root is)) =
-      subst (λ z. Fits IsNonterminal (value_shape kind) (row_in (frame kind) z (map root is))) (roots_row _ parts) (subst (λ z. Fits IsNonterminal (value_shape kind) (row_in (frame kind) (roots parts) z)) (roots_row _ items) h.0) in
-      (by_frame kind (frame kind) here _ _ parts items end split open_break refl fits h.1, each_readable _ parts inner.0, each_readable _ items inner.1)
+      let inner = both_each whole_shape (frame kind) kind here _ _ parts items end split open_break h.1 in
+      let fits : Fits IsNonterminal (whole_shape kind) (row_in (frame kind) (map root ps) (map root is)) =
+      subst (λ z. Fits IsNonterminal (whole_shape kind) (row_in (frame kind) z (map root is))) (roots_row _ parts) (subst (λ z. Fits IsNonterminal (whole_shape kind) (row_in (frame kind) (roots parts) z)) (roots_row _ items) h.0) in
+      (by_frame kind (frame kind) here _ _ parts items end split open_break refl fits h.1, each_readable _ parts inner.0, each_readable _ items inner.1, h.0)
 
-  pub each_readable : (m : _) (r : Row_of-Expr m) → EachProper value_shape r → EachReadable r
+  pub each_readable : (m : _) (r : Row_of-Expr m) → EachProper whole_shape r → EachReadable r
   each_readable m end_of-Expr h = tt
   each_readable m (more_of-Expr x rest) h = (readable h.0.0 x h.0.1, each_readable _ rest h.1)
-
--- ---- BUILD files
-
-simple_kind : (kind : Kind) → is_statement kind ≡ true → is_simple kind ≡ true
-simple_kind k.Return h = refl
-simple_kind k.Flow h = refl
-simple_kind _ h = h
-
-statement_line : (x : Expr) → has_statement_kind x ≡ true → is_whole_statement x ≡ true
-statement_line (Token t) h = no_such h
-statement_line (Form' kind s parts s' items end split open_break comments) h = or_left (is_simple kind) _ (simple_kind kind h)
-
-build_item : (x : Item) → IsProperItem x → IsProperItemBy is_whole_statement value_shape x
-build_item (i.Block texts) h = h
-build_item (i.Stmt x) h = (statement_line x h.0, wider_expr shape value_shape build_wider Begins x h.1, h.2)
-
--- what is proper in a BUILD file is in a .bzl file
-pub build_items : (items : List Item) → IsProper items → IsProperBzl items
-build_items items h = All-weaker IsProperItem (IsProperItemBy is_whole_statement value_shape) build_item items h

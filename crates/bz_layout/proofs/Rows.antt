@@ -20,15 +20,14 @@ use Rattle.bz_items.specs.Characters.{Bytes, comma, space}
 use Rattle.bz_value.specs.Frames.{Frame, row, sequence, compound, frame}
 use Rattle.bz_value.specs.Proper.{comments_of, has_break, in_frame}
 use Rattle.bz_value.specs.Roots.{root}
-use Rattle.bz_value.specs.Statements.{has_suite}
+use Rattle.bz_value.proofs.Rooted.{SameRoot}
 use Rattle.bz_layout.specs.Spaces.{lone, space_after, space_before, is_value, is_spaced_after, is_spaced_before, is_lone, is_number_leaf, apart, number_dot, is_spaced}
 use Rattle.bz_layout.proofs.Neighbours.{is_word}
 use Rattle.bz_layout.specs.Layout.{mark, new_line_at, margin_lines, ended, suffix_text, is_broken, is_tuple, gap_after, margin_after, firsts, rowed, headed, joined, stacked, laid_in, laid}
 use Rattle.bz_value.specs.Empty.{is_empty}
-use Rattle.bz_layout.specs.LaidOut.{PartAt, piece_part, part_of}
-use Rattle.bz_layout.proofs.Fitted.{Same, Child, rooted, IsRooted, Pieces}
-use Rattle.bz_layout.proofs.Joined.{AtMostOne}
-use Rattle.bz_layout.proofs.Made.{plain_part, laid_plain}
+use Rattle.bz_layout.specs.LaidOut.{PartAt, piece_part}
+use Rattle.bz_layout.proofs.Fitted.{Child, rooted, IsRooted, Pieces}
+use Rattle.bz_layout.proofs.Made.{plain_part}
 use Rattle.bz_layout.proofs.Elements.{AreValues}
 use Rattle.bz_layout.proofs.Touching.{Fine, Between, Apart, OpensAt, BareAt, Opens, NumberDot}
 
@@ -45,13 +44,10 @@ pub plain_spaced : (x : Expr) (gap : Bytes) (m : ℕ) → SpacedAs (root x) (pla
 plain_spaced (Token t) gap m = record { after_it = λ kind. refl; before_it = λ kind. refl; value = refl; alone = refl; number = refl }
 plain_spaced (Form' kind z parts z' items end split open_break comments) gap m = record { after_it = λ kind. refl; before_it = λ kind. refl; value = refl; alone = refl; number = refl }
 
-pub root_spaced : (x : Expr) → has_suite x ≡ false → (gap : Bytes) (m : ℕ) → SpacedAs (root x) (part_of x gap m)
-root_spaced x h gap m = subst (λ f. SpacedAs (root x) (f gap m)) (sym (laid_plain x h)) (plain_spaced x gap m)
-
 same_apart : (kind : Kind) (x y x' y' : Part) → SpacedAs x x' → SpacedAs y y' → apart kind x' y' ≡ apart kind x y
 same_apart kind x y x' y' h i = rw (h.after_it kind, i.alone, i.before_it kind, h.value, i.value) refl
 
-same_number_dot : (x y x' y' : Part) → SpacedAs x x' → Same y y' → number_dot x' y' ≡ number_dot x y
+same_number_dot : (x y x' y' : Part) → SpacedAs x x' → SameRoot y y' → number_dot x' y' ≡ number_dot x y
 same_number_dot x y x' y' h i = rw (h.number, i.token s.dot) refl
 
 -- the first leaf of what is laid out has the gap that it is given
@@ -147,22 +143,13 @@ opens_ended None m (text ∷ texts) = refl
 opens_ended (Some text) m end = refl
 
 -- a bracket, a comma or a colon
-pub record IsLone (n : ℕ) : Type 0 where
+record IsLone (n : ℕ) : Type 0 where
   pub alone : lone (s.this c.Mark (n ∷ [])) ≡ true
   pub no_dot : (gap : Bytes) → has_token s.dot (mark_part gap n) ≡ false
 
 -- anything before such a mark
-pub before_lone : (kind : Kind) (n : ℕ) → IsLone n → (x : Part) → Fine kind x (mark_part [] n)
+before_lone : (kind : Kind) (n : ℕ) → IsLone n → (x : Part) → Fine kind x (mark_part [] n)
 before_lone kind n b x = inr (refl, touches_lone kind x (mark_part [] n) b.alone, λ d. both_ways (has_token s.dot (mark_part [] n)) (b.no_dot []) d.1)
-
-between_then : (kind : Kind) (n : ℕ) → IsLone n → (x : Part) (xs ys : List Part) → Between kind x xs → Between kind (mark_part [] n) ys → Between kind x (xs ++ (mark_part [] n ∷ ys))
-between_then kind n b x [] ys h i = (before_lone kind n b x, i)
-between_then kind n b x (y ∷ xs) ys h i = (h.0, between_then kind n b y xs ys h.1 i)
-
--- parts, then such a mark, and what follows it
-pub apart_then : (kind : Kind) (n : ℕ) → IsLone n → (xs ys : List Part) → Apart kind xs → Apart kind (mark_part [] n ∷ ys) → Apart kind (xs ++ (mark_part [] n ∷ ys))
-apart_then kind n b [] ys h i = i
-apart_then kind n b (x ∷ xs) ys h i = between_then kind n b x xs ys h i
 
 module _ (kind : Kind) (closer : ℕ) (closes : IsLone closer) where
   before_comma : (x : Part) → Fine kind x (mark_part [] comma)
@@ -197,16 +184,19 @@ module _ (kind : Kind) (closer : ℕ) (closes : IsLone closer) where
     after_opener gap m f h = inr (bare_at f m h.0, touches_opener kind (mark_part gap opener) (f [] m) quiet refl (h.1 [] m), λ d. no_such d.0)
 
     -- what is after the opening bracket, broken or not
-    pub body_between : (broken one : Bool) (gap : Bytes) (m : ℕ) (end : List Bytes) (xs : List Child) → AreItems xs → Between kind (mark_part gap opener) (map piece_part (if broken then stacked m None closer end xs else joined m [] closer one xs))
+    body_between : (broken one : Bool) (gap : Bytes) (m : ℕ) (end : List Bytes) (xs : List Child) → AreItems xs → Between kind (mark_part gap opener) (map piece_part (if broken then stacked m None closer end xs else joined m [] closer one xs))
     body_between true one gap m end xs h = stacked_between m None end xs (mark_part gap opener) h
     body_between false one gap m end xs h = joined_between m [] one xs (mark_part gap opener) (after_opener gap m) h
 
-    -- with at most one part before the bracket
-    pub headed_apart : (broken one : Bool) (gap : Bytes) (m : ℕ) (end : List Bytes) (head xs : List Child) → AtMostOne (rooted head) → AreItems xs →
-        Apart kind (map piece_part (headed m gap opener head (if broken then stacked m None closer end xs else joined m [] closer one xs)))
-    headed_apart broken one gap m end [] xs o h = body_between broken one gap m end xs h
-    headed_apart broken one gap m end (x ∷ []) xs o h = (before_lone kind opener opens (x.1 gap m), body_between broken one [] m end xs h)
-    headed_apart broken one gap m end (x ∷ y ∷ ys) xs o h = absurd o
+    -- parts before the bracket, a space between them
+    heads_between : (x : Part) (m : ℕ) (heads : List Child) (body : Pieces) → AreAfter heads → Between kind (mark_part [] opener) (map piece_part body) → Between kind x (map piece_part (headed m (if is_empty heads then [] else (space ∷ [])) opener heads body))
+    heads_between x m [] body h b = (before_lone kind opener opens x, b)
+    heads_between x m (y ∷ ys) body h b = (inl (opens_at y.1 (space ∷ []) m h.0.starts refl), heads_between (y.1 (space ∷ []) m) m ys body h.1 b)
+
+    headed_apart : (broken one : Bool) (gap : Bytes) (m : ℕ) (end : List Bytes) (heads xs : List Child) → AreAfter heads → AreItems xs →
+        Apart kind (map piece_part (headed m gap opener heads (if broken then stacked m None closer end xs else joined m [] closer one xs)))
+    headed_apart broken one gap m end [] xs h i = body_between broken one gap m end xs i
+    headed_apart broken one gap m end (x ∷ heads) xs h i = heads_between (x.1 gap m) m heads _ h.1 (body_between broken one [] m end xs i)
 
 -- ---- all kinds
 
@@ -214,10 +204,7 @@ abbrev Bracketed : Kind → Frame → Type 0
 Bracketed kind (sequence opener closer) = IsLone opener × IsLone closer × (space_after kind (s.this c.Mark (opener ∷ [])) ≡ false)
 Bracketed kind _ = Unit {0}
 
-pub colon_alone : IsLone 58
-colon_alone = record { alone = refl; no_dot = λ gap. refl }
-
-pub round : IsLone 40 × IsLone 41
+round : IsLone 40 × IsLone 41
 round = (record { alone = refl; no_dot = λ gap. refl }, record { alone = refl; no_dot = λ gap. refl })
 
 bracketed : (kind : Kind) → Bracketed kind (frame kind)
@@ -234,13 +221,13 @@ items_of [] h i = tt
 items_of (x ∷ xs) h i = ((h.0.starts, λ gap m. sym (h.0.spaced_as gap m).value ∙ i.0), items_of xs h.1 i.1)
 
 apart_in : (f : Frame) (kind : Kind) → Bracketed kind f → (split open_break : Bool) (gap : Bytes) (m : ℕ) (parts items : List Child) (end : List Bytes) → AreAfter parts → AreAfter items →
-    in_frame f (Unit {0}) (AtMostOne (rooted parts)) (Unit {0}) → in_frame f (Unit {0}) (AreValues (rooted items)) (Unit {0}) → Apart kind (map piece_part (laid_in f kind split open_break gap m parts items end))
-apart_in row kind b split open_break gap m parts items end h i o v = row_apart kind open_break m gap m parts h
-apart_in compound kind b split open_break gap m parts items end h i o v = tt
-apart_in (sequence opener closer) kind b split open_break gap m parts items end h i o v =
-    headed_apart kind closer b.1 opener b.0 b.2 (is_broken kind split (firsts items) end) (is_tuple kind && nat_eq (length items) 1) gap m end parts items o (items_of items i v)
+    in_frame f (Unit {0}) (AreValues (rooted items)) (Unit {0}) → Apart kind (map piece_part (laid_in f kind split open_break gap m parts items end))
+apart_in row kind b split open_break gap m parts items end h i v = row_apart kind open_break m gap m parts h
+apart_in compound kind b split open_break gap m parts items end h i v = tt
+apart_in (sequence opener closer) kind b split open_break gap m parts items end h i v =
+    headed_apart kind closer b.1 opener b.0 b.2 (is_broken kind split (firsts items) end) (is_tuple kind && nat_eq (length items) 1) gap m end parts items h (items_of items i v)
 
 -- each two neighbours of what is laid out of a form are apart where they must be
 pub laid_apart : (kind : Kind) (split open_break : Bool) (gap : Bytes) (m : ℕ) (parts items : List Child) (end : List Bytes) → AreAfter parts → AreAfter items →
-    in_frame (frame kind) (Unit {0}) (AtMostOne (rooted parts)) (Unit {0}) → in_frame (frame kind) (Unit {0}) (AreValues (rooted items)) (Unit {0}) → Apart kind (map piece_part (laid kind split open_break gap m parts items end))
-laid_apart kind split open_break gap m parts items end h i o v = apart_in (frame kind) kind (bracketed kind) split open_break gap m parts items end h i o v
+    in_frame (frame kind) (Unit {0}) (AreValues (rooted items)) (Unit {0}) → Apart kind (map piece_part (laid kind split open_break gap m parts items end))
+laid_apart kind split open_break gap m parts items end h i v = apart_in (frame kind) kind (bracketed kind) split open_break gap m parts items end h i v

@@ -20,16 +20,15 @@ use Rattle.bz_value.specs.declared.value.Item.TheVariants as i
 use Rattle.bz_items.specs.Characters.{Bytes, colon, comma, line_feed, space}
 use Rattle.bz_value.specs.Empty.{is_empty}
 use Rattle.bz_value.specs.Frames.{Frame, row, sequence, compound, frame, is_compound}
-use Rattle.bz_value.specs.LineShapes.{value_shape}
-use Rattle.bz_value.specs.Proper.{IsProperItemBy, IsProper, IsProperBzl, comments_of}
+use Rattle.bz_value.specs.Proper.{IsProperItem, IsProper, comments_of}
 use Rattle.bz_value.specs.Roots.{mark_leaf}
-use Rattle.bz_value.specs.Statements.{has_suite, is_whole_statement}
+use Rattle.bz_value.specs.Statements.{has_suite}
 use Rattle.bz_layout.specs.Layout.{Piece, mark, laid_in, rowed, headed, joined, stacked, is_broken, is_tuple, gap_after, margin_after, margin_lines, suffix_text, firsts}
 use Rattle.bz_layout.specs.Written.{Indented, TextAt, at_margin, indented_lines, comment_lines, statement_text, statements_text, suite_text, piece_text, text_by_frame, text_of, texts_of, past_item, item_text, layout}
 use Rattle.bz_layout.specs.LaidOut.{PartAt, gap_to_margin, left_by_frame, left_of, last_left, newline_part, statement_part, statement_parts, parts_in, alternative_parts, with_more_parts, suite_part, piece_part, node_by_frame, part_of, parts_of, line_part, before_next, lines_from, laid_out}
 use Rattle.bz_layout.proofs.BackSuites.{AreBack, own_left_of, alternative_suited}
 use Rattle.bz_layout.proofs.Made.{two, plain_left}
-use Rattle.bz_layout.proofs.Readable.{Readable, EachReadable, AreInner, AreLinesOf, IsStatement, IsAlternative, IsSuite, Facts, line_statement, readable, build_items}
+use Rattle.bz_layout.proofs.Readable.{Readable, EachReadable, AreInner, AreLinesOf, IsStatement, IsAlternative, IsSuite, Facts, line_statement, readable}
 use Rattle.bz_layout.proofs.ReadBack.{row_read, head_here, others_left, left_form, facts_of}
 
 -- the two readings of the same expressions, each spelling the other after its gap
@@ -278,7 +277,7 @@ next_after x (y ∷ ys) = refl
 pub spell_line : (gap : Bytes) (x : Expr) → has_suite x ≡ false → Readable x → spell_part (line_part gap x) ≡ gap ++ item_text (i.Stmt x)
 spell_line gap x plain f = plain_line 0 gap (x, part_of x) (spell_expr x f) plain
 
-items_spelled : (xs : List Item) → AllByRecursion (IsProperItemBy is_whole_statement value_shape) xs → (gap : Bytes) → flat_map spell_part (lines_from gap xs) ≡ gap ++ layout xs
+items_spelled : (xs : List Item) → AllByRecursion IsProperItem xs → (gap : Bytes) → flat_map spell_part (lines_from gap xs) ≡ gap ++ layout xs
 items_spelled [] h gap = append-nil (gap ++ [])
 items_spelled (i.Block own ∷ xs) h gap =
     let lines : Bytes = comment_lines own in
@@ -294,8 +293,5 @@ items_spelled (i.Stmt x ∷ xs) h gap =
     (append-nil _ ∙ (items_spelled xs h.1 (left ++ next) ∙ (append_assoc left next (layout xs) ∙ ap (λ t. left ++ t) (next_after (i.Stmt x) xs))))
 
 -- the tree of the layout of a proper value spells its text
-pub bzl_spelled : (items : List Item) → IsProperBzl items → spell_node (laid_out items) ≡ layout items
-bzl_spelled items h = items_spelled items (recursion_from_All (IsProperItemBy is_whole_statement value_shape) items h) []
-
 pub laid_out_spelled : (items : List Item) → IsProper items → spell_node (laid_out items) ≡ layout items
-laid_out_spelled items h = bzl_spelled items (build_items items h)
+laid_out_spelled items h = items_spelled items (recursion_from_All IsProperItem items h) []

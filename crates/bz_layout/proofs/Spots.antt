@@ -12,20 +12,21 @@ use Rattle.bz_grammar.specs.Legal.{IsNonterminal}
 use Rattle.bz_grammar.specs.Spots.{Spot, Begins, Within, onward, opens, closes, plain, role, following_token, after_node}
 use Rattle.bz_grammar.proofs.Balance.{no_such}
 use Rattle.bz_value.specs.declared.value.Expr.{Expr, Token, Form', Row_of-Expr, end_of-Expr, more_of-Expr}
-use Rattle.bz_value.specs.Frames.{Frame, row, sequence, compound, frame, has_brackets, is_binary, is_comprehension}
+use Rattle.bz_value.specs.Frames.{Frame, row, sequence, compound, frame, has_brackets, is_binary, is_comprehension, is_compound}
 use Rattle.bz_items.specs.Characters.{Bytes}
 use Rattle.bz_value.specs.LineShapes.{line_shape}
 use Rattle.bz_value.specs.Proper.{IsComment, has_break, after_expr, roots, IsEmptyRow, IsSomeRow, in_frame, ProperBy, ProperRowBy, ProperHeadBy, ProperItemsBy, ProperHeaderBy, ProperLinesBy}
 use Rattle.bz_value.specs.Statements.{is_alternative, is_whole_statement}
 use Rattle.bz_value.specs.Roots.{root, row_in}
-use Rattle.bz_hosts.proofs.InnerParts.{inner_kind}
+use Rattle.bz_hosts.proofs.InnerParts.{inner_kind, kind_goes}
 use Rattle.bz_layout.specs.Spaces.{is_value}
 use Rattle.bz_layout.proofs.Neighbours.{is_word}
 use Rattle.bz_layout.specs.Layout.{firsts}
 use Rattle.bz_value.specs.Empty.{is_empty}
 use Rattle.bz_layout.specs.LaidOut.{part_of, parts_of}
-use Rattle.bz_layout.proofs.Elements.{Inside, IsOpening, Opened, in_line_class, in_line_part, InLine, within_line, some_part}
+use Rattle.bz_layout.proofs.Elements.{Inside, IsOpening, Opened, in_line_class, in_line_part, InLine, within_line}
 use Rattle.bz_layout.proofs.Fitted.{Child}
+use Rattle.bz_layout.proofs.Made.{line_plain}
 use Rattle.bz_layout.proofs.Margins.{is_begins}
 
 -- ---- proper expressions are parts of lines
@@ -54,18 +55,12 @@ module _ (grammar : Kind → Shape) where
   row_in_line binary outer here m end_of-Expr h = tt
   row_in_line binary outer here m (more_of-Expr x rest) h = (root_in_line here x h.0, row_in_line binary outer (after_expr outer here x) _ rest h.3)
 
-  abbrev pub AsRow : Kind → Spot → {m n : _} → Row_of-Expr m → Row_of-Expr n → List Bytes → Bool → Bool → Type 0
-  AsRow kind here parts items end split open_break = ProperRowBy grammar (is_binary kind) here here parts × IsEmptyRow items × (end ≡ []) × (split ≡ false) × (open_break ≡ true → is_comprehension kind ≡ true)
-
-  abbrev pub AsSequence : Spot → {m n : _} → Row_of-Expr m → Row_of-Expr n → List Bytes → Bool → Type 0
-  AsSequence here parts items end open_break = ProperHeadBy grammar here parts × ProperItemsBy grammar items × All IsComment end × (open_break ≡ false)
-
-  abbrev pub AsCompound : {m n : _} → Row_of-Expr m → Row_of-Expr n → List Bytes → Bool → Bool → Type 0
-  AsCompound parts items end split open_break = ProperHeaderBy grammar parts × IsSomeRow items × ProperLinesBy grammar is_whole_statement items × All IsComment end × (split ≡ false) × (open_break ≡ false)
-
   -- by its frame
   abbrev pub InFrame : Frame → Kind → Spot → {m n : _} → Row_of-Expr m → Row_of-Expr n → List Bytes → Bool → Bool → Type 0
-  InFrame f kind here parts items end split open_break = in_frame f (AsRow kind here parts items end split open_break) (AsSequence here parts items end open_break) (AsCompound parts items end split open_break)
+  InFrame f kind here parts items end split open_break = in_frame f
+      (ProperRowBy grammar (is_binary kind) here here parts × IsEmptyRow items × (end ≡ []) × (split ≡ false) × (open_break ≡ true → is_comprehension kind ≡ true))
+      (ProperHeadBy grammar here parts × ProperItemsBy grammar items × All IsComment end × (open_break ≡ false))
+      (ProperHeaderBy grammar parts × IsSomeRow items × ProperLinesBy grammar is_whole_statement items × All IsComment end × (split ≡ false) × (open_break ≡ false))
 
   -- each expression of a row is proper at some spot
   abbrev pub EachProper : {m : _} → Row_of-Expr m → Type 0
@@ -102,11 +97,11 @@ module _ (grammar : Kind → Shape) where
   both_each (sequence opener closer) kind here m n parts items end split open_break h = (head_each here m parts h.0, items_each n items h.1)
   both_each compound kind here m n parts items end split open_break h = (header_each m parts h.0, lines_each is_whole_statement n items h.2)
 
-in_line_by : (f : Frame) (kind : Kind) (here : Spot) (m n : _) (parts : Row_of-Expr m) (items : Row_of-Expr n) (end : List Bytes) (split open_break : Bool) → (has_brackets f ≡ true → inner_kind kind ≡ true) →
+in_line_by : (f : Frame) (kind : Kind) (here : Spot) (m n : _) (parts : Row_of-Expr m) (items : Row_of-Expr n) (end : List Bytes) (split open_break : Bool) → is_compound f ≡ false → (has_brackets f ≡ true → inner_kind kind ≡ true) →
     Fits IsNonterminal (line_shape kind) (row_in f (roots parts) (roots items)) → InFrame line_shape f kind here parts items end split open_break → inner_kind kind ≡ true
-in_line_by compound kind here m n parts items end split open_break b h i = absurd (some_part kind h)
-in_line_by row kind here m n parts items end split open_break b h i = within_line kind (roots parts) h (row_in_line line_shape (is_binary kind) here here m parts i.0)
-in_line_by (sequence opener closer) kind here m n parts items end split open_break b h i = b refl
+in_line_by compound kind here m n parts items end split open_break e b h i = no_such (sym e)
+in_line_by row kind here m n parts items end split open_break e b h i = within_line kind (roots parts) h (row_in_line line_shape (is_binary kind) here here m parts i.0)
+in_line_by (sequence opener closer) kind here m n parts items end split open_break e b h i = b refl
 
 abbrev pub NoLine : Expr → Type 0
 NoLine (Token t) = Unit {0}
@@ -115,7 +110,7 @@ NoLine (Form' kind z parts z' items end split open_break comments) = inner_kind 
 -- a proper form is no line and no file
 pub no_line : (here : Spot) (x : Expr) → ProperBy line_shape here x → NoLine x
 no_line here (Token t) h = tt
-no_line here (Form' kind z parts z' items end split open_break comments) h = in_line_by (frame kind) kind here _ _ parts items end split open_break (brackets_in_line kind _ h.0) h.0 h.1
+no_line here (Form' kind z parts z' items end split open_break comments) h = in_line_by (frame kind) kind here _ _ parts items end split open_break (line_plain here (Form' kind z parts z' items end split open_break comments) h) (brackets_in_line kind _ h.0) h.0 h.1
 
 -- ---- where what follows is
 
@@ -134,16 +129,8 @@ token_goes_on c.Mark text outer here h = by_turn _ _
     by_turn false false = onward_within_line here
 token_goes_on _ text outer here h = onward_within_line here
 
-node_onward : (kind : Kind) (here : Spot) → inner_kind kind ≡ true → after_node kind here ≡ onward here
-node_onward k.Line here h = no_such h
-node_onward k.Def here h = no_such h
-node_onward k.IfStmt here h = no_such h
-node_onward k.ForStmt here h = no_such h
-node_onward k.Suite here h = no_such h
-node_onward _ here h = refl
-
 pub node_goes_on : (kind : Kind) (here : Spot) → inner_kind kind ≡ true → is_begins (after_node kind here) ≡ false
-node_goes_on kind here h = ap is_begins (node_onward kind here h) ∙ onward_within_line here
+node_goes_on kind here h = ap is_begins (kind_goes kind here h) ∙ onward_within_line here
 
 goes_on_by : (outer here : Spot) (x : Expr) → ProperBy line_shape here x → NoLine x → is_begins (after_expr outer here x) ≡ false
 goes_on_by outer here (Token t) h i = token_goes_on t.class t.text outer here (lexeme_in_line t.class t.text h.0)
@@ -161,7 +148,7 @@ word_plain _ text h = no_such h
 
 within_by : (outer : Spot) (x : Expr) → NoLine x → is_value (root x) ≡ true → after_expr outer Within x ≡ Within
 within_by outer (Token t) h i = ap (λ z. following_token z outer Within) (word_plain t.class t.text i)
-within_by outer (Form' kind z parts z' items end split open_break comments) h i = node_onward kind Within h
+within_by outer (Form' kind z parts z' items end split open_break comments) h i = kind_goes kind Within h
 
 -- after a value inside brackets it goes on inside brackets
 pub value_within : (outer here : Spot) (x : Expr) → ProperBy line_shape here x → is_value (root x) ≡ true → after_expr outer Within x ≡ Within

@@ -1,9 +1,8 @@
 -- What the layout makes of any proper expression is where it may be, whatever its kinds are: one lemma for each way to lay
 -- parts.
-use Rattle.std.proofs.Common.{◌≡◌, ℕ, Bool, true, false, not, ◌&&◌, ◌+◌, List, [], ◌∷◌, ◌++◌, None, Option, if◌then◌else◌, length, refl, sym, ap, ◌∙◌, subst, map, append-nil, arith}
+use Rattle.std.proofs.Common.{◌≡◌, ℕ, Bool, true, false, not, ◌&&◌, ◌+◌, List, [], ◌∷◌, ◌++◌, None, Option, if◌then◌else◌, length, refl, sym, ap, ◌∙◌, subst, map, arith}
 use Rattle.std.specs.Prelude.{IsUtf8, nat_eq}
 use Rattle.std.specs.List.{AllByRecursion}
-use Rattle.std.proofs.lemmas.Bool.{both_ways}
 use Rattle.std.proofs.lemmas.List.Elements.{recursion_from_All}
 use Rattle.bz_token.specs.declared.class.Class.{Class}
 use Rattle.bz_token.specs.declared.class.Class.TheVariants as c
@@ -17,21 +16,22 @@ use Rattle.bz_grammar.specs.declared.tree.Part.{Part}
 use Rattle.bz_grammar.specs.declared.tree.Part.TheVariants as p
 use Rattle.bz_grammar.specs.Shapes.{Fits}
 use Rattle.bz_grammar.specs.Legal.{IsNonterminal}
-use Rattle.bz_grammar.specs.Spots.{Spot, Within, onward, Role, opens, closes, role, following_token, after_part, AtLeaves, AtParts, Stands}
+use Rattle.bz_grammar.specs.Spots.{Spot, Within, Role, opens, closes, role, following_token, after_part, AtLeaves, AtParts, Stands}
 use Rattle.bz_grammar.proofs.Nested.{row_of, items_of_row}
-use Rattle.bz_grammar.proofs.Balance.{row_of_parts}
+use Rattle.bz_grammar.proofs.Balance.{no_such, row_of_parts}
 use Rattle.bz_value.specs.declared.value.Expr.{Expr, Token, Form', Row_of-Expr, end_of-Expr, more_of-Expr}
 use Rattle.bz_items.specs.Characters.{Bytes, comma, space}
 use Rattle.bz_value.specs.Frames.{Frame, row, sequence, compound, frame, is_binary, is_comprehension, is_compound}
-use Rattle.bz_value.specs.LineShapes.{line_shape}
+use Rattle.bz_value.specs.LineShapes.{line_shape, whole_shape}
 use Rattle.bz_value.specs.Proper.{IsComment, MaybeComment, AreComments, comments_of, after_expr, roots, in_frame, ProperBy, ProperRowBy, ProperHeadBy, ProperItemsBy}
 use Rattle.bz_value.specs.Roots.{row_in}
+use Rattle.bz_value.proofs.Wider.{values_wider}
 use Rattle.bz_value.specs.Statements.{has_suite}
 use Rattle.bz_layout.specs.Layout.{mark, new_line_at, margin_lines, ended, suffix_text, is_broken, is_tuple, gap_after, margin_after, firsts, rowed, headed, joined, stacked, laid_in, laid}
 use Rattle.bz_value.specs.Empty.{is_empty}
 use Rattle.bz_layout.specs.LaidOut.{piece_part, part_of, parts_of}
 use Rattle.bz_layout.proofs.Elements.{AreValues, items_values, Opened, comprehension}
-use Rattle.bz_layout.proofs.Joined.{AtMostOne, head_fits}
+use Rattle.bz_layout.proofs.Joined.{AreFronts, AreLeaves, head_fits}
 use Rattle.bz_layout.proofs.Fitted.{Child, Pieces}
 use Rattle.bz_layout.proofs.Made.{plain_part, laid_plain, line_plain}
 use Rattle.bz_layout.proofs.Margins.{FitsAt, gap_stands, gap_coded, coded_byte, inner_nothing, inner_space, item_gap, closer_gap, is_begins, none_fits, space_fits, after_fits}
@@ -49,34 +49,28 @@ placed class gap text here l u g = record { stands = gap_stands class here gap (
 -- ---- the ways to lay parts
 
 -- a child is after any gap that fits, and what follows it is there
-pub record LaysOut (outer here there : Spot) (x : Child) : Type 0 where
+record LaysOut (outer here there : Spot) (x : Child) : Type 0 where
   pub stands : (gap : Bytes) (m : ℕ) → FitsAt here gap → AtLeaves Placed here (x.1 gap m)
   pub goes_on : (gap : Bytes) (m : ℕ) → after_part outer here (x.1 gap m) ≡ there
   pub no_first : is_begins there ≡ false
 
-abbrev pub RowLaysOut : Spot → Spot → List Child → Type 0
+abbrev RowLaysOut : Spot → Spot → List Child → Type 0
 RowLaysOut outer here [] = Unit {0}
 RowLaysOut outer here (x ∷ xs) = LaysOut outer here (after_expr outer here x.0) x × RowLaysOut outer (after_expr outer here x.0) xs
 
-abbrev pub ItemsLayOut : Spot → List Child → Type 0
+abbrev ItemsLayOut : Spot → List Child → Type 0
 ItemsLayOut outer [] = Unit {0}
 ItemsLayOut outer (x ∷ xs) = LaysOut outer Within Within x × AreComments (comments_of x.0) × ItemsLayOut outer xs
 
-pub first_part : (outer here there : Spot) (x : Child) (gap : Bytes) (m : ℕ) (xs : List Part) → LaysOut outer here there x → FitsAt here gap → AtParts Placed outer there xs → AtParts Placed outer here (x.1 gap m ∷ xs)
+first_part : (outer here there : Spot) (x : Child) (gap : Bytes) (m : ℕ) (xs : List Part) → LaysOut outer here there x → FitsAt here gap → AtParts Placed outer there xs → AtParts Placed outer here (x.1 gap m ∷ xs)
 first_part outer here there x gap m xs d g h = (d.stands gap m g, subst (λ z. AtParts Placed outer z xs) (sym (d.goes_on gap m)) h)
 
--- where what follows a row is
-abbrev pub after_row : Spot → Spot → List Child → Spot
-after_row outer here [] = here
-after_row outer here (x ∷ xs) = after_row outer (after_expr outer here x.0) xs
-
--- a row, and what follows it
-pub rowed_at : (kind : Kind) (open_break : Bool) (m : ℕ) (outer here : Spot) (gap : Bytes) (n : ℕ) (xs : List Child) (rest : List Part) → FitsAt here gap → RowLaysOut outer here xs → RowBreaks open_break outer here xs →
-    AtParts Placed outer (after_row outer here xs) rest → AtParts Placed outer here (map piece_part (rowed kind open_break m gap n xs) ++ rest)
-rowed_at kind open_break m outer here gap n [] rest g h b r = r
-rowed_at kind open_break m outer here gap n (x ∷ xs) rest g h b r =
+-- a row
+rowed_at : (kind : Kind) (open_break : Bool) (m : ℕ) (outer here : Spot) (gap : Bytes) (n : ℕ) (xs : List Child) → FitsAt here gap → RowLaysOut outer here xs → RowBreaks open_break outer here xs → AtParts Placed outer here (map piece_part (rowed kind open_break m gap n xs))
+rowed_at kind open_break m outer here gap n [] g h b = tt
+rowed_at kind open_break m outer here gap n (x ∷ xs) g h b =
     first_part outer here (after_expr outer here x.0) x gap n _ h.0 g
-    (rowed_at kind open_break m outer (after_expr outer here x.0) (gap_after kind open_break m x.0 (firsts xs)) (margin_after open_break m x.0) xs rest (after_fits kind open_break m x.0 (firsts xs) (after_expr outer here x.0) h.0.no_first b.0) h.1 b.1 r)
+    (rowed_at kind open_break m outer (after_expr outer here x.0) (gap_after kind open_break m x.0 (firsts xs)) (margin_after open_break m x.0) xs (after_fits kind open_break m x.0 (firsts xs) (after_expr outer here x.0) h.0.no_first b.0) h.1 b.1)
 
 -- a space before what follows, or nothing
 next_fits : (b : Bool) (here : Spot) → is_begins here ≡ false → FitsAt here (if b then [] else (space ∷ []))
@@ -84,52 +78,48 @@ next_fits true here h = none_fits here h
 next_fits false here h = space_fits here h
 
 -- a bracket: what it is to those after it, and that it is a token
-pub record IsBracket (t : Role) (n : ℕ) : Type 0 where
+record IsBracket (t : Role) (n : ℕ) : Type 0 where
   pub turns : role c.Mark (n ∷ []) ≡ t
   pub is_token : is_mark (n ∷ []) ≡ true
   pub coded : IsUtf8 (n ∷ [])
 
 module _ (outer : Spot) (opener closer : ℕ) (opening : IsBracket opens opener) (closing : IsBracket closes closer) where
-  pub opener_at : (here : Spot) (gap : Bytes) (xs : List Part) → FitsAt here gap → AtParts Placed outer Within xs → AtParts Placed outer here (p.Leaf (record { class = c.Mark; gap = gap; token = opener ∷ [] }) ∷ xs)
+  opener_at : (here : Spot) (gap : Bytes) (xs : List Part) → FitsAt here gap → AtParts Placed outer Within xs → AtParts Placed outer here (p.Leaf (record { class = c.Mark; gap = gap; token = opener ∷ [] }) ∷ xs)
   opener_at here gap xs g h = (placed c.Mark gap (opener ∷ []) here opening.is_token opening.coded g, subst (λ z. AtParts Placed outer (following_token z outer here) xs) (sym opening.turns) h)
 
   -- what is before the opening bracket, and that
-  pub headed_at : (m : ℕ) (here : Spot) (gap : Bytes) (xs : List Child) (after : Pieces) → FitsAt here gap → RowLaysOut outer here xs → AtParts Placed outer Within (map piece_part after) → AtParts Placed outer here (map piece_part (headed m gap opener xs after))
+  headed_at : (m : ℕ) (here : Spot) (gap : Bytes) (xs : List Child) (after : Pieces) → FitsAt here gap → RowLaysOut outer here xs → AtParts Placed outer Within (map piece_part after) → AtParts Placed outer here (map piece_part (headed m gap opener xs after))
   headed_at m here gap [] after g h i = opener_at here gap (map piece_part after) g i
   headed_at m here gap (x ∷ xs) after g h i =
       let there : Spot = after_expr outer here x.0 in
       first_part outer here there x gap m _ h.0 g (headed_at m there (if is_empty xs then [] else (space ∷ [])) xs after (next_fits (is_empty xs) there h.0.no_first) h.1 i)
 
-  pub closer_at : (gap : Bytes) (rest : List Part) → FitsAt Within gap → AtParts Placed outer (onward outer) rest → AtParts Placed outer Within (p.Leaf (record { class = c.Mark; gap = gap; token = closer ∷ [] }) ∷ rest)
-  closer_at gap rest g r = (placed c.Mark gap (closer ∷ []) Within closing.is_token closing.coded g, subst (λ z. AtParts Placed outer (following_token z outer Within) rest) (sym closing.turns) r)
+  closer_at : (gap : Bytes) → FitsAt Within gap → AtParts Placed outer Within (p.Leaf (record { class = c.Mark; gap = gap; token = closer ∷ [] }) ∷ [])
+  closer_at gap g = (placed c.Mark gap (closer ∷ []) Within closing.is_token closing.coded g, tt)
 
-  pub comma_at : (xs : List Part) → AtParts Placed outer Within xs → AtParts Placed outer Within (p.Leaf (record { class = c.Mark; gap = []; token = comma ∷ [] }) ∷ xs)
+  comma_at : (xs : List Part) → AtParts Placed outer Within xs → AtParts Placed outer Within (p.Leaf (record { class = c.Mark; gap = []; token = comma ∷ [] }) ∷ xs)
   comma_at xs h = (placed c.Mark [] (comma ∷ []) Within refl (coded_byte comma (omega arith)) inner_nothing, h)
 
-  maybe_comma : (b : Bool) (after : Pieces) (rest : List Part) → AtParts Placed outer Within (map piece_part after ++ rest) → AtParts Placed outer Within (map piece_part ((if b then [] else (mark [] (comma ∷ []) ∷ [])) ++ after) ++ rest)
-  maybe_comma true after rest h = h
-  maybe_comma false after rest h = comma_at (map piece_part after ++ rest) h
+  maybe_comma : (b : Bool) (after : Pieces) → AtParts Placed outer Within (map piece_part after) → AtParts Placed outer Within (map piece_part ((if b then [] else (mark [] (comma ∷ []) ∷ [])) ++ after))
+  maybe_comma true after h = h
+  maybe_comma false after h = comma_at (map piece_part after) h
 
-  -- items on one line, the closing bracket, and what follows it
-  pub joined_at : (m : ℕ) (gap : Bytes) (one : Bool) (xs : List Child) (rest : List Part) → FitsAt Within gap → ItemsLayOut outer xs → AtParts Placed outer (onward outer) rest → AtParts Placed outer Within (map piece_part (joined m gap closer one xs) ++ rest)
-  joined_at m gap one [] rest g h r = closer_at [] rest inner_nothing r
-  joined_at m gap one (x ∷ xs) rest g h r =
-      first_part outer Within Within x gap m _ h.0 g (maybe_comma (is_empty xs && not one) (joined m (space ∷ []) closer false xs) rest (joined_at m (space ∷ []) false xs rest inner_space h.2 r))
+  -- items on one line, and the closing bracket
+  joined_at : (m : ℕ) (gap : Bytes) (one : Bool) (xs : List Child) → FitsAt Within gap → ItemsLayOut outer xs → AtParts Placed outer Within (map piece_part (joined m gap closer one xs))
+  joined_at m gap one [] g h = closer_at [] inner_nothing
+  joined_at m gap one (x ∷ xs) g h = first_part outer Within Within x gap m _ h.0 g (maybe_comma (is_empty xs && not one) (joined m (space ∷ []) closer false xs) (joined_at m (space ∷ []) false xs inner_space h.2))
 
-  -- items on lines of their own, the closing bracket, and what follows it
-  pub stacked_at : (m : ℕ) (suffix : Option Bytes) (end : List Bytes) (xs : List Child) (rest : List Part) → MaybeComment suffix → AllByRecursion IsComment end → ItemsLayOut outer xs → AtParts Placed outer (onward outer) rest →
-      AtParts Placed outer Within (map piece_part (stacked m suffix closer end xs) ++ rest)
-  stacked_at m suffix end [] rest s e h r = closer_at (suffix_text suffix ++ ended m end) rest (closer_gap m suffix end s e) r
-  stacked_at m suffix end (x ∷ xs) rest s e h r =
+  -- items on lines of their own, and the closing bracket
+  stacked_at : (m : ℕ) (suffix : Option Bytes) (end : List Bytes) (xs : List Child) → MaybeComment suffix → AllByRecursion IsComment end → ItemsLayOut outer xs → AtParts Placed outer Within (map piece_part (stacked m suffix closer end xs))
+  stacked_at m suffix end [] s e h = closer_at (suffix_text suffix ++ ended m end) (closer_gap m suffix end s e)
+  stacked_at m suffix end (x ∷ xs) s e h =
       let texts : List Bytes = (comments_of x.0).before in
-      first_part outer Within Within x (suffix_text suffix ++ (new_line_at (m + 4) ++ margin_lines (m + 4) texts)) (m + 4) (map piece_part (mark [] (comma ∷ []) ∷ stacked m (comments_of x.0).suffix closer end xs) ++ rest) h.0
-      (item_gap (m + 4) suffix texts s (recursion_from_All IsComment texts h.1.0))
-      (comma_at (map piece_part (stacked m (comments_of x.0).suffix closer end xs) ++ rest) (stacked_at m (comments_of x.0).suffix end xs rest h.1.1 e h.2 r))
+      first_part outer Within Within x (suffix_text suffix ++ (new_line_at (m + 4) ++ margin_lines (m + 4) texts)) (m + 4) (map piece_part (mark [] (comma ∷ []) ∷ stacked m (comments_of x.0).suffix closer end xs)) h.0
+      (item_gap (m + 4) suffix texts s (recursion_from_All IsComment texts h.1.0)) (comma_at (map piece_part (stacked m (comments_of x.0).suffix closer end xs)) (stacked_at m (comments_of x.0).suffix end xs h.1.1 e h.2))
 
-  pub body_at : (broken one : Bool) (m : ℕ) (end : List Bytes) (xs : List Child) (rest : List Part) → AllByRecursion IsComment end → ItemsLayOut outer xs → AtParts Placed outer (onward outer) rest →
-      AtParts Placed outer Within (map piece_part (if broken then stacked m None closer end xs else joined m [] closer one xs) ++ rest)
-  body_at true one m end xs rest e h r = stacked_at m None end xs rest tt e h r
-  body_at false one m end xs rest e h r = joined_at m [] one xs rest inner_nothing h r
+  body_at : (broken one : Bool) (m : ℕ) (end : List Bytes) (xs : List Child) → AllByRecursion IsComment end → ItemsLayOut outer xs → AtParts Placed outer Within (map piece_part (if broken then stacked m None closer end xs else joined m [] closer one xs))
+  body_at true one m end xs e h = stacked_at m None end xs tt e h
+  body_at false one m end xs e h = joined_at m [] one xs inner_nothing h
 
 -- ---- all kinds
 
@@ -137,13 +127,13 @@ abbrev Bracketed : Frame → Type 0
 Bracketed (sequence opener closer) = IsBracket opens opener × IsBracket closes closer
 Bracketed _ = Unit {0}
 
-pub round : IsBracket opens 40 × IsBracket closes 41
+round : IsBracket opens 40 × IsBracket closes 41
 round = (record { turns = refl; is_token = refl; coded = coded_byte 40 (omega arith) }, record { turns = refl; is_token = refl; coded = coded_byte 41 (omega arith) })
 
-pub square : IsBracket opens 91 × IsBracket closes 93
+square : IsBracket opens 91 × IsBracket closes 93
 square = (record { turns = refl; is_token = refl; coded = coded_byte 91 (omega arith) }, record { turns = refl; is_token = refl; coded = coded_byte 93 (omega arith) })
 
-pub curly : IsBracket opens 123 × IsBracket closes 125
+curly : IsBracket opens 123 × IsBracket closes 125
 curly = (record { turns = refl; is_token = refl; coded = coded_byte 123 (omega arith) }, record { turns = refl; is_token = refl; coded = coded_byte 125 (omega arith) })
 
 bracketed : (kind : Kind) → Bracketed (frame kind)
@@ -162,14 +152,10 @@ FormLaysOut (sequence opener closer) open_break here parts items end = RowLaysOu
 
 laid_at : (f : Frame) → Bracketed f → (kind : Kind) (split open_break : Bool) (here : Spot) (gap : Bytes) (m : ℕ) (parts items : List Child) (end : List Bytes) → FitsAt here gap → FormLaysOut f open_break here parts items end →
     AtParts Placed here here (map piece_part (laid_in f kind split open_break gap m parts items end))
-laid_at row b kind split open_break here gap m parts items end g h =
-    subst (AtParts Placed here here) (append-nil (map piece_part (rowed kind open_break m gap m parts))) (rowed_at kind open_break m here here gap m parts [] g h.0 h.1 tt)
+laid_at row b kind split open_break here gap m parts items end g h = rowed_at kind open_break m here here gap m parts g h.0 h.1
 laid_at compound b kind split open_break here gap m parts items end g h = absurd h
 laid_at (sequence opener closer) b kind split open_break here gap m parts items end g h =
-    let broken : Bool = is_broken kind split (firsts items) end in
-    let one : Bool = is_tuple kind && nat_eq (length items) 1 in
-    headed_at here opener closer b.0 b.1 m here gap parts _ g h.0
-    (subst (AtParts Placed here Within) (append-nil (map piece_part (if broken then stacked m None closer end items else joined m [] closer one items))) (body_at here opener closer b.0 b.1 broken one m end items [] h.2 h.1 tt))
+    headed_at here opener closer b.0 b.1 m here gap parts _ g h.0 (body_at here opener closer b.0 b.1 (is_broken kind split (firsts items) end) (is_tuple kind && nat_eq (length items) 1) m end items h.2 h.1)
 
 -- a node by its list of parts
 pub at_node : (P : Spot → Leaf → Type 0) (here : Spot) (n : Node) → AtParts P here here n.parts → AtLeaves P here (p.Node n)
@@ -179,25 +165,40 @@ plain_goes_on : (outer here : Spot) (x : Expr) (gap : Bytes) (m : ℕ) → after
 plain_goes_on outer here (Token t) gap m = refl
 plain_goes_on outer here (Form' kind z parts z' items end split open_break comments) gap m = refl
 
-pub laid_out_goes_on : (outer here : Spot) (x : Expr) → has_suite x ≡ false → (gap : Bytes) (m : ℕ) → after_part outer here (part_of x gap m) ≡ after_expr outer here x
+laid_out_goes_on : (outer here : Spot) (x : Expr) → has_suite x ≡ false → (gap : Bytes) (m : ℕ) → after_part outer here (part_of x gap m) ≡ after_expr outer here x
 laid_out_goes_on outer here x h gap m = ap (λ f. after_part outer here (f gap m)) (laid_plain x h) ∙ plain_goes_on outer here x gap m
 
-pub lays_out : (outer here : Spot) (x : Expr) → ProperBy line_shape here x → ((gap : Bytes) (m : ℕ) → FitsAt here gap → AtLeaves Placed here (part_of x gap m)) → LaysOut outer here (after_expr outer here x) (x, part_of x)
+lays_out : (outer here : Spot) (x : Expr) → ProperBy line_shape here x → ((gap : Bytes) (m : ℕ) → FitsAt here gap → AtLeaves Placed here (part_of x gap m)) → LaysOut outer here (after_expr outer here x) (x, part_of x)
 lays_out outer here x h s = record { stands = s; goes_on = laid_out_goes_on outer here x (line_plain here x h); no_first = goes_on outer here x h }
 
--- what is in a form, by what is known of its rows
-form_lays_out : (f : Frame) (kind : Kind) (split open_break : Bool) (here : Spot) (m n : _) (parts : Row_of-Expr m) (items : Row_of-Expr n) (end : List Bytes) →
-    (ProperRowBy line_shape (is_binary kind) here here parts → RowLaysOut here here (parts_of parts)) → (ProperHeadBy line_shape here parts → AtMostOne (roots parts) → RowLaysOut here here (parts_of parts)) → (ProperItemsBy line_shape items → AreValues (roots items) → ItemsLayOut here (parts_of items)) →
-    (is_compound f ≡ true → ⊥) → in_frame f (Unit {0}) (AtMostOne (roots parts)) (Unit {0}) → in_frame f (Unit {0}) (AreValues (roots items)) (Unit {0}) → (is_comprehension kind ≡ true → in_frame f (Opened (roots parts)) (Unit {0}) (Unit {0})) →
-    InFrame line_shape f kind here parts items end split open_break → FormLaysOut f open_break here (parts_of parts) (parts_of items) end
-form_lays_out row kind split open_break here m n parts items end a b d e o v c h = (a h.0, row_breaks (is_binary kind) open_break here here m parts h.0 (λ e. c (h.4 e)))
-form_lays_out compound kind split open_break here m n parts items end a b d e o v c h = absurd (e refl)
-form_lays_out (sequence opener closer) kind split open_break here m n parts items end a b d e o v c h = (b h.0 o, d h.1 v, recursion_from_All IsComment end h.2)
+-- tokens are proper anywhere
+tokens_lay_out : (outer there here : Spot) (m : _) (r : Row_of-Expr m) → ProperHeadBy line_shape here r → AreLeaves (roots r) → RowLaysOut outer there (parts_of r)
+tokens_lay_out outer there here m end_of-Expr h o = tt
+tokens_lay_out outer there here m (more_of-Expr (Token t) rest) h o = (lays_out outer there (Token t) h.0 (λ gap m g. placed t.class gap t.text there h.0.0 h.0.1 g), tokens_lay_out outer (after_expr outer there (Token t)) here _ rest h.2 o.1)
+tokens_lay_out outer there here m (more_of-Expr (Form' kind z parts z' items end split open_break comments) rest) h o = absurd o.0
 
-open_form : (f : Frame) (kind : Kind) → is_comprehension kind ≡ true → (parts items : List Part) → Fits IsNonterminal (line_shape kind) (row_in f parts items) → in_frame f (Opened parts) (Unit {0}) (Unit {0})
+open_form : (f : Frame) (kind : Kind) → is_comprehension kind ≡ true → (parts items : List Part) → Fits IsNonterminal (whole_shape kind) (row_in f parts items) → in_frame f (Opened parts) (Unit {0}) (Unit {0})
 open_form row kind c parts items h = comprehension kind c parts h
 open_form (sequence opener closer) kind c parts items h = tt
 open_form compound kind c parts items h = tt
+
+-- what is in a form, by what is known of its rows
+form_lays_out : (f : Frame) (kind : Kind) (split open_break : Bool) (here : Spot) (m n : _) (parts : Row_of-Expr m) (items : Row_of-Expr n) (end : List Bytes) →
+    (ProperRowBy line_shape (is_binary kind) here here parts → RowLaysOut here here (parts_of parts)) → (ProperHeadBy line_shape here parts → AreFronts (roots parts) → RowLaysOut here here (parts_of parts)) → (ProperItemsBy line_shape items → AreValues (roots items) → ItemsLayOut here (parts_of items)) →
+    is_compound f ≡ false → in_frame f (Unit {0}) (AreFronts (roots parts)) (Unit {0}) → in_frame f (Unit {0}) (AreValues (roots items)) (Unit {0}) → (is_comprehension kind ≡ true → in_frame f (Opened (roots parts)) (Unit {0}) (Unit {0})) →
+    InFrame line_shape f kind here parts items end split open_break → FormLaysOut f open_break here (parts_of parts) (parts_of items) end
+form_lays_out row kind split open_break here m n parts items end a b d e o v c h = (a h.0, row_breaks (is_binary kind) open_break here here m parts h.0 (λ e. c (h.4 e)))
+form_lays_out compound kind split open_break here m n parts items end a b d e o v c h = no_such (sym e)
+form_lays_out (sequence opener closer) kind split open_break here m n parts items end a b d e o v c h = (b h.0 o, d h.1 v, recursion_from_All IsComment end h.2)
+
+-- so it is laid out
+form_at : (here : Spot) (kind : Kind) (m n : _) (parts : Row_of-Expr m) (items : Row_of-Expr n) (end : List Bytes) (split open_break : Bool) →
+    (ProperRowBy line_shape (is_binary kind) here here parts → RowLaysOut here here (parts_of parts)) → (ProperHeadBy line_shape here parts → AreFronts (roots parts) → RowLaysOut here here (parts_of parts)) → (ProperItemsBy line_shape items → AreValues (roots items) → ItemsLayOut here (parts_of items)) →
+    is_compound (frame kind) ≡ false → Fits IsNonterminal (whole_shape kind) (row_in (frame kind) (roots parts) (roots items)) → InFrame line_shape (frame kind) kind here parts items end split open_break →
+    (gap : Bytes) (margin : ℕ) → FitsAt here gap → AtParts Placed here here (map piece_part (laid kind split open_break gap margin (parts_of parts) (parts_of items) end))
+form_at here kind m n parts items end split open_break a b d plain fits h gap margin g =
+    laid_at (frame kind) (bracketed kind) kind split open_break here gap margin (parts_of parts) (parts_of items) end g
+    (form_lays_out (frame kind) kind split open_break here m n parts items end a b d plain (head_fits kind (roots parts) (roots items) fits) (items_values kind (roots parts) (roots items) fits) (λ e. open_form (frame kind) kind e (roots parts) (roots items) fits) h)
 
 mutual
   -- what is laid out of a proper expression is where it may be
@@ -208,20 +209,23 @@ mutual
       let plain : is_compound (frame kind) ≡ false = line_plain here x h in
       subst (λ f. AtLeaves Placed here (f gap m)) (sym (laid_plain x plain))
       (at_node Placed here (record { kind = kind; parts = map piece_part (laid kind split open_break gap m (parts_of parts) (parts_of items) end) })
-      (laid_at (frame kind) (bracketed kind) kind split open_break here gap m (parts_of parts) (parts_of items) end g
-      (form_lays_out (frame kind) kind split open_break here _ _ parts items end (row_lays_out (is_binary kind) here here _ parts) (head_lays_out here _ parts) (items_lay_out here _ items) (both_ways _ plain) (head_fits kind (roots parts) (roots items) h.0)
-      (items_values kind (roots parts) (roots items) h.0) (λ e. open_form (frame kind) kind e (roots parts) (roots items) h.0) h.1)))
+      (form_at here kind _ _ parts items end split open_break (row_lays_out (is_binary kind) here here _ parts) (head_lays_out here _ parts) (items_lay_out here _ items) plain (values_wider kind _ h.0) h.1 gap m g))
 
-  pub row_lays_out : (binary : Bool) (outer here : Spot) (m : _) (r : Row_of-Expr m) → ProperRowBy line_shape binary outer here r → RowLaysOut outer here (parts_of r)
+  row_lays_out : (binary : Bool) (outer here : Spot) (m : _) (r : Row_of-Expr m) → ProperRowBy line_shape binary outer here r → RowLaysOut outer here (parts_of r)
   row_lays_out binary outer here m end_of-Expr h = tt
   row_lays_out binary outer here m (more_of-Expr x rest) h = (lays_out outer here x h.0 (laid_out_stands here x h.0), row_lays_out binary outer (after_expr outer here x) _ rest h.3)
 
-  pub head_lays_out : (here : Spot) (m : _) (r : Row_of-Expr m) → ProperHeadBy line_shape here r → AtMostOne (roots r) → RowLaysOut here here (parts_of r)
+  head_lays_out : (here : Spot) (m : _) (r : Row_of-Expr m) → ProperHeadBy line_shape here r → AreFronts (roots r) → RowLaysOut here here (parts_of r)
   head_lays_out here m end_of-Expr h o = tt
-  head_lays_out here m (more_of-Expr x end_of-Expr) h o = (lays_out here here x h.0 (laid_out_stands here x h.0), tt)
-  head_lays_out here m (more_of-Expr x (more_of-Expr y rest)) h o = absurd o
+  head_lays_out here m (more_of-Expr x rest) h o = (lays_out here here x h.0 (laid_out_stands here x h.0), tokens_lay_out here (after_expr here here x) here _ rest h.2 o)
 
-  pub items_lay_out : (outer : Spot) (m : _) (r : Row_of-Expr m) → ProperItemsBy line_shape r → AreValues (roots r) → ItemsLayOut outer (parts_of r)
+  items_lay_out : (outer : Spot) (m : _) (r : Row_of-Expr m) → ProperItemsBy line_shape r → AreValues (roots r) → ItemsLayOut outer (parts_of r)
   items_lay_out outer m end_of-Expr h v = tt
   items_lay_out outer m (more_of-Expr x rest) h v =
       (subst (λ z. LaysOut outer Within z (x, part_of x)) (value_within outer Within x h.0 v.0) (lays_out outer Within x h.0 (laid_out_stands Within x h.0)), h.1, items_lay_out outer _ rest h.3 v.1)
+
+-- so are the parts of a form in which these are proper: of a header, too
+pub form_stands : (here : Spot) (kind : Kind) (m n : _) (parts : Row_of-Expr m) (items : Row_of-Expr n) (end : List Bytes) (split open_break : Bool) → is_compound (frame kind) ≡ false → Fits IsNonterminal (whole_shape kind) (row_in (frame kind) (roots parts) (roots items)) →
+    InFrame line_shape (frame kind) kind here parts items end split open_break → (gap : Bytes) (margin : ℕ) → FitsAt here gap → AtParts Placed here here (map piece_part (laid kind split open_break gap margin (parts_of parts) (parts_of items) end))
+form_stands here kind m n parts items end split open_break plain fits h gap margin g =
+    form_at here kind m n parts items end split open_break (row_lays_out (is_binary kind) here here m parts) (head_lays_out here m parts) (items_lay_out here n items) plain fits h gap margin g

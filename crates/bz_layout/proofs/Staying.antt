@@ -5,7 +5,6 @@ use Rattle.std.specs.Prelude.{slice_get}
 use Rattle.std.specs.List.{AllByRecursion}
 use Rattle.std.proofs.lemmas.List.Elements.{recursion_from_All}
 use Rattle.bz_grammar.specs.Spell.{leaves_part, limit}
-use Rattle.bz_grammar.specs.Shapes.{shape}
 use Rattle.bz_grammar.specs.Spots.{Begins}
 use Rattle.bz_grammar.specs.declared.kind.Kind.TheVariants as k
 use Rattle.bz_grammar.specs.declared.tree.Node.{Node}
@@ -15,25 +14,25 @@ use Rattle.bz_token.specs.declared.class.Class.TheVariants as c
 use Rattle.bz_grammar.proofs.Spells.{leaves_Node}
 use Rattle.bz_items.specs.Characters.{Bytes, line_feed}
 use Rattle.bz_lex.specs.declared.leaf.Leaf.{Leaf}
-use Rattle.bz_value.specs.Proper.{IsProperItem, IsProper, comments_of}
+use Rattle.bz_value.specs.BuildValues.{IsBuildItem, IsProperBuild}
+use Rattle.bz_value.specs.Proper.{IsProperItem, comments_of}
 use Rattle.bz_value.specs.declared.value.Expr.{Expr}
 use Rattle.bz_value.specs.declared.value.Item.{Item}
 use Rattle.bz_value.specs.declared.value.Item.TheVariants as i
-use Rattle.bz_value.specs.LineShapes.{value_shape}
 use Rattle.bz_value.specs.Statements.{has_suite}
-use Rattle.bz_value.proofs.Wider.{build_wider, line_expr, wider_expr}
 use Rattle.bz_layout.specs.Drafts.{Drafted, drafted, pushed}
 use Rattle.bz_layout.specs.Layout.{suffix_text}
 use Rattle.bz_layout.specs.LaidOut.{part_of, line_part, left_gap, before_next, lines_from}
 use Rattle.bz_layout.specs.Written.{comment_lines}
 use Rattle.bz_layout.specs.declared.writer.OpenWindow.{OpenWindow}
 use Rattle.bz_layout.specs.declared.writer.Writer.{Writer}
-use Rattle.bz_layout.specs.private.Reached.{Reached, AreReached, IsAt, HasGap, HasNext, Passes, own_text}
+use Rattle.bz_layout.specs.private.Reached.{IsProperBuildItem, Reached, AreReached, IsAt, HasGap, HasNext, Passes, own_text}
 use Rattle.bz_layout.specs.private.Windows.{line_count_in, statement_gap, AreCounted, AreLinesOver}
 use Rattle.bz_value.specs.declared.windows.Window.{Window}
 use Rattle.bz_layout.proofs.LineWindows.{each_cut}
 use Rattle.bz_layout.proofs.LegalParts.{Begin, begin_with, laid_out_good}
-use Rattle.bz_layout.proofs.Made.{plain_first, item_plain}
+use Rattle.bz_layout.proofs.BuildLaid.{build_line, build_plain}
+use Rattle.bz_layout.proofs.Made.{plain_first}
 use Rattle.bz_layout.proofs.Pushing.{pushed_none}
 use Rattle.bz_layout.proofs.Reaching.{put_line, take_lines, skip_lines, opened, reach_as}
 use Rattle.bz_layout.proofs.Readable.{readable}
@@ -47,7 +46,7 @@ same_first n k xs ys y h l e is =
     drop_more xs k y (omega (arith, h, l)) ∙
     ap (λ x. x ∷ drop (k + 1) xs) (sym (get_or-take n xs k y h) ∙ (ap (λ zs. get_or zs k y) e ∙ (get_or-take n ys k y h ∙ sym is)))
 
-proper_drop : (n : ℕ) (xs : List Item) → AllByRecursion IsProperItem xs → AllByRecursion IsProperItem (drop n xs)
+proper_drop : (n : ℕ) (xs : List Item) → AllByRecursion IsProperBuildItem xs → AllByRecursion IsProperBuildItem (drop n xs)
 proper_drop zero xs h = h
 proper_drop (suc n) [] h = h
 proper_drop (suc n) (x ∷ xs) h = proper_drop n xs h.1
@@ -56,13 +55,13 @@ proper_drop (suc n) (x ∷ xs) h = proper_drop n xs h.1
 
 module _ {parts all : List Part} where
   -- what is open after an item is put
-  line_put : (w : Writer) (left : List Part) (y : Item) (ys : List Item) → IsProperItem y → IsAt parts all w left (lines_from w.window.gap.items (y ∷ ys)) →
+  line_put : (w : Writer) (left : List Part) (y : Item) (ys : List Item) → IsProperBuildItem y → IsAt parts all w left (lines_from w.window.gap.items (y ∷ ys)) →
       Reached parts all w.made (pushed w.window.text (own_text w.window.gap.items y)) true w.bytes w.done w.base w.part left (lines_from (left_gap w.window.gap.items y ++ before_next y ys) ys)
   line_put w left (i.Block texts) ys h r = reach_as (pushed_none w.window.text) refl refl (opened r)
   line_put w left (i.Stmt x) ys h r =
       let gap : Bytes = w.window.gap.items in
-      let plain : has_suite x ≡ false = item_plain x h in
-      reach_as (ap (pushed w.window.text) (sym (spell_line gap x plain (readable Begins x (wider_expr shape value_shape build_wider Begins x h.1))))) refl refl
+      let plain : has_suite x ≡ false = build_plain x h.1 in
+      reach_as (ap (pushed w.window.text) (sym (spell_line gap x plain (readable Begins x h.0.1)))) refl refl
       (put_line (line_part gap x) (reach_as refl refl (sym (plain_first gap x ys plain)) r))
 
   -- a turn of the loop over them
@@ -124,20 +123,20 @@ module _ {parts all : List Part} where
 has_gap_at : (ls : List Leaf) (a g : Bytes) → Begin a ls → HasGap (slice_get ls 0) g → g ≡ a
 has_gap_at ls a g b h = let on : b.0.gap ≡ g = subst (λ (ms : List Leaf). HasGap (slice_get ms 0) g) b.2 h in sym on ∙ b.3
 
-line_begins : (gap : Bytes) (x : Expr) (rest : List Part) → IsProperItem (i.Stmt x) → Begin (gap ++ comment_lines (comments_of x).before) (flat_map leaves_part (line_part gap x ∷ rest))
+line_begins : (gap : Bytes) (x : Expr) (rest : List Part) → IsProperBuildItem (i.Stmt x) → Begin (gap ++ comment_lines (comments_of x).before) (flat_map leaves_part (line_part gap x ∷ rest))
 line_begins gap x rest h =
     let above : Bytes = gap ++ comment_lines (comments_of x).before in
     let node : Node = record {
       kind = k.Line;
       parts = part_of x above 0 ∷ p.Leaf (record { class = c.Newline; gap = suffix_text (comments_of x).suffix; token = line_feed ∷ [] }) ∷ [];
     } in
-    begin_with above (line_part gap x ∷ rest) (subst (Begin above) (sym (leaves_Node node)) (begin_with above node.parts ((laid_out_good Begins x (line_expr Begins x h.1)).stands.starts above 0)))
+    begin_with above (line_part gap x ∷ rest) (subst (Begin above) (sym (leaves_Node node)) (begin_with above node.parts ((laid_out_good Begins x (build_line x h.0.0 h.1 h.0.1)).stands.starts above 0)))
 
 -- a statement with the gap that its line has in the tree has this line
-same_line : (gap above : Bytes) (x : Expr) (xs : List Item) → IsProperItem (i.Stmt x) → HasNext gap (i.Stmt x ∷ []) (lines_from above (i.Stmt x ∷ xs)) → line_part gap x ≡ line_part above x
+same_line : (gap above : Bytes) (x : Expr) (xs : List Item) → IsProperBuildItem (i.Stmt x) → HasNext gap (i.Stmt x ∷ []) (lines_from above (i.Stmt x ∷ xs)) → line_part gap x ≡ line_part above x
 same_line gap above x xs h has =
     let same : gap ++ comment_lines (comments_of x).before ≡ above ++ comment_lines (comments_of x).before =
-    has_gap_at _ _ _ (line_begins above x (lines_from (before_next (i.Stmt x) xs) xs) h) (subst (HasNext gap (i.Stmt x ∷ [])) (plain_first above x xs (item_plain x h)) has) in
+    has_gap_at _ _ _ (line_begins above x (lines_from (before_next (i.Stmt x) xs) xs) h) (subst (HasNext gap (i.Stmt x ∷ [])) (plain_first above x xs (build_plain x h.1)) has) in
     ap (λ t. p.Node (record {
       kind = k.Line;
       parts = part_of x t 0 ∷ p.Leaf (record { class = c.Newline; gap = suffix_text (comments_of x).suffix; token = line_feed ∷ [] }) ∷ [];
@@ -256,8 +255,15 @@ module _ {said : Bool} {parts all : List Part} where
 
 -- ---- the beginning
 
+both_items : (items : List Item) → IsProperBuild items → AllByRecursion IsProperBuildItem items
+both_items items h = together items (recursion_from_All IsProperItem items h.0) (recursion_from_All IsBuildItem items h.1)
+  where
+    together : (xs : List Item) → AllByRecursion IsProperItem xs → AllByRecursion IsBuildItem xs → AllByRecursion IsProperBuildItem xs
+    together [] a b = tt
+    together (x ∷ xs) a b = ((a.0, b.0), together xs a.1 b.1)
+
 pub begun : (parts : List Part) (before items : List Item) (w : Writer) → w.made ≡ [] → w.window.text ≡ drafted limit [] → w.window.gap.items ≡ [] → w.window.is_open ≡ false → w.bytes ≡ 0 → w.done ≡ 0 → w.base ≡ 0 → w.part ≡ 0 → lines_from [] before ≡ parts →
-    IsProper before → IsProper items → AreReached parts (lines_from [] items) w before items
+    IsProperBuild before → IsProperBuild items → AreReached parts (lines_from [] items) w before items
 begun parts before items w made text gap shut bytes done base part own old proper =
     let start : Reached parts (lines_from [] items) [] (drafted limit []) false 0 0 0 0 (lines_from [] before) (lines_from [] items) = record {
       before = record { new = []; texts = tt; there = tt; done_is = refl; count = refl; few = omega arith };
@@ -272,7 +278,7 @@ begun parts before items w made text gap shut bytes done base part own old prope
     } in
     record {
       above = [];
-      proper_before = recursion_from_All IsProperItem before old;
-      proper = recursion_from_All IsProperItem items proper;
+      proper_before = both_items before old;
+      proper = both_items items proper;
       lines = rw (made, text, shut, bytes, done, base, part, gap) start;
     }

@@ -1,7 +1,7 @@
 -- A tree whose leaves hold lexemes, with a space or a newline where the kinds of its nodes require one, holds tokens.
 use Rattle.std.proofs.Common.{◌≡◌, ℕ, ◌≤◌, Bool, true, false, not, ◌&&◌, List, [], ◌∷◌, ◌++◌, ◌⊎◌, inl, inr, None, refl, sym, ap, ◌∙◌, subst, append_assoc, arith}
 use Rattle.std.specs.Prelude.{nat_eq, nat_le}
-use Rattle.std.specs.List.{AllByRecursion, flat_map}
+use Rattle.std.specs.List.{list_all, AllByRecursion, flat_map}
 use Rattle.std.proofs.lemmas.Bool.{and_parts, or_cases, cases_Bool, both_ways, not-true, eqb-true, eq-eqb, leb-true, and_from}
 use Rattle.std.proofs.lemmas.Slice.Eq.{bytes_eq-Decides}
 use Rattle.bz_token.specs.declared.class.Class.{Class}
@@ -25,9 +25,9 @@ use Rattle.bz_grammar.proofs.Balance.{no_such, leaves_rows}
 use Rattle.bz_value.specs.LineShapes.{line_shape}
 use Rattle.bz_value.proofs.LegalBy.{LegalBy, each_legal, as_bzl}
 use Rattle.bz_hosts.proofs.SeenParts.{all_parted}
-use Rattle.bz_hosts.proofs.InnerParts.{inner_kind}
+use Rattle.bz_hosts.proofs.InnerParts.{of_terminals, inner_kind}
 use Rattle.bz_layout.specs.Spaces.{brackets_and_separators, lone, is_dot_terminal, apart, is_number_leaf, from_table}
-use Rattle.bz_layout.proofs.Neighbours.{Element, T, S, Is, Pair, Final, Links, passes, links, all_in, fronts, prefixed, well_text, named, spaced, is_primary, safe, neighbours, is_primary_kind, finals, all_pass, well, no_number, one_leaf, is_number}
+use Rattle.bz_layout.proofs.Neighbours.{Element, T, S, Is, Pair, Final, Links, passes, links, fronts, prefixed, well_text, named, spaced, is_primary, safe, neighbours, is_primary_kind, finals, all_pass, well, no_number, is_number}
 use Rattle.bz_layout.proofs.Stops.{is_stop, stop_before, dot_before, lone_before, front_before, dot_before_name, begins_well}
 use Rattle.bz_layout.proofs.Elements.{spaced_apart}
 
@@ -37,8 +37,8 @@ in_a_table : (us : List (List ℕ)) (class : Class) (t : List ℕ) → from_tabl
 in_a_table us c.Mark t h = (refl, h)
 in_a_table us _ t h = no_such h
 
-pub table_leaf : (us : List (List ℕ)) (ts : List Terminal) (l : Leaf) → all_in (from_table us) ts ≡ true → is_one_of ts l ≡ true → (l.class ≡ c.Mark) × (in_table l.token us ≡ true)
-table_leaf us ts l h i = one_leaf (from_table us) (λ class t. (class ≡ c.Mark) × (in_table t us ≡ true)) (λ class t f. no_such f) (in_a_table us) ts l h i
+pub table_leaf : (us : List (List ℕ)) (ts : List Terminal) (l : Leaf) → list_all (from_table us) ts ≡ true → is_one_of ts l ≡ true → (l.class ≡ c.Mark) × (in_table l.token us ≡ true)
+table_leaf us ts l h i = of_terminals (λ class t. (class ≡ c.Mark) × (in_table t us ≡ true)) (from_table us) (λ class t f. no_such f) (in_a_table us) ts l h i
 
 well_class : (class : Class) (t : List ℕ) → well (s.any class) ≡ true → IsLexeme class t → well_text t ≡ true
 well_class c.Name t h i = begins_well c.Name t i refl
@@ -46,15 +46,15 @@ well_class c.Number t h i = begins_well c.Number t i refl
 well_class c.String t h i = begins_well c.String t i refl
 well_class _ t h i = no_such h
 
-pub well_leaf : (ts : List Terminal) (l : Leaf) → all_in well ts ≡ true → is_one_of ts l ≡ true → IsLexeme l.class l.token → well_text l.token ≡ true
-well_leaf ts l h i x = one_leaf well (λ class t. IsLexeme class t → well_text t ≡ true) well_class (λ class t w y. w) ts l h i x
+pub well_leaf : (ts : List Terminal) (l : Leaf) → list_all well ts ≡ true → is_one_of ts l ≡ true → IsLexeme l.class l.token → well_text l.token ≡ true
+well_leaf ts l h i x = of_terminals (λ class t. IsLexeme class t → well_text t ≡ true) well well_class (λ class t w y. w) ts l h i x
 
 name_class : (class : Class) (t : List ℕ) → named (s.any class) ≡ true → class ≡ c.Name
 name_class c.Name t h = refl
 name_class _ t h = no_such h
 
-pub named_leaf : (us : List Terminal) (l : Leaf) → all_in named us ≡ true → is_one_of us l ≡ true → l.class ≡ c.Name
-named_leaf us l h i = one_leaf named (λ class t. class ≡ c.Name) name_class (λ class t f. no_such f) us l h i
+pub named_leaf : (us : List Terminal) (l : Leaf) → list_all named us ≡ true → is_one_of us l ≡ true → l.class ≡ c.Name
+named_leaf us l h i = of_terminals (λ class t. class ≡ c.Name) named name_class (λ class t f. no_such f) us l h i
 
 any_whole : (class : Class) (t : List ℕ) → no_number (s.any class) ≡ true → is_number class ≡ false
 any_whole c.Number t h = no_such h
@@ -64,8 +64,8 @@ this_whole : (class : Class) (t : List ℕ) → no_number (s.this class t) ≡ t
 this_whole c.Number t h = no_such h
 this_whole _ t h = refl
 
-pub plain_leaf : (us : List Terminal) (l : Leaf) → all_in no_number us ≡ true → is_one_of us l ≡ true → is_number l.class ≡ false
-plain_leaf us l h i = one_leaf no_number (λ class t. is_number class ≡ false) any_whole this_whole us l h i
+pub plain_leaf : (us : List Terminal) (l : Leaf) → list_all no_number us ≡ true → is_one_of us l ≡ true → is_number l.class ≡ false
+plain_leaf us l h i = of_terminals (λ class t. is_number class ≡ false) no_number any_whole this_whole us l h i
 
 -- ---- tokens of leaves before a text
 
@@ -190,13 +190,13 @@ well_front t [] more rest h i = no_such i
 well_front t (b ∷ l) more rest h i = front_before t ((l ++ more) ++ rest) b h i
 
 -- a sign or a star right before such a text
-before_well : (ts : List Terminal) (leaf l : Leaf) → all_in prefixed ts ≡ true → is_one_of ts leaf ≡ true → l.gap ≡ [] → well_text l.token ≡ true → (more rest : List ℕ) → IsToken leaf.class leaf.token (Text l more rest)
+before_well : (ts : List Terminal) (leaf l : Leaf) → list_all prefixed ts ≡ true → is_one_of ts leaf ≡ true → l.gap ≡ [] → well_text l.token ≡ true → (more rest : List ℕ) → IsToken leaf.class leaf.token (Text l more rest)
 before_well ts leaf l h i n w more rest =
     let t = table_leaf fronts ts leaf h i in
     subst (λ z. IsToken z leaf.token (Text l more rest)) (sym t.0) (bare_token c.Mark leaf.token l more rest n (well_front leaf.token l.token more rest t.1 w))
 
 -- a dot right before a name
-before_name : (ts : List Terminal) (leaf l : Leaf) → all_in is_dot_terminal ts ≡ true → is_one_of ts leaf ≡ true → l.gap ≡ [] → IsLexeme c.Name l.token → (more rest : List ℕ) → IsToken leaf.class leaf.token (Text l more rest)
+before_name : (ts : List Terminal) (leaf l : Leaf) → list_all is_dot_terminal ts ≡ true → is_one_of ts leaf ≡ true → l.gap ≡ [] → IsLexeme c.Name l.token → (more rest : List ℕ) → IsToken leaf.class leaf.token (Text l more rest)
 before_name ts leaf l h i n lex more rest =
     let t = table_leaf ((46 ∷ []) ∷ []) ts leaf h i in
     subst (λ z. IsToken z leaf.token (Text l more rest)) (sym t.0)
@@ -208,26 +208,26 @@ before_name ts leaf l h i n lex more rest =
 after_token : (kind : Kind) (ts : List Terminal) (leaf : Leaf) (y : Part) (b : Element) → is_one_of ts leaf ≡ true → Is b y → safe (T ts) b ≡ true → LegalBy line_shape y → IsLex leaf →
     (l : Leaf) (ls : List Leaf) → leaves_part y ≡ l ∷ ls → l.gap ≡ [] → IsLex l → (more rest : List ℕ) → IsToken leaf.class leaf.token (Text l more rest)
 after_token kind ts leaf y (S a) i j o g x l ls e n w more rest =
-    elim (or_cases (all_in lone ts) _ o) [
+    elim (or_cases (list_all lone ts) _ o) [
       | inl f ↦ let t = table_leaf brackets_and_separators ts leaf f i in subst (λ z. IsToken z leaf.token (Text l more rest)) (sym t.0) (lone_before leaf.token (Text l more rest) t.1)
-      | inr f ↦ let v = and_parts (all_in prefixed ts) _ f in before_well ts leaf l v.0 i n (well_leaf (starts a) l v.1 (first_leaf a y l ls e j g) w) more rest
+      | inr f ↦ let v = and_parts (list_all prefixed ts) _ f in before_well ts leaf l v.0 i n (well_leaf (starts a) l v.1 (first_leaf a y l ls e j g) w) more rest
     ]
 after_token kind ts leaf (Node' _ z r) (T us) i j o g x l ls e n w more rest = no_such j
 after_token kind ts leaf (p.Leaf m) (T us) i j o g x l ls e n w more rest =
     let same : m ≡ l = let one : m ∷ [] ≡ l ∷ ls = e in cc in
-    elim (or_cases (all_in lone us) _ o) [
+    elim (or_cases (list_all lone us) _ o) [
       | inl f ↦ let t = table_leaf brackets_and_separators us m f j in
           let u : in_table l.token brackets_and_separators ≡ true = subst (λ z. in_table z.token brackets_and_separators ≡ true) same t.1 in
           bare_token leaf.class leaf.token l more rest n (before_lone leaf l.token more rest x u)
       | inr f ↦
-          elim (or_cases (all_in lone ts) _ f) [
+          elim (or_cases (list_all lone ts) _ f) [
             | inl d ↦ let t = table_leaf brackets_and_separators ts leaf d i in subst (λ z. IsToken z leaf.token (Text l more rest)) (sym t.0) (lone_before leaf.token (Text l more rest) t.1)
             | inr d ↦
-                elim (or_cases (all_in is_dot_terminal ts && all_in named us) _ d) [
-                  | inl q ↦ let v = and_parts (all_in is_dot_terminal ts) _ q in
+                elim (or_cases (list_all is_dot_terminal ts && list_all named us) _ d) [
+                  | inl q ↦ let v = and_parts (list_all is_dot_terminal ts) _ q in
                       let name : l.class ≡ c.Name = subst (λ z. z.class ≡ c.Name) same (named_leaf us m v.1 j) in
                       before_name ts leaf l v.0 i n (subst (λ z. IsLexeme z l.token) name w) more rest
-                  | inr q ↦ let v = and_parts (all_in prefixed ts) _ q in
+                  | inr q ↦ let v = and_parts (list_all prefixed ts) _ q in
                       before_well ts leaf l v.0 i n (well_leaf us l v.1 (subst (λ z. is_one_of us z ≡ true) same j) w) more rest
                 ]
           ]
@@ -249,9 +249,9 @@ touching kind x y (S a) (S b) i j o g h d w l ls e n u more rest = no_such o
 touching kind x (Node' _ z r) (S a) (T us) i j o g h d w l ls e n u more rest = no_such j
 touching kind x (p.Leaf m) (S a) (T us) i j o g h d w l ls e n u more rest =
     let same : m ≡ l = let one : m ∷ [] ≡ l ∷ ls = e in cc in
-    elim (or_cases (all_in lone us) _ o) [
+    elim (or_cases (list_all lone us) _ o) [
       | inl f ↦ w (Text l more rest) (bare_follows (ends_plain x) l more rest n (lone_opens (ends_plain x) l.token more rest (subst (λ z. in_table z.token brackets_and_separators ≡ true) same (table_leaf brackets_and_separators us m f j).1)))
-      | inr f ↦ let v = and_parts (all_in is_dot_terminal us) _ f in
+      | inr f ↦ let v = and_parts (list_all is_dot_terminal us) _ f in
           let t = table_leaf ((46 ∷ []) ∷ []) us m v.0 j in
           let dot : m.token ≡ 46 ∷ [] = dot_text m.token t.1 in
           let whole : is_number_leaf x ≡ false = elim (cases_Bool (is_number_leaf x)) [ inl q ↦ absurd (d (q, is_dot m t.0 dot)) | inr q ↦ q ] in

@@ -14,13 +14,13 @@ use Rattle.bz_value.specs.Gaps.{GapLine, lines_of, comments_in, some_newline, al
 use Rattle.bz_value.specs.Proper.{comments_of, has_break, is_operator}
 use Rattle.bz_value.specs.Roots.{root}
 use Rattle.bz_value.proofs.FormParts.{operator_first}
-use Rattle.bz_hosts.specs.View.{Seen, seen, plain, first_seen_gap, begins_seen_operator, loose_after, row_exprs, is_open}
+use Rattle.bz_hosts.specs.Seen.{Seen, seen, plain, first_seen_gap, begins_seen_operator, loose_after, row_exprs, is_open}
 use Rattle.bz_layout.specs.Layout.{Piece, rowed, gap_after, margin_after, new_line_at, firsts}
 use Rattle.bz_value.specs.Empty.{is_empty}
 use Rattle.bz_layout.specs.Spaces.{is_spaced}
 use Rattle.bz_layout.specs.LaidOut.{PartAt, piece_part}
 use Rattle.bz_layout.specs.Flags.{with_flags}
-use Rattle.bz_hosts.proofs.Colons.{NoColon}
+use Rattle.bz_layout.proofs.Fitted.{IsRooted}
 use Rattle.bz_layout.proofs.Framed.{after_first}
 use Rattle.bz_layout.proofs.Gapped.{ended_line, lines_line}
 use Rattle.bz_layout.proofs.Readable.{AreParts, ends}
@@ -34,7 +34,7 @@ pub record SeenAs (x : Expr × PartAt) : Type 0 where
   pub sign : (g : Bytes) (m : ℕ) → is_operator (plain (seen (x.1 g m))) ≡ is_operator x.0
   pub gap : (g : Bytes) (m : ℕ) → (seen (x.1 g m)).gap ≡ g
   pub loose : (g : Bytes) (m : ℕ) → (seen (x.1 g m)).loose ≡ []
-  pub plain : (g : Bytes) (m : ℕ) → NoColon (root x.0) → NoColon (x.1 g m)
+  pub rooted : IsRooted x
 
 abbrev pub Reads : List (Expr × PartAt) → Type 0
 Reads xs = AllByRecursion SeenAs xs

@@ -7,7 +7,7 @@ use Rattle.bz_value.specs.declared.value.Item.TheVariants as i
 use Rattle.bz_items.specs.Characters.{Bytes, line_feed}
 use Rattle.bz_value.specs.Gaps.{GapLine, lines_of, before_groups, groups_of, all_but_last, last_group}
 use Rattle.bz_value.specs.Proper.{IsComment}
-use Rattle.bz_hosts.specs.View.{blocks}
+use Rattle.bz_hosts.specs.Seen.{blocks}
 use Rattle.bz_layout.specs.Written.{comment_lines}
 use Rattle.bz_layout.proofs.Gapped.{ended_line, commented, comment_line}
 use Rattle.bz_layout.proofs.Made.{two}

@@ -7,12 +7,13 @@ use Rattle.bz_grammar.specs.declared.tree.Part.{Part}
 use Rattle.bz_value.specs.declared.value.Expr.{Expr}
 use Rattle.bz_value.specs.declared.value.Item.{Item}
 use Rattle.bz_value.specs.declared.value.Item.TheVariants as i
-use Rattle.bz_value.specs.Proper.{IsProperItem}
 use Rattle.bz_items.specs.Characters.{Bytes}
 use Rattle.bz_layout.specs.Written.{gap_between, comment_lines, indented_lines}
 use Rattle.bz_layout.specs.LaidOut.{left_of, line_part, left_gap, before_next, lines_from}
+use Rattle.bz_layout.specs.private.Reached.{IsProperBuildItem}
 use Rattle.bz_layout.specs.private.Windows.{line_count_in, statement_gap}
-use Rattle.bz_layout.proofs.Made.{plain_first, item_plain}
+use Rattle.bz_layout.proofs.BuildLaid.{build_plain}
+use Rattle.bz_layout.proofs.Made.{plain_first}
 
 -- ---- a window of a list
 
@@ -37,11 +38,11 @@ front_lines gap zero items = []
 front_lines gap (suc n) [] = []
 front_lines gap (suc n) (item ∷ items) = own_lines gap item ++ front_lines (left_gap gap item ++ before_next item items) n items
 
-lines_first : (gap : Bytes) (x : Item) (xs : List Item) → IsProperItem x → lines_from gap (x ∷ xs) ≡ own_lines gap x ++ lines_from (left_gap gap x ++ before_next x xs) xs
+lines_first : (gap : Bytes) (x : Item) (xs : List Item) → IsProperBuildItem x → lines_from gap (x ∷ xs) ≡ own_lines gap x ++ lines_from (left_gap gap x ++ before_next x xs) xs
 lines_first gap (i.Block texts) xs p = refl
-lines_first gap (i.Stmt x) xs p = plain_first gap x xs (item_plain x p)
+lines_first gap (i.Stmt x) xs p = plain_first gap x xs (build_plain x p.1)
 
-pub lines_cut : (gap : Bytes) (n : ℕ) (xs : List Item) → AllByRecursion IsProperItem xs → n ≤ length xs → lines_from gap xs ≡ front_lines gap n xs ++ lines_from (statement_gap gap n xs) (drop n xs)
+pub lines_cut : (gap : Bytes) (n : ℕ) (xs : List Item) → AllByRecursion IsProperBuildItem xs → n ≤ length xs → lines_from gap xs ≡ front_lines gap n xs ++ lines_from (statement_gap gap n xs) (drop n xs)
 lines_cut gap zero xs p h = refl
 lines_cut gap (suc n) [] p h = absurd (omega arith)
 lines_cut gap (suc n) (x ∷ xs) p h =

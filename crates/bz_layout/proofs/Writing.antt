@@ -21,7 +21,7 @@ use Rattle.bz_value.specs.Statements.{has_suite}
 use Rattle.bz_layout.specs.Layout.{Piece, new_line_at, margin_lines, ended, suffix_text, stacked, joined, rowed, headed, is_broken, is_tuple, gap_after, margin_after}
 use Rattle.bz_layout.specs.Written.{TextAt, piece_text, text_of, text_by_frame, suite_text, statements_text, line_end, at_margin, indented_lines, item_text, layout}
 use Rattle.bz_layout.specs.LaidOut.{before_next}
-use Rattle.bz_layout.specs.Writings.{writings, row_text, comma_text, space_text, joined_text, stacked_text, body_text}
+use Rattle.bz_layout.specs.private.Writings.{writings, row_text, comma_text, space_text, joined_text, stacked_text, body_text}
 use Rattle.bz_layout.specs.Drafts.{Drafted, pushed}
 use Rattle.bz_layout.proofs.Made.{text_Form, values_of}
 use Rattle.bz_layout.proofs.Pushing.{pushed_end, pushed_none, pushed_twice}

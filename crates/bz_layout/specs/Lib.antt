@@ -1,5 +1,4 @@
 pub mod Appended
-pub mod Depths
 pub mod Drafts
 pub mod Flags
 pub mod LaidOut
@@ -7,7 +6,7 @@ pub mod Laws
 pub mod Layout
 pub mod Rows
 pub mod Spaces
+pub mod SuiteRows
 pub mod Windows
-pub mod Writings
 pub mod Written
 pub mod private

@@ -6,7 +6,7 @@ use Rattle.bz_grammar.specs.Spell.{spell_part}
 use Rattle.bz_grammar.specs.declared.tree.Node.{Node}
 use Rattle.bz_layout.specs.LaidOut.{laid_out}
 use Rattle.bz_layout.specs.declared.writer.TextWindow.{TextWindow}
-use Rattle.bz_value.specs.Proper.{IsProper}
+use Rattle.bz_value.specs.BuildValues.{IsProperBuild}
 use Rattle.bz_value.specs.declared.value.Item.{Item}
 
 -- the texts are what the parts spell, window by window
@@ -17,5 +17,5 @@ AreTextsOf _ _ = ⊥
 
 -- the tree is the layout of these items
 pub record IsLayoutOf (items : List Item) (tree : Node) : Type 0 where
-  pub proper : IsProper items
+  pub proper : IsProperBuild items
   pub laid_out : laid_out items ≡ tree

@@ -1,4 +1,6 @@
 -- What the contracts of private functions cite, and no contract of a public call reaches: nobody has to trust it.
+pub mod Depths
 pub mod Reached
 pub mod Spines
 pub mod Windows
+pub mod Writings

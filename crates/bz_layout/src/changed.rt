@@ -8,6 +8,7 @@ ghost use Rattle.bz_layout.specs.LaidOut.{laid_out, lines_from};
 ghost use Rattle.bz_layout.specs.Windows.{AreTextsOf, IsLayoutOf};
 ghost use Rattle.bz_layout.specs.Written.{layout};
 ghost use Rattle.bz_layout.specs.private.Reached.{IsPut, gone_length};
+ghost use Rattle.bz_value.specs.BuildValues.{AreBuild};
 ghost use Rattle.bz_value.specs.Windows.{AreOver, AreWithin};
 ghost use Rattle.bz_value.specs.declared.value.Item.{Item};
 
@@ -52,7 +53,8 @@ fn written(
     windows: &[Window],
     tree: &Tree,
 ) -> Result<Option<Writer>, Memory>
-    requires { AreWithin windows.now file.now }
+    requires within { AreWithin windows.now file.now }
+    requires build { AreBuild file.now }
     ensures { IfOk result (λ made. (before : List Item) → IsLayoutOf before tree.now → AreOver windows.now before file.now
         → MatchOption made (limit < length (layout file.now)) (λ writer. IsPut tree.now.parts (lines_from [] file.now) writer.made writer.bytes writer.done)) }
 {
@@ -70,10 +72,10 @@ fn written(
     go_over(alloc, parts, items, &[one], false)
 }
 
-/// Where the layout's text is another than the one that a tree spells, if that is the layout of items of which these came in the place of others: what is
-/// new, window by window, and the length of all, if the tree spells as many bytes as `old_length` says. Whole lines are new: where the gap before
-/// a line is another, the line is. Errors: `TooLarge` exactly where the layout is past the limit of a text, else `TooDeep` exactly
-/// where its tree would be past the limit of depth; `Memory`: a growth was refused.
+/// Where the layout's text of a BUILD file is another than the one that a tree spells, if that is the layout of items of which these came in
+/// the place of others: what is new, window by window, and the length of all, if the tree spells as many bytes as `old_length` says. Whole
+/// lines are new: where the gap before a line is another, the line is. Errors: `TooLarge` exactly where the layout is past the limit of a
+/// text, else `TooDeep` exactly where its tree would be past the limit of depth; `Memory`: a growth was refused.
 pub fn text_windows(
     alloc: Global,
     file: &File,
@@ -81,7 +83,8 @@ pub fn text_windows(
     tree: &Tree,
     old_length: usize,
 ) -> Result<Laid, SetFault>
-    requires { AreWithin windows.now file.now }
+    requires within { AreWithin windows.now file.now }
+    requires build { AreBuild file.now }
     ensures put { IfOk result (λ laid. (before : List Item) → IsLayoutOf before tree.now → AreOver windows.now before file.now
         → (new : List PartWindow) × AreTextsOf laid.windows new × AreThere new tree.now.parts × (with_windows new tree.now ≡ laid_out file.now)) }
     ensures length { IfOk result (λ laid. (before : List Item) → IsLayoutOf before tree.now → AreOver windows.now before file.now → old_length ≡ length (spell_node tree.now)

@@ -1,6 +1,6 @@
 //! Whether a value or its layout is too deep. No walk goes deeper than the bound, and no tree is made for it.
 ghost use Rattle.std.specs.Prelude.{◌≤◌, ◌↔◌, IsTrue, max, suc};
-ghost use Rattle.bz_layout.specs.Depths.{depth_expr, depth_form, depth_line, deepest_of, deepest_line, depth_items};
+ghost use Rattle.bz_layout.specs.private.Depths.{depth_expr, depth_form, depth_line, deepest_of, deepest_line, depth_items};
 ghost use Rattle.bz_layout.specs.private.Windows.{come_items};
 ghost use Rattle.bz_value.specs.Windows.{AreWithin};
 
@@ -11,7 +11,7 @@ use bz_value::{Expr, Form, Item, Window, is_sequence, is_suite};
 /// Whether what is laid out of the expression has at most this depth.
 #[cycle(within)]
 #[tactic(auto, using(crate::proofs::Deep::depth_Form))]
-pub fn is_within(expr: &Expr, depth: usize) -> bool
+fn is_within(expr: &Expr, depth: usize) -> bool
     ensures { IsTrue result ↔ (depth_expr expr.now ≤ depth) }
 {
     match expr {
@@ -47,7 +47,7 @@ fn is_suite_within(form: &Form, depth: usize) -> bool
 /// Whether what is laid out of each of the expressions has at most this depth.
 #[cycle(within)]
 #[tactic(auto, using(crate::proofs::Deep::token_next))]
-pub fn are_within(exprs: &[Expr], depth: usize) -> bool
+fn are_within(exprs: &[Expr], depth: usize) -> bool
     ensures { IsTrue result ↔ (deepest_of exprs.now ≤ depth) }
 {
     for expr in exprs {

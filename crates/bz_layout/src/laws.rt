@@ -1,6 +1,7 @@
 ghost use Rattle.bz_layout.specs.Appended.{DepthsJoin, LayoutsJoin};
-ghost use Rattle.bz_layout.specs.Laws.{FlagsKeepLayout, LayoutIsAccepted, LayoutReadsBack};
+ghost use Rattle.bz_layout.specs.Laws.{BuildLayoutIsBuild, FlagsKeepLayout, LayoutIsAccepted, LayoutIsTooDeep, LayoutReadsBack};
 ghost use Rattle.bz_layout.specs.Rows.{WorkedRows};
+ghost use Rattle.bz_layout.specs.SuiteRows.{WorkedSuiteRows};
 
 /// Settling the flags of a file value leaves its layout and the tree of it as they are, and keeps
 /// it proper.
@@ -9,12 +10,25 @@ pub fn flags_keep_layout()
 {}
 
 /// The layout of a proper file value reads as its tree, where it is within the limits of length and depth.
-#[tactic(auto, using(crate::proofs::LegalFiles::accepted))]
+#[tactic(auto, using(crate::proofs::Accepting::accepted))]
 pub fn layout_is_accepted()
     ensures { LayoutIsAccepted }
 {}
 
+/// The tree of the layout of a BUILD file's value is one of a BUILD file.
+#[tactic(auto, using(crate::proofs::BuildLaid::build_laid_out))]
+pub fn build_layout_is_build()
+    ensures { BuildLayoutIsBuild }
+{}
+
+/// No tree is read of the layout of a proper file value whose own tree is too deep.
+#[tactic(auto, using(crate::proofs::Accepting::too_deep))]
+pub fn layout_is_too_deep()
+    ensures { LayoutIsTooDeep }
+{}
+
 /// The tree of the layout of a proper file value has that value, with its flags settled, as its view.
+#[tactic(auto, using(crate::proofs::BackFiles::items_read_back))]
 pub fn layout_reads_back()
     ensures { LayoutReadsBack }
 {}
@@ -29,4 +43,9 @@ pub fn layouts_join()
 /// Small file values have the layout that they are to have, byte for byte.
 pub fn worked_rows()
     ensures { WorkedRows }
+{}
+
+/// So have small values with suites; and their flags are settled as they are to be.
+pub fn worked_suite_rows()
+    ensures { WorkedSuiteRows }
 {}

@@ -17,13 +17,11 @@ mod writer;
 
 pub use breaks::is_broken;
 pub use changed::{Laid, text_windows};
-pub use depth::{are_within, is_within};
 pub use draft::Draft;
-pub use gaps::deeper_margin;
 pub use laws::{
-    flags_keep_layout, layout_is_accepted, layout_reads_back, layouts_join, worked_rows,
+    build_layout_is_build, flags_keep_layout, layout_is_accepted, layout_is_too_deep,
+    layout_reads_back, layouts_join, worked_rows, worked_suite_rows,
 };
-pub use setting::{SetFault, append_file, append_items, text_of_file, text_of_items};
-pub use spaces::{is_close, is_spaced};
-pub use texts::{expr_text, item_text, push_body, push_expr, push_row};
+pub use setting::{SetFault, append_items, text_of_items};
+pub use texts::{expr_text, item_text, push_expr};
 pub use writer::TextWindow;

@@ -4,7 +4,7 @@ ghost use Rattle.bz_value.specs.Proper.{has_break};
 ghost use Rattle.bz_layout.specs.Drafts.{pushed};
 ghost use Rattle.bz_layout.specs.Layout as layout;
 ghost use Rattle.bz_layout.specs.Written.{text_of};
-ghost use Rattle.bz_layout.specs.Writings.{row_text};
+ghost use Rattle.bz_layout.specs.private.Writings.{row_text};
 
 use crate::draft::Draft;
 use crate::gaps::deeper_margin;

@@ -10,7 +10,7 @@ use crate::spaces::blank_before;
 use crate::texts::push_items;
 use bz_grammar::{DEPTH_LIMIT, LENGTH_LIMIT};
 use bz_items::Text;
-use bz_value::{File, Item};
+use bz_value::Item;
 use std::alloc::{AllocError, Global};
 use std::mem;
 use thiserror::Error;
@@ -68,15 +68,6 @@ pub fn append_items(out: &mut Vec<u8>, above: &Option<Item>, items: &[Item]) -> 
     Some(())
 }
 
-/// Appends the layout of the file value, as `append_items` does.
-pub fn append_file(out: &mut Vec<u8>, above: &Option<Item>, file: &File) -> Option<()>
-    ensures text { IfSome result (λ _. out.new.items ≡ out.old.items ++ (gap_below above.now file.now ++ layout file.now)) }
-    ensures short { IfSome result (λ _. length out.new.items ≤ limit) }
-    ensures shallow { IfSome result (λ _. depth_of (laid_out file.now) ≤ depth_limit) }
-{
-    append_items(out, above, file.items.as_slice())
-}
-
 /// The layout of items, as text, with no tree made for it: `about` how many bytes it has, by estimate, is the room that it begins
 /// with, and some more, since a text that doubles holds as much again. Errors: `TooLarge` exactly where the layout is past the limit
 /// of a text, else `TooDeep` exactly where its tree would be past the limit of depth; `Memory`: a growth was refused.
@@ -95,15 +86,4 @@ pub fn text_of_items(alloc: Global, items: &[Item], about: usize) -> Result<Text
         return Err(SetFault::TooDeep);
     }
     Ok(Text::from_vec(bytes))
-}
-
-/// The layout of the file value, as `text_of_items` gives it.
-pub fn text_of_file(alloc: Global, file: &File, about: usize) -> Result<Text, SetFault>
-    ensures text { IfOk result (λ text. text ≡ layout file.now) }
-    ensures short { IfOk result (λ _. length (layout file.now) ≤ limit) }
-    ensures shallow { IfOk result (λ _. depth_of (laid_out file.now) ≤ depth_limit) }
-    ensures too_large { result ≡ Err SetFault.TooLarge → limit < length (layout file.now) }
-    ensures too_deep { result ≡ Err SetFault.TooDeep → (length (layout file.now) ≤ limit) × (depth_limit < depth_of (laid_out file.now)) }
-{
-    text_of_items(alloc, file.items.as_slice(), about)
 }

@@ -109,7 +109,7 @@ pub fn is_spaced(kind: Kind, left: &Expr, right: &Expr) -> bool
 }
 
 /// Whether a statement is right below another, with no blank line between.
-pub fn is_close(above: &Expr, below: &Expr) -> bool
+fn is_close(above: &Expr, below: &Expr) -> bool
     ensures { (if result then [] else (line_feed ∷ [])) ≡ written.gap_between (Item.Stmt above.now) (Item.Stmt below.now) }
 {
     below.comments().before().is_empty()

@@ -6,7 +6,7 @@ ghost use Rattle.bz_value.specs.declared.value.Expr.TheVariants as e;
 ghost use Rattle.bz_value.specs.declared.value.Item.TheVariants as i;
 ghost use Rattle.bz_value.specs.Frames.{frame, has_brackets, sequence};
 ghost use Rattle.bz_layout.specs.Written as written;
-ghost use Rattle.bz_layout.specs.Writings.{writings, row_text, comma_text, space_text, joined_text, stacked_text, body_text};
+ghost use Rattle.bz_layout.specs.private.Writings.{writings, row_text, comma_text, space_text, joined_text, stacked_text, body_text};
 
 use crate::breaks::{holds_suite, is_broken};
 use crate::dotted::push_dotted;
@@ -78,7 +78,7 @@ fn push_form(out: &mut Draft, form: &Form, margin: usize) -> Result<(), Memory>
 /// Appends the row of the parts of a form at a margin. The error: a growth was refused.
 #[cycle(push)]
 #[tactic(auto, using(crate::proofs::Pushing::pushed_twice, crate::proofs::Writing::row_next, crate::proofs::Writing::row_end, crate::proofs::Writing::rest_here))]
-pub fn push_row(out: &mut Draft, form: &Form, margin: usize) -> Result<(), Memory>
+fn push_row(out: &mut Draft, form: &Form, margin: usize) -> Result<(), Memory>
     ensures { OnOk result (out.new ≡ pushed out.old (row_text form.now.kind form.now.open_break margin margin form.now.parts)) }
 {
     let row = form.parts.as_slice();
@@ -103,7 +103,7 @@ pub fn push_row(out: &mut Draft, form: &Form, margin: usize) -> Result<(), Memor
 /// Appends what is in the sequence of a form at a margin, and this closing bracket. The error: a growth was
 /// refused.
 #[cycle(push)]
-pub fn push_body(out: &mut Draft, form: &Form, margin: usize, closer: u8) -> Result<(), Memory>
+fn push_body(out: &mut Draft, form: &Form, margin: usize, closer: u8) -> Result<(), Memory>
     ensures { OnOk result (out.new ≡ pushed out.old (body_text form.now margin closer)) }
 {
     if is_broken(form) {

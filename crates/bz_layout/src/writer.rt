@@ -8,7 +8,7 @@ ghost use Rattle.bz_layout.specs.LaidOut.{left_gap, before_next, lines_from};
 ghost use Rattle.bz_layout.specs.Written as written;
 ghost use Rattle.bz_layout.specs.private.Reached.{AreReached, HasGap, HasNext, IsAt, IsPut, Passes, own_text};
 ghost use Rattle.bz_layout.specs.private.Windows.{AreCounted, HaveLines};
-ghost use Rattle.bz_value.specs.Proper.{IsProper};
+ghost use Rattle.bz_value.specs.BuildValues.{IsProperBuild};
 ghost use Rattle.bz_value.specs.Windows.{AreWithin};
 ghost use Rattle.bz_value.specs.declared.value.Item.{Item};
 
@@ -61,7 +61,7 @@ pub struct Writer {
 /// A writer at the beginning of a tree.
 #[tactic(auto, using(crate::proofs::Staying::begun))]
 pub fn new_writer(alloc: Global) -> Writer
-    ensures { (parts : List Part) (before items : List Item) → lines_from [] before ≡ parts → IsProper before → IsProper items → AreReached parts (lines_from [] items) result before items }
+    ensures { (parts : List Part) (before items : List Item) → lines_from [] before ≡ parts → IsProperBuild before → IsProperBuild items → AreReached parts (lines_from [] items) result before items }
 {
     Writer {
         made: Items::new(alloc),
@@ -234,7 +234,7 @@ pub fn go_over(
     each_is_line: bool,
 ) -> Result<Option<Writer>, Memory>
     requires { AreWithin windows.now items.now }
-    ensures { IfOk result (λ made. (before : List Item) → lines_from [] before ≡ parts.now → IsProper before → IsProper items.now → AreCounted each_is_line windows.now before items.now
+    ensures { IfOk result (λ made. (before : List Item) → lines_from [] before ≡ parts.now → IsProperBuild before → IsProperBuild items.now → AreCounted each_is_line windows.now before items.now
         → MatchOption made (limit < length (written.layout items.now)) (λ writer. IsPut parts.now (lines_from [] items.now) writer.made writer.bytes writer.done)) }
 {
     let mut writer = new_writer(alloc);

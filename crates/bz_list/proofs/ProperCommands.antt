@@ -8,14 +8,17 @@ use Rattle.bz_token.specs.declared.class.Class.TheVariants as c
 use Rattle.bz_grammar.specs.declared.kind.Kind.{Kind}
 use Rattle.bz_grammar.specs.declared.kind.Kind.TheVariants as k
 use Rattle.bz_grammar.specs.Shapes as s
-use Rattle.bz_grammar.specs.Shapes.{is_class, is_kind}
+use Rattle.bz_grammar.specs.Shapes.{is_class}
+use Rattle.bz_grammar.proofs.Numbers.{same_kind}
+use Rattle.std.proofs.lemmas.Bool.{eqb-true}
 use Rattle.bz_grammar.specs.Spots.{Spot, Within}
 use Rattle.bz_label.specs.Tables.{is_label_attribute}
 use Rattle.bz_label.specs.Read.{shortened}
 use Rattle.bz_value.specs.declared.value.Expr.{Expr, Token, Form', items-the_row-Expr}
+use Rattle.bz_value.specs.LineShapes.{Grammar, value_shape}
 use Rattle.bz_items.specs.Characters.{Bytes}
 use Rattle.bz_value.specs.Proper.{ProperExpr, after_expr}
-use Rattle.bz_value.proofs.FormParts.{AreParts}
+use Rattle.bz_value.proofs.FormParts.{ArePartsBy}
 use Rattle.bz_command_syntax.specs.Patterns.{substituted}
 use Rattle.bz_command_syntax.specs.Proper.{AreUtf8, IsAttribute}
 use Rattle.bz_command_syntax.specs.Quoted.{quoted_of}
@@ -41,62 +44,6 @@ use Rattle.bz_value.specs.declared.refusal.Refusal.TheVariants.{NoAttribute, Not
 
 -- ---- the items of a value
 
--- proper somewhere
-abbrev Stands : Expr → Type 0
-Stands x = (here : Spot) × ProperExpr here x
-
-list_items : (kind : Kind) (here : Spot) (end : List Bytes) (split open_break : Bool) (ps xs : List Expr) → is_kind kind k.List ≡ true → AsForm here kind ps xs end split open_break → AreOf s.test xs
-list_items k.List here end split open_break ps xs is h = list_apart here end split open_break ps xs h
-list_items _ here end split open_break ps xs is h = absurd (true≢false (sym is))
-
-items_there : (x : Expr) → has_kind k.List x ≡ true → Stands x → AreOf s.test (items_of x)
-items_there (Token t) is h = tt
-items_there (Form' kind s parts s' items end split open_break comments) is h =
-    list_items kind h.0 end split open_break (items-the_row-Expr _ parts) (items-the_row-Expr _ items) is (opened h.0 (Form' kind s parts s' items end split open_break comments) h.1)
-
-listed_items : (x : Expr) → Stands x → AreOf s.test (listed x)
-listed_items x h = by_case (AreOf s.test) (has_kind k.List x) (items_of x) [] (λ is. items_there x is h) (λ n. tt)
-
-all_listed : (xs : List Expr) → AllByRecursion Stands xs → AreOf s.test (flat_map listed xs)
-all_listed [] h = tt
-all_listed (x ∷ xs) h = all_joined (IsItem s.test) (listed x) (flat_map listed xs) (listed_items x h.0) (all_listed xs h.1)
-
-each_stands : (binary : Bool) (outer here : Spot) (xs : List Expr) → AreParts binary outer here xs → AllByRecursion Stands xs
-each_stands binary outer here [] h = tt
-each_stands binary outer here (x ∷ xs) h = ((here, h.0), each_stands binary outer (after_expr outer here x) xs h.3)
-
-sum_parts : (kind : Kind) (here : Spot) (end : List Bytes) (split open_break : Bool) (ps xs : List Expr) → is_kind kind k.Sum ≡ true → AsForm here kind ps xs end split open_break → AllByRecursion Stands ps
-sum_parts k.Sum here end split open_break ps xs is h = each_stands true here here ps h.1.0
-sum_parts _ here end split open_break ps xs is h = absurd (true≢false (sym is))
-
-parts_there : (x : Expr) → has_kind k.Sum x ≡ true → Stands x → AllByRecursion Stands (parts_of x)
-parts_there (Token t) is h = tt
-parts_there (Form' kind s parts s' items end split open_break comments) is h =
-    sum_parts kind h.0 end split open_break (items-the_row-Expr _ parts) (items-the_row-Expr _ items) is (opened h.0 (Form' kind s parts s' items end split open_break comments) h.1)
-
-pub value_items : (x : Expr) → IsValue x → AreOf s.test (items_in x)
-value_items x v =
-    let h : Stands x = (Within, v.0.0.0) in
-    subst (AreOf s.test) (sym (lists.items_there x))
-    (by_case (AreOf s.test) (has_kind k.Sum x) (flat_map listed (parts_of x)) (listed x) (λ is. all_listed (parts_of x) (parts_there x is h)) (λ n. listed_items x h))
-
--- ---- further items
-
-pub more_value : (more : List Expr) (x : Expr) → AreOf s.test more → IsValue x → IsValue (with_more more x)
-more_value more x h v =
-    let grown : List Expr → List Expr = λ items. items ++ more in
-    let stays : Stays (on_items k.List grown) = list_in_place grown (λ xs a. all_joined (IsItem s.test) xs more a h) in
-    value_in_place x (with_more more x)
-    (by_test (InPlace x) (has_kind k.Sum x) (on_row k.Sum (on_first_that (has_kind k.List) (on_items k.List grown)) x) (on_items k.List grown x)
-    (row_stays k.Sum (on_first_that (has_kind k.List) (on_items k.List grown)) (first_that_stays (has_kind k.List) (on_items k.List grown) stays) x) (stays x)) v
-
--- ---- fewer items
-
-pub fewer_value : (test : Expr → Bool) (x : Expr) → IsValue x → IsValue (on_lists (filter test) x)
-fewer_value test x v = value_in_place x (on_lists (filter test) x) (lists_stay (filter test) (list_in_place (filter test) (λ xs a. all_kept (IsItem s.test) test xs a)) x) v
-
--- ---- other items
-
 is_string : (class : Class) (text : Bytes) (said : Bytes → Bool) → option_map_or said (option_and_then body (if is_class class c.String then Some text else None)) false ≡ true → is_class class c.String ≡ true
 is_string c.String text said h = refl
 is_string _ text said h = absurd (true≢false (sym h))
@@ -104,17 +51,6 @@ is_string _ text said h = absurd (true≢false (sym h))
 item_is_string : (current attribute word : Bytes) (x : Expr) → is_item current attribute word x ≡ true → has_class c.String x ≡ true
 item_is_string current attribute word (Token t) h = is_string t.class t.text (are_one current attribute word) h
 item_is_string current attribute word (Form' kind s parts s' items end split open_break comments) h = absurd (true≢false (sym h))
-
-pub replaced_item_stays : (current name old new : Bytes) → IsUtf8 new → Stays (replaced_item current name old new)
-replaced_item_stays current name old new u x =
-    where_true (is_item current name old x) x (with_text (string_text current name new) x)
-    (λ is. string_in_place (string_text current name new) x (item_is_string current name old x is) (λ _. string_strung current name new u))
-
--- what is in the value itself and in the items of its lists
-pub changed_value : (change : Expr → Expr) → Stays change → (x : Expr) → IsValue x → IsValue (in_value change x)
-changed_value change stays x v =
-    value_in_place (change x) (on_lists (map change) (change x)) (lists_stay (map change) (items_stay k.List (map change) (each_mapped change stays)) (change x))
-    (value_in_place x (change x) (stays x) v)
 
 -- a plain string is a string, and its body is a text of characters where it is one
 string_body : (class : Class) (text inside : Bytes) → option_and_then body (if is_class class c.String then Some text else None) ≡ Some inside
@@ -130,20 +66,6 @@ body_there (Form' kind s parts s' items end split open_break comments) inside e 
 abbrev pub KeepsText : Bytes → Bytes → Type 0
 KeepsText pattern template = (text : Bytes) → IsUtf8 text → IsUtf8 (substituted pattern template text)
 
-substituted_string : (current name pattern template : Bytes) → KeepsText pattern template → (x : Expr) (found : Option Bytes) → body_of x ≡ found
-    → InPlace x (option_map_or (λ inside. with_body current name inside (substituted pattern template inside) x) found x)
-substituted_string current name pattern template keeps x None e = itself x
-substituted_string current name pattern template keeps x (Some inside) e =
-    let new : Bytes = substituted pattern template inside in
-    let w = body_there x inside e in
-    by_test (InPlace x) (bytes_eq new inside) x (with_text (string_text current name new) x) (itself x)
-    (string_in_place (string_text current name new) x w.0 (λ h. string_strung current name new (keeps inside (w.1 h.1))))
-
-pub substituted_item_stays : (current name pattern template : Bytes) → KeepsText pattern template → Stays (substituted_item current name pattern template)
-substituted_item_stays current name pattern template keeps x = substituted_string current name pattern template keeps x (body_of x) refl
-
--- ---- words and items that are not there
-
 pub fresh_utf8 : (current attribute : Bytes) (items : List Expr) (earlier words : List Bytes) → AreUtf8 words → AreUtf8 (fresh current attribute items earlier words)
 fresh_utf8 current attribute items earlier [] u = tt
 fresh_utf8 current attribute items earlier (word ∷ words) u =
@@ -151,99 +73,175 @@ fresh_utf8 current attribute items earlier (word ∷ words) u =
     (fresh current attribute items earlier words) (word ∷ fresh current attribute items (word ∷ earlier) words)
     (fresh_utf8 current attribute items earlier words u.1) (u.0, fresh_utf8 current attribute items (word ∷ earlier) words u.1)
 
--- an item that comes from another attribute
-travelled_stays : (current attribute : Bytes) (x : Expr) (found : Option Bytes) → body_of x ≡ found
-    → InPlace x (option_map_or (λ inside. if is_label_attribute attribute && not (bytes_eq (shortened current inside) inside) then with_text (quoted_of (shortened current inside)) x else x) found x)
-travelled_stays current attribute x None e = itself x
-travelled_stays current attribute x (Some inside) e =
-    let short : Bytes = shortened current inside in
-    let w = body_there x inside e in
-    by_test (InPlace x) (is_label_attribute attribute && not (bytes_eq short inside)) (with_text (quoted_of short) x) x
-    (string_in_place (quoted_of short) x w.0 (λ h. quoted_string short (shortened_utf8 current inside (w.1 h.1)))) (itself x)
+module _ (grammar : Grammar) where
+  -- proper somewhere
+  abbrev Stands : Expr → Type 0
+  Stands x = (here : Spot) × ProperExpr grammar here x
 
-pub arriving_items : (current attribute : Bytes) (there xs : List Expr) → AreOf s.test xs → AreOf s.test (arriving current attribute there xs)
-arriving_items current attribute there [] h = tt
-arriving_items current attribute there (x ∷ xs) h =
-    by_test (AreOf s.test) (is_there current attribute there x) (arriving current attribute there xs) (travelled current attribute x ∷ arriving current attribute (x ∷ there) xs)
-    (arriving_items current attribute there xs h.1)
-    (item_within s.test x (travelled current attribute x) (from_in_place x (travelled current attribute x) (travelled_stays current attribute x (body_of x) refl)) h.0, arriving_items current attribute (x ∷ there) xs h.1)
+  items_there : (x : Expr) → has_kind k.List x ≡ true → Stands x → AreOf grammar s.test (items_of x)
+  items_there (Token t) is h = tt
+  items_there (Form' kind s parts s' items end split open_break comments) is h =
+      list_apart grammar h.0 end split open_break (items-the_row-Expr _ parts) (items-the_row-Expr _ items)
+      (subst (λ (by : Kind). AsForm grammar h.0 by (items-the_row-Expr _ parts) (items-the_row-Expr _ items) end split open_break) (same_kind kind k.List (eqb-true _ _ is)) (opened grammar h.0 (Form' kind s parts s' items end split open_break comments) h.1))
 
--- ---- what each command on values makes of the arguments of a rule is arguments
+  listed_items : (x : Expr) → Stands x → AreOf grammar s.test (listed x)
+  listed_items x h = by_case (AreOf grammar s.test) (has_kind k.List x) (items_of x) [] (λ is. items_there x is h) (λ n. tt)
 
--- ---- add
+  all_listed : (xs : List Expr) → AllByRecursion Stands xs → AreOf grammar s.test (flat_map listed xs)
+  all_listed [] h = tt
+  all_listed (x ∷ xs) h = all_joined (IsItem grammar s.test) (listed x) (flat_map listed xs) (listed_items x h.0) (all_listed xs h.1)
 
-added_keeps : (name : Bytes) (added : List Expr → List Expr) → IsAttribute name → ((there : List Expr) → AreOf s.test (added there)) → Keeps (with_items_added name added)
-added_keeps name added a f xs h =
-    of_attribute name xs (Ok (with_new name (list_of (added [])) xs))
-    (grown name added xs)
-    h
-    (with_new_kept name (list_of (added [])) xs a (list_value (added []) (f [])) h)
-    (λ value v.
-    by_test Made (has_lists value) (Ok (with_value name (with_more (added (items_in value)) value) xs))
-    (if is_no_list value then Err NotAList else Ok (with_value name (plus value (list_of (added []))) xs))
-    (with_value_kept name (with_more (added (items_in value)) value) xs (more_value (added (items_in value)) value (f (items_in value)) v) h)
-    (by_test Made (is_no_list value) (Err NotAList) (Ok (with_value name (plus value (list_of (added []))) xs)) tt
-    (with_value_kept name (plus value (list_of (added []))) xs (plus_value value (added []) v (f [])) h)))
+  each_stands : (binary : Bool) (outer here : Spot) (xs : List Expr) → ArePartsBy (value_shape grammar) binary outer here xs → AllByRecursion Stands xs
+  each_stands binary outer here [] h = tt
+  each_stands binary outer here (x ∷ xs) h = ((here, h.0), each_stands binary outer (after_expr outer here x) xs h.3)
 
-pub add_keeps : (current name : Bytes) (words : List Bytes) → IsAttribute name → AreUtf8 words → Keeps (add current name words)
-add_keeps current name words a u =
-    added_keeps name (λ items. map (string_of current name) (fresh current name items [] words)) a
-    (λ items. words_are_items current name (fresh current name items [] words) (fresh_utf8 current name items [] words u))
+  parts_there : (x : Expr) → has_kind k.Sum x ≡ true → Stands x → AllByRecursion Stands (parts_of x)
+  parts_there (Token t) is h = tt
+  parts_there (Form' kind s parts s' items end split open_break comments) is h =
+      let f = subst (λ (by : Kind). AsForm grammar h.0 by (items-the_row-Expr _ parts) (items-the_row-Expr _ items) end split open_break) (same_kind kind k.Sum (eqb-true _ _ is)) (opened grammar h.0 (Form' kind s parts s' items end split open_break comments) h.1) in
+      each_stands true h.0 h.0 (items-the_row-Expr _ parts) f.1.0
 
--- ---- remove
+  pub value_items : (x : Expr) → IsValue grammar x → AreOf grammar s.test (items_in x)
+  value_items x v =
+      let h : Stands x = (Within, v.0.0.0) in
+      subst (AreOf grammar s.test) (sym (lists.items_there x))
+      (by_case (AreOf grammar s.test) (has_kind k.Sum x) (flat_map listed (parts_of x)) (listed x) (λ is. all_listed (parts_of x) (parts_there x is h)) (λ n. listed_items x h))
 
-cleared_kept : (name : Bytes) (value : Expr) (xs : List Expr) → IsValue value → AreArguments xs → AreArguments (cleared name value xs)
-cleared_kept name value xs v h = by_test AreArguments (is_empty_list value) (without name xs) (with_value name value xs) (without_kept name xs h) (with_value_kept name value xs v h)
+  -- ---- further items
 
-without_items_kept : (name : Bytes) (test : Expr → Bool) (value : Expr) (xs : List Expr) → IsValue value → AreArguments xs → AreArguments (without_items name test value xs)
-without_items_kept name test value xs v h =
-    let less : Expr = on_lists (filter (λ x. not (test x))) value in
-    by_test AreArguments (list_any test (items_in value)) (cleared name less xs) xs (cleared_kept name less xs (fewer_value (λ x. not (test x)) value v) h) h
+  pub more_value : (more : List Expr) (x : Expr) → AreOf grammar s.test more → IsValue grammar x → IsValue grammar (with_more more x)
+  more_value more x h v =
+      let grown : List Expr → List Expr = λ items. items ++ more in
+      let stays : Stays grammar (on_items k.List grown) = list_in_place grammar grown (λ xs a. all_joined (IsItem grammar s.test) xs more a h) in
+      value_in_place grammar x (with_more more x)
+      (by_test (InPlace grammar x) (has_kind k.Sum x) (on_row k.Sum (on_first_that (has_kind k.List) (on_items k.List grown)) x) (on_items k.List grown x)
+      (row_stays grammar k.Sum refl (on_first_that (has_kind k.List) (on_items k.List grown)) (first_that_stays grammar (has_kind k.List) (on_items k.List grown) stays) x) (stays x)) v
 
-pub remove_values_keeps : (current name : Bytes) (words : List Bytes) → Keeps (remove_values current name words)
-remove_values_keeps current name words xs h =
-    of_attribute name xs (Ok xs) (λ value. if is_no_list value then Err NotAList else Ok (without_items name (is_some_item current name words) value xs)) h h
-    (λ value v. by_test Made (is_no_list value) (Err NotAList) (Ok (without_items name (is_some_item current name words) value xs)) tt
-    (without_items_kept name (is_some_item current name words) value xs v h))
+  -- ---- fewer items
 
--- ---- replace and substitute
+  pub fewer_value : (test : Expr → Bool) (x : Expr) → IsValue grammar x → IsValue grammar (on_lists (filter test) x)
+  fewer_value test x v = value_in_place grammar x (on_lists (filter test) x) (lists_stay grammar (filter test) (list_in_place grammar (filter test) (λ xs a. all_kept (IsItem grammar s.test) test xs a)) x) v
 
-in_attributes_keeps : (attributes : Attributes) (change : Bytes → Expr → Expr) → ((name : Bytes) → Stays (change name)) → Keeps (λ xs. Ok (in_attributes attributes (λ name. in_value (change name)) xs))
-in_attributes_keeps t.All change stays xs h =
-    all_changed (IsItem s.argument) (λ x. if is_other_attribute x then on_value (in_value (change (first_text (parts_of x)))) x else x)
-    (λ x i. by_test (IsItem s.argument) (is_other_attribute x) (on_value (in_value (change (first_text (parts_of x)))) x) x
-    (value_stays (in_value (change (first_text (parts_of x)))) (changed_value (change (first_text (parts_of x))) (stays (first_text (parts_of x)))) x i) i)
-    xs h
-in_attributes_keeps (t.Named name) change stays xs h =
-    first_that_kept (IsItem s.argument) (is_attribute name) (on_value (in_value (change name))) (value_stays (in_value (change name)) (changed_value (change name) (stays name))) xs h
+  -- ---- other items
 
-pub replace_keeps : (current : Bytes) (attributes : Attributes) (old new : Bytes) → IsUtf8 new → Keeps (replace current attributes old new)
-replace_keeps current attributes old new u =
-    in_attributes_keeps attributes (λ name. replaced_item current name old new) (λ name. replaced_item_stays current name old new u)
+  pub replaced_item_stays : (current name old new : Bytes) → IsUtf8 new → Stays grammar (replaced_item current name old new)
+  replaced_item_stays current name old new u x =
+      where_true grammar (is_item current name old x) x (with_text (string_text current name new) x)
+      (λ is. string_in_place grammar (string_text current name new) x (item_is_string current name old x is) (λ _. string_strung current name new u))
 
-pub substitute_keeps : (current : Bytes) (attributes : Attributes) (pattern template : Bytes) → KeepsText pattern template → Keeps (substitute current attributes pattern template)
-substitute_keeps current attributes pattern template keeps =
-    in_attributes_keeps attributes (λ name. substituted_item current name pattern template) (λ name. substituted_item_stays current name pattern template keeps)
+  -- what is in the value itself and in the items of its lists
+  pub changed_value : (change : Expr → Expr) → Stays grammar change → (x : Expr) → IsValue grammar x → IsValue grammar (in_value change x)
+  changed_value change stays x v =
+      value_in_place grammar (change x) (on_lists (map change) (change x)) (lists_stay grammar (map change) (items_stay grammar k.List refl (map change) (each_mapped grammar change stays)) (change x))
+      (value_in_place grammar x (change x) (stays x) v)
 
--- ---- move
+  substituted_string : (current name pattern template : Bytes) → KeepsText pattern template → (x : Expr) (found : Option Bytes) → body_of x ≡ found
+      → InPlace grammar x (option_map_or (λ inside. with_body current name inside (substituted pattern template inside) x) found x)
+  substituted_string current name pattern template keeps x None e = itself grammar x
+  substituted_string current name pattern template keeps x (Some inside) e =
+      let new : Bytes = substituted pattern template inside in
+      let w = body_there x inside e in
+      by_test (InPlace grammar x) (bytes_eq new inside) x (with_text (string_text current name new) x) (itself grammar x)
+      (string_in_place grammar (string_text current name new) x w.0 (λ h. string_strung current name new (keeps inside (w.1 h.1))))
 
-moved_keeps : (current from to : Bytes) (items : List Expr) → IsAttribute to → AreOf s.test items → Keeps (items_moved current from to items)
-moved_keeps current from to items a i = added_keeps to (λ there. arriving current to there items) a (λ there. arriving_items current to there items i)
+  pub substituted_item_stays : (current name pattern template : Bytes) → KeepsText pattern template → Stays grammar (substituted_item current name pattern template)
+  substituted_item_stays current name pattern template keeps x = substituted_string current name pattern template keeps x (body_of x) refl
 
-pub move_keeps : (current from to : Bytes) (values : Values) → IsAttribute to → Keeps (move current from to values)
-move_keeps current from to values a xs h =
-    let test : Expr → Bool = is_moved current from values in
-    of_attribute from xs (Err NoAttribute)
-    (λ value.
-    if not (has_lists value) then Err NotAList
-    else (if list_any test (items_in value)
-    then items_moved current from to (filter test (items_in value)) (without_items from test value xs)
-    else Ok xs))
-    h tt
-    (λ value v.
-    by_test Made (not (has_lists value)) (Err NotAList)
-    (if list_any test (items_in value) then items_moved current from to (filter test (items_in value)) (without_items from test value xs) else Ok xs)
-    tt
-    (by_test Made (list_any test (items_in value)) (items_moved current from to (filter test (items_in value)) (without_items from test value xs)) (Ok xs)
-    (moved_keeps current from to (filter test (items_in value)) a (all_kept (IsItem s.test) test (items_in value) (value_items value v)) (without_items from test value xs)
-    (without_items_kept from test value xs v h)) h))
+  -- ---- words and items that are not there
+
+  -- an item that comes from another attribute
+  travelled_stays : (current attribute : Bytes) (x : Expr) (found : Option Bytes) → body_of x ≡ found
+      → InPlace grammar x (option_map_or (λ inside. if is_label_attribute attribute && not (bytes_eq (shortened current inside) inside) then with_text (quoted_of (shortened current inside)) x else x) found x)
+  travelled_stays current attribute x None e = itself grammar x
+  travelled_stays current attribute x (Some inside) e =
+      let short : Bytes = shortened current inside in
+      let w = body_there x inside e in
+      by_test (InPlace grammar x) (is_label_attribute attribute && not (bytes_eq short inside)) (with_text (quoted_of short) x) x
+      (string_in_place grammar (quoted_of short) x w.0 (λ h. quoted_string short (shortened_utf8 current inside (w.1 h.1)))) (itself grammar x)
+
+  pub arriving_items : (current attribute : Bytes) (there xs : List Expr) → AreOf grammar s.test xs → AreOf grammar s.test (arriving current attribute there xs)
+  arriving_items current attribute there [] h = tt
+  arriving_items current attribute there (x ∷ xs) h =
+      by_test (AreOf grammar s.test) (is_there current attribute there x) (arriving current attribute there xs) (travelled current attribute x ∷ arriving current attribute (x ∷ there) xs)
+      (arriving_items current attribute there xs h.1)
+      (item_within grammar s.test x (travelled current attribute x) (from_in_place grammar x (travelled current attribute x) (travelled_stays current attribute x (body_of x) refl)) h.0, arriving_items current attribute (x ∷ there) xs h.1)
+
+  -- ---- what each command on values makes of the arguments of a rule is arguments
+
+  -- ---- add
+
+  added_keeps : (name : Bytes) (added : List Expr → List Expr) → IsAttribute name → ((there : List Expr) → AreOf grammar s.test (added there)) → Keeps grammar (with_items_added name added)
+  added_keeps name added a f xs h =
+      of_attribute grammar name xs (Ok (with_new name (list_of (added [])) xs))
+      (grown name added xs)
+      h
+      (with_new_kept grammar name (list_of (added [])) xs a (list_value grammar (added []) (f [])) h)
+      (λ value v.
+      by_test (Made grammar) (has_lists value) (Ok (with_value name (with_more (added (items_in value)) value) xs))
+      (if is_no_list value then Err NotAList else Ok (with_value name (plus value (list_of (added []))) xs))
+      (with_value_kept grammar name (with_more (added (items_in value)) value) xs (more_value (added (items_in value)) value (f (items_in value)) v) h)
+      (by_test (Made grammar) (is_no_list value) (Err NotAList) (Ok (with_value name (plus value (list_of (added []))) xs)) tt
+      (with_value_kept grammar name (plus value (list_of (added []))) xs (plus_value grammar value (added []) v (f [])) h)))
+
+  pub add_keeps : (current name : Bytes) (words : List Bytes) → IsAttribute name → AreUtf8 words → Keeps grammar (add current name words)
+  add_keeps current name words a u =
+      added_keeps name (λ items. map (string_of current name) (fresh current name items [] words)) a
+      (λ items. words_are_items grammar current name (fresh current name items [] words) (fresh_utf8 current name items [] words u))
+
+  -- ---- remove
+
+  cleared_kept : (name : Bytes) (value : Expr) (xs : List Expr) → IsValue grammar value → AreArguments grammar xs → AreArguments grammar (cleared name value xs)
+  cleared_kept name value xs v h = by_test (AreArguments grammar) (is_empty_list value) (without name xs) (with_value name value xs) (without_kept grammar name xs h) (with_value_kept grammar name value xs v h)
+
+  without_items_kept : (name : Bytes) (test : Expr → Bool) (value : Expr) (xs : List Expr) → IsValue grammar value → AreArguments grammar xs → AreArguments grammar (without_items name test value xs)
+  without_items_kept name test value xs v h =
+      let less : Expr = on_lists (filter (λ x. not (test x))) value in
+      by_test (AreArguments grammar) (list_any test (items_in value)) (cleared name less xs) xs (cleared_kept name less xs (fewer_value (λ x. not (test x)) value v) h) h
+
+  pub remove_values_keeps : (current name : Bytes) (words : List Bytes) → Keeps grammar (remove_values current name words)
+  remove_values_keeps current name words xs h =
+      of_attribute grammar name xs (Ok xs) (λ value. if is_no_list value then Err NotAList else Ok (without_items name (is_some_item current name words) value xs)) h h
+      (λ value v. by_test (Made grammar) (is_no_list value) (Err NotAList) (Ok (without_items name (is_some_item current name words) value xs)) tt
+      (without_items_kept name (is_some_item current name words) value xs v h))
+
+  -- ---- replace and substitute
+
+  in_attributes_keeps : (attributes : Attributes) (change : Bytes → Expr → Expr) → ((name : Bytes) → Stays grammar (change name)) → Keeps grammar (λ xs. Ok (in_attributes attributes (λ name. in_value (change name)) xs))
+  in_attributes_keeps t.All change stays xs h =
+      all_changed (IsItem grammar s.argument) (λ x. if is_other_attribute x then on_value (in_value (change (first_text (parts_of x)))) x else x)
+      (λ x i. by_test (IsItem grammar s.argument) (is_other_attribute x) (on_value (in_value (change (first_text (parts_of x)))) x) x
+      (value_stays grammar (in_value (change (first_text (parts_of x)))) (changed_value (change (first_text (parts_of x))) (stays (first_text (parts_of x)))) x i) i)
+      xs h
+  in_attributes_keeps (t.Named name) change stays xs h =
+      first_that_kept (IsItem grammar s.argument) (is_attribute name) (on_value (in_value (change name))) (value_stays grammar (in_value (change name)) (changed_value (change name) (stays name))) xs h
+
+  pub replace_keeps : (current : Bytes) (attributes : Attributes) (old new : Bytes) → IsUtf8 new → Keeps grammar (replace current attributes old new)
+  replace_keeps current attributes old new u =
+      in_attributes_keeps attributes (λ name. replaced_item current name old new) (λ name. replaced_item_stays current name old new u)
+
+  pub substitute_keeps : (current : Bytes) (attributes : Attributes) (pattern template : Bytes) → KeepsText pattern template → Keeps grammar (substitute current attributes pattern template)
+  substitute_keeps current attributes pattern template keeps =
+      in_attributes_keeps attributes (λ name. substituted_item current name pattern template) (λ name. substituted_item_stays current name pattern template keeps)
+
+  -- ---- move
+
+  moved_keeps : (current from to : Bytes) (items : List Expr) → IsAttribute to → AreOf grammar s.test items → Keeps grammar (items_moved current from to items)
+  moved_keeps current from to items a i = added_keeps to (λ there. arriving current to there items) a (λ there. arriving_items current to there items i)
+
+  pub move_keeps : (current from to : Bytes) (values : Values) → IsAttribute to → Keeps grammar (move current from to values)
+  move_keeps current from to values a xs h =
+      let test : Expr → Bool = is_moved current from values in
+      of_attribute grammar from xs (Err NoAttribute)
+      (λ value.
+      if not (has_lists value) then Err NotAList
+      else (if list_any test (items_in value)
+      then items_moved current from to (filter test (items_in value)) (without_items from test value xs)
+      else Ok xs))
+      h tt
+      (λ value v.
+      by_test (Made grammar) (not (has_lists value)) (Err NotAList)
+      (if list_any test (items_in value) then items_moved current from to (filter test (items_in value)) (without_items from test value xs) else Ok xs)
+      tt
+      (by_test (Made grammar) (list_any test (items_in value)) (items_moved current from to (filter test (items_in value)) (without_items from test value xs)) (Ok xs)
+      (moved_keeps current from to (filter test (items_in value)) a (all_kept (IsItem grammar s.test) test (items_in value) (value_items value v)) (without_items from test value xs)
+      (without_items_kept from test value xs v h)) h))

@@ -2,7 +2,7 @@
 use Rattle.std.proofs.Common.{◌≡◌, ◌∙◌, Bool, true, false, not, ◌||◌, ◌+◌, List, [], ◌∷◌, ◌++◌, Some, inl, inr, length, length-append, map, refl, sym, ap, arith, true≢false}
 use Rattle.std.specs.Prelude.{◌↔◌, IsTrue, is_some, if◌then◌else◌}
 use Rattle.std.specs.List.{filter, list_any}
-use Rattle.std.proofs.lemmas.Bool.{cases_Bool, or_parts, not-true}
+use Rattle.std.proofs.lemmas.Bool.{cases_Bool, not-true}
 use Rattle.std.proofs.Math.Bool.{or-false}
 use Rattle.bz_grammar.specs.declared.kind.Kind.TheVariants as k
 use Rattle.bz_value.specs.declared.value.Expr.{Expr}
@@ -13,12 +13,11 @@ use Rattle.bz_rule.specs.Values.{has_kind, parts_of, items_of, with_parts, with_
 use Rattle.bz_rule.proofs.ProperChanges.{by_case, by_test}
 use Rattle.bz_attribute.specs.Attributes.{has_attribute, is_attribute, inserted, on_first_that, with_new, with_value, without}
 use Rattle.bz_attribute.specs.Lists.{has_lists, is_empty_list, items_in, listed, with_more}
-use Rattle.bz_attribute.specs.Made.{argument_of, list_of, mark, node, operand, plus}
+use Rattle.bz_attribute.specs.Made.{argument_of, list_of, node, operand, plus}
 use Rattle.bz_attribute.proofs.AttributesAgain.{attribute_changed, with_value_same}
 use Rattle.bz_attribute.proofs.FormsAgain.{attribute_first, if_false, if_true, items_changed, items_filled, items_kind, parts_filled, parts_kind, row_changed}
 use Rattle.bz_attribute.proofs.ListsThere.{any_alone, any_in_sum, lists_there, some_filtered, sum_no_list}
 use Rattle.bz_list.specs.Changes.{cleared, without_items}
-use Rattle.bz_list.specs.private.Listing.{without_chosen}
 use Rattle.bz_list.proofs.LawAdded.{following, more_none}
 
 -- what never holds

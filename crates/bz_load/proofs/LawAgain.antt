@@ -33,6 +33,7 @@ use Rattle.std.proofs.Math.Path.{fun_ext}
 use Rattle.std.proofs.lemmas.List.Elements.{recursion_from_All}
 use Rattle.bz_grammar.specs.Spots.{Begins}
 use Rattle.bz_value.specs.Proper.{IsProperItem, IsProper}
+use Rattle.bz_value.specs.LineShapes.{whole_grammar}
 use Rattle.bz_value.specs.Empty.{is_empty}
 use Rattle.bz_load.specs.Fixes.{uses, is_used, is_commented, path_comments, has_own_comments, symbol_stays, with_used, is_emptied, used_alone, unused_loads, is_package_call, package_moved, move_package_to_top, fix}
 use Rattle.bz_load.proofs.ProperLoads.{used_statement, loads_stay_proper, load_none}
@@ -274,7 +275,7 @@ unused_twice used (item ∷ items) =
 
 load_uses : (text : Bytes) (item : Item) → is_load_item item ≡ true → IsProperItem item → uses text item ≡ false
 load_uses text (i.Block lines) is h = refl
-load_uses text (i.Stmt x) is h = load_none text Begins x is h.1
+load_uses text (i.Stmt x) is h = load_none whole_grammar text Begins x is h.1
 
 emptied_load : (used : Test) (item : Item) → is_emptied used item ≡ true → is_load_item item ≡ true
 emptied_load used (i.Block lines) h = h
@@ -293,7 +294,7 @@ other_stays used (i.Stmt x) h = ap i.Stmt (by_test (λ (y : Expr). y ≡ x) (has
 
 used_same : (text : Bytes) (used : Test) (item : Item) → IsProperItem item → uses text (used_alone used item) ≡ uses text item
 used_same text used item h = elim (cases_Bool (is_load_item item)) [
-  | inl is ↦ load_uses text (used_alone used item) (used_load used item ∙ is) (used_statement used item h) ∙ sym (load_uses text item is h)
+  | inl is ↦ load_uses text (used_alone used item) (used_load used item ∙ is) (used_statement whole_grammar used item h) ∙ sym (load_uses text item is h)
   | inr is ↦ ap (uses text) (other_stays used item is)
 ]
 
@@ -429,7 +430,7 @@ by_fixes true false items h one none = moved_again items one
 by_fixes false true items h one none = unused_again items h
 by_fixes true true items h one none =
     ap unused_loads (unused_moved items one none)
-    ∙ unused_again (move_package_to_top items) (loads_stay_proper.1 (record { move_package_to_top = true; unused_loads = false }) items h)
+    ∙ unused_again (move_package_to_top items) (loads_stay_proper.1 whole_grammar (record { move_package_to_top = true; unused_loads = false }) items h)
 
 pub fixed_again : FixedAgain
 fixed_again fixes = by_fixes fixes.move_package_to_top fixes.unused_loads

@@ -16,6 +16,7 @@ use Rattle.bz_value.specs.Comments.{HostComments, no_comments}
 use Rattle.bz_value.specs.Counted.{total, suffix_amount, host_amount, row_amount, item_amount, one_if}
 use Rattle.bz_items.specs.Characters.{Bytes}
 use Rattle.bz_value.specs.Proper.{comments_of, IsProperItem}
+use Rattle.bz_value.specs.LineShapes.{whole_grammar}
 use Rattle.bz_value.proofs.Totals.{append_total, form_amount}
 use Rattle.bz_value.specs.Empty.{is_empty, is_none}
 use Rattle.bz_command_syntax.specs.Quoted.{quoted_of}
@@ -126,12 +127,12 @@ module _ (number : Bytes → ℕ) where
       let ends = ap (total number) a.ends in
       omega arith
 
-  loaded_amount : (x : Expr) → IsItem s.loaded x → is_commented (comments_of x) ≡ false → whole number x ≡ 0
+  loaded_amount : (x : Expr) → IsItem whole_grammar s.loaded x → is_commented (comments_of x) ≡ false → whole number x ≡ 0
   loaded_amount (Token t) h e = host_none t.comments e
   loaded_amount (Form' kind m parts m' items end split open_break comments) h e =
-      let x : Expr = Form' kind m parts m' items end split open_break comments in alias_amount x (alias_parts x h.1 h.0.0) e
+      let x : Expr = Form' kind m parts m' items end split open_break comments in alias_amount x (alias_parts whole_grammar x h.1 h.0.0) e
 
-  kept_amount : (used : Bytes → Bool) (xs : List Expr) → AreOf s.loaded xs → total (whole number) (filter (symbol_stays used) xs) ≡ total (whole number) xs
+  kept_amount : (used : Bytes → Bool) (xs : List Expr) → AreOf whole_grammar s.loaded xs → total (whole number) (filter (symbol_stays used) xs) ≡ total (whole number) xs
   kept_amount used [] h = refl
   kept_amount used (x ∷ xs) h =
       let rest = kept_amount used xs h.1 in
@@ -146,7 +147,7 @@ module _ (number : Bytes → ℕ) where
   used_amount used (i.Stmt x) h =
       by_test (λ (y : Expr). whole number y ≡ whole number x) (has_own_comments x) x (on_items k.Load (kept used) x) refl
       (by_case (λ (y : Expr). whole number y ≡ whole number x) (has_kind k.Load x) (with_items (kept used (items_of x)) x) x
-      (λ is. let a = load_parts Begins x is h.1 in
+      (λ is. let a = load_parts whole_grammar Begins x is h.1 in
       items_same (kept used (items_of x)) x
       (ap (λ xs. total (whole number) (kept used xs)) a.items ∙ (ap (λ n. whole number a.path + n) (kept_amount used a.symbols a.loaded) ∙ ap (total (whole number)) (sym a.items))))
       (λ is. refl))
@@ -164,7 +165,7 @@ module _ (number : Bytes → ℕ) where
   emptied_amount used (i.Stmt x) h e =
       let p = and_parts (has_kind k.Load x && not (has_own_comments x)) (not (is_empty (after_path (items_of x))) && not (list_any (symbol_stays used) (after_path (items_of x)))) e in
       let q = and_parts (has_kind k.Load x) (not (has_own_comments x)) p.0 in
-      let a = load_parts Begins x q.0 h.1 in
+      let a = load_parts whole_grammar Begins x q.0 h.1 in
       let loose = or_parts (is_commented (comments_of x)) (not (is_empty (end_of x)) || path_comments (items_of x)) (not-true (has_own_comments x) q.1) in
       let ends = or_parts (not (is_empty (end_of x))) (path_comments (items_of x)) loose.1 in
       let gone = not-true (list_any (symbol_stays used) (after_path (items_of x))) (and_parts (not (is_empty (after_path (items_of x)))) _ p.1).1 in
@@ -211,7 +212,7 @@ module _ (number : Bytes → ℕ) where
   by_fixes true false items h = moved_same items
   by_fixes false true items h = unused_amount (is_used items) items h
   by_fixes true true items h =
-      unused_amount (is_used (move_package_to_top items)) (move_package_to_top items) (fix_keeps (record { move_package_to_top = true; unused_loads = false }) items h) ∙ moved_same items
+      unused_amount (is_used (move_package_to_top items)) (move_package_to_top items) (fix_keeps whole_grammar (record { move_package_to_top = true; unused_loads = false }) items h) ∙ moved_same items
 
 pub comments_stay : LoadsKeepComments
 comments_stay = (

@@ -1,6 +1,7 @@
 pub mod KnownSteps
 pub mod LawAgain
 pub mod LawComments
+pub mod Operands
 pub mod PathSteps
 pub mod PlaceSteps
 pub mod ProperLoads

@@ -1,22 +1,24 @@
 -- What new_load and fix make of proper items is proper, and what a proper load is made of.
-use Rattle.std.proofs.Common.{◌≡◌, Bool, true, false, not, List, [], ◌∷◌, ◌++◌, inr, refl, sym, subst, map, arith, true≢false, ◌||◌, ◌&&◌, take, drop, inl, ap, ◌∙◌, ℕ}
+use Rattle.std.proofs.Common.{◌≡◌, Bool, true, false, not, List, [], ◌∷◌, ◌++◌, inr, refl, sym, subst, map, arith, true≢false, ◌||◌, ◌&&◌, inl, ap, ◌∙◌, ℕ, length}
 use Rattle.std.specs.Prelude.{IsUtf8, IfSome, Option, Some, None, codes, bytes_eq, if◌then◌else◌}
 use Rattle.std.specs.List.{AllByRecursion, filter, list_any, find}
 use Rattle.std.specs.Option.{option_map_or}
 use Rattle.std.proofs.lemmas.Bool.{and_parts, eqb-true}
+use Rattle.std.proofs.Math.Bool.{and-false}
 use Rattle.std.proofs.lemmas.List.Elements.{All-nil, All-from_recursion, recursion_from_All}
 use Rattle.bz_token.specs.declared.class.Class.TheVariants as c
 use Rattle.bz_grammar.specs.declared.kind.Kind.TheVariants as k
 use Rattle.bz_grammar.specs.Shapes as s
 use Rattle.bz_grammar.specs.Spots.{Begins, Within, Spot}
-use Rattle.bz_value.specs.declared.value.Expr.{Expr, Token, Form', Row_of-Expr, end_of-Expr, more_of-Expr, items-the_row-Expr}
+use Rattle.bz_value.specs.declared.value.Expr.{Expr, Token, Form', items-the_row-Expr}
 use Rattle.bz_value.specs.declared.value.Item.{Item}
 use Rattle.bz_value.specs.declared.value.Item.TheVariants as i
 use Rattle.bz_value.specs.Comments.{no_comments}
 use Rattle.bz_items.specs.Characters.{Bytes}
-use Rattle.bz_value.specs.Proper.{IsComment, AreComments, IsProperItem, comments_of, ProperExpr}
+use Rattle.bz_value.specs.Proper.{IsComment, IsProperItemIn, comments_of, ProperExpr}
+use Rattle.bz_value.specs.LineShapes.{Grammar, value_shape}
 use Rattle.bz_value.specs.Roots as r
-use Rattle.bz_value.proofs.FormParts.{AreParts, form_proper}
+use Rattle.bz_value.proofs.FormParts.{ArePartsBy, form_proper_by}
 use Rattle.bz_command_syntax.specs.Proper.{IsSymbol, IsAttribute, EachIs, AreSome}
 use Rattle.bz_command_syntax.specs.Quoted.{quoted_of}
 use Rattle.bz_command_syntax.specs.declared.command.Symbol.{Symbol}
@@ -25,6 +27,7 @@ use Rattle.bz_command_syntax.proofs.NameTests.{identifiers_are_names}
 use Rattle.bz_rule.specs.Rules.{is_text}
 use Rattle.bz_rule.specs.Values.{has_kind, items_of, with_items, on_items, on_rest, parts_of}
 use Rattle.bz_rule.proofs.ProperChanges.{by_test, by_case}
+use Rattle.bz_rule.proofs.ProperRules.{statement_in_place}
 use Rattle.bz_rule.proofs.ProperForms.{InPlace, itself, AsForm, opened}
 use Rattle.bz_rule.proofs.ProperItems.{all_joined, all_kept, all_changed}
 use Rattle.bz_rule.proofs.ProperSequences.{IsItem, AreOf, items_again, each_item, load_in_place, items_apart}
@@ -34,49 +37,19 @@ use Rattle.bz_attribute.proofs.ProperTexts.{one_ascii}
 use Rattle.bz_attribute.proofs.ProperMade.{IsNew, none_there, new_part, row_proper, token_new, quoted_string}
 use Rattle.bz_load.specs.Loads.{path_in, is_load_from, is_loaded, leading_blocks, loads_end, after_loads}
 use Rattle.bz_load.specs.NewLoad.{and_symbol, new_symbols, symbol_made, load_made, with_symbols, new_load}
-use Rattle.bz_load.specs.Fixes.{is_used, has_own_comments, symbol_stays, with_used, is_emptied, used_alone, unused_loads, is_package_call, package_moved, move_package_to_top, fix, with_operands, has_operand, each_operand, end_of}
+use Rattle.bz_load.specs.Fixes.{is_used, has_own_comments, symbol_stays, with_used, is_emptied, used_alone, unused_loads, is_package_call, package_moved, move_package_to_top, fix, has_operand, end_of}
+use Rattle.bz_load.specs.private.Known.{operand_in}
+use Rattle.bz_load.proofs.Operands.{none_among, operands_answered}
 use Rattle.bz_load.specs.Laws.{LoadsStayProper}
 use Rattle.bz_load.proofs.PlaceSteps.{all_put}
-use Rattle.std.proofs.lemmas.List.{drop-map, take-map}
 use Rattle.bz_token.specs.declared.class.Class.{Class}
 use Rattle.bz_grammar.specs.declared.kind.Kind.{Kind}
 use Rattle.bz_grammar.specs.Shapes.{Terminal, has_token, is_one_of, is_class, is_kind}
 use Rattle.bz_grammar.proofs.Numbers.{same_kind}
-use Rattle.bz_value.specs.declared.value.Expr.TheVariants as e
-use Rattle.bz_value.specs.declared.value.Form.{Form}
 use Rattle.bz_attribute.proofs.FormsAgain.{both}
-use Rattle.bz_attribute.proofs.KeySets.{any_map}
-use Rattle.bz_attribute.proofs.MakingForms.{part_row, part_list, item_row, item_list}
 use Rattle.bz_value.specs.Roots.{root, mark_leaf}
 use Rattle.bz_value.proofs.LeadParts.{lead_before}
 use Rattle.bz_value.specs.Counted.{total, amount, host_amount}
-
-abbrev AreFine : List Item → Type 0
-AreFine items = AllByRecursion IsProperItem items
-
--- ---- a new symbol
-
-string_new : (word : Bytes) → IsUtf8 word → IsNew (token c.String (quoted_of word))
-string_new word u = let h = quoted_string word u in token_new c.String (quoted_of word) h.0 h.1
-
-alias_item : (to from : Bytes) → IsAttribute to → IsUtf8 from → IsItem s.loaded (node k.Alias (name to ∷ mark (codes "=") ∷ token c.String (quoted_of from) ∷ []))
-alias_item to from a u =
-    let sign : Expr = mark (codes "=") in
-    let right : Expr = token c.String (quoted_of from) in
-    let parts : AreParts false Within Within (name to ∷ sign ∷ right ∷ []) =
-    new_part false Within Within (name to) (sign ∷ right ∷ []) (token_new c.Name to ((identifiers_are_names to).0 a.0) a.1)
-    (new_part false Within Within sign (right ∷ []) (token_new c.Mark (codes "=") refl (one_ascii 61 (omega arith)))
-    (new_part false Within Within right [] (string_new from u) tt)) in
-    ((row_proper Within k.Alias (name to ∷ sign ∷ right ∷ []) refl (refl, (refl, (refl, tt))) parts, none_there, refl), refl)
-
-symbol_item : (symbol : Symbol) → IsSymbol symbol → IsItem s.loaded (symbol_made symbol)
-symbol_item symbol h =
-    by_test (IsItem s.loaded) (bytes_eq symbol.to symbol.from) (token c.String (quoted_of symbol.from)) (node k.Alias (name symbol.to ∷ mark (codes "=") ∷ token c.String (quoted_of symbol.from) ∷ []))
-    (((string_new symbol.from h.1.1).proper Within, none_there, refl), refl) (alias_item symbol.to symbol.from h.0 h.1.1)
-
-symbol_items : (symbols : List Symbol) → EachIs IsSymbol symbols → AreOf s.loaded (map symbol_made symbols)
-symbol_items [] h = tt
-symbol_items (symbol ∷ symbols) h = (symbol_item symbol h.0, symbol_items symbols h.1)
 
 chosen_symbols : (is_known : Symbol → Bool) (symbols : List Symbol) → EachIs IsSymbol symbols → EachIs IsSymbol (new_symbols is_known symbols)
 chosen_symbols is_known [] h = tt
@@ -84,131 +57,14 @@ chosen_symbols is_known (symbol ∷ symbols) h =
     by_test (EachIs IsSymbol) (is_known symbol) (new_symbols is_known symbols) (symbol ∷ new_symbols (and_symbol symbol is_known) symbols)
     (chosen_symbols is_known symbols h.1) (h.0, chosen_symbols (and_symbol symbol is_known) symbols h.1)
 
--- ---- a new load
-
 load_coded : IsUtf8 (codes "load")
 unfolding lib.Utf8.encode
 load_coded = (codes "load", (refl, refl))
-
-load_proper : (path : Bytes) (more : List Expr) → IsUtf8 path → AreOf s.loaded more → IsProperItem (load_made path more)
-load_proper path more u all =
-    let word = token_new c.Keyword (codes "load") refl load_coded in (
-      refl,
-      form_proper Begins (record { kind = k.Load; parts = token c.Keyword (codes "load") ∷ []; seq = record { items = token c.String (quoted_of path) ∷ more; end = []; split = false }; open_break = false; comments = no_comments })
-          (refl, (refl, (refl, inr (refl, items_again s.loaded s.close_round (r.mark_leaf 41) refl more all))))
-          ((word.proper Begins, (refl, refl), tt), ((string_new path u).proper Within, none_there, refl, each_item s.loaded s.close_round (r.mark_leaf 41) more all), All-nil IsComment, refl),
-      none_there,
-    )
-
--- ---- further symbols of a load
 
 -- where a path is first, what is put after all items is put after it
 after_the_path : (path : Bytes) (more xs : List Expr) → is_text path (path_in xs) ≡ true → on_rest (λ ys. ys ++ more) xs ≡ xs ++ more
 after_the_path path more [] h = absurd (true≢false (sym h))
 after_the_path path more (x ∷ xs) h = refl
-
-stays_statement : (x y : Expr) → InPlace x y → IsProperItem (i.Stmt x) → IsProperItem (i.Stmt y)
-stays_statement x y p w = (subst (λ b. b ≡ true) p.statement w.0, p.proper Begins w.1, subst AreComments p.comments w.2)
-
-more_symbols : (path : Bytes) (more : List Expr) → AreOf s.loaded more → (item : Item) → is_load_from path item ≡ true → IsProperItem item → IsProperItem (with_symbols more item)
-more_symbols path more h (i.Block lines) is w = w
-more_symbols path more h (i.Stmt x) is w =
-    let p = and_parts (has_kind k.Load x) (is_text path (path_in (items_of x))) is in
-    subst (λ (ys : List Expr). IsProperItem (i.Stmt (if has_kind k.Load x then with_items ys x else x))) (after_the_path path more (items_of x) p.1)
-    (stays_statement x (on_items k.Load (on_rest (λ ys. ys ++ more)) x) (load_in_place (λ ys. ys ++ more) (λ xs m. all_joined (IsItem s.loaded) xs more m h) x) w)
-
--- ---- places
-
-first_changed : (test : Item → Bool) (change : Item → Item) → ((item : Item) → test item ≡ true → IsProperItem item → IsProperItem (change item)) → (items : List Item) → AreFine items → AreFine (on_first_that test change items)
-first_changed test change f [] h = tt
-first_changed test change f (item ∷ items) h =
-    by_case AreFine (test item) (change item ∷ items) (item ∷ on_first_that test change items) (λ is. (f item is h.0, h.1)) (λ is. (h.0, first_changed test change f items h.1))
-
-pub new_load_keeps : (path : Bytes) (symbols : List Symbol) (items : List Item) → IsUtf8 path → AreSome IsSymbol symbols → AllByRecursion IsProperItem items → AllByRecursion IsProperItem (new_load path symbols items)
-new_load_keeps path symbols items u some h =
-    let chosen : List Symbol = new_symbols (is_loaded path items) symbols in
-    let more : List Expr = map symbol_made chosen in
-    let fine : AreOf s.loaded more = symbol_items chosen (chosen_symbols (is_loaded path items) symbols some.1) in
-    by_test AreFine (list_any (is_load_from path) items) (on_first_that (is_load_from path) (with_symbols more) items) (after_loads (load_made path more) items)
-    (first_changed (is_load_from path) (with_symbols more) (more_symbols path more fine) items h)
-    (all_put IsProperItem (loads_end (leading_blocks items) 0 items) (load_made path more) items (load_proper path more u fine) h)
-
--- ---- unused symbols
-
-pub used_statement : (used : Bytes → Bool) (item : Item) → IsProperItem item → IsProperItem (used_alone used item)
-used_statement used (i.Block lines) h = h
-used_statement used (i.Stmt x) h =
-    let change : List Expr → List Expr = filter (symbol_stays used) in
-    stays_statement x (with_used used x)
-    (by_test (InPlace x) (has_own_comments x) x (on_items k.Load (on_rest change) x) (itself x) (load_in_place change (λ xs m. all_kept (IsItem s.loaded) (symbol_stays used) xs m) x)) h
-
-unused_keeps : (items : List Item) → AreFine items → AreFine (unused_loads items)
-unused_keeps items h =
-    let used : Bytes → Bool = is_used items in
-    let rest : List Item = filter (λ item. not (is_emptied used item)) items in
-    all_changed IsProperItem (used_alone used) (used_statement used) rest (all_kept IsProperItem (λ item. not (is_emptied used item)) items h)
-
--- ---- the package
-
-first_fine : (test : Item → Bool) (items : List Item) → AreFine items → IfSome (find test items) IsProperItem
-first_fine test [] h = tt
-first_fine test (item ∷ items) h = by_test (λ (o : Option Item). IfSome o IsProperItem) (test item) (Some item) (find test items) h.0 (first_fine test items h.1)
-
-others_fine : (test : Item → Bool) (items : List Item) → AreFine items → AreFine (without_first test items)
-others_fine test [] h = tt
-others_fine test (item ∷ items) h = by_test AreFine (test item) items (item ∷ without_first test items) h.1 (h.0, others_fine test items h.1)
-
-package_placed : (items : List Item) → AreFine items → (found : Option Item) → IfSome found IsProperItem → AreFine (option_map_or (package_moved items) found items)
-package_placed items h None f = h
-package_placed items h (Some new) f =
-    let rest : List Item = without_first is_package_call items in
-    all_put IsProperItem (loads_end (leading_blocks items) 0 rest) new rest f (others_fine is_package_call items h)
-
-package_keeps : (items : List Item) → AreFine items → AreFine (move_package_to_top items)
-package_keeps items h = package_placed items h (find is_package_call items) (first_fine is_package_call items h)
-
-pub fix_keeps : (fixes : Fixes) (items : List Item) → AllByRecursion IsProperItem items → AllByRecursion IsProperItem (fix fixes items)
-fix_keeps fixes items h =
-    let moved : List Item = if fixes.move_package_to_top then move_package_to_top items else items in
-    let fine : AreFine moved = by_test AreFine fixes.move_package_to_top (move_package_to_top items) items (package_keeps items h) h in
-    by_test AreFine fixes.unused_loads (unused_loads moved) moved (unused_keeps moved fine) fine
-
-pub loads_stay_proper : LoadsStayProper
-loads_stay_proper = (
-  λ path symbols items u some h. All-from_recursion IsProperItem (new_load path symbols items) (new_load_keeps path symbols items u some (recursion_from_All IsProperItem items h)),
-  λ fixes items h. All-from_recursion IsProperItem (fix fixes items) (fix_keeps fixes items (recursion_from_All IsProperItem items h)),
-)
-
--- ---- the operands of a form, by its kind, its parts and its items
-
-abbrev operand_by : Bytes → Kind → List Expr → List Expr → Bool
-operand_by text kind ps xs = list_any (has_operand text) (with_operands kind ps) || list_any (has_operand text) xs
-
-each_answered : (text : Bytes) (n : _) (r : Row_of-Expr n) → each_operand text r ≡ map (has_operand text) (items-the_row-Expr n r)
-each_answered text n end_of-Expr = refl
-each_answered text n (more_of-Expr x rest) = ap (λ xs. has_operand text x ∷ xs) (each_answered text _ rest)
-
-chosen_map : {X Y : Type 0} (f : X → Y) (a b : Bool) (xs : List X) → (if a then drop 1 (map f xs) else (if b then take 1 (map f xs) else map f xs)) ≡ map f (if a then drop 1 xs else (if b then take 1 xs else xs))
-chosen_map f true b xs = drop-map f 1 xs
-chosen_map f false true xs = take-map f 1 xs
-chosen_map f false false xs = refl
-
-rows_answered : (text : Bytes) (kind : Kind) (n m : _) (ps : Row_of-Expr n) (xs : Row_of-Expr m)
-    → (list_any (λ b. b) (with_operands kind (each_operand text ps)) || list_any (λ b. b) (each_operand text xs)) ≡ operand_by text kind (items-the_row-Expr n ps) (items-the_row-Expr m xs)
-rows_answered text kind n m ps xs =
-    let parts : List Expr = items-the_row-Expr n ps in
-    let chosen : with_operands kind (each_operand text ps) ≡ map (has_operand text) (with_operands kind parts) =
-    ap (with_operands kind) (each_answered text n ps) ∙ chosen_map (has_operand text) (is_kind kind k.Named || is_kind kind k.Alias) (is_kind kind k.Dot) parts in
-    both (λ y z. y || z) (ap (list_any (λ b. b)) chosen ∙ any_map (λ b. b) (has_operand text) (with_operands kind parts))
-    (ap (list_any (λ b. b)) (each_answered text m xs) ∙ any_map (λ b. b) (has_operand text) (items-the_row-Expr m xs))
-
-pub form_operands : (f : Form) (text : Bytes) → has_operand text (e.Form f) ≡ operand_by text f.kind f.parts f.seq.items
-form_operands f text = rows_answered text f.kind _ _ (part_row (e.Form f)).1 (item_row (e.Form f)).1 ∙ both (operand_by text f.kind) (part_list f) (item_list f)
-
-operands_answered : (text : Bytes) (kind : Kind) (x : Expr) → has_kind kind x ≡ true → has_operand text x ≡ operand_by text kind (parts_of x) (items_of x)
-operands_answered text kind (Token t) h = absurd (true≢false (sym h))
-operands_answered text kind (Form' own s parts s' items end split open_break comments) h =
-    rows_answered text own _ _ parts items ∙ ap (λ (by : Kind). operand_by text by (items-the_row-Expr _ parts) (items-the_row-Expr _ items)) (same_kind own kind (eqb-true _ _ h))
 
 -- ---- a token, by the terminals that it is one of
 
@@ -218,97 +74,213 @@ module _ (text : Bytes) (terminals : List Terminal) (unnamed : (own : Bytes) →
   class_none c.Name own h = absurd (true≢false (sym h ∙ unnamed own))
   class_none _ own h = refl
 
-  token_none : (x : Expr) → has_token terminals (root x) ≡ true → has_operand text x ≡ false
-  token_none (Token t) h = class_none t.class t.text h
-  token_none (Form' kind s parts s' items end split open_break comments) h = absurd (true≢false (sym h))
+  token_none : (x : Expr) → has_token terminals (root x) ≡ true → (named : Bool) → has_operand named text x ≡ false
+  token_none (Token t) h named = ap (λ z. named && z) (class_none t.class t.text h) ∙ and-false named
+  token_none (Form' kind s parts s' items end split open_break comments) h named = absurd (true≢false (sym h))
+
+-- no token is one where names are none
+unnamed_none : (text : Bytes) (terminals : List Terminal) (x : Expr) → has_token terminals (root x) ≡ true → has_operand false text x ≡ false
+unnamed_none text terminals (Token t) h = refl
+unnamed_none text terminals (Form' kind s parts s' items end split open_break comments) h = absurd (true≢false (sym h))
 
 pub token_amount : (number : Bytes → ℕ) (terminals : List Terminal) (x : Expr) → has_token terminals (root x) ≡ true → amount number x ≡ host_amount number (comments_of x)
 token_amount number terminals (Token t) h = refl
 token_amount number terminals (Form' kind s parts s' items end split open_break comments) h = absurd (true≢false (sym h))
 
--- ---- an alias and a load
-
--- what is so of the lists of forms of a kind
-of_kind : (kind : Kind) (here : Spot) (P : List Expr → List Expr → List Bytes → Type 0) → ((ps xs : List Expr) (end : List Bytes) (split open_break : Bool) → AsForm here kind ps xs end split open_break → P ps xs end)
-    → (x : Expr) → has_kind kind x ≡ true → ProperExpr here x → P (parts_of x) (items_of x) (end_of x)
-of_kind kind here P f (Token t) is h = absurd (true≢false (sym is))
-of_kind kind here P f (Form' own s parts s' items end split open_break comments) is h =
-    let ps : List Expr = items-the_row-Expr _ parts in
-    let xs : List Expr = items-the_row-Expr _ items in
-    f ps xs end split open_break
-    (subst (λ (by : Kind). AsForm here by ps xs end split open_break) (same_kind own kind (eqb-true _ _ is)) (opened here (Form' own s parts s' items end split open_break comments) h))
-
 -- an alias uses no name, and has comments only of its own
 pub record IsAlias (ps xs : List Expr) (end : List Bytes) : Type 0 where
-  pub unused : (text : Bytes) → list_any (has_operand text) (drop 1 ps) ≡ false
+  pub unused : (text : Bytes) → operand_in k.Alias text ps ≡ false
   pub bare : (number : Bytes → ℕ) → total (amount number) ps ≡ 0
   pub items : xs ≡ []
   pub ends : end ≡ []
 
-alias_of : (ps xs : List Expr) (end : List Bytes) (split open_break : Bool) → AsForm Within k.Alias ps xs end split open_break → IsAlias ps xs end
-alias_of [] xs end split open_break h = absurd h.0
-alias_of (p ∷ []) xs end split open_break h = absurd h.0.1
-alias_of (p ∷ q ∷ []) xs end split open_break h = absurd h.0.1.1
-alias_of (p ∷ q ∷ r ∷ []) [] end split open_break h = record {
-  unused = λ text. both (λ y z. y || (z || false)) (token_none text s.equals (λ own. refl) q h.0.1.0) (token_none text s.string (λ own. refl) r h.0.1.1.0);
-  bare = λ number.
-      let left = token_amount number s.name p h.0.0 ∙ ap (host_amount number) h.1.0.1 in
-      let sign = token_amount number s.equals q h.0.1.0 ∙ ap (host_amount number) h.1.0.3.1 in
-      let right = token_amount number s.string r h.0.1.1.0 ∙ ap (host_amount number) h.1.0.3.3.1 in
-      omega arith;
-  items = refl;
-  ends = h.1.2;
-}
-alias_of (p ∷ q ∷ r ∷ []) (x ∷ xs) end split open_break h = absurd h.1.1
-alias_of (p ∷ q ∷ r ∷ t ∷ ps) xs end split open_break h = absurd h.0.1.1.1
+module _ (grammar : Grammar) where
+  abbrev AreFine : List Item → Type 0
+  AreFine items = AllByRecursion (IsProperItemIn grammar) items
 
-pub alias_parts : (x : Expr) → has_kind k.Alias x ≡ true → ProperExpr Within x → IsAlias (parts_of x) (items_of x) (end_of x)
-alias_parts = of_kind k.Alias Within IsAlias alias_of
+  -- ---- a new symbol
 
--- so does the word of a load, and after it are a path and symbols
-pub record IsLoad (ps xs : List Expr) : Type 0 where
-  pub unused : (text : Bytes) → list_any (has_operand text) ps ≡ false
-  pub bare : (number : Bytes → ℕ) → total (amount number) ps ≡ 0
-  pub path : Expr
-  pub symbols : List Expr
-  pub items : xs ≡ path ∷ symbols
-  pub at_path : has_token s.string (root path) ≡ true
-  pub loaded : AreOf s.loaded symbols
+  string_new : (word : Bytes) → IsUtf8 word → IsNew grammar (token c.String (quoted_of word))
+  string_new word u = let h = quoted_string word u in token_new grammar c.String (quoted_of word) h.0 h.1
 
-load_of : (here : Spot) (ps xs : List Expr) (end : List Bytes) (split open_break : Bool) → AsForm here k.Load ps xs end split open_break → IsLoad ps xs
-load_of here [] xs end split open_break h = let n = lead_before k.Load [] (map root xs) h.0 in absurd (omega arith)
-load_of here (p ∷ []) [] end split open_break h = absurd (true≢false (sym h.0.1.1.0))
-load_of here (p ∷ []) (x ∷ xs) end split open_break ((w, (o, (t, inl i))), g) = absurd (true≢false (sym i.0))
-load_of here (p ∷ []) (x ∷ xs) end split open_break ((w, (o, (t, inr i))), g) = record {
-  unused = λ text. ap (λ z. z || false) (token_none text (s.one_keyword (codes "load")) (λ own. refl) p w);
-  bare = λ number. let word = token_amount number (s.one_keyword (codes "load")) p w ∙ ap (host_amount number) g.0.1.0 in omega arith;
-  path = x;
-  symbols = xs;
-  items = refl;
-  at_path = t;
-  loaded = items_apart s.loaded s.close_round (mark_leaf 41) xs g.1.3 i.1;
-}
-load_of here (p ∷ q ∷ ps) xs end split open_break h = let n = lead_before k.Load (map root (p ∷ q ∷ ps)) (map root xs) h.0 in absurd (omega arith)
+  alias_item : (to from : Bytes) → IsAttribute to → IsUtf8 from → IsItem grammar s.loaded (node k.Alias (name to ∷ mark (codes "=") ∷ token c.String (quoted_of from) ∷ []))
+  alias_item to from a u =
+      let sign : Expr = mark (codes "=") in
+      let right : Expr = token c.String (quoted_of from) in
+      let parts : ArePartsBy (value_shape grammar) false Within Within (name to ∷ sign ∷ right ∷ []) =
+      new_part grammar false Within Within (name to) (sign ∷ right ∷ []) (token_new grammar c.Name to ((identifiers_are_names to).0 a.0) a.1)
+      (new_part grammar false Within Within sign (right ∷ []) (token_new grammar c.Mark (codes "=") refl (one_ascii 61 (omega arith)))
+      (new_part grammar false Within Within right [] (string_new from u) tt)) in
+      ((row_proper grammar Within k.Alias (name to ∷ sign ∷ right ∷ []) refl (refl, (refl, (refl, tt))) parts, none_there, refl), refl)
 
-pub load_parts : (here : Spot) (x : Expr) → has_kind k.Load x ≡ true → ProperExpr here x → IsLoad (parts_of x) (items_of x)
-load_parts here = of_kind k.Load here (λ ps xs end. IsLoad ps xs) (load_of here)
+  symbol_item : (symbol : Symbol) → IsSymbol symbol → IsItem grammar s.loaded (symbol_made symbol)
+  symbol_item symbol h =
+      by_test (IsItem grammar s.loaded) (bytes_eq symbol.to symbol.from) (token c.String (quoted_of symbol.from)) (node k.Alias (name symbol.to ∷ mark (codes "=") ∷ token c.String (quoted_of symbol.from) ∷ []))
+      (((string_new symbol.from h.1.1).proper Within, none_there, refl), refl) (alias_item symbol.to symbol.from h.0 h.1.1)
 
--- ---- a proper load uses no name
+  symbol_items : (symbols : List Symbol) → EachIs IsSymbol symbols → AreOf grammar s.loaded (map symbol_made symbols)
+  symbol_items [] h = tt
+  symbol_items (symbol ∷ symbols) h = (symbol_item symbol h.0, symbol_items symbols h.1)
 
-loaded_none : (text : Bytes) (x : Expr) → IsItem s.loaded x → has_operand text x ≡ false
-loaded_none text (Token t) h = class_none text s.string (λ own. refl) t.class t.text h.1
-loaded_none text (Form' kind s parts s' items end split open_break comments) h =
-    let x : Expr = Form' kind s parts s' items end split open_break comments in
-    let a = alias_parts x h.1 h.0.0 in
-    operands_answered text k.Alias x h.1 ∙ both (λ y xs. y || list_any (has_operand text) xs) (a.unused text) a.items
+  -- ---- a new load
 
-all_none : (text : Bytes) (xs : List Expr) → AreOf s.loaded xs → list_any (has_operand text) xs ≡ false
-all_none text [] h = refl
-all_none text (x ∷ xs) h = both (λ y z. y || z) (loaded_none text x h.0) (all_none text xs h.1)
+  load_proper : (path : Bytes) (more : List Expr) → IsUtf8 path → AreOf grammar s.loaded more → IsProperItemIn grammar (load_made path more)
+  load_proper path more u all =
+      let word = token_new grammar c.Keyword (codes "load") refl load_coded in (
+        refl,
+        form_proper_by (value_shape grammar) Begins (record { kind = k.Load; parts = token c.Keyword (codes "load") ∷ []; seq = record { items = token c.String (quoted_of path) ∷ more; end = []; split = false }; open_break = false; comments = no_comments })
+            (refl, (refl, (refl, inr (refl, items_again grammar s.loaded s.close_round (r.mark_leaf 41) refl more all))))
+            ((word.proper Begins, (refl, refl), tt), ((string_new path u).proper Within, none_there, refl, each_item grammar s.loaded s.close_round (r.mark_leaf 41) more all), All-nil IsComment, refl),
+        none_there,
+      )
 
-pub load_none : (text : Bytes) (here : Spot) (x : Expr) → has_kind k.Load x ≡ true → ProperExpr here x → has_operand text x ≡ false
-load_none text here x is h =
-    let a = load_parts here x is h in
-    operands_answered text k.Load x is
-    ∙ (both (λ y xs. y || list_any (has_operand text) xs) (a.unused text) a.items
-    ∙ both (λ y z. y || z) (token_none text s.string (λ own. refl) a.path a.at_path) (all_none text a.symbols a.loaded))
+  -- ---- further symbols of a load
+
+  more_symbols : (path : Bytes) (more : List Expr) → AreOf grammar s.loaded more → (item : Item) → is_load_from path item ≡ true → IsProperItemIn grammar item → IsProperItemIn grammar (with_symbols more item)
+  more_symbols path more h (i.Block lines) is w = w
+  more_symbols path more h (i.Stmt x) is w =
+      let p = and_parts (has_kind k.Load x) (is_text path (path_in (items_of x))) is in
+      subst (λ (ys : List Expr). IsProperItemIn grammar (i.Stmt (if has_kind k.Load x then with_items ys x else x))) (after_the_path path more (items_of x) p.1)
+      (statement_in_place grammar x (on_items k.Load (on_rest (λ ys. ys ++ more)) x) (load_in_place grammar (λ ys. ys ++ more) (λ xs m. all_joined (IsItem grammar s.loaded) xs more m h) x) w)
+
+  -- ---- places
+
+  first_changed : (test : Item → Bool) (change : Item → Item) → ((item : Item) → test item ≡ true → IsProperItemIn grammar item → IsProperItemIn grammar (change item)) → (items : List Item) → AreFine items → AreFine (on_first_that test change items)
+  first_changed test change f [] h = tt
+  first_changed test change f (item ∷ items) h =
+      by_case AreFine (test item) (change item ∷ items) (item ∷ on_first_that test change items) (λ is. (f item is h.0, h.1)) (λ is. (h.0, first_changed test change f items h.1))
+
+  pub new_load_keeps : (path : Bytes) (symbols : List Symbol) (items : List Item) → IsUtf8 path → AreSome IsSymbol symbols → AllByRecursion (IsProperItemIn grammar) items → AllByRecursion (IsProperItemIn grammar) (new_load path symbols items)
+  new_load_keeps path symbols items u some h =
+      let chosen : List Symbol = new_symbols (is_loaded path items) symbols in
+      let more : List Expr = map symbol_made chosen in
+      let fine : AreOf grammar s.loaded more = symbol_items chosen (chosen_symbols (is_loaded path items) symbols some.1) in
+      by_test AreFine (list_any (is_load_from path) items) (on_first_that (is_load_from path) (with_symbols more) items) (after_loads (load_made path more) items)
+      (first_changed (is_load_from path) (with_symbols more) (more_symbols path more fine) items h)
+      (all_put (IsProperItemIn grammar) (loads_end (leading_blocks items) 0 items) (load_made path more) items (load_proper path more u fine) h)
+
+  -- ---- unused symbols
+
+  pub used_statement : (used : Bytes → Bool) (item : Item) → IsProperItemIn grammar item → IsProperItemIn grammar (used_alone used item)
+  used_statement used (i.Block lines) h = h
+  used_statement used (i.Stmt x) h =
+      let change : List Expr → List Expr = filter (symbol_stays used) in
+      statement_in_place grammar x (with_used used x)
+      (by_test (InPlace grammar x) (has_own_comments x) x (on_items k.Load (on_rest change) x) (itself grammar x) (load_in_place grammar change (λ xs m. all_kept (IsItem grammar s.loaded) (symbol_stays used) xs m) x)) h
+
+  unused_keeps : (items : List Item) → AreFine items → AreFine (unused_loads items)
+  unused_keeps items h =
+      let used : Bytes → Bool = is_used items in
+      let rest : List Item = filter (λ item. not (is_emptied used item)) items in
+      all_changed (IsProperItemIn grammar) (used_alone used) (used_statement used) rest (all_kept (IsProperItemIn grammar) (λ item. not (is_emptied used item)) items h)
+
+  -- ---- the package
+
+  first_fine : (test : Item → Bool) (items : List Item) → AreFine items → IfSome (find test items) (IsProperItemIn grammar)
+  first_fine test [] h = tt
+  first_fine test (item ∷ items) h = by_test (λ (o : Option Item). IfSome o (IsProperItemIn grammar)) (test item) (Some item) (find test items) h.0 (first_fine test items h.1)
+
+  others_fine : (test : Item → Bool) (items : List Item) → AreFine items → AreFine (without_first test items)
+  others_fine test [] h = tt
+  others_fine test (item ∷ items) h = by_test AreFine (test item) items (item ∷ without_first test items) h.1 (h.0, others_fine test items h.1)
+
+  package_placed : (items : List Item) → AreFine items → (found : Option Item) → IfSome found (IsProperItemIn grammar) → AreFine (option_map_or (package_moved items) found items)
+  package_placed items h None f = h
+  package_placed items h (Some new) f =
+      let rest : List Item = without_first is_package_call items in
+      all_put (IsProperItemIn grammar) (loads_end (leading_blocks items) 0 rest) new rest f (others_fine is_package_call items h)
+
+  package_keeps : (items : List Item) → AreFine items → AreFine (move_package_to_top items)
+  package_keeps items h = package_placed items h (find is_package_call items) (first_fine is_package_call items h)
+
+  pub fix_keeps : (fixes : Fixes) (items : List Item) → AllByRecursion (IsProperItemIn grammar) items → AllByRecursion (IsProperItemIn grammar) (fix fixes items)
+  fix_keeps fixes items h =
+      let moved : List Item = if fixes.move_package_to_top then move_package_to_top items else items in
+      let fine : AreFine moved = by_test AreFine fixes.move_package_to_top (move_package_to_top items) items (package_keeps items h) h in
+      by_test AreFine fixes.unused_loads (unused_loads moved) moved (unused_keeps moved fine) fine
+
+  -- ---- an alias and a load
+
+  -- what is so of the lists of forms of a kind
+  of_kind : (kind : Kind) (here : Spot) (P : List Expr → List Expr → List Bytes → Type 0) → ((ps xs : List Expr) (end : List Bytes) (split open_break : Bool) → AsForm grammar here kind ps xs end split open_break → P ps xs end)
+      → (x : Expr) → has_kind kind x ≡ true → ProperExpr grammar here x → P (parts_of x) (items_of x) (end_of x)
+  of_kind kind here P f (Token t) is h = absurd (true≢false (sym is))
+  of_kind kind here P f (Form' own s parts s' items end split open_break comments) is h =
+      let ps : List Expr = items-the_row-Expr _ parts in
+      let xs : List Expr = items-the_row-Expr _ items in
+      f ps xs end split open_break
+      (subst (λ (by : Kind). AsForm grammar here by ps xs end split open_break) (same_kind own kind (eqb-true _ _ is)) (opened grammar here (Form' own s parts s' items end split open_break comments) h))
+
+  alias_of : (ps xs : List Expr) (end : List Bytes) (split open_break : Bool) → AsForm grammar Within k.Alias ps xs end split open_break → IsAlias ps xs end
+  alias_of [] xs end split open_break h = absurd h.0
+  alias_of (p ∷ []) xs end split open_break h = absurd h.0.1
+  alias_of (p ∷ q ∷ []) xs end split open_break h = absurd h.0.1.1
+  alias_of (p ∷ q ∷ r ∷ []) [] end split open_break h = record {
+    unused = λ text. both (λ y z. y || z) (unnamed_none text s.name p h.0.0) (both (λ y z. y || (z || false)) (unnamed_none text s.equals q h.0.1.0) (token_none text s.string (λ own. refl) r h.0.1.1.0 true));
+    bare = λ number.
+        let left = token_amount number s.name p h.0.0 ∙ ap (host_amount number) h.1.0.1 in
+        let sign = token_amount number s.equals q h.0.1.0 ∙ ap (host_amount number) h.1.0.3.1 in
+        let right = token_amount number s.string r h.0.1.1.0 ∙ ap (host_amount number) h.1.0.3.3.1 in
+        omega arith;
+    items = refl;
+    ends = h.1.2;
+  }
+  alias_of (p ∷ q ∷ r ∷ []) (x ∷ xs) end split open_break h = absurd h.1.1
+  alias_of (p ∷ q ∷ r ∷ t ∷ ps) xs end split open_break h = absurd h.0.1.1.1
+
+  pub alias_parts : (x : Expr) → has_kind k.Alias x ≡ true → ProperExpr grammar Within x → IsAlias (parts_of x) (items_of x) (end_of x)
+  alias_parts = of_kind k.Alias Within IsAlias alias_of
+
+  -- so does the word of a load, and after it are a path and symbols
+  pub record IsLoad (ps xs : List Expr) : Type 0 where
+    pub unused : (text : Bytes) → operand_in k.Load text ps ≡ false
+    pub bare : (number : Bytes → ℕ) → total (amount number) ps ≡ 0
+    pub path : Expr
+    pub symbols : List Expr
+    pub items : xs ≡ path ∷ symbols
+    pub at_path : has_token s.string (root path) ≡ true
+    pub loaded : AreOf grammar s.loaded symbols
+
+  load_of : (here : Spot) (ps xs : List Expr) (end : List Bytes) (split open_break : Bool) → AsForm grammar here k.Load ps xs end split open_break → IsLoad ps xs
+  load_of here [] xs end split open_break h = let n = lead_before k.Load [] (map root xs) h.0 in absurd (omega arith)
+  load_of here (p ∷ []) [] end split open_break h = absurd (true≢false (sym h.0.1.1.0))
+  load_of here (p ∷ []) (x ∷ xs) end split open_break ((w, (o, (t, inl i))), g) = absurd (true≢false (sym i.0))
+  load_of here (p ∷ []) (x ∷ xs) end split open_break ((w, (o, (t, inr i))), g) = record {
+    unused = λ text. ap (λ z. z || false) (token_none text (s.one_keyword (codes "load")) (λ own. refl) p w true);
+    bare = λ number. let word = token_amount number (s.one_keyword (codes "load")) p w ∙ ap (host_amount number) g.0.1.0 in omega arith;
+    path = x;
+    symbols = xs;
+    items = refl;
+    at_path = t;
+    loaded = items_apart grammar s.loaded s.close_round (mark_leaf 41) xs g.1.3 i.1;
+  }
+  load_of here (p ∷ q ∷ ps) xs end split open_break h = let n = lead_before k.Load (map root (p ∷ q ∷ ps)) (map root xs) h.0 in absurd (omega arith)
+
+  pub load_parts : (here : Spot) (x : Expr) → has_kind k.Load x ≡ true → ProperExpr grammar here x → IsLoad (parts_of x) (items_of x)
+  load_parts here = of_kind k.Load here (λ ps xs end. IsLoad ps xs) (load_of here)
+
+  -- ---- a proper load uses no name
+
+  loaded_none : (text : Bytes) (x : Expr) → IsItem grammar s.loaded x → (named : Bool) → has_operand named text x ≡ false
+  loaded_none text (Token t) h named = token_none text s.string (λ own. refl) (Token t) h.1 named
+  loaded_none text (Form' kind s parts s' items end split open_break comments) h named =
+      let x : Expr = Form' kind s parts s' items end split open_break comments in
+      let a = alias_parts x h.1 h.0.0 in
+      operands_answered named text k.Alias x h.1 ∙ both (λ y xs. y || operand_in k.Alias text xs) (a.unused text) a.items
+
+  all_none : (text : Bytes) (xs : List Expr) → AreOf grammar s.loaded xs → AllByRecursion (λ x. (named : Bool) → has_operand named text x ≡ false) xs
+  all_none text [] h = tt
+  all_none text (x ∷ xs) h = (loaded_none text x h.0, all_none text xs h.1)
+
+  pub load_none : (text : Bytes) (here : Spot) (x : Expr) → has_kind k.Load x ≡ true → ProperExpr grammar here x → has_operand true text x ≡ false
+  load_none text here x is h =
+      let a = load_parts here x is h in
+      operands_answered true text k.Load x is
+      ∙ (both (λ y xs. y || operand_in k.Load text xs) (a.unused text) a.items
+      ∙ none_among k.Load (length (a.path ∷ a.symbols)) 0 text (a.path ∷ a.symbols) (token_none text s.string (λ own. refl) a.path a.at_path, all_none text a.symbols a.loaded))
+
+pub loads_stay_proper : LoadsStayProper
+loads_stay_proper = (
+  λ grammar path symbols items u some h. All-from_recursion (IsProperItemIn grammar) (new_load path symbols items) (new_load_keeps grammar path symbols items u some (recursion_from_All (IsProperItemIn grammar) items h)),
+  λ grammar fixes items h. All-from_recursion (IsProperItemIn grammar) (fix fixes items) (fix_keeps grammar fixes items (recursion_from_All (IsProperItemIn grammar) items h)),
+)

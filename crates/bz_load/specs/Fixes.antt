@@ -1,11 +1,11 @@
 -- The names that a file uses, and what `fix` makes of its items.
-use Rattle.std.specs.Prelude.{Bool, ◌||◌, List, [], ◌∷◌, map, take, drop, bytes_eq, if◌then◌else◌, false, not, ◌&&◌, codes}
+use Rattle.std.specs.Prelude.{ℕ, ◌+◌, Bool, ◌||◌, List, [], ◌∷◌, map, length, bytes_eq, if◌then◌else◌, false, true, not, ◌&&◌, codes, nat_eq, nat_lt}
 use Rattle.std.specs.List.{list_any, filter, find, insert}
 use Rattle.bz_token.specs.declared.class.Class.TheVariants as c
 use Rattle.bz_grammar.specs.declared.kind.Kind.{Kind}
 use Rattle.bz_grammar.specs.declared.kind.Kind.TheVariants as k
 use Rattle.bz_grammar.specs.Shapes.{is_class, is_kind}
-use Rattle.bz_value.specs.declared.value.Expr.{Expr, Form', Row_of-Expr, end_of-Expr, more_of-Expr}
+use Rattle.bz_value.specs.declared.value.Expr.{Expr, Form', Row_of-Expr, end_of-Expr, more_of-Expr, items-the_row-Expr}
 use Rattle.bz_value.specs.declared.value.Expr.TheVariants as e
 use Rattle.bz_value.specs.declared.value.Item.{Item}
 use Rattle.bz_value.specs.declared.value.Item.TheVariants as i
@@ -21,24 +21,28 @@ use Rattle.bz_rule.specs.QuoteMarks.{local_name}
 use Rattle.bz_attribute.specs.Attributes.{without_first}
 use Rattle.bz_load.specs.Loads.{after_path, leading_blocks, loads_end}
 
--- The parts of a node that hold operands: not the name of an argument or of an alias, and none after a dot.
-abbrev pub with_operands : {X : Type 0} → Kind → List X → List X
-with_operands kind xs = if is_kind kind k.Named || is_kind kind k.Alias then drop 1 xs else (if is_kind kind k.Dot then take 1 xs else xs)
+-- Whether a name that is itself a part of a node is an operand, by its place among the parts: the value of an argument, an alias or
+-- a parameter, what is before a dot, and the value of a lambda; nothing of what names a function and its parameters.
+abbrev pub is_operand_at : Kind → ℕ → ℕ → Bool
+is_operand_at kind count at =
+    if is_kind kind k.Named || (is_kind kind k.Alias || is_kind kind k.Param) then nat_lt 1 at
+    else (if is_kind kind k.Dot then nat_eq at 0 else (if is_kind kind k.Lambda then nat_eq (at + 1) count else not (is_kind kind k.Def)))
 
--- whether a text is a name that is an operand
+-- whether a text is a name that is an operand, in a suite too; an expression that is itself a name is one where names are
 abbrev mutual
-  pub has_operand : Bytes → Expr → Bool
-  has_operand text (e.Token t) = is_class t.class c.Name && bytes_eq text t.text
-  has_operand text (Form' kind s parts s' items end split open_break comments) =
-      list_any (λ b. b) (with_operands kind (each_operand text parts)) || list_any (λ b. b) (each_operand text items)
+  pub has_operand : Bool → Bytes → Expr → Bool
+  has_operand named text (e.Token t) = named && (is_class t.class c.Name && bytes_eq text t.text)
+  has_operand named text (Form' kind s parts s' items end split open_break comments) =
+      operand_from (is_operand_at kind (length (items-the_row-Expr _ parts))) 0 text parts || operand_from (is_operand_at kind (length (items-the_row-Expr _ items))) 0 text items
 
-  pub each_operand : {m : _} → Bytes → Row_of-Expr m → List Bool
-  each_operand text end_of-Expr = []
-  each_operand text (more_of-Expr x rest) = has_operand text x ∷ each_operand text rest
+  -- of the parts of a row, from this place on
+  pub operand_from : (ℕ → Bool) → ℕ → {m : _} → Bytes → Row_of-Expr m → Bool
+  operand_from named at text end_of-Expr = false
+  operand_from named at text (more_of-Expr x rest) = has_operand (named at) text x || operand_from named (at + 1) text rest
 
 abbrev pub uses : Bytes → Item → Bool
 uses text (i.Block lines) = false
-uses text (i.Stmt x) = has_operand text x
+uses text (i.Stmt x) = has_operand true text x
 
 abbrev pub is_used : List Item → Bytes → Bool
 is_used items text = list_any (uses text) items

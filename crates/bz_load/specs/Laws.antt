@@ -4,7 +4,8 @@ use Rattle.std.specs.List.{list_any, list_all}
 use Rattle.bz_value.specs.declared.value.Item.{Item}
 use Rattle.bz_value.specs.Counted.{times}
 use Rattle.bz_items.specs.Characters.{Bytes}
-use Rattle.bz_value.specs.Proper.{IsProper}
+use Rattle.bz_value.specs.Proper.{IsProper, IsProperIn}
+use Rattle.bz_value.specs.LineShapes.{Grammar}
 use Rattle.bz_command_syntax.specs.Proper.{IsSymbol, AreSome}
 use Rattle.bz_command_syntax.specs.Quoted.{is_escaped}
 use Rattle.bz_command_syntax.specs.declared.command.Symbol.{Symbol}
@@ -13,11 +14,11 @@ use Rattle.bz_attribute.specs.Attributes.{without_first}
 use Rattle.bz_load.specs.NewLoad.{new_load}
 use Rattle.bz_load.specs.Fixes.{is_used, is_emptied, unused_loads, is_package_call, move_package_to_top, fix}
 
--- What new_load makes of proper items by words that were read is proper, and what fix makes of them too.
+-- What new_load makes of proper items by words that were read is proper, and what fix makes of them too: in a BUILD file as in any.
 abbrev pub LoadsStayProper : Type 0
 LoadsStayProper =
-    ((path : Bytes) (symbols : List Symbol) (items : List Item) → IsUtf8 path → AreSome IsSymbol symbols → IsProper items → IsProper (new_load path symbols items))
-    × ((fixes : Fixes) (items : List Item) → IsProper items → IsProper (fix fixes items))
+    ((grammar : Grammar) (path : Bytes) (symbols : List Symbol) (items : List Item) → IsUtf8 path → AreSome IsSymbol symbols → IsProperIn grammar items → IsProperIn grammar (new_load path symbols items))
+    × ((grammar : Grammar) (fixes : Fixes) (items : List Item) → IsProperIn grammar items → IsProperIn grammar (fix fixes items))
 
 -- ---- once more
 

@@ -26,6 +26,10 @@ call kind = i.Stmt (node k.Bare (sequence k.Call (name kind ∷ []) [] ∷ []))
 abbrev noted : Bytes → Expr
 noted text = e.Token (record { class = c.String; text = text; line_break = false; comments = record { before = []; suffix = Some (codes "# c") } })
 
+-- a function, and a statement in it
+abbrev function : Bytes → List Expr → Expr → Item
+function own parameters statement = i.Stmt (sequence k.Suite (sequence k.Def (token c.Keyword (codes "def") ∷ name own ∷ []) parameters ∷ []) (statement ∷ []))
+
 abbrev both : Fixes
 both = record { move_package_to_top = true; unused_loads = true }
 
@@ -39,6 +43,9 @@ WorkedLoads =
     let made : Item = load (path ∷ a ∷ alias ∷ []) in
     let one : Item = load (path ∷ a ∷ []) in
     let other : Item = load (plain (codes "\"b.bzl\"") ∷ b ∷ []) in
+    let two : Item = load (path ∷ a ∷ b ∷ []) in
+    let pass : Expr = node k.Flow (token c.Keyword (codes "pass") ∷ []) in
+    let returned : Expr = node k.Return (token c.Keyword (codes "return") ∷ node k.Lambda (token c.Keyword (codes "lambda") ∷ name (codes "b") ∷ mark (codes ":") ∷ name (codes "a") ∷ []) ∷ []) in
     let block : Item = i.Block (codes "# b" ∷ []) in
     let rule : Item = call (codes "a") in
     let settings : Item = call (codes "package") in
@@ -47,6 +54,9 @@ WorkedLoads =
     × (new_load (codes "a.bzl") asked (block ∷ other ∷ rule ∷ other ∷ rule ∷ []) ≡ block ∷ other ∷ rule ∷ other ∷ made ∷ rule ∷ [])
     -- a symbol that is used or has a comment stays, a load that loses its last symbol goes
     × (unused_loads (load (path ∷ a ∷ b ∷ noted (codes "\"c\"") ∷ alias ∷ []) ∷ other ∷ rule ∷ []) ≡ load (path ∷ a ∷ noted (codes "\"c\"") ∷ []) ∷ rule ∷ [])
+    -- A default value is a use, and what is in a suite and the value of a lambda; the names of functions and parameters are none.
+    × (unused_loads (two ∷ function (codes "b") (name (codes "b") ∷ node k.Param (name (codes "b") ∷ mark (codes "=") ∷ name (codes "a") ∷ []) ∷ []) pass ∷ []) ≡ one ∷ function (codes "b") (name (codes "b") ∷ node k.Param (name (codes "b") ∷ mark (codes "=") ∷ name (codes "a") ∷ []) ∷ []) pass ∷ [])
+    × (unused_loads (two ∷ function (codes "f") [] returned ∷ []) ≡ one ∷ function (codes "f") [] returned ∷ [])
     × (move_package_to_top (settings ∷ one ∷ rule ∷ other ∷ rule ∷ []) ≡ one ∷ rule ∷ other ∷ settings ∷ rule ∷ [])
     -- The package goes after the last load, which goes; the next time it goes after the load that is the last one then.
     × (fix both (one ∷ rule ∷ other ∷ settings ∷ []) ≡ one ∷ rule ∷ settings ∷ [])

@@ -1,13 +1,13 @@
 //! A file mended: the package goes after the loads, and symbols that nothing uses are loaded no more.
-ghost use Rattle.std.specs.Prelude.{◌≡◌, ◌||◌, IfOk, OnOk, if◌then◌else◌, not};
+ghost use Rattle.std.specs.Prelude.{◌≡◌, ◌<◌, ◌||◌, IfOk, OnOk, if◌then◌else◌, not};
 ghost use Rattle.std.specs.List.{filter, list_any, position};
 ghost use Rattle.bz_grammar.specs.declared.kind.Kind.TheVariants as k;
 ghost use Rattle.bz_rule.specs.Values.{on_items, on_rest};
 ghost use Rattle.bz_value.specs.Empty.{is_empty};
 ghost use Rattle.bz_value.specs.Proper.{comments_of};
 ghost use Rattle.bz_items.specs.Characters.{Bytes};
-ghost use Rattle.bz_load.specs.Fixes.{end_of, fix, has_own_comments, is_commented, is_emptied, is_package_call, is_used, move_package_to_top, has_operand, path_comments, symbol_stays, unused_loads, used_alone, with_operands};
-ghost use Rattle.bz_load.specs.private.Known.{knows_name};
+ghost use Rattle.bz_load.specs.Fixes.{end_of, fix, has_own_comments, is_commented, is_emptied, is_package_call, is_used, move_package_to_top, has_operand, is_operand_at, path_comments, symbol_stays, unused_loads, used_alone};
+ghost use Rattle.bz_load.specs.private.Known.{knows_name, operand_in};
 
 use crate::readings::{count_of_blocks, place_after_loads};
 use bz_attribute::{has_kind, has_text, insert_text, items_of};
@@ -49,45 +49,51 @@ fn move_package(wanted: bool, items: &mut Vec<Item>) -> Result<(), Memory>
 /// Names, each once.
 type Names = BTreeSet<Vec<u8>>;
 
-/// The parts of a node that hold operands: not the name of an argument or of an alias, and none after a dot.
-fn operands_in(kind: Kind, parts: &[Expr]) -> &[Expr]
-    ensures { result.now ≡ with_operands kind parts.now }
+/// Whether a name that is itself a part of a node is an operand, by its place among the parts: the value of an argument, an alias
+/// or a parameter, what is before a dot, and the value of a lambda; nothing of what names a function and its parameters.
+fn is_operand_at(kind: Kind, count: usize, at: usize) -> bool
+    requires { at < count }
+    ensures { result ≡ is_operand_at kind count at }
 {
-    match (kind, parts) {
-        (Kind::Named | Kind::Alias, [_, operands @ ..]) => operands,
-        (Kind::Dot, [_, ..]) => &parts[..1],
-        _ => parts,
+    match kind {
+        Kind::Named | Kind::Alias | Kind::Param => at > 1,
+        Kind::Dot => at == 0,
+        Kind::Lambda => at + 1 == count,
+        Kind::Def => false,
+        _ => true,
     }
 }
 
-/// The names that are operands in an expression are used from now on. The error: memory was refused.
+/// The names that are operands in an expression are used from now on, in suites too; where it is itself a name, only if that is
+/// an operand there. The error: memory was refused.
 #[cycle(uses)]
-#[tactic(auto, using(crate::proofs::ProperLoads::form_operands))]
-fn insert_operands(alloc: Global, x: &Expr, names: &mut Names) -> Result<(), Memory>
-    ensures { (text : Bytes) → OnOk result (knows_name names.new text ≡ (has_operand text x.now || knows_name names.old text)) }
+#[tactic(auto, using(crate::proofs::Operands::form_inserted))]
+fn insert_operands(alloc: Global, named: bool, x: &Expr, names: &mut Names) -> Result<(), Memory>
+    ensures { (text : Bytes) → OnOk result (knows_name names.new text ≡ (has_operand named text x.now || knows_name names.old text)) }
 {
     match x {
         Expr::Token(token) => {
-            if token.class == Class::Name {
+            if named && token.class == Class::Name {
                 insert_text(alloc, names, token.text.as_slice())?;
             }
             Ok(())
         }
         Expr::Form(form) => {
-            let operands = operands_in(form.kind, form.parts.as_slice());
-            insert_each(alloc, operands, names)?;
-            insert_each(alloc, form.seq.items.as_slice(), names)?;
+            insert_each(alloc, form.kind, form.parts.as_slice(), names)?;
+            insert_each(alloc, form.kind, form.seq.items.as_slice(), names)?;
             Ok(())
         }
     }
 }
 
+/// The same of the parts, or of the items, of a form of this kind.
 #[cycle(uses)]
-fn insert_each(alloc: Global, exprs: &[Expr], names: &mut Names) -> Result<(), Memory>
-    ensures { (text : Bytes) → OnOk result (knows_name names.new text ≡ (list_any (has_operand text) exprs.now || knows_name names.old text)) }
+fn insert_each(alloc: Global, kind: Kind, exprs: &[Expr], names: &mut Names) -> Result<(), Memory>
+    ensures { (text : Bytes) → OnOk result (knows_name names.new text ≡ (operand_in kind text exprs.now || knows_name names.old text)) }
 {
-    for x in exprs {
-        insert_operands(alloc, x, names)?;
+    for at in 0..exprs.len() {
+        let named = is_operand_at(kind, exprs.len(), at);
+        insert_operands(alloc, named, &exprs[at], names)?;
     }
     Ok(())
 }
@@ -99,7 +105,7 @@ fn used_names(alloc: Global, items: &[Item]) -> Result<Names, Memory>
     let mut names = BTreeSet::new(alloc);
     for item in items {
         if let Item::Stmt(x) = item {
-            insert_operands(alloc, x, &mut names)?;
+            insert_operands(alloc, true, x, &mut names)?;
         }
     }
     Ok(names)

@@ -14,10 +14,10 @@ use Rattle.bz_value.specs.declared.value.Item.TheVariants as i
 use Rattle.bz_value.specs.Counted.{total, suffix_amount, host_amount, amount, item_amount, one_if, times}
 use Rattle.bz_value.specs.Frames.{frame}
 use Rattle.bz_items.specs.Characters.{Bytes}
-use Rattle.bz_layout.specs.Flags.{settled_split, with_flags, each_with_flags, item_with_flags}
+use Rattle.bz_layout.specs.Flags.{settled_split, with_flags, each_with_flags, item_with_flags, flags}
 use Rattle.bz_rule.proofs.ProperChanges.{by_case, by_test}
 use Rattle.bz_rule.specs.Values.{has_kind, has_class, text_of, parts_of, with_text, above, on_items, on_row, on_first, on_third, on_rest, first_text, on_lists, with_above}
-use Rattle.bz_passes.specs.Passes.{on_statement, taken, on_taken, rule_kind, of_rule, on_call, on_rule_arguments, on_attribute, on_strings, each_on_strings, on_string, on_label_value, on_labels, on_list_value, on_assigned, on_list_values, quotes_in, labels_in, lists_in, argument_precedes, arguments_in, symbol_precedes, symbols_in, load_precedes, loads, tidied, leave_alone, shorter_string, with_double}
+use Rattle.bz_passes.specs.Passes.{on_statement, taken, on_taken, rule_kind, of_rule, on_call, on_rule_arguments, on_attribute, on_strings, each_on_strings, on_string, on_label_value, on_labels, on_list_value, on_assigned, on_list_values, quotes_in, labels_in, lists_in, argument_precedes, arguments_in, symbol_precedes, symbols_in, load_precedes, loads, passed, leave_alone, shorter_string, with_double}
 use Rattle.bz_passes.proofs.Parts.{in_form, Place, the_parts, the_items, made, own_parts}
 use Rattle.bz_passes.proofs.Keeping.{both, third_is}
 use Rattle.bz_passes.proofs.Places.{within}
@@ -108,7 +108,7 @@ module _ (whole : Expr → ℕ) (weighs : Weighs whole) where
     row_strings_same change m (more_of-Expr x rest) = both (λ a b. a + b) (strings_same change x) (row_strings_same change _ rest)
 
   mutual
-    pub flags_same : Same whole with_flags
+    flags_same : Same whole with_flags
     flags_same (Token t) = refl
     flags_same (Form' kind s parts s' items end split open_break comments) =
         weighs.form (made kind (items-the_row-Expr _ parts) (items-the_row-Expr _ items) end split open_break comments) (each_with_flags parts) (each_with_flags items)
@@ -167,6 +167,27 @@ module _ (whole : Expr → ℕ) (weighs : Weighs whole) where
 
     pub taken_total : (g : Expr → Expr) → Same whole g → SameTotal of_item (on_taken g)
     taken_total g h = map_total of_item (on_statement (taken g)) (statement_same g h)
+
+    item_flags : Same of_item item_with_flags
+    item_flags (i.Block lines) = refl
+    item_flags (i.Stmt x) = own (with_flags x) ∙ (flags_same x ∙ sym (own x))
+
+    pub flags_total : SameTotal of_item flags
+    flags_total = map_total of_item item_with_flags item_flags
+
+    pub passed_total : ((outside : List Bytes) (by_table : Bool) → SameTotal whole (settled_list outside by_table)) → SameTotal of_item passed
+    passed_total lists items =
+        let quoted : List Item = on_taken quotes_in items in
+        let labelled : List Item = on_taken labels_in quoted in
+        let listed : List Item = on_taken lists_in labelled in
+        let arranged : List Item = on_taken arguments_in listed in
+        let named : List Item = on_taken symbols_in arranged in
+        flags_total (loads named)
+        ∙ (sort_total load_precedes of_item named
+        ∙ (taken_total symbols_in (symbols_same (sort_by symbol_precedes) (sort_total symbol_precedes whole)) arranged
+        ∙ (taken_total arguments_in (rule_same (λ kind. sort_by argument_precedes) (λ kind. sort_total argument_precedes whole)) listed
+        ∙ (taken_total lists_in (list_values_same settled_list lists) labelled
+        ∙ (taken_total labels_in (labels_same shorter_string) quoted ∙ taken_total quotes_in (strings_same with_double) items)))))
 
 module _ (number : Bytes → ℕ) where
   abbrev whole : Expr → ℕ
@@ -249,28 +270,10 @@ module _ (number : Bytes → ℕ) where
   list_total outside b xs =
       by_case (λ ys. total whole ys ≡ total whole xs) (is_taken outside b xs) (sorted xs) xs (λ t. sorted_total xs (taken_texts outside b xs t)) (λ f. refl)
 
-  -- ---- the file
+-- ---- comments
 
-  each_taken : (g : Expr → Expr) → Same whole g → SameTotal (item_amount number) (on_taken g)
-  each_taken = taken_total whole weighs (item_amount number) (λ x. refl)
+pub passed_comments : (text : Bytes) (items : List Item) → times text (passed items) ≡ times text items
+passed_comments text = passed_total (amount (one_if text)) (weighs (one_if text)) (item_amount (one_if text)) (λ x. refl) (list_total (one_if text))
 
-  item_flags : Same (item_amount number) item_with_flags
-  item_flags (i.Block lines) = refl
-  item_flags (i.Stmt x) = flags_same whole weighs x
-
-  pub tidied_total : SameTotal (item_amount number) tidied
-  tidied_total items =
-      let quoted : List Item = on_taken quotes_in items in
-      let labelled : List Item = on_taken labels_in quoted in
-      let listed : List Item = on_taken lists_in labelled in
-      let arranged : List Item = on_taken arguments_in listed in
-      let named : List Item = on_taken symbols_in arranged in
-      map_total (item_amount number) item_with_flags item_flags (loads named)
-      ∙ (sort_total load_precedes (item_amount number) named
-      ∙ (each_taken symbols_in (symbols_same whole weighs (sort_by symbol_precedes) (sort_total symbol_precedes whole)) arranged
-      ∙ (each_taken arguments_in (rule_same whole weighs (λ kind. sort_by argument_precedes) (λ kind. sort_total argument_precedes whole)) listed
-      ∙ (each_taken lists_in (list_values_same whole weighs settled_list list_total) labelled
-      ∙ (each_taken labels_in (labels_same whole weighs shorter_string) quoted ∙ each_taken quotes_in (strings_same whole weighs with_double) items)))))
-
-pub comments_stay : (text : Bytes) (items : List Item) → times text (tidied items) ≡ times text items
-comments_stay text items = tidied_total (one_if text) items
+pub flags_comments : (text : Bytes) (items : List Item) → times text (flags items) ≡ times text items
+flags_comments text = flags_total (amount (one_if text)) (weighs (one_if text)) (item_amount (one_if text)) (λ x. refl)

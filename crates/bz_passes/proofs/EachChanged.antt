@@ -1,5 +1,6 @@
--- One turn of a loop that changes each item of a list in its place: those before are changed, the others are as they were.
+-- Lists that are changed in their place: one turn of a loop over the items, of which those before are changed and the others are as they were; and all.
 use Rattle.std.proofs.Common.{ℕ, ◌≡◌, ◌<◌, ◌≤◌, ◌+◌, List, [], ◌∷◌, ◌++◌, length, get_or, take, drop, set, map, sym, ap, ap₂, ◌∙◌, arith, append_assoc, append-nil, length-set, drop-set-lt, get_or-set_other}
+use Rattle.std.proofs.Math.Seq.{take-append_seam}
 use Rattle.std.proofs.lemmas.List.{drop_all, drop_more, take_all, take_more_set}
 
 module _ {A : Type 0} (f : A → A) where
@@ -25,3 +26,10 @@ module _ {A : Type 0} (f : A → A) where
     (length-set items k y ∙ before.0.0, λ j e above. get_or-set_other items k j y e (omega (arith, above)) ∙ before.0.1 j e (omega (arith, above))),
     changed items k d y (omega (arith, before.0.0, h)) is ∙ before.1,
   )
+
+-- what a function makes of the items of a file, which stay as many, is what it makes of the file
+pub put_back : {A : Type 0} (f : List A → List A) (file items lent new : List A) → length (f file) ≡ length file → new ≡ f lent → lent ≡ items → items ≡ file
+    → take (length items) (new ++ drop (length new) items) ≡ f file
+put_back f file items lent new same made is view_is =
+    let whole : new ≡ f file = made ∙ ap f (is ∙ view_is) in
+    ap (λ n. take n (new ++ drop (length new) items)) (ap length view_is ∙ sym (ap length whole ∙ same)) ∙ (take-append_seam new (drop (length new) items) ∙ whole)

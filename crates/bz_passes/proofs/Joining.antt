@@ -9,7 +9,7 @@ use Rattle.bz_passes.specs.private.Borders.{AreLoads, AreSetApart, ends_with_loa
 use borrow.Rule.Slice.PartMut.{put_mid}
 use Rattle.std.proofs.Math.Seq.{take-add}
 use Rattle.std.proofs.lemmas.List.{drop_more}
-use Rattle.bz_passes.specs.Passes.{tidied}
+use Rattle.bz_passes.specs.Passes.{passed}
 use Rattle.bz_passes.proofs.Sorting.{put_there}
 use Rattle.bz_passes.proofs.Keeping.{both}
 use Rattle.bz_passes.proofs.Pieces.{both_length}
@@ -128,7 +128,7 @@ module _ (whole : List Item) (left : List Window) (w : Window) (start : ℕ) (it
   rest = drop start items
 
   abbrev middle : List Item
-  middle = tidied (take w.come (drop w.from rest))
+  middle = passed (take w.come (drop w.from rest))
 
   abbrev front : List Item
   front = take start items ++ (take w.from rest ++ middle)
@@ -139,7 +139,7 @@ module _ (whole : List Item) (left : List Window) (w : Window) (start : ℕ) (it
   abbrev new : List Item
   new = put_mid (start + w.from) (stop - (start + w.from)) items came
 
-  module _ (tidy : came ≡ tidied (slice_range items (start + w.from) stop)) where
+  module _ (tidy : came ≡ passed (slice_range items (start + w.from) stop)) where
     slice_is : slice_range items (start + w.from) stop ≡ take w.come (drop w.from rest)
     slice_is = ap (λ n. take n (drop (start + w.from) items)) (omega arith) ∙ ap (take w.come) (sym (drop-drop w.from start items))
 
@@ -149,7 +149,7 @@ module _ (whole : List Item) (left : List Window) (w : Window) (start : ℕ) (it
     parts : new ≡ front ++ back
     parts =
         put_there (start + w.from) stop items came _ (omega arith) tidy
-        ∙ (both (λ z zs. z ++ tidied zs ++ drop stop items) (take-add start w.from items) slice_is
+        ∙ (both (λ z zs. z ++ passed zs ++ drop stop items) (take-add start w.from items) slice_is
         ∙ both (λ z zs. z ++ zs) (append_assoc (take start items) (take w.from rest) middle) back_is)
 
     front_length : length front ≡ stop

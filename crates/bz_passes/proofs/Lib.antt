@@ -1,3 +1,4 @@
+pub mod Cases
 pub mod EachChanged
 pub mod Ranks
 pub mod Keeping
@@ -12,6 +13,7 @@ pub mod Places
 pub mod Settling
 pub mod Pieces
 pub mod Joining
+pub mod NewerNodes
 pub mod Single
 pub mod Dropping
 pub mod Stable

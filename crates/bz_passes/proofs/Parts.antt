@@ -6,7 +6,7 @@ use Rattle.bz_grammar.specs.declared.kind.Kind.{Kind}
 use Rattle.bz_value.specs.declared.value.Form.{Form}
 use Rattle.bz_value.specs.declared.value.Expr.{Expr, Token, Form', Row_of-Expr, end_of-Expr, more_of-Expr, items-the_row-Expr, items_hidden-the_row-Expr-0}
 use Rattle.bz_value.specs.declared.value.Expr.TheVariants as e
-use Rattle.bz_value.specs.Frames.{frame, Frame, row, sequence, has_brackets}
+use Rattle.bz_value.specs.Frames.{frame, Frame, sequence, has_brackets}
 use Rattle.bz_items.specs.Characters.{Bytes}
 use Rattle.bz_value.specs.Proper.{comments_of}
 use Rattle.bz_layout.specs.Flags.{settled_split, with_flags, each_with_flags}

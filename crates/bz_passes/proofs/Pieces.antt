@@ -5,35 +5,33 @@ use Rattle.std.proofs.lemmas.Bool.{cases_Bool, or_parts}
 use Rattle.std.proofs.lemmas.List.{drop-map, length-map, map-append, take-map}
 use Rattle.std.proofs.lemmas.List.Elements.{All-append, All-drop, All-take}
 use Rattle.std.specs.Option.{option_map_or}
-use Rattle.std.specs.Prelude.{slice_get}
+use Rattle.std.specs.Prelude.{All, slice_get}
 use Rattle.bz_grammar.specs.declared.kind.Kind.TheVariants as k
 use Rattle.bz_value.specs.Empty.{is_empty}
 use Rattle.bz_value.specs.declared.value.Item.{Item}
 use Rattle.bz_value.specs.declared.value.Item.TheVariants as i
 use Rattle.bz_value.specs.declared.windows.Window.{Window}
-use Rattle.bz_value.specs.Proper.{IsProper, IsProperItem}
 use Rattle.bz_value.specs.Windows.{AreOver, AreWithin}
 use Rattle.bz_rule.specs.Values.{above, has_kind}
 use Rattle.bz_passes.specs.Changes.{after_passes}
-use Rattle.bz_passes.specs.Joined.{TidiedAlone, begins_with_load, item_tidied}
-use Rattle.bz_passes.specs.Passes.{is_run_load, load_precedes, loads, path_precedes, taken, tidied}
+use Rattle.bz_passes.specs.Joined.{begins_with_load, item_tidied}
+use Rattle.bz_passes.specs.Passes.{is_run_load, load_precedes, loads, path_precedes, taken, passed}
 use Rattle.bz_passes.specs.private.Borders.{AreSetApart, AreTidied, any_touched, ends_with_load, last_passes, tidied_over, touches}
 use Rattle.bz_passes.proofs.Composed.{above_outside, kind_outside, taken_stays}
 use Rattle.bz_passes.proofs.Sorting.{cut_at, Starts, Ordered, ordered_stays, sort_length, sort_ordered}
 use Rattle.bz_passes.proofs.Keeping.{both}
-use Rattle.bz_passes.proofs.ProperPasses.{tidied_proper}
 use Rattle.bz_passes.proofs.Settling.{by_items, each, each_settled, load_one_way, same_loose}
 
 -- ---- tidying by items
 
-pub tidied_alone : TidiedAlone
-tidied_alone item = by_items (item ∷ [])
+pub passed_alone : (item : Item) → passed (item ∷ []) ≡ item_tidied item ∷ []
+passed_alone item = by_items (item ∷ [])
 
 pub each_between : (front : List Item) (x : Item) (rest : List Item) → each (front ++ x ∷ rest) ≡ each front ++ item_tidied x ∷ each rest
 each_between front x rest = map-append item_tidied front (x ∷ rest)
 
-pub tidied_length : (items : List Item) → length (tidied items) ≡ length items
-tidied_length items = ap length (by_items items) ∙ (sort_length load_precedes (each items) ∙ length-map items item_tidied)
+pub passed_length : (items : List Item) → length (passed items) ≡ length items
+passed_length items = ap length (by_items items) ∙ (sort_length load_precedes (each items) ∙ length-map items item_tidied)
 
 -- ---- an item that is not sorted cuts
 
@@ -44,34 +42,34 @@ run_kept (i.Stmt x) =
     same_loose (taken after_passes x)
     ∙ both (λ a b. a && b) (taken_stays (has_kind k.Load) (kind_outside k.Load) x) (ap is_empty (taken_stays above above_outside x))
 
-tidied_cut : (front rest : List Item) (bar : Item) → is_run_load bar ≡ false → tidied (front ++ bar ∷ rest) ≡ tidied front ++ item_tidied bar ∷ tidied rest
-tidied_cut front rest bar n =
+passed_cut : (front rest : List Item) (bar : Item) → is_run_load bar ≡ false → passed (front ++ bar ∷ rest) ≡ passed front ++ item_tidied bar ∷ passed rest
+passed_cut front rest bar n =
     by_items (front ++ bar ∷ rest)
     ∙ (ap loads (each_between front bar rest)
     ∙ (cut_at is_run_load path_precedes (each front) (each rest) (item_tidied bar) (run_kept bar ∙ n)
     ∙ both (λ z zs. z ++ item_tidied bar ∷ zs) (sym (by_items front)) (sym (by_items rest))))
 
-cut_after : (front rest : List Item) (bar : Item) → is_run_load bar ≡ false → tidied ((front ++ bar ∷ []) ++ rest) ≡ tidied (front ++ bar ∷ []) ++ tidied rest
+cut_after : (front rest : List Item) (bar : Item) → is_run_load bar ≡ false → passed ((front ++ bar ∷ []) ++ rest) ≡ passed (front ++ bar ∷ []) ++ passed rest
 cut_after front rest bar n =
-    ap tidied (append_assoc front (bar ∷ []) rest)
-    ∙ (tidied_cut front rest bar n
-    ∙ (sym (append_assoc (tidied front) (item_tidied bar ∷ []) (tidied rest))
-    ∙ ap (λ z. z ++ tidied rest) (sym (tidied_cut front [] bar n))))
+    ap passed (append_assoc front (bar ∷ []) rest)
+    ∙ (passed_cut front rest bar n
+    ∙ (sym (append_assoc (passed front) (item_tidied bar ∷ []) (passed rest))
+    ∙ ap (λ z. z ++ passed rest) (sym (passed_cut front [] bar n))))
 
-cut_from : (front : List Item) (x : Item) (xs rest : List Item) → ends_with_load (x ∷ xs) ≡ false → tidied ((front ++ x ∷ xs) ++ rest) ≡ tidied (front ++ x ∷ xs) ++ tidied rest
+cut_from : (front : List Item) (x : Item) (xs rest : List Item) → ends_with_load (x ∷ xs) ≡ false → passed ((front ++ x ∷ xs) ++ rest) ≡ passed (front ++ x ∷ xs) ++ passed rest
 cut_from front x [] rest n = cut_after front rest x n
-cut_from front x (y ∷ ys) rest n = subst (λ z. tidied (z ++ rest) ≡ tidied z ++ tidied rest) (append_assoc front (x ∷ []) (y ∷ ys)) (cut_from (front ++ x ∷ []) y ys rest n)
+cut_from front x (y ∷ ys) rest n = subst (λ z. passed (z ++ rest) ≡ passed z ++ passed rest) (append_assoc front (x ∷ []) (y ∷ ys)) (cut_from (front ++ x ∷ []) y ys rest n)
 
-cut_last : (xs rest : List Item) → ends_with_load xs ≡ false → tidied (xs ++ rest) ≡ tidied xs ++ tidied rest
+cut_last : (xs rest : List Item) → ends_with_load xs ≡ false → passed (xs ++ rest) ≡ passed xs ++ passed rest
 cut_last [] rest n = refl
 cut_last (x ∷ xs) rest n = cut_from [] x xs rest n
 
-pub cut_first : (xs rest : List Item) → begins_with_load rest ≡ false → tidied (xs ++ rest) ≡ tidied xs ++ tidied rest
-cut_first xs [] n = ap tidied (append-nil xs) ∙ sym (append-nil (tidied xs))
-cut_first xs (bar ∷ rest) n = tidied_cut xs rest bar n ∙ ap (λ z. tidied xs ++ z) (sym (tidied_cut [] rest bar n))
+pub cut_first : (xs rest : List Item) → begins_with_load rest ≡ false → passed (xs ++ rest) ≡ passed xs ++ passed rest
+cut_first xs [] n = ap passed (append-nil xs) ∙ sym (append-nil (passed xs))
+cut_first xs (bar ∷ rest) n = passed_cut xs rest bar n ∙ ap (λ z. passed xs ++ z) (sym (passed_cut [] rest bar n))
 
 -- where no load is sorted across, both sides are tidied apart
-cut_between : (xs ys : List Item) → (ends_with_load xs && begins_with_load ys) ≡ false → tidied (xs ++ ys) ≡ tidied xs ++ tidied ys
+cut_between : (xs ys : List Item) → (ends_with_load xs && begins_with_load ys) ≡ false → passed (xs ++ ys) ≡ passed xs ++ passed ys
 cut_between xs ys n = elim (cases_Bool (ends_with_load xs)) [
   | inl t ↦ let m : begins_with_load ys ≡ false = rw t at n in cut_first xs ys m
   | inr f ↦ cut_last xs ys f
@@ -108,7 +106,7 @@ pub record IsTidy (items : List Item) : Type 0 where
   pub each_stays : each items ≡ items
   pub ordered : InOrder items
 
-pub tidy_is : (items : List Item) → tidied items ≡ items → IsTidy items
+pub tidy_is : (items : List Item) → passed items ≡ items → IsTidy items
 tidy_is items t =
     let own : loads (each items) ≡ items = sym (by_items items) ∙ t in
     record {
@@ -116,7 +114,7 @@ tidy_is items t =
       ordered = subst InOrder own (sort_ordered load_precedes load_one_way (each items));
     }
 
-is_tidied : (items : List Item) → IsTidy items → tidied items ≡ items
+is_tidied : (items : List Item) → IsTidy items → passed items ≡ items
 is_tidied items t = by_items items ∙ (ap loads t.each_stays ∙ ordered_stays load_precedes items t.ordered)
 
 pub front_stays : (n : ℕ) (items : List Item) → IsTidy items → IsTidy (take n items)
@@ -135,7 +133,7 @@ back_stays n items t = record {
 
 module _ (w : Window) (items back : List Item) (within : w.from + w.come ≤ length items) where
   abbrev pub middle : List Item
-  middle = tidied (take w.come (drop w.from items))
+  middle = passed (take w.come (drop w.from items))
 
   abbrev put : List Item
   put = take w.from items ++ middle ++ back
@@ -149,7 +147,7 @@ module _ (w : Window) (items back : List Item) (within : w.from + w.come ≤ len
         arith,
         length-append (take w.from items) middle,
         front_length,
-        tidied_length (take w.come (drop w.from items)),
+        passed_length (take w.come (drop w.from items)),
         length-take-le w.come (drop w.from items) (omega (arith, length-drop w.from items, within)),
       )
 
@@ -189,18 +187,19 @@ over_still (w ∷ ws) before items h =
       subst (AreOver ws others) (sym (put_back w items (tidied_over ws back) h.1)) (over_still ws others back h.3),
     )
 
-pub over_proper : (ws : List Window) (items : List Item) → IsProper items → IsProper (tidied_over ws items)
-over_proper [] items h = h
-over_proper (w ∷ ws) items h =
+-- what tidying keeps of all items
+pub over_all : (P : Item → Type 0) → ((items : List Item) → All P items → All P (passed items)) → (ws : List Window) (items : List Item) → All P items → All P (tidied_over ws items)
+over_all P kept [] items h = h
+over_all P kept (w ∷ ws) items h =
     let middle : List Item = take w.come (drop w.from items) in
     let back : List Item = drop (w.from + w.come) items in
-    All-append IsProperItem (take w.from items ++ tidied middle) (tidied_over ws back)
-    (All-append IsProperItem (take w.from items) (tidied middle) (All-take IsProperItem w.from items h)
-    (tidied_proper middle (All-take IsProperItem w.come (drop w.from items) (All-drop IsProperItem w.from items h))))
-    (over_proper ws back (All-drop IsProperItem (w.from + w.come) items h))
+    All-append P (take w.from items ++ passed middle) (tidied_over ws back)
+    (All-append P (take w.from items) (passed middle) (All-take P w.from items h)
+    (kept middle (All-take P w.come (drop w.from items) (All-drop P w.from items h))))
+    (over_all P kept ws back (All-drop P (w.from + w.come) items h))
 
 -- where no load is sorted across a border, tidying what came by itself is tidying the whole
-over_tidied : (ws : List Window) (before items : List Item) → IsTidy before → AreOver ws before items → any_touched ws items ≡ false → tidied_over ws items ≡ tidied items
+over_tidied : (ws : List Window) (before items : List Item) → IsTidy before → AreOver ws before items → any_touched ws items ≡ false → tidied_over ws items ≡ passed items
 over_tidied [] before items t h n = sym (is_tidied items (subst IsTidy h t))
 over_tidied (w ∷ ws) before items t h n =
     let front : List Item = take w.from items in
@@ -208,12 +207,12 @@ over_tidied (w ∷ ws) before items t h n =
     let back : List Item = drop (w.from + w.come) items in
     let none : ((touches w.from items || touches (w.from + w.come) items) ≡ false) × (any_touched ws back ≡ false) = or_parts (touches w.from items || touches (w.from + w.come) items) _ n in
     let sides : (touches w.from items ≡ false) × (touches (w.from + w.come) items ≡ false) = or_parts (touches w.from items) _ none.0 in
-    let rest : tidied_over ws back ≡ tidied back = over_tidied ws (drop (w.from + w.gone) before) back (back_stays (w.from + w.gone) before t) h.3 none.1 in
-    let own : tidied front ≡ front = is_tidied front (subst IsTidy (sym h.2) (front_stays w.from before t)) in
-    let two : tidied (take (w.from + w.come) items) ≡ tidied front ++ tidied middle =
-    ap tidied (take-add w.from w.come items) ∙ cut_between front middle (begins_fewer (ends_with_load front) w.come (drop w.from items) sides.0) in
-    both (λ z zs. z ++ tidied middle ++ zs) (sym own) rest
-    ∙ (ap (λ z. z ++ tidied back) (sym two) ∙ (sym (cut_between (take (w.from + w.come) items) back sides.1) ∙ ap tidied (take-append-drop (w.from + w.come) items)))
+    let rest : tidied_over ws back ≡ passed back = over_tidied ws (drop (w.from + w.gone) before) back (back_stays (w.from + w.gone) before t) h.3 none.1 in
+    let own : passed front ≡ front = is_tidied front (subst IsTidy (sym h.2) (front_stays w.from before t)) in
+    let two : passed (take (w.from + w.come) items) ≡ passed front ++ passed middle =
+    ap passed (take-add w.from w.come items) ∙ cut_between front middle (begins_fewer (ends_with_load front) w.come (drop w.from items) sides.0) in
+    both (λ z zs. z ++ passed middle ++ zs) (sym own) rest
+    ∙ (ap (λ z. z ++ passed back) (sym two) ∙ (sym (cut_between (take (w.from + w.come) items) back sides.1) ∙ ap passed (take-append-drop (w.from + w.come) items)))
 
 pub apart_tidied : (ws vs : List Window) (old new : List Item) → AreSetApart ws vs old → new ≡ tidied_over vs old → AreTidied ws vs old new
 apart_tidied ws vs old new a e = record {

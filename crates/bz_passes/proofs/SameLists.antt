@@ -14,12 +14,12 @@ use Rattle.bz_rule.proofs.ProperChanges.{by_case}
 use Rattle.bz_rule.specs.Values.{has_class, text_of, above, with_above, has_kind}
 use Rattle.bz_passes.specs.Sorting.{sort_by, IsSorting, IsSortingByRuns}
 use Rattle.bz_passes.specs.Lists.{is_taken, precedes, has_no_comment, without_repeats, in_order, without_marks, marked_by, sorted, settled_list, keep_marks, other_comments}
-use Rattle.bz_passes.specs.Programs.{HoldsTheStrings, IsSameList, TidyingKeepsProgram}
+use Rattle.bz_passes.specs.Programs.{HoldsTheStrings, IsSameList, PassesKeepProgram}
 use Rattle.bz_passes.proofs.Listed.{text_above, settled_anyway}
 use Rattle.bz_passes.proofs.Sorting.{sort_same}
 use Rattle.bz_grammar.specs.declared.kind.Kind.TheVariants as k
 use Rattle.bz_value.specs.declared.value.Item.{Item}
-use Rattle.bz_passes.specs.Passes.{argument_precedes, is_run_load, loads, name_precedes, path_precedes, symbol_precedes, on_taken, quotes_in, labels_in, lists_in, arguments_in, symbols_in, shorter_string, with_double}
+use Rattle.bz_passes.specs.Passes.{argument_precedes, is_run_load, loads, name_precedes, path_precedes, symbol_precedes, on_taken, quotes_in, labels_in, lists_in, arguments_in, symbols_in, passed, shorter_string, with_double}
 use Rattle.bz_passes.proofs.SameSyntax.{flags_program}
 use Rattle.bz_passes.proofs.ProperStrings.{double_same, shorter_same}
 use Rattle.bz_passes.proofs.Stable.{sorting_is_the_one}
@@ -170,8 +170,8 @@ symbols_sorted xs = (sorting_is_the_one.1 xs (sort_by symbol_precedes xs)).1 ref
 loads_sorted : (xs : List Item) → IsSortingByRuns is_run_load path_precedes xs (loads xs)
 loads_sorted xs = (sorting_is_the_one.3 xs (loads xs)).1 refl
 
-pub program_stays : TidyingKeepsProgram
-program_stays items =
+pub passed_program : (items : List Item) → PassesKeepProgram items (passed items)
+passed_program items =
     let quoted : List Item = on_taken quotes_in items in
     let labelled : List Item = on_taken labels_in quoted in
     let listed : List Item = on_taken lists_in labelled in

@@ -11,7 +11,7 @@ use Rattle.bz_rule.specs.Values.{above, has_kind, on_first, on_lists, on_third, 
 use Rattle.bz_passes.specs.Changes.{after_passes, arguments_changed, attribute_changed, labels_changed, list_changed, lists_and_arguments}
 use Rattle.bz_passes.specs.Sorting.{sort_by}
 use Rattle.bz_passes.specs.Lists.{settled_list, any_marked}
-use Rattle.bz_passes.specs.Passes.{argument_precedes, arguments_in, labelled, labels_in, lists_in, of_rule, on_assigned, on_attribute, on_call, on_label_value, on_list_value, on_rule_arguments, quotes_in, symbols_in, taken, on_statement, on_taken, argument_order, name_precedes, symbol_precedes, path_order, path_precedes, is_run_load, load_path, load_precedes, loads, tidied, leave_alone, shorter_string}
+use Rattle.bz_passes.specs.Passes.{argument_precedes, arguments_in, labelled, labels_in, lists_in, of_rule, on_assigned, on_attribute, on_call, on_label_value, on_list_value, on_rule_arguments, quotes_in, symbols_in, taken, on_statement, on_taken, argument_order, name_precedes, symbol_precedes, path_order, path_precedes, is_run_load, load_path, load_precedes, loads, passed, leave_alone, shorter_string}
 use Rattle.bz_passes.proofs.Composed.{kind_outside, labels_stay, above_outside, five_composed, passes_stay}
 use Rattle.bz_passes.proofs.Keeping.{maps_composed, Keeps, Settles, both, map_keeps, map_settles, third_settles, third_keeps_map, map_keeps_third, after_settles, after_keeps_map, map_keeps_after, test_settles, keeps_tested, tested_keeps}
 use Rattle.bz_passes.proofs.Places.{at_other, kind_within, above_put, within_settles, within_quoted, flags_within, within_other, attribute_composed, differ, lists_composed, rule_composed, rule_settles, rule_quoted, rule_flags, attribute_settles, attribute_quoted, attribute_flags, first_flags, first_part_flags, lists_settle, lists_quoted, lists_flags}
@@ -279,7 +279,7 @@ unseen_load x y = both (λ a b. a && b) (both (λ a b. a && b) (same_run x) (sam
 abbrev pub each : List Item → List Item
 each items = map item_tidied items
 
-pub by_items : (items : List Item) → tidied items ≡ loads (each items)
+pub by_items : (items : List Item) → passed items ≡ loads (each items)
 by_items items =
     ap (λ z. flags (loads z)) (five_composed items)
     ∙ (sym (sort_map load_precedes item_with_flags unseen_load (on_taken after_passes items)) ∙ ap loads (map-map item_with_flags (on_statement (taken after_passes)) items))
@@ -287,7 +287,7 @@ by_items items =
 pub each_settled : (items : List Item) → each (loads (each items)) ≡ loads (each items)
 each_settled items = sort_keeps load_precedes item_tidied (each items) (map_settles item_tidied item_settles items)
 
-pub tidy_stays : (items : List Item) → tidied (tidied items) ≡ tidied items
-tidy_stays items =
-    by_items (tidied items)
+pub passed_stays : (items : List Item) → passed (passed items) ≡ passed items
+passed_stays items =
+    by_items (passed items)
     ∙ (ap (λ z. loads (each z)) (by_items items) ∙ (ap loads (each_settled items) ∙ (sort_settles load_precedes load_one_way (each items) ∙ sym (by_items items))))

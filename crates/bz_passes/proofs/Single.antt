@@ -11,11 +11,11 @@ use Rattle.bz_value.specs.Proper.{IsProper, IsProperItem}
 use Rattle.bz_value.specs.Windows.{AreOver, AreWithin}
 use Rattle.bz_passes.specs.Joined.{item_tidied}
 use Rattle.bz_passes.specs.Sorting.{insert_by, sort_by}
-use Rattle.bz_passes.specs.Passes.{is_run_load, load_precedes, loads, path_precedes, tidied}
+use Rattle.bz_passes.specs.Passes.{is_run_load, load_precedes, loads, path_precedes, passed}
 use Rattle.bz_passes.specs.private.Ranks.{path_ranks}
 use Rattle.bz_passes.specs.private.Borders.{AreLoads, AreTidied, IsStillToTidy, ends_with_load, tidied_over, AreInOrder, IsMoved, IsPlaceBack, IsPlaceOf, first_precedes, one_at, precedes_last}
 use Rattle.bz_passes.proofs.Keeping.{both}
-use Rattle.bz_passes.proofs.Pieces.{InOrder, IsTidy, back_stays, each_between, front_stays, last_of_more, ordered_drop, ordered_take, over_still, over_within, tidied_alone, tidy_is}
+use Rattle.bz_passes.proofs.Pieces.{InOrder, IsTidy, back_stays, each_between, front_stays, last_of_more, ordered_drop, ordered_take, over_still, over_within, passed_alone, tidy_is}
 use Rattle.bz_passes.proofs.Settling.{by_items, each, item_settles}
 use Rattle.bz_passes.proofs.Sorting.{Starts, climbs_by, insert_starts, ordered_stays}
 
@@ -91,25 +91,25 @@ module _ (x : Item) (start : ℕ) (others xs : List Item) (e : xs ≡ drop start
 
 -- ---- tidying an item twice
 
-twice : (front : List Item) (x : Item) (rest : List Item) → tidied (front ++ item_tidied x ∷ rest) ≡ tidied (front ++ x ∷ rest)
+twice : (front : List Item) (x : Item) (rest : List Item) → passed (front ++ item_tidied x ∷ rest) ≡ passed (front ++ x ∷ rest)
 twice front x rest =
     by_items (front ++ item_tidied x ∷ rest)
     ∙ (ap loads (each_between front (item_tidied x) rest ∙ (ap (λ z. each front ++ z ∷ each rest) (item_settles x) ∙ sym (each_between front x rest)))
     ∙ sym (by_items (front ++ x ∷ rest)))
 
-twice_in : (front items : List Item) → tidied (front ++ tidied (take 1 items) ++ drop 1 items) ≡ tidied (front ++ items)
-twice_in front [] = ap tidied (append-nil (front ++ []))
+twice_in : (front items : List Item) → passed (front ++ passed (take 1 items) ++ drop 1 items) ≡ passed (front ++ items)
+twice_in front [] = ap passed (append-nil (front ++ []))
 twice_in front (x ∷ rest) =
-    ap (λ z. tidied (front ++ z ++ rest)) (tidied_alone x) ∙ (ap tidied (append_assoc front (item_tidied x ∷ []) rest) ∙ twice front x rest)
+    ap (λ z. passed (front ++ z ++ rest)) (passed_alone x) ∙ (ap passed (append_assoc front (item_tidied x ∷ []) rest) ∙ twice front x rest)
 
 -- the item at a place tidied as if it were alone
 abbrev pub tidied_at : ℕ → List Item → List Item
 tidied_at from items = tidied_over (one_at from 0) items
 
-within_twice : (from : ℕ) (items : List Item) → tidied (tidied_at from items) ≡ tidied items
+within_twice : (from : ℕ) (items : List Item) → passed (tidied_at from items) ≡ passed items
 within_twice from items =
-    ap (λ z. tidied (take from items ++ tidied (take 1 (drop from items)) ++ z)) (sym (drop-drop 1 from items))
-    ∙ (twice_in (take from items) (drop from items) ∙ ap tidied (take-append-drop from items))
+    ap (λ z. passed (take from items ++ passed (take 1 (drop from items)) ++ z)) (sym (drop-drop 1 from items))
+    ∙ (twice_in (take from items) (drop from items) ∙ ap passed (take-append-drop from items))
 
 -- what is tidied by itself and then with its neighbours
 tidied_twice : (windows others : List Window) (from gone : ℕ) (old mid new : List Item) → windows ≡ one_at from gone → mid ≡ tidied_at from old → AreTidied windows others mid new → AreTidied windows others old new
@@ -119,7 +119,7 @@ tidied_twice windows others from gone old mid new own e t =
     (subst (AreOver (one_at from gone) before) (sym e) (over_still (one_at from gone) before old (subst (λ ws. AreOver ws before old) own over))) in
     record {
       within = t.within;
-      tidy = λ before tidy over. t.tidy before tidy (still before over) ∙ (ap tidied e ∙ within_twice from old);
+      tidy = λ before tidy over. t.tidy before tidy (still before over) ∙ (ap passed e ∙ within_twice from old);
       over = λ before tidy over. t.over before tidy (still before over);
     }
 
@@ -132,9 +132,9 @@ single_left windows from gone old mid own within e = record {
 
 -- ---- an item between items of a tidy file
 
-pub single_tidied : (before front rest : List Item) (x : Item) (from stop to : ℕ) → tidied before ≡ before → take from before ≡ front → drop stop before ≡ rest
+pub single_tidied : (before front rest : List Item) (x : Item) (from stop to : ℕ) → passed before ≡ before → take from before ≡ front → drop stop before ≡ rest
     → InOrder (drop to front ++ rest) → IsPlaceOf (item_tidied x) to front rest
-    → tidied (front ++ x ∷ rest) ≡ take to front ++ item_tidied x ∷ drop to front ++ rest
+    → passed (front ++ x ∷ rest) ≡ take to front ++ item_tidied x ∷ drop to front ++ rest
 single_tidied before front rest x from stop to t own back o p =
     let tidy : IsTidy before = tidy_is before t in
     let front_tidy : IsTidy front = subst IsTidy own (front_stays from before tidy) in
@@ -168,8 +168,8 @@ module _ (from gone to : ℕ) (old new : List Item) (x : Item) (rest : List Item
 
   within_is : tidied_at from old ≡ front ++ item_tidied x ∷ rest
   within_is =
-      both (λ z zs. front ++ tidied (take 1 z) ++ zs) own after_own
-      ∙ (ap (λ z. front ++ z ++ rest) (tidied_alone x) ∙ append_assoc front (item_tidied x ∷ []) rest)
+      both (λ z zs. front ++ passed (take 1 z) ++ zs) own after_own
+      ∙ (ap (λ z. front ++ z ++ rest) (passed_alone x) ∙ append_assoc front (item_tidied x ∷ []) rest)
 
   front_is : take from (tidied_at from old) ≡ front
   front_is = ap (take from) within_is ∙ take_at front (item_tidied x ∷ rest) from front_length
@@ -239,10 +239,10 @@ module _ (from gone to : ℕ) (old new : List Item) (x : Item) (rest : List Item
         | inr n ↦ subst InOrder (sym (h n)) (ordered_drop to before o)
       ]
 
-      new_tidied : tidied before ≡ before → IsPlaceOf (item_tidied x) to front rest → new ≡ tidied old
+      new_tidied : passed before ≡ before → IsPlaceOf (item_tidied x) to front rest → new ≡ passed old
       new_tidied t p =
           moved
-          ∙ (sym (single_tidied before front rest x from (from + gone) to t (sym over.2) rest_is (later_or_rest later_is (tidy_is before t).ordered) p) ∙ ap tidied whole)
+          ∙ (sym (single_tidied before front rest x from (from + gone) to t (sym over.2) rest_is (later_or_rest later_is (tidy_is before t).ordered) p) ∙ ap passed whole)
 
       drop_new : drop (to + 1) new ≡ drop to front ++ rest
       drop_new =
@@ -306,8 +306,8 @@ moved_proper from to old new = proper_at from to old new (drop from old) refl
 pub single_done : (windows others : List Window) (from gone to : ℕ) (old mid new : List Item) → windows ≡ one_at from gone → AreWithin windows old → mid ≡ tidied_over windows old → to ≤ from → Placed from to mid
     → ((to ≡ from) × (new ≡ mid)) ⊎ ((gone ≡ 0) × IsMoved from to mid new) → others ≡ one_at to gone → AreTidied windows others old new
 single_done windows others from gone to old mid new own within e bound placed made moved =
-    let tidied : mid ≡ tidied_at from old = e ∙ ap (λ ws. tidied_over ws old) own in
+    let passed : mid ≡ tidied_at from old = e ∙ ap (λ ws. tidied_over ws old) own in
     subst (λ ws. AreTidied ws others old new) (sym own)
     (subst (λ ws. AreTidied (one_at from gone) ws old new) (sym moved)
-    (single_at from gone to old new (drop from old) refl (subst (λ ws. AreWithin ws old) own within).0 bound (subst (Placed from to) tidied placed)
-    (subst (λ m. ((to ≡ from) × (new ≡ m)) ⊎ ((gone ≡ 0) × IsMoved from to m new)) tidied made)))
+    (single_at from gone to old new (drop from old) refl (subst (λ ws. AreWithin ws old) own within).0 bound (subst (Placed from to) passed placed)
+    (subst (λ m. ((to ≡ from) × (new ≡ m)) ⊎ ((gone ≡ 0) × IsMoved from to m new)) passed made)))

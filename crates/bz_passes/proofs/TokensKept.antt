@@ -1,5 +1,6 @@
 -- Where a program is kept, each token that is no string occurs as often; and a value that no pass may change leads to no other program.
-use Rattle.std.proofs.Common.{ℕ, ◌+◌, Bool, true, false, ◌&&◌, List, [], ◌∷◌, ◌≡◌, refl, sym, ap, ◌∙◌, if◌then◌else◌, arith, true≢false, codes}
+use Rattle.std.proofs.Common.{ℕ, ◌+◌, Bool, true, false, ◌&&◌, List, [], ◌∷◌, ◌≡◌, refl, sym, ap, ◌∙◌, if◌then◌else◌, arith, true≢false, codes, inl, inr}
+use Rattle.std.proofs.lemmas.Bool.{cases_Bool}
 use Rattle.std.specs.Prelude.{bytes_eq}
 use Rattle.std.specs.List.{AllByRecursion}
 use Rattle.std.proofs.lemmas.List.Elements.{recursion_from_All}
@@ -17,10 +18,11 @@ use Rattle.bz_value.proofs.Totals.{append_total}
 use Rattle.bz_items.specs.Characters.{Bytes}
 use Rattle.bz_rule.specs.Values.{with_text, on_rest, items_of, on_items, parts_of, text_of}
 use Rattle.bz_passes.specs.Lists.{is_taken}
+use Rattle.bz_passes.specs.Newer.{has_newer}
 use Rattle.bz_passes.specs.Passes.{on_taken, argument_precedes, arguments_in, loads, on_labels, on_list_values, on_rule_arguments, symbol_precedes, symbols_in}
-use Rattle.bz_passes.specs.Programs.{KeptProgramsKeepTokens, KeepsProgram, IsSameList, IsSameString, itself, turned, turned_thrice}
+use Rattle.bz_passes.specs.Programs.{KeptProgramsKeepTokens, PassesKeepProgram, IsSameList, IsSameString, itself, turned, turned_thrice}
 use Rattle.bz_passes.specs.Sorting.{IsSortingByRuns, one_run, next_run, sort_by}
-use Rattle.bz_passes.specs.Syntax.{syntax_of, each_syntax, program, token_sum, row_token_sum, one_if_token}
+use Rattle.bz_passes.specs.Syntax.{syntax_of, each_syntax, program, token_sum, row_token_sum, one_if_token, token_times}
 use Rattle.bz_passes.proofs.Keeping.{both, same_after, same_first}
 use Rattle.bz_passes.proofs.Parts.{made, parts_after, items_after, parts_are, items_are}
 use Rattle.bz_passes.proofs.SameLists.{IsText, taken_texts}
@@ -111,7 +113,7 @@ module _ (number : Class → Bytes → ℕ) (nothing : (text : Bytes) → number
   program_sum (i.Block lines ∷ items) = program_sum items ∙ omega arith
   program_sum (i.Stmt x ∷ items) = both (λ a b. a + b) (syntax_sum x) (program_sum items)
 
-  kept_sum : (before after : List Item) → KeepsProgram before after → total whole (program after) ≡ total whole (program before)
+  kept_sum : (before after : List Item) → PassesKeepProgram before after → total whole (program after) ≡ total whole (program before)
   kept_sum before after h =
       ap (total whole) h.flags
       ∙ (program_sum h.loaded
@@ -126,10 +128,13 @@ other_class : (class : Class) (text found : Bytes) → is_class c.String class �
 other_class class text found is = ap (λ b. if b && bytes_eq found text then 1 else 0) is
 
 pub tokens_kept : KeptProgramsKeepTokens
-tokens_kept before after h class text is = kept_sum (one_if_token class text) (λ found. other_class class text found is) before after h
+tokens_kept before after h class text is = elim (cases_Bool (has_newer before)) [
+  | inl t ↦ ap (token_times class text) (h.0 t)
+  | inr f ↦ kept_sum (one_if_token class text) (λ found. other_class class text found is) before after (h.1 f)
+]
 
 -- What each pass after the quotes leaves as it is stays the same program.
-pub unmoved : (before after : List Item) (h : KeepsProgram before after) → h.quoted ≡ before
+pub unmoved : (before after : List Item) (h : PassesKeepProgram before after) → h.quoted ≡ before
     → ((g : Bytes → Bytes) → on_taken (on_labels g) before ≡ before)
     → ((g : List Bytes → Bool → List Expr → List Expr) → on_taken (on_list_values g) before ≡ before)
     → on_taken arguments_in before ≡ before → on_taken symbols_in before ≡ before → loads before ≡ before → program after ≡ program before
@@ -179,5 +184,5 @@ double_stays new (itself h) = h
 double_stays new (turned body s f h i) = absurd (other_mark _ h)
 double_stays new (turned_thrice body s f h i) = absurd (other_mark _ h)
 
-pub body_stays : (before after : List Item) (h : KeepsProgram before after) → h.quotes.change (codes "\"a\"") ≡ codes "\"a\""
+pub body_stays : (before after : List Item) (h : PassesKeepProgram before after) → h.quotes.change (codes "\"a\"") ≡ codes "\"a\""
 body_stays before after h = double_stays _ (h.quotes.each (codes "\"a\"") ([], codes "\"a\"", refl, refl, single 34 (codes "a") refl (short_plain refl short_end)))

@@ -1,18 +1,21 @@
 -- Laws of tidying.
-use Rattle.std.specs.Prelude.{◌≡◌, ℕ, Bool, List, map}
+use Rattle.std.specs.Prelude.{◌≡◌, Bool, List, map}
 use Rattle.bz_grammar.specs.declared.kind.Kind.{Kind}
 use Rattle.bz_grammar.specs.declared.kind.Kind.TheVariants as k
 use Rattle.bz_value.specs.declared.value.Expr.{Expr}
 use Rattle.bz_value.specs.declared.value.Item.{Item}
 use Rattle.bz_items.specs.Characters.{Bytes}
-use Rattle.bz_value.specs.Counted.{amount, times}
-use Rattle.bz_value.specs.Proper.{IsProper}
+use Rattle.bz_value.specs.Counted.{times}
+use Rattle.bz_value.specs.LineShapes.{Grammar}
+use Rattle.bz_value.specs.Proper.{IsProperIn}
 use Rattle.bz_rule.specs.Values.{has_kind}
-use Rattle.bz_layout.specs.Flags.{IsSettled, with_flags}
+use Rattle.bz_layout.specs.Flags.{flags, IsSettled, with_flags}
 use Rattle.bz_layout.specs.Layout.{is_broken}
+use Rattle.bz_value.specs.BuildValues.{AreBuild}
 use Rattle.bz_passes.specs.Lists.{precedes}
 use Rattle.bz_passes.specs.Sorting.{sort_by, GivesTheOne, IsSorting, IsSortingByRuns}
 use Rattle.bz_passes.specs.Passes.{argument_precedes, is_run_load, loads, name_precedes, path_precedes, symbol_precedes, tidied}
+use Rattle.bz_passes.specs.Syntax.{program}
 
 -- What is tidy stays as it is.
 abbrev pub TidyStays : Type 0
@@ -22,20 +25,33 @@ TidyStays = (items : List Item) → tidied (tidied items) ≡ tidied items
 abbrev pub TidySettles : Type 0
 TidySettles = (items : List Item) → IsSettled (tidied items)
 
--- The flags of an expression are settled once for all, what the layout breaks stays broken with them, and comments stay as often
--- as before.
-pub record FlagsSettle : Type 0 where
-  pub once : (x : Expr) → with_flags (with_flags x) ≡ with_flags x
-  pub broken : (kind : Kind) (split : Bool) (xs : List Expr) (end : List Bytes) → is_broken kind (is_broken kind split xs end) (map with_flags xs) end ≡ is_broken kind split xs end
-  pub comments : (number : Bytes → ℕ) (x : Expr) → amount number (with_flags x) ≡ amount number x
+-- What the layout breaks stays broken once flags are settled.
+abbrev pub FlagsSettle : Type 0
+FlagsSettle = (kind : Kind) (split : Bool) (xs : List Expr) (end : List Bytes) → is_broken kind (is_broken kind split xs end) (map with_flags xs) end ≡ is_broken kind split xs end
 
 -- Each comment is in the tidy file as often as before.
 abbrev pub TidyingKeepsComments : Type 0
 TidyingKeepsComments = (text : Bytes) (items : List Item) → times text (tidied items) ≡ times text items
 
--- A proper file value stays proper.
+-- A proper file value stays proper, by each grammar.
 abbrev pub ProperStays : Type 0
-ProperStays = (items : List Item) → IsProper items → IsProper (tidied items)
+ProperStays = (grammar : Grammar) (items : List Item) → IsProperIn grammar items → IsProperIn grammar (tidied items)
+
+-- What a BUILD file can say stays so.
+abbrev pub BuildStays : Type 0
+BuildStays = (items : List Item) → AreBuild items → AreBuild (tidied items)
+
+-- What is level stays as it is.
+abbrev pub LevelStays : Type 0
+LevelStays = (items : List Item) → flags (flags items) ≡ flags items
+
+-- Each comment is in what is level as often as before.
+abbrev pub LevelKeepsComments : Type 0
+LevelKeepsComments = (text : Bytes) (items : List Item) → times text (flags items) ≡ times text items
+
+-- What is level is the same program.
+abbrev pub LevelKeepsProgram : Type 0
+LevelKeepsProgram = (items : List Item) → program (flags items) ≡ program items
 
 -- What is sorted is the one list in order, with ties in their old order: the items of a list by the texts between their quote
 -- marks, and the symbols of a load by their local names. Of the arguments of a rule each longest run of named ones is, by

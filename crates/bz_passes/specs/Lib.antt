@@ -2,6 +2,7 @@ pub mod Changes
 pub mod Joined
 pub mod Laws
 pub mod Lists
+pub mod Newer
 pub mod Passes
 pub mod Programs
 pub mod Rows

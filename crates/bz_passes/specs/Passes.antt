@@ -1,4 +1,4 @@
--- The seven passes, five over a statement and two over the items of a file value, and `tidied`, which is all of them in turn.
+-- The seven passes, five over a statement and two over the items of a file value, and `tidied`: all of them in turn, or the last one alone.
 use Rattle.std.specs.Prelude.{ℕ, Bool, false, not, ◌&&◌, ◌||◌, List, [], ◌∷◌, ◌++◌, Option, Some, None, codes, if◌then◌else◌, map, nat_eq, replicate, take}
 use Rattle.std.specs.List.{list_any}
 use Rattle.std.specs.Option.{option_map_or}
@@ -22,6 +22,7 @@ use Rattle.bz_rule.specs.Values.{has_kind, has_class, text_of, parts_of, items_o
 use Rattle.bz_passes.specs.Sorting.{sort_by}
 use Rattle.bz_rule.specs.QuoteMarks.{between, inside, local_name, marks_of}
 use Rattle.bz_passes.specs.Lists.{any_marked, settled_list}
+use Rattle.bz_passes.specs.Newer.{has_newer}
 
 -- ---- where the passes go
 
@@ -181,5 +182,9 @@ loads = sort_by load_precedes
 
 -- ---- all in turn
 
+abbrev pub passed : List Item → List Item
+passed items = flags (loads (on_taken symbols_in (on_taken arguments_in (on_taken lists_in (on_taken labels_in (on_taken quotes_in items))))))
+
+-- Of a value with suites, or with other nodes of the newer kinds, only the flags are settled.
 abbrev pub tidied : List Item → List Item
-tidied items = flags (loads (on_taken symbols_in (on_taken arguments_in (on_taken lists_in (on_taken labels_in (on_taken quotes_in items))))))
+tidied items = if has_newer items then flags items else passed items

@@ -14,6 +14,7 @@ use Rattle.bz_rule.specs.QuoteMarks.{is_quote_mark}
 use Rattle.bz_rule.specs.Rules.{inner, is_plain_in}
 use Rattle.bz_rule.specs.Values.{on_rest, has_class, has_kind, on_items, text_of}
 use Rattle.bz_passes.specs.Lists.{is_taken}
+use Rattle.bz_passes.specs.Newer.{has_newer}
 use Rattle.bz_passes.specs.Passes.{has_character, is_run_load, name_precedes, on_labels, on_list_values, on_rule_arguments, on_strings, on_taken, path_precedes, symbol_precedes, tidied}
 use Rattle.bz_passes.specs.Sorting.{IsSorting, IsSortingByRuns}
 use Rattle.bz_passes.specs.Syntax.{program, token_times}
@@ -69,10 +70,10 @@ pub record HaveOtherLists (items new : List Item) : Type 0 where
 
 -- ---- all in turn
 
--- A program is kept where one value leads to the other over these, in which no more is changed than is said of each. Of arguments of a
--- rule runs of named ones are sorted: every other one stays, and no named one passes it. The symbols of a load are sorted after its
--- path. The last step changes nothing that a compiler reads.
-pub record KeepsProgram (before after : List Item) : Type 0 where
+-- The passes keep a program where one value leads to the other over these, in which no more is changed than is said of each. Of
+-- arguments of a rule runs of named ones are sorted: every other one stays, and no named one passes it. The symbols of a load are sorted
+-- after its path. The last step changes nothing that a compiler reads.
+pub record PassesKeepProgram (before after : List Item) : Type 0 where
   pub quoted : List Item
   pub labelled : List Item
   pub listed : List Item
@@ -86,6 +87,10 @@ pub record KeepsProgram (before after : List Item) : Type 0 where
   pub symbols : IsChangedAt (λ change. on_taken (on_items k.Load (on_rest change))) (IsSorting symbol_precedes) arranged named
   pub loads : IsSortingByRuns is_run_load path_precedes named loaded
   pub flags : program after ≡ program loaded
+
+-- A program is kept where it is the same, of a value with newer kinds, and else as the passes keep it.
+abbrev pub KeepsProgram : List Item → List Item → Type 0
+KeepsProgram before after = (has_newer before ≡ true → program after ≡ program before) × (has_newer before ≡ false → PassesKeepProgram before after)
 
 abbrev pub TidyingKeepsProgram : Type 0
 TidyingKeepsProgram = (items : List Item) → KeepsProgram items (tidied items)

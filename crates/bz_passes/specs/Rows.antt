@@ -61,6 +61,10 @@ list items = sequence k.List true [] items
 abbrev strings : List Bytes → Expr
 strings texts = list (map string texts)
 
+-- a call x(lambda: [])
+abbrev with_lambda : Bool → Item
+with_lambda split = statement [] (codes "x") (node k.Lambda (token c.Keyword (codes "lambda") ∷ token c.Mark (codes ":") ∷ sequence k.List split [] [] ∷ []) ∷ [])
+
 abbrev pub WorkedPasses : Type 0
 WorkedPasses =
     (layout (tidied (statement [] (codes "cc_library") (argument (codes "srcs")
@@ -85,6 +89,8 @@ WorkedPasses =
     ≡ rule (codes "x") (codes "deps") (node k.Sum (strings (codes "\"a\"" ∷ codes "\"b\"" ∷ []) ∷ token c.Mark (codes "+") ∷ strings (codes "\"c\"" ∷ codes "\"d\"" ∷ []) ∷ [])))
     × (tidied (rule (codes "x") (codes "srcs") (sequence k.Call false (token c.Name (codes "glob") ∷ []) (strings (codes "\"b\"" ∷ codes "\"a\"" ∷ []) ∷ [])))
     ≡ rule (codes "x") (codes "srcs") (sequence k.Call false (token c.Name (codes "glob") ∷ []) (strings (codes "\"b\"" ∷ codes "\"a\"" ∷ []) ∷ [])))
+    -- where a lambda is, loads stay in their order, and only flags are settled
+    × (tidied (with_lambda true ∷ three_loads []) ≡ with_lambda false ∷ three_loads [])
 
 -- ---- programs
 

@@ -11,7 +11,7 @@ use bz_value::{Expr, is_sequence};
 /// Settles the flags of an expression: each of its sequences is split exactly where the layout breaks it. It takes no memory.
 #[cycle(settle)]
 #[tactic(auto, using(crate::proofs::Parts::split_by_kind, crate::proofs::Parts::flags_Form))]
-pub fn settle(x: &mut Expr)
+pub(crate) fn settle(x: &mut Expr)
     ensures { x.new ≡ with_flags x.old }
 {
     if let Expr::Form(form) = x {

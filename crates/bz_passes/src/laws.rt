@@ -1,6 +1,6 @@
 //! Facts about the definitions, for readers: the functions do nothing.
 ghost use Rattle.bz_passes.specs.Joined.{TidiedAlone, TidiedApart};
-ghost use Rattle.bz_passes.specs.Laws.{FlagsSettle, ProperStays, SortingIsTheOne, TidySettles, TidyStays, TidyingKeepsComments};
+ghost use Rattle.bz_passes.specs.Laws.{BuildStays, FlagsSettle, LevelKeepsComments, LevelKeepsProgram, LevelStays, ProperStays, SortingIsTheOne, TidySettles, TidyStays, TidyingKeepsComments};
 ghost use Rattle.bz_passes.specs.Lists.{MarksMove};
 ghost use Rattle.bz_passes.specs.Programs.{KeptProgramsKeepTokens, TidyingKeepsProgram};
 ghost use Rattle.bz_passes.specs.Rows.{WorkedPasses, WorkedPrograms};
@@ -16,19 +16,35 @@ pub fn worked_programs()
 {}
 
 /// What is tidy stays as it is.
-#[tactic(auto, using(crate::proofs::Settling::tidy_stays))]
+#[tactic(auto, using(crate::proofs::Cases::tidy_stays))]
 pub fn tidy_stays()
     ensures { TidyStays }
 {}
 
 /// What is tidy is settled: its flags are what the layout makes of them.
-#[tactic(auto, using(crate::proofs::Inner::flags_settled))]
+#[tactic(auto, using(crate::proofs::Cases::tidy_settles))]
 pub fn tidy_settles()
     ensures { TidySettles }
 {}
 
-/// The flags of an expression are settled once for all, what the layout breaks stays broken with them, and comments stay as often
-/// as before.
+/// What is level stays as it is.
+#[tactic(auto, using(crate::proofs::Inner::flags_settled))]
+pub fn level_stays()
+    ensures { LevelStays }
+{}
+
+/// Each comment is in what is level as often as before.
+pub fn level_keeps_comments()
+    ensures { LevelKeepsComments }
+{}
+
+/// What is level is the same program.
+#[tactic(auto, using(crate::proofs::SameSyntax::flags_program))]
+pub fn level_keeps_program()
+    ensures { LevelKeepsProgram }
+{}
+
+/// What the layout breaks stays broken once flags are settled.
 pub fn flags_settle()
     ensures { FlagsSettle }
 {}
@@ -52,27 +68,32 @@ pub fn marks_move()
     ensures { MarksMove }
 {}
 
-/// Items after others are tidied apart, where the first of them is no load that is sorted with its neighbours.
-#[tactic(auto, using(crate::proofs::Pieces::cut_first))]
+/// Items of a BUILD file that are after others are tidied apart, where the first of them is no load that is sorted with its neighbours.
+#[tactic(auto, using(crate::proofs::Cases::tidied_apart))]
 pub fn tidied_apart()
     ensures { TidiedApart }
 {}
 
-/// An item is tidied by itself as it is in a file of its own.
-#[tactic(auto, using(crate::proofs::Pieces::tidied_alone))]
+/// An item of a BUILD file is tidied by itself as it is in a file of its own.
+#[tactic(auto, using(crate::proofs::Cases::tidied_alone))]
 pub fn tidied_alone()
     ensures { TidiedAlone }
 {}
 
 /// Tidying a proper file value gives a proper file value.
-#[tactic(auto, using(crate::proofs::ProperPasses::tidied_proper))]
 pub fn proper_stays()
     ensures { ProperStays }
 {}
 
+/// What a BUILD file can say stays so when it is tidied.
+#[tactic(auto, using(crate::proofs::Cases::build_stays))]
+pub fn build_stays()
+    ensures { BuildStays }
+{}
+
 /// Tidying keeps the program of a file value: no more is changed than the marks of quotes, labels that mean the same, repeats in
 /// lists that are sorted, and the order of the items of these, of named arguments, of the symbols of a load and of loads.
-#[tactic(auto, using(crate::proofs::SameLists::program_stays))]
+#[tactic(auto, using(crate::proofs::Cases::program_stays))]
 pub fn program_stays()
     ensures { TidyingKeepsProgram }
 {}

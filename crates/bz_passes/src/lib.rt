@@ -6,10 +6,12 @@ mod borders;
 mod flags;
 mod labels;
 mod laws;
+mod leveling;
 mod lists;
 mod loads;
 mod marks;
 mod names;
+mod newer;
 mod quotes;
 mod repeats;
 mod runs;
@@ -20,11 +22,11 @@ mod walk;
 mod windows;
 
 pub use borders::begins_with_load;
-pub use flags::settle;
 pub use laws::{
-    comments_stay, flags_settle, marks_move, program_stays, proper_stays, sorting_is_the_one,
-    tidied_alone, tidied_apart, tidy_settles, tidy_stays, tokens_stay, worked_passes,
-    worked_programs,
+    build_stays, comments_stay, flags_settle, level_keeps_comments, level_keeps_program,
+    level_stays, marks_move, program_stays, proper_stays, sorting_is_the_one, tidied_alone,
+    tidied_apart, tidy_settles, tidy_stays, tokens_stay, worked_passes, worked_programs,
 };
-pub use tidying::tidy;
+pub use leveling::level;
+pub use tidying::{tidy, tidy_build};
 pub use windows::tidy_windows;

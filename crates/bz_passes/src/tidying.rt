@@ -3,12 +3,15 @@ ghost use Rattle.std.specs.Prelude.{◌≡◌, IfOk, OnOk};
 ghost use Rattle.bz_value.specs.Counted.{times};
 ghost use Rattle.bz_items.specs.Characters.{Bytes};
 ghost use Rattle.bz_layout.specs.Flags.{IsSettled};
-ghost use Rattle.bz_passes.specs.Passes.{tidied};
+ghost use Rattle.bz_value.specs.BuildValues.{AreBuild};
+ghost use Rattle.bz_passes.specs.Passes.{passed, tidied as tidied_all};
 ghost use Rattle.bz_passes.specs.Programs.{KeepsProgram};
 ghost use Rattle.bz_passes.specs.Joined.{item_tidied};
 
 use crate::flags::settle;
+use crate::leveling::level;
 use crate::marks::any_marked;
+use crate::newer::has_newer;
 use crate::quotes::quote;
 use crate::runs::sort_runs;
 use crate::symbols::sort_symbols;
@@ -37,7 +40,7 @@ fn tidy_item(alloc: Global, item: &mut Item) -> Result<(), Memory>
 
 /// The passes over items that are alone. The error: memory was refused; part of an item may then be lost.
 pub(crate) fn tidy_items(alloc: Global, items: &mut [Item]) -> Result<(), Memory>
-    ensures { OnOk result (items.new ≡ tidied items.old) }
+    ensures { OnOk result (items.new ≡ passed items.old) }
 {
     for item in items.iter_mut() {
         tidy_item(alloc, item)?;
@@ -46,17 +49,36 @@ pub(crate) fn tidy_items(alloc: Global, items: &mut [Item]) -> Result<(), Memory
     Ok(())
 }
 
-/// The tidy file value: strings take double quote marks, labels lose a repeated name, lists, arguments, symbols and loads are
-/// sorted, and each sequence is split where the layout breaks it. A statement with `buildifier: leave-alone` in a comment above
+/// The tidy file value of a BUILD file: strings take double quote marks, labels lose a repeated name, lists, arguments, symbols and loads
+/// are sorted, and each sequence is split where the layout breaks it. A statement with `buildifier: leave-alone` in a comment above
 /// stays, but for its flags. The program is kept. The error: memory was refused.
-pub fn tidy(alloc: Global, file: File) -> Result<File, Memory>
-    ensures tidied { IfOk result (λ new. new ≡ tidied file) }
+pub fn tidy_build(alloc: Global, file: File) -> Result<File, Memory>
+    requires { AreBuild file }
+    ensures tidied { IfOk result (λ new. new ≡ tidied_all file) }
     ensures settled { IfOk result (λ new. IsSettled new) }
-    ensures again { IfOk result (λ new. tidied new ≡ new) }
+    ensures again { IfOk result (λ new. tidied_all new ≡ new) }
     ensures comments { IfOk result (λ new. (text : Bytes) → times text new ≡ times text file) }
     ensures program { IfOk result (λ new. KeepsProgram file new) }
 {
     let File { mut items } = file;
     tidy_items(alloc, items.as_mut_slice())?;
     Ok(File { items })
+}
+
+/// The tidy file value: what a BUILD file says is tidied as `tidy_build` does it; of a value with suites, or with other nodes that no
+/// BUILD file has, the flags are settled, and all else stays. The error: memory was refused.
+#[tactic(auto, using(crate::proofs::Cases::are_level, crate::proofs::NewerNodes::are_build))]
+pub fn tidy(alloc: Global, file: File) -> Result<File, Memory>
+    ensures tidied { IfOk result (λ new. new ≡ tidied_all file) }
+    ensures settled { IfOk result (λ new. IsSettled new) }
+    ensures again { IfOk result (λ new. tidied_all new ≡ new) }
+    ensures comments { IfOk result (λ new. (text : Bytes) → times text new ≡ times text file) }
+    ensures program { IfOk result (λ new. KeepsProgram file new) }
+{
+    if has_newer(file.items.as_slice()) {
+        let new = level(file)?;
+        return Ok(new);
+    }
+    let new = tidy_build(alloc, file)?;
+    Ok(new)
 }

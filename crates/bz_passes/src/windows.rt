@@ -2,6 +2,7 @@
 ghost use Rattle.std.specs.Prelude.{◌≡◌, ◌≤◌, ◌<◌, ◌+◌, ◌∷◌, List, Ok, false, true, drop, length, take, IfSome, OnOk};
 ghost use Rattle.bz_value.specs.Windows.{AreOver, AreWithin};
 ghost use Rattle.bz_value.specs.declared.value.Item.{Item};
+ghost use Rattle.bz_value.specs.BuildValues.{AreBuild};
 ghost use Rattle.bz_passes.specs.Passes.{tidied as tidied_all};
 ghost use Rattle.bz_passes.specs.private.Borders.{AreTidied, IsStillToTidy, tidied_over, AreInOrder, IsMoved, IsPlaceBack, IsPlaceOf, one_at};
 
@@ -31,8 +32,10 @@ fn tidy_each(alloc: Global, windows: &[Window], items: &mut [Item]) -> Result<()
 
 /// The same in a file. The error: memory was refused; the file has no items then.
 fn tidy_in(alloc: Global, windows: &[Window], file: &mut File) -> Result<(), Memory>
-    requires { AreWithin windows.now file.old }
-    ensures { OnOk result (file.new ≡ tidied_over windows.now file.old) }
+    requires within { AreWithin windows.now file.old }
+    requires build { AreBuild file.old }
+    ensures made { OnOk result (file.new ≡ tidied_over windows.now file.old) }
+    ensures build { OnOk result (AreBuild file.new) }
 {
     let mut items = mem::replace(&mut file.items, Items::new(alloc));
     tidy_each(alloc, windows, items.as_mut_slice())?;
@@ -94,9 +97,11 @@ fn single(windows: &[Window]) -> Option<Window>
 /// with it: then the answer is true. Where its place isn't known, it is tidied and stays, and where there are other windows
 /// nothing is done. The error: memory was refused; the file has no items then.
 fn tidy_single(alloc: Global, file: &mut File, windows: &mut Items<Window>) -> Result<bool, Memory>
-    requires { AreWithin windows.old file.old }
+    requires within { AreWithin windows.old file.old }
+    requires build { AreBuild file.old }
     ensures done { result ≡ Ok true → AreTidied windows.old windows.new file.old file.new }
     ensures left { result ≡ Ok false → IsStillToTidy windows.old windows.new file.old file.new }
+    ensures build { result ≡ Ok false → AreBuild file.new }
 {
     let Some(window) = single(windows.as_slice()) else {
         return Ok(false);
@@ -116,7 +121,7 @@ fn tidy_single(alloc: Global, file: &mut File, windows: &mut Items<Window>) -> R
     Ok(true)
 }
 
-/// Tidies a file in which, at these windows, items came in the place of those of a tidy one: what came is tidied, window by window, and
+/// Tidies a BUILD file in which, at these windows, items came in the place of those of a tidy one: what came is tidied, window by window, and
 /// what is elsewhere is not touched, since it is tidy and stays where it is. A load that came alone is moved to its place. Other
 /// windows next to loads that are sorted with theirs become one, which holds these too. The windows are then where the file
 /// differs from the tidy one. The error: memory was refused; the file has no items then.
@@ -125,10 +130,11 @@ pub fn tidy_windows(
     file: &mut File,
     windows: &mut Items<Window>,
 ) -> Result<(), Memory>
-    requires { AreWithin windows.old file.old }
+    requires within { AreWithin windows.old file.old }
+    requires build { AreBuild file.old }
     ensures within { OnOk result (AreWithin windows.new file.new) }
-    ensures tidied { OnOk result ((before : List Item) → tidied_all before ≡ before → AreOver windows.old before file.old → file.new ≡ tidied_all file.old) }
-    ensures over { OnOk result ((before : List Item) → tidied_all before ≡ before → AreOver windows.old before file.old → AreOver windows.new before file.new) }
+    ensures tidied { OnOk result ((before : List Item) → AreBuild before → tidied_all before ≡ before → AreOver windows.old before file.old → file.new ≡ tidied_all file.old) }
+    ensures over { OnOk result ((before : List Item) → AreBuild before → tidied_all before ≡ before → AreOver windows.old before file.old → AreOver windows.new before file.new) }
 {
     if tidy_single(alloc, file, windows)? {
         return Ok(());

@@ -11,7 +11,7 @@ use Rattle.bz_grammar.specs.declared.kind.Kind.{Kind}
 use Rattle.bz_grammar.specs.declared.kind.Kind.TheVariants as k
 use Rattle.bz_grammar.specs.Kinds.{kind_number}
 use Rattle.bz_grammar.specs.Shapes as s
-use Rattle.bz_grammar.specs.Shapes.{has_token, is_one_of, is_kind}
+use Rattle.bz_grammar.specs.Shapes.{has_token, is_one_of}
 use Rattle.bz_grammar.specs.Spots.{Within, Role, plain, role, following_token}
 use Rattle.bz_value.specs.declared.value.Form.{Form}
 use Rattle.bz_value.specs.declared.value.Expr.{Expr, Token, Form', items-the_row-Expr}
@@ -19,6 +19,7 @@ use Rattle.bz_value.specs.declared.value.Expr.TheVariants as e
 use Rattle.bz_value.specs.Comments.{HostComments}
 use Rattle.bz_items.specs.Characters.{Bytes}
 use Rattle.bz_value.specs.Proper.{IsComment, AreComments, after_expr, has_break, ProperExpr}
+use Rattle.bz_value.specs.LineShapes.{Grammar}
 use Rattle.bz_value.specs.Roots.{root}
 use Rattle.bz_rule.specs.Rules.{is_text, text_in, value_after, value_named, attribute}
 use Rattle.bz_rule.specs.Values.{with_text, on_row, on_first, on_third}
@@ -52,85 +53,82 @@ after_equals (Form' kind s parts s' items end split open_break comments) h = abs
 value_spot : (x y : Expr) → has_token s.name (root x) ≡ true → has_token s.equals (root y) ≡ true → after_expr Within (after_expr Within Within x) y ≡ Within
 value_spot x y h i = ap (λ here. after_expr Within here y) (after_name x h) ∙ after_equals y i
 
--- ---- the value of a named argument
-
-abbrev Named : List Expr → List Expr → List Bytes → Bool → Bool → Type 0
-Named ps xs end split open_break = AsForm Within k.Named ps xs end split open_break
-
 never_true : (b : Bool) → (b ≡ true → false ≡ true) → b ≡ false
 never_true true h = sym (h refl)
 never_true false h = refl
 
-third_value : (end : List Bytes) (split open_break : Bool) (x y v : Expr) (xs : List Expr) → Named (x ∷ y ∷ v ∷ []) xs end split open_break → IsValue v
-third_value end split open_break x y v xs h =
-    let spot = value_spot x y h.0.0 h.0.1.0 in
-    let last = h.1.0.3.3 in
-    let unbroken : has_break v ≡ false = never_true (has_break v) (λ b. (last.2 b).0) in (
-      ((subst (λ here. ProperExpr here v) spot last.0, subst AreComments (sym last.1) (All-nil IsComment, tt), unbroken), h.0.1.1.0),
-      last.1,
-    )
+module _ (grammar : Grammar) where
+  -- ---- the value of a named argument
 
-value_of_row : (name : Bytes) (end : List Bytes) (split open_break : Bool) (ps xs : List Expr) → Named ps xs end split open_break → IfSome (value_after name ps) IsValue
-value_of_row name end split open_break [] xs h = tt
-value_of_row name end split open_break (x ∷ []) xs h = tt
-value_of_row name end split open_break (x ∷ y ∷ []) xs h = tt
-value_of_row name end split open_break (x ∷ y ∷ v ∷ []) xs h = by_test (λ (o : Option Expr). IfSome o IsValue) (is_text name (text_in c.Name x)) (Some v) None (third_value end split open_break x y v xs h) tt
-value_of_row name end split open_break (x ∷ y ∷ v ∷ w ∷ rest) xs h = tt
+  abbrev Named : List Expr → List Expr → List Bytes → Bool → Bool → Type 0
+  Named ps xs end split open_break = AsForm grammar Within k.Named ps xs end split open_break
 
-value_of_form : (name : Bytes) (kind : Kind) (end : List Bytes) (split open_break : Bool) (comments : HostComments) (ps xs : List Expr) → AsForm Within kind ps xs end split open_break
-    → IfSome (option_and_then (λ (argument : Form). value_after name argument.parts) (if nat_eq (kind_number kind) (kind_number k.Named) then Some (record { kind = kind; parts = ps; seq = record { items = xs; end = end; split = split }; open_break = open_break; comments = comments }) else None)) IsValue
-value_of_form name k.Named end split open_break comments ps xs h = value_of_row name end split open_break ps xs h
-value_of_form name _ end split open_break comments ps xs h = tt
+  third_value : (end : List Bytes) (split open_break : Bool) (x y v : Expr) (xs : List Expr) → Named (x ∷ y ∷ v ∷ []) xs end split open_break → IsValue grammar v
+  third_value end split open_break x y v xs h =
+      let spot = value_spot x y h.0.0 h.0.1.0 in
+      let last = h.1.0.3.3 in
+      let unbroken : has_break v ≡ false = never_true (has_break v) (λ b. (last.2 b).0) in (
+        ((subst (λ here. ProperExpr grammar here v) spot last.0, subst AreComments (sym last.1) (All-nil IsComment, tt), unbroken), h.0.1.1.0),
+        last.1,
+      )
 
-pub named_value : (name : Bytes) (x : Expr) → IsItem s.argument x → IfSome (value_named name x) IsValue
-named_value name (Token t) h = tt
-named_value name (Form' kind s parts s' items end split open_break comments) h =
-    value_of_form name kind end split open_break comments (items-the_row-Expr _ parts) (items-the_row-Expr _ items) (opened Within (Form' kind s parts s' items end split open_break comments) h.0.0)
+  value_of_row : (name : Bytes) (end : List Bytes) (split open_break : Bool) (ps xs : List Expr) → Named ps xs end split open_break → IfSome (value_after name ps) (IsValue grammar)
+  value_of_row name end split open_break [] xs h = tt
+  value_of_row name end split open_break (x ∷ []) xs h = tt
+  value_of_row name end split open_break (x ∷ y ∷ []) xs h = tt
+  value_of_row name end split open_break (x ∷ y ∷ v ∷ []) xs h = by_test (λ (o : Option Expr). IfSome o (IsValue grammar)) (is_text name (text_in c.Name x)) (Some v) None (third_value end split open_break x y v xs h) tt
+  value_of_row name end split open_break (x ∷ y ∷ v ∷ w ∷ rest) xs h = tt
 
-either_value : (a b : Option Expr) → IfSome a IsValue → IfSome b IsValue → IfSome (option_or a b) IsValue
-either_value None b h i = i
-either_value (Some x) b h i = h
+  value_of_form : (name : Bytes) (kind : Kind) (end : List Bytes) (split open_break : Bool) (comments : HostComments) (ps xs : List Expr) → AsForm grammar Within kind ps xs end split open_break
+      → IfSome (option_and_then (λ (argument : Form). value_after name argument.parts) (if nat_eq (kind_number kind) (kind_number k.Named) then Some (record { kind = kind; parts = ps; seq = record { items = xs; end = end; split = split }; open_break = open_break; comments = comments }) else None)) (IsValue grammar)
+  value_of_form name k.Named end split open_break comments ps xs h = value_of_row name end split open_break ps xs h
+  value_of_form name _ end split open_break comments ps xs h = tt
 
-pub attribute_value : (name : Bytes) (xs : List Expr) → AreOf s.argument xs → IfSome (attribute name xs) IsValue
-attribute_value name [] h = tt
-attribute_value name (x ∷ xs) h = either_value (value_named name x) (attribute name xs) (named_value name x h.0) (attribute_value name xs h.1)
+  pub named_value : (name : Bytes) (x : Expr) → IsItem grammar s.argument x → IfSome (value_named name x) (IsValue grammar)
+  named_value name (Token t) h = tt
+  named_value name (Form' kind s parts s' items end split open_break comments) h =
+      value_of_form name kind end split open_break comments (items-the_row-Expr _ parts) (items-the_row-Expr _ items) (opened grammar Within (Form' kind s parts s' items end split open_break comments) h.0.0)
 
--- ---- named arguments with another value, and with another name
+  either_value : (a b : Option Expr) → IfSome a (IsValue grammar) → IfSome b (IsValue grammar) → IfSome (option_or a b) (IsValue grammar)
+  either_value None b h i = i
+  either_value (Some x) b h i = h
 
-pub value_kept : (change : Expr → Expr) → ((v : Expr) → IsValue v → IsValue (change v)) → KeepsRow k.Named (on_third change)
-value_kept change f end split open_break [] xs h = absurd h.0
-value_kept change f end split open_break (x ∷ []) xs h = absurd h.0.1
-value_kept change f end split open_break (x ∷ y ∷ []) xs h = absurd h.0.1.1
-value_kept change f end split open_break (x ∷ y ∷ v ∷ []) xs h =
-    let spot = value_spot x y h.0.0 h.0.1.0 in
-    let new = f v (third_value end split open_break x y v xs h) in
-    let g = h.1.0 in (
-      (h.0.0, (h.0.1.0, (new.0.1, tt))),
-      (
-        (g.0, g.1, g.2, (g.3.0, g.3.1, g.3.2, (subst (λ here. ProperExpr here (change v)) (sym spot) new.0.0.0, new.1, λ b. absurd (true≢false (sym b ∙ new.0.0.2)), tt))),
-        h.1.1,
-        h.1.2,
-        h.1.3,
-        h.1.4,
-      ),
-    )
-value_kept change f end split open_break (x ∷ y ∷ v ∷ w ∷ rest) xs h = absurd h.0.1.1.1
+  pub attribute_value : (name : Bytes) (xs : List Expr) → AreOf grammar s.argument xs → IfSome (attribute name xs) (IsValue grammar)
+  attribute_value name [] h = tt
+  attribute_value name (x ∷ xs) h = either_value (value_named name x) (attribute name xs) (named_value name x h.0) (attribute_value name xs h.1)
 
-module _ (to : Bytes) (lexeme : IsLexeme c.Name to) (coded : IsUtf8 to) where
-  renamed : (class : Class) (text : Bytes) (line_break : Bool) (comments : HostComments) (end : List Bytes) (split open_break : Bool) (rest xs : List Expr)
-      → Named (e.Token (record { class = class; text = text; line_break = line_break; comments = comments }) ∷ rest) xs end split open_break
-      → Named (e.Token (record { class = class; text = to; line_break = line_break; comments = comments }) ∷ rest) xs end split open_break
-  renamed c.Name text line_break comments end split open_break rest xs h = ((refl, h.0.1), (((lexeme, coded), h.1.0.1, h.1.0.2, h.1.0.3), h.1.1, h.1.2, h.1.3, h.1.4))
-  renamed _ text line_break comments end split open_break rest xs h = absurd (true≢false (sym h.0.0))
+  -- ---- named arguments with another value, and with another name
 
-  pub name_kept : KeepsRow k.Named (on_first (with_text to))
-  name_kept end split open_break [] xs h = absurd h.0
-  name_kept end split open_break (Token t ∷ rest) xs h = renamed t.class t.text t.line_break t.comments end split open_break rest xs h
-  name_kept end split open_break (Form' kind s parts s' items e o c n ∷ rest) xs h = absurd (true≢false (sym h.0.0))
+  pub value_kept : (change : Expr → Expr) → ((v : Expr) → IsValue grammar v → IsValue grammar (change v)) → KeepsRow grammar k.Named (on_third change)
+  value_kept change f end split open_break [] xs h = absurd h.0
+  value_kept change f end split open_break (x ∷ []) xs h = absurd h.0.1
+  value_kept change f end split open_break (x ∷ y ∷ []) xs h = absurd h.0.1.1
+  value_kept change f end split open_break (x ∷ y ∷ v ∷ []) xs h =
+      let spot = value_spot x y h.0.0 h.0.1.0 in
+      let new = f v (third_value end split open_break x y v xs h) in
+      let g = h.1.0 in (
+        (h.0.0, (h.0.1.0, (new.0.1, tt))),
+        (
+          (g.0, g.1, g.2, (g.3.0, g.3.1, g.3.2, (subst (λ here. ProperExpr grammar here (change v)) (sym spot) new.0.0.0, new.1, λ b. absurd (true≢false (sym b ∙ new.0.0.2)), tt))),
+          h.1.1,
+          h.1.2,
+          h.1.3,
+          h.1.4,
+        ),
+      )
+  value_kept change f end split open_break (x ∷ y ∷ v ∷ w ∷ rest) xs h = absurd h.0.1.1.1
 
-only_named : (change : List Expr → List Expr) → KeepsRow k.Named change → (kind : Kind) → is_kind kind k.Named ≡ true → KeepsRow kind change
-only_named change keeps k.Named is = keeps
-only_named change keeps _ is = absurd (true≢false (sym is))
+  module _ (to : Bytes) (lexeme : IsLexeme c.Name to) (coded : IsUtf8 to) where
+    renamed : (class : Class) (text : Bytes) (line_break : Bool) (comments : HostComments) (end : List Bytes) (split open_break : Bool) (rest xs : List Expr)
+        → Named (e.Token (record { class = class; text = text; line_break = line_break; comments = comments }) ∷ rest) xs end split open_break
+        → Named (e.Token (record { class = class; text = to; line_break = line_break; comments = comments }) ∷ rest) xs end split open_break
+    renamed c.Name text line_break comments end split open_break rest xs h = ((refl, h.0.1), (((lexeme, coded), h.1.0.1, h.1.0.2, h.1.0.3), h.1.1, h.1.2, h.1.3, h.1.4))
+    renamed _ text line_break comments end split open_break rest xs h = absurd (true≢false (sym h.0.0))
 
-pub argument_changed : (change : List Expr → List Expr) → KeepsRow k.Named change → (x : Expr) → IsItem s.argument x → IsItem s.argument (on_row k.Named change x)
-argument_changed change keeps x = item_within s.argument x (on_row k.Named change x) (row_within k.Named change (only_named change keeps) x)
+    pub name_kept : KeepsRow grammar k.Named (on_first (with_text to))
+    name_kept end split open_break [] xs h = absurd h.0
+    name_kept end split open_break (Token t ∷ rest) xs h = renamed t.class t.text t.line_break t.comments end split open_break rest xs h
+    name_kept end split open_break (Form' kind s parts s' items e o c n ∷ rest) xs h = absurd (true≢false (sym h.0.0))
+
+  pub argument_changed : (change : List Expr → List Expr) → KeepsRow grammar k.Named change → (x : Expr) → IsItem grammar s.argument x → IsItem grammar s.argument (on_row k.Named change x)
+  argument_changed change keeps x = item_within grammar s.argument x (on_row k.Named change x) (row_within grammar k.Named refl change keeps x)

@@ -1,80 +1,82 @@
 -- What may be in the place of an item, which is within brackets, and what values of attributes are.
 use Rattle.std.proofs.Common.{Bool, true, false, ◌≡◌, List, [], ◌∷◌, ◌++◌, refl, sym, ◌∙◌, subst, map}
-use Rattle.std.specs.Prelude.{if◌then◌else◌}
+use Rattle.std.proofs.lemmas.Bool.{eqb-true}
 use Rattle.std.specs.List.{AllByRecursion, filter}
 use Rattle.bz_grammar.specs.declared.kind.Kind.{Kind}
+use Rattle.bz_grammar.proofs.Numbers.{same_kind}
 use Rattle.bz_grammar.specs.Shapes as s
-use Rattle.bz_grammar.specs.Shapes.{Nonterminal, has_nonterminal, is_kind}
+use Rattle.bz_grammar.specs.Shapes.{Nonterminal, has_nonterminal}
 use Rattle.bz_grammar.specs.Spots.{Within}
 use Rattle.bz_value.specs.declared.value.Expr.{Expr, Token, Form', items-the_row-Expr}
 use Rattle.bz_value.specs.Comments.{no_comments}
 use Rattle.bz_items.specs.Characters.{Bytes}
 use Rattle.bz_value.specs.Proper.{AreComments, comments_of, has_break, ProperExpr}
+use Rattle.bz_value.specs.Frames.{frame, is_compound}
+use Rattle.bz_value.specs.LineShapes.{Grammar}
 use Rattle.bz_value.specs.Roots.{root}
-use Rattle.bz_value.proofs.FormParts.{form_proper}
 use Rattle.bz_rule.specs.Values.{has_kind, parts_of, items_of, with_parts, on_row}
-use Rattle.bz_rule.proofs.ProperChanges.{by_test}
-use Rattle.bz_rule.proofs.ProperForms.{InPlace, AsForm, AsFormWith, opened, with_lists}
+use Rattle.bz_rule.proofs.ProperChanges.{by_case, by_test}
+use Rattle.bz_rule.proofs.ProperForms.{InPlace, AsForm, AsFormWith, IsPlain, form_with, kind_plain, with_lists}
 use Rattle.bz_rule.proofs.ProperSequences.{IsItem}
 
--- ---- within brackets
+module _ (grammar : Grammar) where
+  -- ---- within brackets
 
--- What may be wherever an expression is within brackets: as `InPlace`, at that spot alone.
-pub record WithinPlace (x y : Expr) : Type 0 where
-  pub proper : ProperExpr Within x → ProperExpr Within y
-  pub nonterminal : (q : Nonterminal) → has_nonterminal q (root x) ≡ has_nonterminal q (root y)
-  pub comments : comments_of x ≡ comments_of y
-  pub breaks : has_break x ≡ has_break y
+  -- What may be wherever an expression is within brackets: as `InPlace`, at that spot alone.
+  pub record WithinPlace (x y : Expr) : Type 0 where
+    pub proper : ProperExpr grammar Within x → ProperExpr grammar Within y
+    pub nonterminal : (q : Nonterminal) → has_nonterminal q (root x) ≡ has_nonterminal q (root y)
+    pub comments : comments_of x ≡ comments_of y
+    pub breaks : has_break x ≡ has_break y
 
-pub within_itself : (x : Expr) → WithinPlace x x
-within_itself x = record { proper = λ h. h; nonterminal = λ q. refl; comments = refl; breaks = refl }
+  pub within_itself : (x : Expr) → WithinPlace x x
+  within_itself x = record { proper = λ h. h; nonterminal = λ q. refl; comments = refl; breaks = refl }
 
-pub from_in_place : (x y : Expr) → InPlace x y → WithinPlace x y
-from_in_place x y r = record { proper = r.proper Within; nonterminal = r.roots.nonterminal; comments = r.comments; breaks = r.breaks }
+  pub from_in_place : (x y : Expr) → InPlace grammar x y → WithinPlace x y
+  from_in_place x y r = record { proper = r.proper Within; nonterminal = r.roots.nonterminal; comments = r.comments; breaks = r.breaks }
 
-pub form_within : (ps xs : List Expr) (x : Expr) → (AsFormWith Within (parts_of x) (items_of x) x → AsFormWith Within ps xs x) → WithinPlace x (with_lists ps xs x)
-form_within ps xs (Token t) h = within_itself (Token t)
-form_within ps xs (Form' kind s parts s' items end split open_break comments) h = record {
-  proper = λ k.
-      let g = h (opened Within (Form' kind s parts s' items end split open_break comments) k) in
-      form_proper Within (record { kind = kind; parts = ps; seq = record { items = xs; end = end; split = split }; open_break = open_break; comments = comments }) g.0 g.1;
-  nonterminal = λ q. refl;
-  comments = refl;
-  breaks = refl;
-}
+  pub form_within : (ps xs : List Expr) (x : Expr) → IsPlain grammar x → (AsFormWith grammar Within (parts_of x) (items_of x) x → AsFormWith grammar Within ps xs x) → WithinPlace x (with_lists ps xs x)
+  form_within ps xs (Token t) plain h = within_itself (Token t)
+  form_within ps xs (Form' kind s parts s' items end split open_break comments) plain h = record {
+    proper = λ w. form_with grammar Within ps xs (Form' kind s parts s' items end split open_break comments) plain h w;
+    nonterminal = λ q. refl;
+    comments = refl;
+    breaks = refl;
+  }
 
--- a change of rows that keeps forms of a kind proper within brackets
-abbrev pub KeepsRow : Kind → (List Expr → List Expr) → Type 0
-KeepsRow kind change = (end : List Bytes) (split open_break : Bool) (ps xs : List Expr) → AsForm Within kind ps xs end split open_break → AsForm Within kind (change ps) xs end split open_break
+  -- a change of rows that keeps forms of a kind proper within brackets
+  abbrev pub KeepsRow : Kind → (List Expr → List Expr) → Type 0
+  KeepsRow kind change = (end : List Bytes) (split open_break : Bool) (ps xs : List Expr) → AsForm grammar Within kind ps xs end split open_break → AsForm grammar Within kind (change ps) xs end split open_break
 
-module _ (own : Kind) (change : List Expr → List Expr) (keeps : (kind : Kind) → is_kind kind own ≡ true → KeepsRow kind change) where
-  changed_row : (x : Expr) → has_kind own x ≡ true → WithinPlace x (with_parts (change (parts_of x)) x)
-  changed_row (Token t) is = within_itself (Token t)
-  changed_row (Form' kind s parts s' items end split open_break comments) is =
-      form_within (change (items-the_row-Expr _ parts)) (items-the_row-Expr _ items) (Form' kind s parts s' items end split open_break comments)
-      (λ h. keeps kind is end split open_break (items-the_row-Expr _ parts) (items-the_row-Expr _ items) h)
+  module _ (own : Kind) (plain : is_compound (frame own) ≡ false) (change : List Expr → List Expr) (keeps : KeepsRow own change) where
+    changed_row : (x : Expr) → has_kind own x ≡ true → WithinPlace x (with_parts (change (parts_of x)) x)
+    changed_row (Token t) is = within_itself (Token t)
+    changed_row (Form' kind s parts s' items end split open_break comments) is =
+        let x : Expr = Form' kind s parts s' items end split open_break comments in
+        let ps : List Expr = items-the_row-Expr _ parts in
+        let xs : List Expr = items-the_row-Expr _ items in
+        let same : kind ≡ own = same_kind kind own (eqb-true _ _ is) in
+        form_within (change ps) xs x (λ here h. kind_plain own plain x is)
+        (λ h. subst (λ (by : Kind). AsForm grammar Within by (change ps) xs end split open_break) (sym same)
+        (keeps end split open_break ps xs (subst (λ (by : Kind). AsForm grammar Within by ps xs end split open_break) same h)))
 
-  pub row_within : (x : Expr) → WithinPlace x (on_row own change x)
-  row_within x = row_if (has_kind own x) (changed_row x)
-    where
-      row_if : (b : Bool) → (b ≡ true → WithinPlace x (with_parts (change (parts_of x)) x)) → WithinPlace x (if b then with_parts (change (parts_of x)) x else x)
-      row_if true h = h refl
-      row_if false h = within_itself x
+    pub row_within : (x : Expr) → WithinPlace x (on_row own change x)
+    row_within x = by_case (WithinPlace x) (has_kind own x) (with_parts (change (parts_of x)) x) x (changed_row x) (λ is. within_itself x)
 
--- ---- items and values
+  -- ---- items and values
 
-pub item_within : (q : Nonterminal) (x y : Expr) → WithinPlace x y → IsItem q x → IsItem q y
-item_within q x y r h = ((r.proper h.0.0, subst AreComments r.comments h.0.1, sym r.breaks ∙ h.0.2), sym (r.nonterminal q) ∙ h.1)
+  pub item_within : (q : Nonterminal) (x y : Expr) → WithinPlace x y → IsItem grammar q x → IsItem grammar q y
+  item_within q x y r h = ((r.proper h.0.0, subst AreComments r.comments h.0.1, sym r.breaks ∙ h.0.2), sym (r.nonterminal q) ∙ h.1)
 
--- the value of an attribute: as an item of a list is, without comments
-abbrev pub IsValue : Expr → Type 0
-IsValue x = IsItem s.test x × (comments_of x ≡ no_comments)
+  -- the value of an attribute: as an item of a list is, without comments
+  abbrev pub IsValue : Expr → Type 0
+  IsValue x = IsItem grammar s.test x × (comments_of x ≡ no_comments)
 
-pub value_within : (x y : Expr) → WithinPlace x y → IsValue x → IsValue y
-value_within x y r h = (item_within s.test x y r h.0, sym r.comments ∙ h.1)
+  pub value_within : (x y : Expr) → WithinPlace x y → IsValue x → IsValue y
+  value_within x y r h = (item_within s.test x y r h.0, sym r.comments ∙ h.1)
 
-pub value_in_place : (x y : Expr) → InPlace x y → IsValue x → IsValue y
-value_in_place x y r = value_within x y (from_in_place x y r)
+  pub value_in_place : (x y : Expr) → InPlace grammar x y → IsValue x → IsValue y
+  value_in_place x y r = value_within x y (from_in_place x y r)
 
 -- ---- lists of which all elements are something
 

@@ -8,10 +8,11 @@ use Rattle.bz_grammar.specs.declared.kind.Kind.TheVariants as k
 use Rattle.bz_grammar.specs.declared.tree.Part.{Part}
 use Rattle.bz_grammar.specs.declared.tree.Part.TheVariants as p
 use Rattle.bz_grammar.specs.Shapes as s
-use Rattle.bz_grammar.specs.Shapes.{Nonterminal, Terminal, Shape, Fits, Listed, After, Several, shape, has_token, has_nonterminal, is_one_of, is_terminal, is_class}
+use Rattle.bz_grammar.specs.Shapes.{Nonterminal, Terminal, Shape, Fits, Listed, After, Several, has_token, has_nonterminal, is_one_of, is_terminal, is_class}
 use Rattle.bz_grammar.specs.Legal.{IsNonterminal}
 use Rattle.bz_items.specs.Characters.{comma}
 use Rattle.bz_value.specs.Frames.{Frame, row, sequence, compound}
+use Rattle.bz_value.specs.LineShapes.{Grammar, build_grammar, whole_grammar, value_shape}
 use Rattle.bz_value.specs.Roots.{mark_leaf, each_with_comma, row_in}
 
 -- ---- which tokens a shape names by their texts
@@ -35,9 +36,11 @@ textless (s.list nonterminal separators last then_) = are_textless separators &&
 textless (s.each nonterminal then_) = textless then_
 textless (s.times group then_) = false
 
-pub kind_textless : (kind : Kind) → textless (shape kind) ≡ true
-kind_textless k.File = refl
-kind_textless _ = refl
+kind_textless : (grammar : Grammar) (kind : Kind) → textless (value_shape grammar kind) ≡ true
+kind_textless build_grammar k.File = refl
+kind_textless build_grammar _ = refl
+kind_textless whole_grammar k.File = refl
+kind_textless whole_grammar _ = refl
 
 -- ---- parts alike to all such tokens, and to all sorts
 
@@ -133,5 +136,5 @@ row_alike (sequence opener closer) xs ys us vs h i = after_parts xs ys _ _ h (mo
 row_alike compound xs ys us vs h i = over
 
 -- What is alike to the parts and items of a node fits its shape too.
-pub kind_alike : (kind : Kind) (f : Frame) (xs ys us vs : List Part) → Alike xs ys → Alike us vs → Fits IsNonterminal (shape kind) (row_in f xs us) → Fits IsNonterminal (shape kind) (row_in f ys vs)
-kind_alike kind f xs ys us vs h i = fits_alike (shape kind) (kind_textless kind) (row_in f xs us) (row_in f ys vs) (row_alike f xs ys us vs h i)
+pub kind_alike : (grammar : Grammar) (kind : Kind) (f : Frame) (xs ys us vs : List Part) → Alike xs ys → Alike us vs → Fits IsNonterminal (value_shape grammar kind) (row_in f xs us) → Fits IsNonterminal (value_shape grammar kind) (row_in f ys vs)
+kind_alike grammar kind f xs ys us vs h i = fits_alike (value_shape grammar kind) (kind_textless grammar kind) (row_in f xs us) (row_in f ys vs) (row_alike f xs ys us vs h i)

@@ -3,9 +3,7 @@ use Rattle.std.proofs.Common.{◌≡◌, Bool, true, false, not, ◌&&◌, List,
 use Rattle.std.specs.List.{All}
 use mathlib.Core.Former.{Count}
 use Rattle.bz_grammar.specs.declared.kind.Kind.{Kind}
-use Rattle.bz_grammar.specs.declared.kind.Kind.TheVariants as k
-use Rattle.bz_grammar.specs.declared.tree.Part.{Part}
-use Rattle.bz_grammar.specs.Shapes.{Shape, Fits, shape}
+use Rattle.bz_grammar.specs.Shapes.{Shape, Fits}
 use Rattle.bz_grammar.specs.Legal.{IsNonterminal}
 use Rattle.bz_grammar.specs.Spots.{Spot, Begins, Within}
 use Rattle.bz_value.specs.declared.value.Form.{Form}
@@ -15,7 +13,7 @@ use Rattle.bz_value.specs.Comments.{no_comments}
 use Rattle.bz_value.specs.Empty.{is_empty}
 use Rattle.bz_value.specs.Frames.{Frame, row, sequence, compound, frame, is_binary, is_comprehension}
 use Rattle.bz_value.specs.Roots.{root, row_in}
-use Rattle.bz_value.specs.Proper.{IsComment, AreComments, comments_of, has_break, is_operator, begins_operator, after_expr, roots, IsEmptyRow, IsSomeRow, IsBare, in_frame, ProperExpr, ProperBy, ProperRowBy, ProperHeadBy, ProperItemsBy, ProperHeaderBy, ProperLinesBy}
+use Rattle.bz_value.specs.Proper.{IsComment, AreComments, comments_of, has_break, is_operator, begins_operator, after_expr, roots, IsEmptyRow, IsSomeRow, IsBare, in_frame, ProperBy, ProperRowBy, ProperHeadBy, ProperItemsBy, ProperHeaderBy, ProperLinesBy}
 use Rattle.bz_value.specs.Statements.{has_header_kind, is_alternative, is_whole_statement, alternatives_fit}
 
 -- ---- the definition's conditions on rows, of lists
@@ -136,28 +134,3 @@ module _ (grammar : Kind → Shape) where
             (λ g. (header_of ps.0 ps.1 (subst AreHeaderBy (sym parts) g.0), some_of qs.0 qs.1 (subst (λ z. is_empty z ≡ false) (sym items) g.1), lines_of is_whole_statement qs.0 qs.1 (subst (AreLinesBy is_whole_statement) (sym items) g.2), g.3, g.4, g.5))
             i,
       )
-
--- ---- by the grammar of BUILD files
-
-abbrev pub AreParts : Bool → Spot → Spot → List Expr → Type 0
-AreParts binary outer here xs = ArePartsBy shape binary outer here xs
-
-abbrev pub AreHead : Spot → List Expr → Type 0
-AreHead here xs = AreHeadBy shape here xs
-
-abbrev pub AreItems : List Expr → Type 0
-AreItems xs = AreItemsBy shape xs
-
-abbrev pub AsRow : Spot → Form → Type 0
-AsRow here f = AsRowBy shape here f
-
-abbrev pub AsSequence : Spot → Form → Type 0
-AsSequence here f = AsSequenceBy shape here f
-
-pub form_proper : (here : Spot) (f : Form) → Fits IsNonterminal (shape f.kind) (row_in (frame f.kind) (map root f.parts) (map root f.seq.items)) → in_frame (frame f.kind) (AsRow here f) (AsSequence here f) ⊥ → ProperExpr here (e.Form f)
-form_proper here f h i = form_proper_by shape here f h (framed (frame f.kind) (λ g. g) (λ g. g) (λ g. absurd g) i)
-
--- a suite has none of the shapes of BUILD files
-pub no_suite : (kind : Kind) (xs ys : List Part) (A B C : Type 0) → Fits IsNonterminal (shape kind) (row_in (frame kind) xs ys) → in_frame (frame kind) A B C → in_frame (frame kind) A B ⊥
-no_suite k.Suite xs ys A B C h i = absurd h
-no_suite _ xs ys A B C h i = i

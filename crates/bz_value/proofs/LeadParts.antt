@@ -11,7 +11,7 @@ use Rattle.bz_grammar.specs.Legal.{IsNonterminal}
 use Rattle.bz_value.specs.Frames.{frame, lead}
 use Rattle.bz_value.specs.Proper.{in_frame}
 use Rattle.bz_value.specs.Roots.{mark_leaf, each_with_comma, row_in}
-use Rattle.bz_value.specs.LineShapes.{value_shape}
+use Rattle.bz_value.specs.LineShapes.{whole_shape}
 
 abbrev pub lacks_mark : ℕ → List Terminal → Bool
 lacks_mark o terminals = not (has_token terminals (mark_leaf o))
@@ -95,7 +95,7 @@ module _ (o : ℕ) (ys : List Part) where
 abbrev closed : List Part → ℕ → List Part
 closed ys closer = each_with_comma ys ++ mark_leaf closer ∷ []
 
-pub lead_before : (kind : Kind) (xs ys : List Part) → Fits IsNonterminal (value_shape kind) (row_in (frame kind) xs ys) → in_frame (frame kind) (Unit {0}) (length xs ≡ lead kind) (Unit {0})
+pub lead_before : (kind : Kind) (xs ys : List Part) → Fits IsNonterminal (whole_shape kind) (row_in (frame kind) xs ys) → in_frame (frame kind) (Unit {0}) (length xs ≡ lead kind) (Unit {0})
 lead_before k.Call xs ys h = one_before 40 _ s.primary s.open_round (s.items s.argument s.close_round) refl xs h
 lead_before k.Load xs ys h =
     let then_ : Shape = s.tok s.string (s.alt (s.tok s.close_round s.done) (s.tok s.comma_mark (s.items s.loaded s.close_round))) in

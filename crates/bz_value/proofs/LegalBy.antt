@@ -1,16 +1,14 @@
 -- Parts that are legal by a grammar: every node has the shape that the grammar gives its kind.
-use Rattle.std.proofs.Common.{List, [], ◌∷◌, sym, subst}
+use Rattle.std.proofs.Common.{List, sym, subst}
 use Rattle.std.specs.List.{AllByRecursion}
 use Rattle.bz_grammar.specs.declared.kind.Kind.{Kind}
 use Rattle.bz_grammar.specs.declared.kind.Kind.TheVariants as k
 use Rattle.bz_grammar.specs.declared.tree.Node.{Node}
 use Rattle.bz_grammar.specs.declared.tree.Part.{Part, Row_of-Part, end_of-Part, more_of-Part, Node', items-the_row-Part}
 use Rattle.bz_grammar.specs.declared.tree.Part.TheVariants as p
-use Rattle.bz_grammar.specs.Shapes.{Shape, Fits, shape, bzl_shape}
-use Rattle.bz_grammar.specs.Legal.{IsNonterminal, LegalPart, LegalRow, IsBuildPart, IsBuildRow}
+use Rattle.bz_grammar.specs.Shapes.{Shape, Fits, bzl_shape}
+use Rattle.bz_grammar.specs.Legal.{IsNonterminal, LegalPart, LegalRow}
 use Rattle.bz_grammar.proofs.Nested.{row_of, items_of_row}
-use Rattle.bz_grammar.proofs.Newer.{row_build}
-use Rattle.bz_grammar.proofs.Build.{wide_fits, old_kind, narrow_fits}
 use Rattle.bz_value.specs.LineShapes.{line_shape}
 use Rattle.bz_value.proofs.Wider.{IsWider}
 
@@ -47,32 +45,7 @@ module _ (narrow wide : Kind → Shape) (wider : IsWider narrow wide) where
     wider_parts m end_of-Part h = tt
     wider_parts m (more_of-Part x rest) h = (wider_part x h.0, wider_parts _ rest h.1)
 
--- ---- BUILD files
-
--- what has the shape of its kind in the grammar of BUILD files has it in the whole grammar, and is of a BUILD file; and the other way
-mutual
-  pub as_build : (x : Part) → LegalBy shape x → LegalPart x × IsBuildPart x
-  as_build (p.Leaf l) h = (tt, tt)
-  as_build (Node' kind size row) h = let w = as_build_row _ row h.1 in ((wide_fits kind _ h.0, w.0), (old_kind kind _ h.0, w.1))
-
-  as_build_row : (m : _) (r : Row_of-Part m) → LegalRowBy shape r → LegalRow r × IsBuildRow r
-  as_build_row m end_of-Part h = (tt, tt)
-  as_build_row m (more_of-Part x rest) h = let a = as_build x h.0 in let b = as_build_row _ rest h.1 in ((a.0, b.0), (a.1, b.1))
-
-mutual
-  of_build : (x : Part) → LegalPart x → IsBuildPart x → LegalBy shape x
-  of_build (p.Leaf l) h b = tt
-  of_build (Node' kind size row) h b = (narrow_fits kind (items-the_row-Part _ row) b.0 (row_build _ row b.1) h.0, of_build_row _ row h.1 b.1)
-
-  of_build_row : (m : _) (r : Row_of-Part m) → LegalRow r → IsBuildRow r → LegalRowBy shape r
-  of_build_row m end_of-Part h b = tt
-  of_build_row m (more_of-Part x rest) h b = (of_build x h.0 b.0, of_build_row _ rest h.1 b.1)
-
-pub all_of_build : (xs : List Part) → AllByRecursion LegalPart xs → AllByRecursion IsBuildPart xs → AllByRecursion (LegalBy shape) xs
-all_of_build [] h b = tt
-all_of_build (x ∷ xs) h b = (of_build x h.0 b.0, all_of_build xs h.1 b.1)
-
--- ---- .bzl files
+-- ---- lines
 
 bzl_wider : (kind : Kind) (xs : List Part) → Fits IsNonterminal (line_shape kind) xs → Fits IsNonterminal (bzl_shape kind) xs
 bzl_wider k.Def xs h = absurd h

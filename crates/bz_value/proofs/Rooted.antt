@@ -10,7 +10,7 @@ use Rattle.bz_grammar.specs.Legal.{IsNonterminal}
 use Rattle.bz_items.specs.Characters.{comma}
 use Rattle.bz_value.specs.Frames.{Frame, row, sequence, compound, frame, lead}
 use Rattle.bz_value.specs.Roots.{mark_leaf, each_with_comma, row_in}
-use Rattle.bz_value.specs.LineShapes.{value_shape}
+use Rattle.bz_value.specs.LineShapes.{whole_shape}
 
 pub record SameRoot (x y : Part) : Type 0 where
   pub token : (ts : List Terminal) → has_token ts x ≡ has_token ts y
@@ -172,14 +172,14 @@ dict_fits : (ps : List Part) → Fits IsNonterminal (shape k.Dict) ps → Fits I
 dict_fits [] h = absurd h
 dict_fits (y ∷ ps) h = (refl, items_closed s.close_curly (mark_leaf 125) refl s.entry ps h.1)
 
-def_fits : (ps : List Part) → Fits IsNonterminal (value_shape k.Def) ps → Fits IsNonterminal (value_shape k.Def) (row_in (frame k.Def) (kept_parts (frame k.Def) k.Def ps) (kept_items (frame k.Def) k.Def ps))
+def_fits : (ps : List Part) → Fits IsNonterminal (whole_shape k.Def) ps → Fits IsNonterminal (whole_shape k.Def) (row_in (frame k.Def) (kept_parts (frame k.Def) k.Def ps) (kept_items (frame k.Def) k.Def ps))
 def_fits [] h = absurd h
 def_fits (w ∷ []) h = absurd h.1
 def_fits (w ∷ x ∷ []) h = absurd h.1.1
 def_fits (w ∷ x ∷ y ∷ ps) h = (h.0, (h.1.0, (refl, items_closed s.close_round (mark_leaf 41) refl s.param ps h.1.1.1)))
 
 -- What a form keeps of a node's parts has the shape of its kind again, with brackets and commas put back.
-pub value_fits : (kind : Kind) (ps : List Part) → Fits IsNonterminal (value_shape kind) ps → Fits IsNonterminal (value_shape kind) (row_in (frame kind) (kept_parts (frame kind) kind ps) (kept_items (frame kind) kind ps))
+pub value_fits : (kind : Kind) (ps : List Part) → Fits IsNonterminal (whole_shape kind) ps → Fits IsNonterminal (whole_shape kind) (row_in (frame kind) (kept_parts (frame kind) kind ps) (kept_items (frame kind) kind ps))
 value_fits k.Call ps h = call_fits ps h
 value_fits k.Load ps h = load_fits ps h
 value_fits k.Tuple ps h = tuple_fits ps h
@@ -188,14 +188,3 @@ value_fits k.Dict ps h = dict_fits ps h
 value_fits k.Def ps h = def_fits ps h
 value_fits k.Suite ps h = tt
 value_fits _ ps h = h
-
--- the same by the grammar of BUILD files
-pub kind_fits : (kind : Kind) (ps : List Part) → Fits IsNonterminal (shape kind) ps → Fits IsNonterminal (shape kind) (row_in (frame kind) (kept_parts (frame kind) kind ps) (kept_items (frame kind) kind ps))
-kind_fits k.Def ps h = absurd h
-kind_fits k.Suite ps h = absurd h
-kind_fits k.Call ps h = call_fits ps h
-kind_fits k.Load ps h = load_fits ps h
-kind_fits k.Tuple ps h = tuple_fits ps h
-kind_fits k.List ps h = list_fits ps h
-kind_fits k.Dict ps h = dict_fits ps h
-kind_fits _ ps h = h

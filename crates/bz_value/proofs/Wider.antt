@@ -1,20 +1,16 @@
--- What is proper by a grammar is proper by a wider one; that of the lines of .bzl files is wider than that of BUILD files,
--- and that of values than that of lines.
-use Rattle.std.proofs.Common.{Bool, List, [], ◌∷◌, inl, inr}
-use Rattle.std.proofs.lemmas.Bool.{or_left}
+-- What is proper by a grammar is proper by a wider one; that of values is wider than that of lines.
+use Rattle.std.proofs.Common.{Bool, List}
 use Rattle.bz_grammar.specs.declared.kind.Kind.{Kind}
 use Rattle.bz_grammar.specs.declared.kind.Kind.TheVariants as k
-use Rattle.bz_grammar.specs.declared.tree.Part.{Part, Node'}
-use Rattle.bz_grammar.specs.declared.tree.Part.TheVariants as p
-use Rattle.bz_grammar.specs.Shapes as s
-use Rattle.bz_grammar.specs.Shapes.{Shape, Fits, shape}
+use Rattle.bz_grammar.specs.declared.tree.Part.{Part}
+use Rattle.bz_grammar.specs.Shapes.{Shape, Fits}
 use Rattle.bz_grammar.specs.Legal.{IsNonterminal}
 use Rattle.bz_grammar.specs.Spots.{Spot, Begins, Within}
 use Rattle.bz_value.specs.declared.value.Expr.{Expr, Token, Form', Row_of-Expr, end_of-Expr, more_of-Expr}
 use Rattle.bz_value.specs.Frames.{frame, is_binary}
 use Rattle.bz_value.specs.Proper.{after_expr, ProperBy, ProperRowBy, ProperHeadBy, ProperItemsBy, ProperHeaderBy, ProperLinesBy}
 use Rattle.bz_value.specs.Statements.{is_alternative, is_whole_statement}
-use Rattle.bz_value.specs.LineShapes.{line_shape, value_shape}
+use Rattle.bz_value.specs.LineShapes.{line_shape, whole_shape}
 use Rattle.bz_value.proofs.FormParts.{framed}
 
 -- what has the shape of a kind by the one grammar has it by the other
@@ -54,38 +50,9 @@ module _ (narrow wide : Kind → Shape) (wider : IsWider narrow wide) where
     wider_lines test m end_of-Expr h = tt
     wider_lines test m (more_of-Expr x rest) h = (h.0, wider_expr Begins x h.1, h.2, wider_lines test _ rest h.3)
 
--- what is a Line is a statement
-line_statement : (x : Part) → IsNonterminal s.line x → IsNonterminal s.stmt x
-line_statement (p.Leaf l) h = h
-line_statement (Node' kind size row) h = or_left (s.is_kind kind k.Line) _ h
-
-file_wider : (xs : List Part) → Fits IsNonterminal (shape k.File) xs → Fits IsNonterminal (line_shape k.File) xs
-file_wider [] h = h
-file_wider (x ∷ xs) (inl h) = inl h
-file_wider (x ∷ xs) (inr h) = inr (line_statement x h.0, file_wider xs h.1)
-
-pub lines_wider : IsWider shape line_shape
-lines_wider k.File xs h = file_wider xs h
-lines_wider k.Def xs h = h
-lines_wider k.Param xs h = absurd h
-lines_wider k.IfStmt xs h = h
-lines_wider k.ForStmt xs h = h
-lines_wider k.Suite xs h = h
-lines_wider k.Return xs h = absurd h
-lines_wider k.Flow xs h = absurd h
-lines_wider k.Lambda xs h = absurd h
-lines_wider _ xs h = h
-
--- of BUILD files
-pub line_expr : (here : Spot) (x : Expr) → ProperBy shape here x → ProperBy line_shape here x
-line_expr here x h = wider_expr shape line_shape lines_wider here x h
-
-pub values_wider : IsWider line_shape value_shape
+pub values_wider : IsWider line_shape whole_shape
 values_wider k.Def xs h = absurd h
 values_wider k.IfStmt xs h = absurd h
 values_wider k.ForStmt xs h = absurd h
 values_wider k.Suite xs h = absurd h
 values_wider _ xs h = h
-
-pub build_wider : IsWider shape value_shape
-build_wider kind xs h = values_wider kind xs (lines_wider kind xs h)

@@ -1,3 +1,4 @@
+pub mod BuildValues
 pub mod Commented
 pub mod Comments
 pub mod Counted

@@ -13,11 +13,29 @@ line_shape k.ForStmt = none
 line_shape k.Suite = none
 line_shape kind = bzl_shape kind
 
+-- Values of BUILD files alone, or all.
+pub data Grammar : Type 0 where
+  build_grammar : Grammar
+  whole_grammar : Grammar
+
+-- a shape that is in the whole grammar alone
+abbrev pub only_whole : Grammar → Shape → Shape
+only_whole build_grammar shape = none
+only_whole whole_grammar shape = shape
+
 -- The same, but that a header goes up to its colon; and the parts, the statements and the alternatives of a suite have shapes of
--- their own.
-abbrev pub value_shape : Kind → Shape
-value_shape k.Def = tok (one_keyword (codes "def")) (tok name (tok open_round (enclosed param close_round done)))
-value_shape k.IfStmt = alt (tok (one_keyword (codes "if")) (sub test done)) (alt (tok (one_keyword (codes "elif")) (sub test done)) (tok (one_keyword (codes "else")) done))
-value_shape k.ForStmt = tok (one_keyword (codes "for")) (list primary comma_mark false (tok (one_keyword (codes "in")) (sub expr done)))
-value_shape k.Suite = done
-value_shape kind = line_shape kind
+-- their own. In BUILD files nothing has the shape of a kind from Def on.
+abbrev pub value_shape : Grammar → Kind → Shape
+value_shape grammar k.Def = only_whole grammar (tok (one_keyword (codes "def")) (tok name (tok open_round (enclosed param close_round done))))
+value_shape grammar k.Param = only_whole grammar (line_shape k.Param)
+value_shape grammar k.IfStmt =
+    only_whole grammar (alt (tok (one_keyword (codes "if")) (sub test done)) (alt (tok (one_keyword (codes "elif")) (sub test done)) (tok (one_keyword (codes "else")) done)))
+value_shape grammar k.ForStmt = only_whole grammar (tok (one_keyword (codes "for")) (list primary comma_mark false (tok (one_keyword (codes "in")) (sub expr done))))
+value_shape grammar k.Suite = only_whole grammar done
+value_shape grammar k.Return = only_whole grammar (line_shape k.Return)
+value_shape grammar k.Flow = only_whole grammar (line_shape k.Flow)
+value_shape grammar k.Lambda = only_whole grammar (line_shape k.Lambda)
+value_shape grammar kind = line_shape kind
+
+abbrev pub whole_shape : Kind → Shape
+whole_shape = value_shape whole_grammar

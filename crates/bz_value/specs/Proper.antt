@@ -5,7 +5,7 @@ use Rattle.bz_token.specs.declared.class.Class.TheVariants as c
 use Rattle.bz_token.specs.Lexemes.{IsLexeme}
 use Rattle.bz_grammar.specs.declared.tree.Part.{Part}
 use Rattle.bz_grammar.specs.declared.kind.Kind.{Kind}
-use Rattle.bz_grammar.specs.Shapes.{Shape, Fits, shape}
+use Rattle.bz_grammar.specs.Shapes.{Shape, Fits}
 use Rattle.bz_grammar.specs.Legal.{IsNonterminal}
 use Rattle.bz_grammar.specs.Spots.{Spot, Begins, Within, role, following_token, after_node}
 use Rattle.bz_value.specs.declared.value.Expr.{Expr, Token, Form', Row_of-Expr, end_of-Expr, more_of-Expr, items-the_row-Expr}
@@ -16,8 +16,8 @@ use Rattle.bz_value.specs.Comments.{HostComments, no_comments}
 use Rattle.bz_value.specs.Frames.{Frame, row, sequence, compound, frame, is_binary, is_comprehension}
 use Rattle.bz_value.specs.Gaps.{trimmed}
 use Rattle.bz_value.specs.Roots.{root, row_in}
-use Rattle.bz_value.specs.Statements.{has_statement_kind, has_header_kind, is_alternative, is_whole_statement, alternatives_fit}
-use Rattle.bz_value.specs.LineShapes.{value_shape}
+use Rattle.bz_value.specs.Statements.{has_header_kind, is_alternative, is_whole_statement, alternatives_fit}
+use Rattle.bz_value.specs.LineShapes.{Grammar, whole_grammar, value_shape}
 
 -- ---- comments
 
@@ -134,34 +134,20 @@ module _ (grammar : Kind → Shape) where
     ProperLinesBy test end_of-Expr = Unit {0}
     ProperLinesBy test (more_of-Expr x rest) = (test x ≡ true) × ProperBy Begins x × AreComments (comments_of x) × ProperLinesBy test rest
 
--- by the grammar of BUILD files
-abbrev pub ProperExpr : Spot → Expr → Type 0
-ProperExpr here x = ProperBy shape here x
-
-abbrev pub ProperRow : Bool → Spot → Spot → {m : _} → Row_of-Expr m → Type 0
-ProperRow binary outer here r = ProperRowBy shape binary outer here r
-
-abbrev pub ProperHead : Spot → {m : _} → Row_of-Expr m → Type 0
-ProperHead here r = ProperHeadBy shape here r
-
-abbrev pub ProperItems : {m : _} → Row_of-Expr m → Type 0
-ProperItems r = ProperItemsBy shape r
+abbrev pub ProperExpr : Grammar → Spot → Expr → Type 0
+ProperExpr grammar here x = ProperBy (value_shape grammar) here x
 
 -- ---- files
 
--- By a grammar, with a test on statements.
-module _ (test : Expr → Bool) (grammar : Kind → Shape) where
-  abbrev pub IsProperItemBy : Item → Type 0
-  IsProperItemBy (i.Block lines) = (lines ≢ []) × All IsComment lines
-  IsProperItemBy (i.Stmt x) = (test x ≡ true) × ProperBy grammar Begins x × AreComments (comments_of x)
+abbrev pub IsProperItemIn : Grammar → Item → Type 0
+IsProperItemIn grammar (i.Block lines) = (lines ≢ []) × All IsComment lines
+IsProperItemIn grammar (i.Stmt x) = (is_whole_statement x ≡ true) × ProperExpr grammar Begins x × AreComments (comments_of x)
 
--- of BUILD files
+abbrev pub IsProperIn : Grammar → List Item → Type 0
+IsProperIn grammar items = All (IsProperItemIn grammar) items
+
 abbrev pub IsProperItem : Item → Type 0
-IsProperItem item = IsProperItemBy has_statement_kind shape item
+IsProperItem item = IsProperItemIn whole_grammar item
 
 abbrev pub IsProper : List Item → Type 0
 IsProper items = All IsProperItem items
-
--- of .bzl files
-abbrev pub IsProperBzl : List Item → Type 0
-IsProperBzl items = All (IsProperItemBy is_whole_statement value_shape) items

@@ -6,15 +6,12 @@ use Rattle.bz_grammar.specs.Shapes.{is_kind}
 use Rattle.bz_value.specs.declared.value.Expr.{Expr, Token, Form', items-the_row-Expr}
 use Rattle.bz_items.specs.Characters.{Bytes}
 use Rattle.bz_value.specs.Empty.{is_empty}
-use Rattle.bz_value.specs.Frames.{frame, is_compound, is_header, is_simple, is_statement}
+use Rattle.bz_value.specs.Frames.{frame, is_compound, is_header, is_simple}
 
 -- of a form of such a kind
 abbrev pub is_form_of : (Kind → Bool) → Expr → Bool
 is_form_of test (Token t) = false
 is_form_of test (Form' kind s parts s' items end split open_break comments) = test kind
-
-abbrev pub has_statement_kind : Expr → Bool
-has_statement_kind x = is_form_of is_statement x
 
 abbrev pub has_simple_kind : Expr → Bool
 has_simple_kind x = is_form_of is_simple x

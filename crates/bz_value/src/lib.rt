@@ -22,7 +22,7 @@ pub use frame::{
 pub use gap::{
     Line, first_line, has_newline, past_first_line, push_all, push_others, suffix_in, trim_end,
 };
-pub use laws::worked_gaps;
+pub use laws::{build_values_are_proper, worked_gaps};
 pub use refusal::Refusal;
 pub use value::{Expr, File, Form, Item, Seq, Token};
 pub use windows::Window;

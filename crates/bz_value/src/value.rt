@@ -147,7 +147,7 @@ pub enum Item {
     Stmt(Expr),
 }
 
-/// What a BUILD file says: its items, which are proper.
+/// What a file says: its items, which are proper.
 #[derive(Drop)]
 pub struct File {
     pub items: Items<Item>,

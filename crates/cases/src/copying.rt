@@ -1,6 +1,4 @@
 //! Copies what many texts say, for tests/scenes/hostile_texts.py: with ample memory each copy is there, and equal to what was copied.
-ghost use Rattle.bz_grammar.specs.Legal.{IsBuild};
-
 use bz_edit::{advance, exchange_node};
 use bz_grammar::{Node, Part, Tree};
 use bz_hosts::view;
@@ -66,9 +64,7 @@ fn is_step_copied(last: &Tree, tree: &Tree) -> Option<bool> {
 }
 
 /// Whether all that a tree says is copied, and the step from it to the tree before it.
-fn is_copied(alloc: Global, last: &Tree, tree: &Tree) -> Option<bool>
-    requires { IsBuild tree.now }
-{
+fn is_copied(alloc: Global, last: &Tree, tree: &Tree) -> Option<bool> {
     let file = view(alloc, tree).ok()?;
     let value = is_value_copied(&file);
     drop(file);

@@ -12,8 +12,8 @@ use std::alloc::Global;
 pub(crate) fn answer(case: &Case, page: &mut Page) -> Result<(), CaseFault> {
     call_tokens_and_trees();
     call_values();
+    call_tidying();
     call_words();
-    call_suites();
     call_effects();
     call_histories();
     let answer: &[u8] = if are_met(case.alloc) {
@@ -48,50 +48,42 @@ fn call_tokens_and_trees() {
 
 fn call_values() {
     bz_value::worked_gaps();
+    bz_value::build_values_are_proper();
     bz_hosts::worked_views();
+    bz_hosts::worked_suites();
     bz_hosts::views_are_proper();
+    bz_hosts::build_views();
     bz_hosts::comments_kept();
-    bz_rule::worked_bodies();
     bz_hosts::hosts_by_place();
     bz_hosts::worked_hosts();
+    bz_hosts::worked_suite_hosts();
+    bz_rule::worked_bodies();
     bz_layout::flags_keep_layout();
     bz_layout::layout_is_accepted();
+    bz_layout::build_layout_is_build();
+    bz_layout::layout_is_too_deep();
     bz_layout::layout_reads_back();
     bz_layout::worked_rows();
+    bz_layout::worked_suite_rows();
+}
+
+fn call_tidying() {
     bz_passes::worked_passes();
     bz_passes::tidy_settles();
     bz_passes::tidy_stays();
     bz_passes::comments_stay();
     bz_passes::proper_stays();
+    bz_passes::build_stays();
     bz_passes::marks_move();
     bz_passes::sorting_is_the_one();
     bz_passes::flags_settle();
+    bz_passes::level_stays();
+    bz_passes::level_keeps_comments();
+    bz_passes::level_keeps_program();
     bz_passes::tidied_alone();
     bz_passes::worked_programs();
     bz_passes::program_stays();
     bz_passes::tokens_stay();
-}
-
-fn call_suites() {
-    bz_bzl_value::bzl_view_is_proper();
-    bz_bzl_value::bzl_comments_kept();
-    bz_bzl_value::worked_bzl_views();
-    bz_bzl_value::worked_bzl_hosts();
-    bz_bzl_value::bzl_hosts_by_place();
-    bz_bzl_value::build_files_say_the_same();
-    bz_bzl_value::build_items_are_bzl_items();
-    bz_bzl_layout::level_stays();
-    bz_bzl_layout::level_keeps_comments();
-    bz_bzl_layout::level_keeps_layout();
-    bz_bzl_layout::level_keeps_program();
-    bz_bzl_layout::bzl_layout_is_accepted();
-    bz_bzl_layout::bzl_layout_is_too_deep();
-    bz_bzl_layout::bzl_layout_reads_back();
-    bz_bzl_layout::worked_bzl_layouts();
-    bz_bzl_layout::build_files_are_laid_out_the_same();
-    bz_build_format::formatted_bzl_once();
-    bz_build_format::bzl_views_keep_programs();
-    bz_build_format::words_kept();
 }
 
 fn call_words() {
@@ -149,7 +141,9 @@ fn call_histories() {
     bz_journal::alike_goes_on();
     bz_journal::stopped_is_resumed();
     bz_build_format::formatted_once();
+    bz_build_format::formatted_suites_once();
     bz_build_format::views_keep_programs();
+    bz_build_format::words_kept();
     bz_build_format::tokens_kept();
     bz_build_format::writing_keeps_program();
 }

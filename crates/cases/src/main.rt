@@ -24,6 +24,8 @@
 //! | `formatted` | a text | the layout of its file value tidied, which is formatted to that in its turn |
 //! | `bzl` | a text of a .bzl file | its tree, or the number and the text of its fault |
 //! | `bzl_formatted` | a text of a .bzl file | its formatted text, which is formatted to itself |
+//! | `bzl_tidied` | a text of a .bzl file | the layout of its file value tidied, which is its own layout tidied |
+//! | `bzl_run` | a text of a .bzl file, and a command with its target | the layout of what the command makes of its file value, or the refusal |
 //! | `splice PLACE COUNT` | two texts | the first with this many of its bytes, from the place on, exchanged for the second; the bytes that were there; and the result from its last byte on |
 //! | `token` | a text | the class and the bytes of the token that it begins with |
 //! | `tokens` | a text | its tokens, or its fault |

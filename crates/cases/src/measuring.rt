@@ -4,9 +4,6 @@
 //! several rounds of `copy`, `lex`, `tree`, `parse`, `view`, `set` and `format`; `peak WORK` does a work once and prints how many KiB of
 //! memory the process took at most. `spell` writes what the tree spells to standard output, and `layout` what it is laid out
 //! as, or the fault of a text that has none to standard error. `copies` prints of each of several texts whether all that it says is copied.
-ghost use Rattle.std.specs.Prelude.{IfSome};
-ghost use Rattle.bz_grammar.specs.Legal.{IsBuild};
-
 use crate::copying::answer_copies;
 use bz_build_format::{format, set};
 use bz_grammar::{ReadFault, Tree};
@@ -78,9 +75,7 @@ impl Work {
 }
 
 /// The tree of the layout of a tree.
-fn laid_out(alloc: Global, tree: &Tree) -> Option<Tree>
-    requires { IsBuild tree.now }
-{
+fn laid_out(alloc: Global, tree: &Tree) -> Option<Tree> {
     set(alloc, &view(alloc, tree).ok()?).ok()
 }
 
@@ -130,9 +125,7 @@ fn spelled(rt: &HostRuntime, tree: &Tree) -> Option<()> {
 }
 
 /// The tree of a text, or the fault that is reported of it.
-fn read(rt: &HostRuntime, bytes: &[u8]) -> Option<Tree>
-    ensures { IfSome result (λ tree. IsBuild tree) }
-{
+fn read(rt: &HostRuntime, bytes: &[u8]) -> Option<Tree> {
     let tree: Result<Tree, ReadFault> = parse(rt.alloc(), bytes);
     match tree {
         Ok(tree) => Some(tree),

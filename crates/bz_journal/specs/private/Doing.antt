@@ -1,7 +1,7 @@
 -- What is done to a session: what is answered, and the session after it.
 use Rattle.std.specs.Prelude.{◌≡◌, ◌⊎◌, ◌↔◌, ◌≤◌, ◌<◌, ◌+◌, ℕ, length, List, [], Option, None, Some, Result, Ok, Err, OnErr, OnOk, IfErr, IfOk}
 use Rattle.std.specs.Option.{unwrap_or}
-use Rattle.bz_journal.specs.Words.{AreOver, Bytes, IsSmall, Item, Memory, Operation, Ran, Refusal, Target, TooLarge, effect, printed}
+use Rattle.bz_journal.specs.Words.{AreBuild, AreOver, Bytes, IsSmall, Item, Memory, Operation, Ran, Refusal, Target, TooLarge, effect, printed}
 use Rattle.bz_journal.specs.Actions.{Action, Do, Format, Redo, Undo}
 use Rattle.bz_journal.specs.declared.answering.Lookups.{Lookups}
 use Rattle.bz_journal.specs.private.Filling.{Overfills}
@@ -19,9 +19,10 @@ GivesAlike operation target lines others = (current : Bytes) (items : List Item)
     → (effect operation target current lines items ≡ effect operation target current others items) × (printed operation target current lines items ≡ printed operation target current others items)
 
 -- What a command does to a value in place, of its effect on it and of what it prints; where what it makes is past the limit of a text, it need
--- not be made. (The value before and after.)
+-- not be made. That is the value of a BUILD file. (The value before and after.)
 pub record RunsIn (made : Result (List Item) Refusal) (out : Result Bytes Refusal) (before : List Item) (result : Result Ran Refusal) (after : List Item) : Type 0 where
   pub ok : OnOk result (made ≡ Ok after)
+  pub build : OnOk result (AreBuild after)
   pub same : IfOk result (λ ran. (ran.windows ≡ []) ↔ (after ≡ before))
   pub printed : IfOk result (λ ran. out ≡ Ok ran.printed)
   pub windows : IfOk result (λ ran. AreOver ran.windows before after)

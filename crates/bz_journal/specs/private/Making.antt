@@ -1,7 +1,7 @@
 -- The lines of a tidy value that are other ones than in a tree, and what was looked up that outlives them.
 use Rattle.std.specs.Prelude.{◌≡◌, ◌⊎◌, ◌≤◌, ◌==◌, ◌+◌, ◌-◌, ℕ, true, List, [], ◌∷◌, ◌++◌, length, map, take, drop, Option, Some, IfErr, IfOk, IfSome, Result}
 use Rattle.std.specs.List.{flat_map, list_any}
-use Rattle.bz_journal.specs.Words.{AreListed, AreThere, Bytes, Index, IsIndexOf, IsProper, Item, Memory, Node, Part, PartWindow, Reads, Refusal, Window, depth_limit}
+use Rattle.bz_journal.specs.Words.{AreListed, AreThere, Bytes, Index, IsIndexOf, IsProperBuild, Item, Memory, Node, Part, PartWindow, Reads, Refusal, Window, depth_limit}
 use Rattle.bz_journal.specs.Words.{depth_of, first_gap, fronts_in, held_name, laid_out, layout, leaves_part, newlines, node_parts, places_from, spell_part}
 use Rattle.bz_journal.specs.Words.{tidied, with_windows}
 use Rattle.bz_journal.specs.Meaning.{refuses, written}
@@ -24,7 +24,7 @@ pub record IsMadeOf (made : Made) (tree : Node) (items : List Item) : Type 0 whe
 -- The lines of a value tidied are made; or what is written of it is that refusal, or memory was refused.
 pub record MakesLines (file : List Item) (tree : Node) (result : Result Made Refusal) : Type 0 where
   pub ok : IfOk result (λ made. IsMadeOf made tree (tidied file))
-  pub proper : IsProper file
+  pub proper : IsProperBuild file
   pub err : IfErr result (λ refusal. ((printed : Option Bytes) → written file printed ≡ refuses refusal) ⊎ (refusal ≡ Memory))
 
 -- ---- an index of names

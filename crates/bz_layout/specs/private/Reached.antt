@@ -14,6 +14,7 @@ use Rattle.bz_layout.specs.declared.writer.TextWindow.{TextWindow}
 use Rattle.bz_layout.specs.declared.writer.Writer.{Writer}
 use Rattle.bz_layout.specs.private.Windows.{HaveLines}
 use Rattle.bz_lex.specs.declared.leaf.Leaf.{Leaf}
+use Rattle.bz_value.specs.BuildValues.{IsBuildItem}
 use Rattle.bz_value.specs.Proper.{IsProperItem, comments_of}
 use Rattle.bz_value.specs.declared.value.Item.{Item}
 use Rattle.bz_value.specs.declared.value.Item.TheVariants as i
@@ -77,11 +78,15 @@ pub record Reached (parts all : List Part) (made : List TextWindow) (out : Draft
 abbrev pub IsAt : List Part → List Part → Writer → List Part → List Part → Type 0
 IsAt parts all w left rest = Reached parts all w.made w.window.text w.window.is_open w.bytes w.done w.base w.part left rest
 
+-- an item of a BUILD file
+abbrev pub IsProperBuildItem : Item → Type 0
+IsProperBuildItem item = IsProperItem item × IsBuildItem item
+
 -- the same, where `before` are the items of the tree that were not come to yet, and these are to be in their place
 pub record AreReached (parts all : List Part) (w : Writer) (before items : List Item) : Type 0 where
   pub above : Bytes
-  pub proper_before : AllByRecursion IsProperItem before
-  pub proper : AllByRecursion IsProperItem items
+  pub proper_before : AllByRecursion IsProperBuildItem before
+  pub proper : AllByRecursion IsProperBuildItem items
   pub lines : IsAt parts all w (lines_from above before) (lines_from w.window.gap.items items)
 
 -- the writer passes over this many of the items, which stay as they are among those of the tree, of which `count` do, and each has a line, if

@@ -6,7 +6,7 @@ use Rattle.bz_value.specs.declared.value.Form.{Form}
 use Rattle.bz_items.specs.Characters.{Bytes}
 use Rattle.bz_rule.specs.Values.{text_of}
 use Rattle.bz_layout.specs.Layout.{gap_after}
-use Rattle.bz_layout.specs.Writings.{row_text}
+use Rattle.bz_layout.specs.private.Writings.{row_text}
 
 abbrev pub is_lone_token : Expr → Bool
 is_lone_token (Token t) = true

@@ -1,12 +1,15 @@
 -- What the code keeps in sets: the symbols that are loaded already, the names that are used and paths, each as what is looked up in it.
-use Rattle.std.specs.Prelude.{ℕ, Bool, false, ◌||◌, List, [], ◌∷◌, Vec, bytes_eq, drop, take}
+use Rattle.std.specs.Prelude.{ℕ, ◌+◌, length, Bool, false, ◌||◌, List, [], ◌∷◌, Vec, bytes_eq, drop, take}
 use Rattle.std.specs.List.{list_any}
 use Rattle.std.specs.BTreeSet.{BTreeSet}
 use Rattle.std.specs.declared.alloc.Global.{Global}
+use Rattle.bz_grammar.specs.declared.kind.Kind.{Kind}
 use Rattle.bz_items.specs.Characters.{Bytes}
 use Rattle.bz_command_syntax.specs.declared.command.Symbol.{Symbol}
 use Rattle.bz_attribute.specs.Sets.{texts_of}
 use Rattle.bz_load.specs.Loads.{is_load_from, is_symbol}
+use Rattle.bz_load.specs.Fixes.{has_operand, is_operand_at}
+use Rattle.bz_value.specs.declared.value.Expr.{Expr}
 use Rattle.bz_value.specs.declared.value.Item.{Item}
 use Rattle.bz_value.specs.declared.windows.Window.{Window}
 use Rattle.bz_load.specs.declared.readings.Loaded.{Loaded}
@@ -25,3 +28,11 @@ knows_name names text = list_any (bytes_eq text) (texts_of names)
 abbrev pub come_from : Bytes → List Window → List Item → Bool
 come_from path [] items = false
 come_from path (w ∷ ws) items = list_any (is_load_from path) (take w.come (drop w.from items)) || come_from path ws (drop w.come (drop w.from items))
+
+-- whether a text is an operand among these parts of a node of this kind, from this place of that count on
+abbrev pub operand_among : Kind → ℕ → ℕ → Bytes → List Expr → Bool
+operand_among kind count at text [] = false
+operand_among kind count at text (x ∷ xs) = has_operand (is_operand_at kind count at) text x || operand_among kind count (at + 1) text xs
+
+abbrev pub operand_in : Kind → Bytes → List Expr → Bool
+operand_in kind text xs = operand_among kind (length xs) 0 text xs

@@ -5,7 +5,7 @@ use Rattle.bz_value.specs.Windows.{AreOver, AreWithin}
 use Rattle.bz_value.specs.declared.value.Item.{Item}
 use Rattle.bz_value.specs.declared.windows.Window.{Window}
 use Rattle.bz_passes.specs.Joined.{begins_with_load}
-use Rattle.bz_passes.specs.Passes.{is_run_load, tidied, load_precedes}
+use Rattle.bz_passes.specs.Passes.{is_run_load, passed, load_precedes}
 use Rattle.bz_passes.specs.private.Repeats.{Climbs}
 
 -- whether the last of these items passes a test
@@ -33,7 +33,7 @@ any_touched (w ∷ ws) items = touches w.from items || touches (w.from + w.come)
 -- what came in each window tidied as if it were alone; the other items stay
 abbrev pub tidied_over : List Window → List Item → List Item
 tidied_over [] items = items
-tidied_over (w ∷ ws) items = take w.from items ++ tidied (take w.come (drop w.from items)) ++ tidied_over ws (drop (w.from + w.come) items)
+tidied_over (w ∷ ws) items = take w.from items ++ passed (take w.come (drop w.from items)) ++ tidied_over ws (drop (w.from + w.come) items)
 
 -- all windows and the items between them as one
 abbrev pub all_joined : Window → List Window → Window
@@ -50,8 +50,8 @@ pub record AreSetApart (windows others : List Window) (items : List Item) : Type
 -- that tidy file at the other windows.
 pub record AreTidied (windows others : List Window) (old new : List Item) : Type 0 where
   pub within : AreWithin others new
-  pub tidy : (before : List Item) → tidied before ≡ before → AreOver windows before old → new ≡ tidied old
-  pub over : (before : List Item) → tidied before ≡ before → AreOver windows before old → AreOver others before new
+  pub tidy : (before : List Item) → passed before ≡ before → AreOver windows before old → new ≡ passed old
+  pub over : (before : List Item) → passed before ≡ before → AreOver windows before old → AreOver others before new
 
 -- What is left to be tidied, in the same windows: however that is done, the file that there was is tidied.
 pub record IsStillToTidy (windows others : List Window) (old mid : List Item) : Type 0 where

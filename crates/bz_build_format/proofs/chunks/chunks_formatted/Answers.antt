@@ -3,18 +3,18 @@ use Rattle.bz_build_format.proofs.Chunking.{IsBegun, next_begun, still_within, w
 use Rattle.bz_build_format.proofs.chunks.chunks_formatted.Goals as goal
 
 pub loop-at-init : goal.loop-at-init
-loop-at-init g c = (inl (refl, c.in-Ok.ensures.items, refl), omega arith)
+loop-at-init c = (inl (refl, c.in-Ok.ensures.items, refl), omega arith)
 
 pub loop-at-preserved : goal.loop-at-preserved
-loop-at-preserved g c = (
-  next_begun g.F.Source.kind c.requires c.args.text.now c.loop-at.out.items c.append.new.out.items c.loop-at.at c.in_ok-file.len c.loop-at.last c.in_ok-item.item
-      (g.F.Source.items c.in_ok-file.file) c.loop-at.ends c.is_none.result c.in_ok-file.follows c.loop-at.invariant.1 c.is_none.ensures c.loop-at.invariant.0 c.if-not-ends.false
-      c.in_ok-file.ensures.reads c.in_ok-item.ensures (omega (arith, c.if-text-gt-LENGTH_LIMIT.false)),
+loop-at-preserved c = (
+  next_begun c.views_join.ensures.joined c.suites_join.ensures c.build_views.ensures c.tidied_apart.ensures c.layouts_join.ensures.text c.layouts_join.ensures.depth c.args.kind c.args.text.now
+      c.loop-at.out.items c.append.new.out.items c.loop-at.at c.in_ok-file.len c.loop-at.last c.in_ok-item.item c.in_ok-file.file c.loop-at.ends c.is_none.result c.in_ok-file.follows
+      c.loop-at.invariant.1 c.is_none.ensures c.loop-at.invariant.0 c.if-not-ends.false c.in_ok-file.ensures.reads c.in_ok-item.ensures (omega (arith, c.if-text-gt-LENGTH_LIMIT.false)),
   still_within c.args.text.now c.loop-at.at c.in_ok-file.len c.loop-at.invariant.1 c.in_ok-file.ensures.len.1,
 )
 
 pub returns : goal.returns
-returns g c =
-    whole_formatted g.F.Source.kind c.args.text.now c.from_vec.result c.loop-at.at c.loop-at.last c.loop-at.ends
-    (subst (λ t. IsBegun g.F.Source.kind (take c.loop-at.at c.args.text.now) t c.loop-at.last c.loop-at.ends) (sym c.from_vec.ensures) c.loop-at.invariant.0) c.loop-at.invariant.1
+returns c =
+    whole_formatted c.args.kind c.args.text.now c.from_vec.result c.loop-at.at c.loop-at.last c.loop-at.ends
+    (subst (λ t. IsBegun c.args.kind (take c.loop-at.at c.args.text.now) t c.loop-at.last c.loop-at.ends) (sym c.from_vec.ensures) c.loop-at.invariant.0) c.loop-at.invariant.1
     (omega (arith, c.loop-at-test.false)) (omega (arith, c.if-text-le-CHUNK.false))

@@ -1,10 +1,11 @@
-use Rattle.std.proofs.Common.{List, [], Err, None, sym, ap, ◌∙◌}
+use Rattle.std.proofs.Common.{List, [], Err, None, sym, subst, ap, ◌∙◌}
 use Rattle.std.specs.Prelude.{◌≢◌}
 use Rattle.bz_grammar.specs.Legal.{Accepted}
 use Rattle.bz_value.specs.declared.value.Item.{Item}
+use Rattle.bz_value.specs.BuildValues.{AreBuild}
 use Rattle.bz_build_format.specs.Faults.{FormatsTo}
 use Rattle.bz_build_format.specs.Meaning.{gives, written, Formats}
-use Rattle.bz_build_format.proofs.Chunking.{build_formatted, build_layers}
+use Rattle.bz_build_format.proofs.Chunking.{build_formatted}
 use Rattle.bz_build_format.proofs.ReadFaults.{unread_answered}
 use Rattle.bz_build_format.proofs.formatter.format.Goals as goal
 
@@ -15,15 +16,15 @@ returns-in-Err c = record {
   fixed = tt;
 }
 
+pub written_text-requires : goal.written_text-requires
+written_text-requires c = subst (λ (xs : List Item). AreBuild xs) (sym c.in-Ok-into_view.ensures.value) (c.build_views.ensures c.in-Ok.tree c.in-Ok.ensures.ok.0.build)
+
 pub returns-in-Ok-written_text-clause-fixed : goal.returns-in-Ok-written_text-clause-fixed
 returns-in-Ok-written_text-clause-fixed c = c.formatted_once.ensures c.args.text.now c.in-Ok-written_text.formatted (
   c.in-Ok.tree,
   c.in-Ok.ensures.ok,
   sym (c.in-Ok-written_text.ensures.ok None) ∙ ap (λ (items : List Item). written items None) c.in-Ok-into_view.ensures.value,
 )
-
-pub chunks_formatted-requires : goal.chunks_formatted-requires
-chunks_formatted-requires c = build_layers c.views_join.ensures.joined c.tidied_apart.ensures c.layouts_join.ensures.text c.layouts_join.ensures.depth
 
 pub returns-in-Some : goal.returns-in-Some
 returns-in-Some c =

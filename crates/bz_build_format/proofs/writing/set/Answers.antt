@@ -1,21 +1,25 @@
-use Rattle.std.proofs.Common.{◌∙◌, List, ap, subst, sym}
+use Rattle.std.proofs.Common.{◌≡◌, ◌∙◌, List, ap, subst, sym}
 use Rattle.bz_value.specs.Proper.{IsProper}
 use Rattle.bz_value.specs.declared.value.Item.{Item}
-use Rattle.bz_grammar.specs.Legal.{NoTree, Reads}
+use Rattle.bz_grammar.specs.Legal.{IsBuild, NoBzlTree, ReadsBzl}
 use Rattle.bz_hosts.specs.View.{view_of}
 use Rattle.bz_layout.specs.LaidOut.{laid_out}
+use Rattle.bz_layout.specs.Written.{layout}
+use Rattle.bz_build_format.proofs.Formatting.{layout_read}
 use Rattle.bz_build_format.proofs.ReadFaults.{refused_text}
 use Rattle.bz_build_format.proofs.writing.set.Goals as goal
 
 pub returns-in-Ok : goal.returns-in-Ok
 returns-in-Ok c =
     let proper : IsProper c.args.file.now = subst (λ (xs : List Item). IsProper xs) c.file.view_is c.file.invariant in
-    let own : Reads c.as_slice.result.now (laid_out c.args.file.now) = subst (λ t. Reads t (laid_out c.args.file.now)) (sym (c.as_slice.ensures ∙ c.in_ok-text.ensures.text))
-    (c.layout_is_accepted.ensures c.args.file.now proper c.in_ok-text.ensures.short c.in_ok-text.ensures.shallow) in
-    let same = c.one_reading.ensures c.as_slice.result.now c.in-Ok.tree (laid_out c.args.file.now) c.in-Ok.ensures.ok own in
+    let items : c.as_slice.result.now ≡ c.args.file.now = c.as_slice.ensures ∙ c.file.view_is in
+    let laid = c.in_ok-text.ensures in
+    let own : ReadsBzl c.as_slice-2.result.now (laid_out c.args.file.now) = layout_read c.layout_is_accepted.ensures _ _ _ items proper (c.as_slice-2.ensures ∙ laid.text) laid.short laid.shallow in
+    let same = c.one_bzl_reading.ensures c.as_slice-2.result.now c.in-Ok.tree (laid_out c.args.file.now) c.in-Ok.ensures.ok own in
     record {
       laid_out = same;
-      text = c.in-Ok.ensures.ok.1 ∙ (c.as_slice.ensures ∙ c.in_ok-text.ensures.text);
+      build = λ h. subst IsBuild (sym same) (c.build_layout_is_build.ensures c.args.file.now h);
+      text = c.in-Ok.ensures.ok.1 ∙ (c.as_slice-2.ensures ∙ (laid.text ∙ ap layout items));
       view = ap view_of same ∙ c.layout_reads_back.ensures c.args.file.now proper;
       too_large = λ e. absurd cc;
       too_deep = λ e. absurd cc;
@@ -24,6 +28,6 @@ returns-in-Ok c =
 pub unreachable-requires : goal.unreachable-requires
 unreachable-requires c =
     let proper : IsProper c.args.file.now = subst (λ (xs : List Item). IsProper xs) c.file.view_is c.file.invariant in
-    refused_text (NoTree c.as_slice.result.now) c.in-Err.fault c.in-Err.ensures.refused c.in_default.not-Memory (laid_out c.args.file.now)
-    (subst (λ t. Reads t (laid_out c.args.file.now)) (sym (c.as_slice.ensures ∙ c.in_ok-text.ensures.text))
-    (c.layout_is_accepted.ensures c.args.file.now proper c.in_ok-text.ensures.short c.in_ok-text.ensures.shallow))
+    let laid = c.in_ok-text.ensures in
+    refused_text (NoBzlTree c.as_slice-2.result.now) c.in-Err.fault c.in-Err.ensures.refused c.in_default.not-Memory (laid_out c.args.file.now)
+    (layout_read c.layout_is_accepted.ensures _ _ _ (c.as_slice.ensures ∙ c.file.view_is) proper (c.as_slice-2.ensures ∙ laid.text) laid.short laid.shallow)

@@ -3,10 +3,10 @@ use Rattle.std.proofs.lemmas.List.{take_all}
 use Rattle.bz_grammar.specs.declared.tree.Part.{Part}
 use Rattle.bz_value.specs.declared.value.Expr.TheVariants as e
 use Rattle.bz_value.specs.Frames.{frame}
-use Rattle.bz_hosts.specs.View.{first_seen_gap, seen}
+use Rattle.bz_hosts.specs.Seen.{first_seen_gap, seen}
 use Rattle.bz_hosts.proofs.HostSteps.{item_more, items_done}
 use Rattle.bz_hosts.proofs.NodeViews.{node_pushed, node_loose, sequence_made}
-use Rattle.bz_hosts.proofs.RowSteps.{part_here, gap_inside, gap_at_first, gap_at_later, row_more, row_done, loose_done, loose_more, head_row, bracket_loose, most_taken}
+use Rattle.bz_hosts.proofs.RowSteps.{seen_here, gap_inside, gap_at_first, gap_at_later, row_more, row_done, loose_done, loose_more, head_row, bracket_loose, most_taken}
 use Rattle.bz_hosts.proofs.expr.+seen.Goals as goal
 use Rattle.bz_hosts.proofs.expr.+seen.Goals.{head_of-then-lead-gt0+in_ok-push_gap, head_of-else-lead-gt0, head_of-in-Node+in_ok-push_form, head_of-in_default}
 
@@ -24,7 +24,7 @@ push_parts-returns-then-is_sequence-clause-exprs t c =
 
 pub row_of-loop-at-preserved : goal.row_of-loop-at-preserved
 row_of-loop-at-preserved t c =
-    let here = part_here c.args.parts.now c.loop-at.at c.index-parts-at.result c.loop-at-test.true c.index-parts-at.is in
+    let here = seen_here c.args.parts.now c.loop-at.at c.index-parts-at.result c.loop-at-test.true c.index-parts-at.is in
     record {
       exprs = row_more _ _ _ _ _ _ _ _ _ _ _ _ _ here c.is_operator_in-operator.ensures c.breaks_operator-newline.ensures c.breaks_after-line_break.ensures refl c.loop-at.invariant.exprs c.in_ok-push_expr.ensures.exprs;
       loose = loose_more _ _ _ _ _ _ _ here c.in_ok-push_expr.ensures.loose c.in_ok-push_gap.ensures c.loop-at.invariant.loose;

@@ -1,4 +1,4 @@
-use Rattle.bz_hosts.proofs.KeptFiles.{comments_kept}
+use Rattle.bz_hosts.proofs.ProperViews.{comments_kept}
 use Rattle.bz_hosts.proofs.laws.comments_kept.Goals as goal
 
 pub returns : goal.returns

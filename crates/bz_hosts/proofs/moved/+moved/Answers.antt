@@ -4,7 +4,7 @@ use Rattle.bz_grammar.specs.declared.tree.Part.{Part}
 use Rattle.bz_grammar.specs.declared.tree.Part.TheVariants as p
 use Rattle.bz_value.specs.declared.value.Expr.TheVariants as e
 use Rattle.bz_value.specs.Frames.{frame}
-use Rattle.bz_hosts.specs.View.{is_split, plain, seen}
+use Rattle.bz_hosts.specs.Seen.{is_split, plain, seen}
 use Rattle.bz_hosts.proofs.HostSteps.{item_more, items_done}
 use Rattle.bz_hosts.proofs.NodeViews.{node_pushed, node_loose, sequence_made}
 use Rattle.bz_hosts.proofs.moved.+moved.Goals as goal

@@ -4,7 +4,8 @@ use Rattle.bz_lex.specs.declared.leaf.Leaf.{Leaf}
 use Rattle.bz_grammar.specs.declared.tree.Part.{Part}
 use Rattle.bz_grammar.specs.declared.tree.Part.TheVariants as p
 use Rattle.bz_value.specs.Gaps.{lines_of}
-use Rattle.bz_hosts.specs.View.{file_items, first_seen_gap, last_gap, seen}
+use Rattle.bz_hosts.specs.private.Lines.{file_items}
+use Rattle.bz_hosts.specs.Seen.{first_seen_gap, last_gap, seen}
 use Rattle.bz_hosts.proofs.LineSteps.{end_pushed, line_pushed}
 use Rattle.bz_hosts.proofs.viewing.into_items.Goals as goal
 use Rattle.bz_hosts.proofs.viewing.into_items.Goals.{in-Leaf+in_ok-push_all_groups-in-Leaf, in-Node+in_ok-above-in-Node+in_ok-left-in-Node+in_ok-push_moved_statements-in-Node}

@@ -1,6 +1,6 @@
 use Rattle.std.proofs.Common.{[], ◌∷◌, ◌++◌, ◌+◌, List, drop, refl, ap, ◌∙◌}
 use Rattle.bz_value.specs.declared.value.Expr.{Expr}
-use Rattle.bz_hosts.specs.View.{plain, seen}
+use Rattle.bz_hosts.specs.Seen.{plain, seen}
 use Rattle.bz_hosts.proofs.LineSteps.{statement_more, statements_done}
 use Rattle.bz_hosts.proofs.viewing.push_statements.Goals as goal
 

@@ -1,14 +1,14 @@
-use Rattle.std.proofs.Common.{subst, sym, ap, ◌∙◌, []}
+use Rattle.std.proofs.Common.{[], map, subst, sym, ap, ◌∙◌}
 use Rattle.bz_value.specs.Counted.{times}
 use Rattle.bz_value.specs.Proper.{IsProper}
 use Rattle.bz_hosts.specs.Kept.{occurrences}
-use Rattle.bz_hosts.specs.View.{file_items}
-use Rattle.bz_hosts.proofs.KeptFiles.{comments_kept}
-use Rattle.bz_hosts.proofs.ProperFiles.{legal_of, view_proper}
+use Rattle.bz_hosts.specs.Suites.{indented_lines_before, stated}
+use Rattle.bz_hosts.specs.View.{items_from}
+use Rattle.bz_hosts.proofs.ProperViews.{comments_kept, views_proper}
 use Rattle.bz_hosts.proofs.viewing.view.Goals as goal
 
 pub invariant_of-result : goal.invariant_of-result
-invariant_of-result c = subst IsProper (sym (c.in_ok-items_of.ensures ∙ ap (file_items []) c.as_slice.ensures)) (view_proper c.tree.inside.root (legal_of _ _ c.tree.view_is c.tree.invariant.0 c.requires))
+invariant_of-result c = subst IsProper (sym (c.in_ok-items.ensures.items ∙ ap (λ ps. items_from (indented_lines_before (map stated ps) []) ps) c.as_slice.ensures)) (views_proper c.tree.inside.root c.tree.invariant.0)
 
 pub returns-clause-comments : goal.returns-clause-comments
-returns-clause-comments c text = ap (times text) (c.in_ok-items_of.ensures ∙ ap (file_items []) c.as_slice.ensures) ∙ (comments_kept c.tree.inside.root (legal_of _ _ c.tree.view_is c.tree.invariant.0 c.requires) text ∙ ap (occurrences text) c.tree.view_is)
+returns-clause-comments c text = ap (times text) (c.in_ok-items.ensures.items ∙ ap (λ ps. items_from (indented_lines_before (map stated ps) []) ps) c.as_slice.ensures) ∙ (comments_kept c.tree.inside.root c.tree.invariant.0 text ∙ ap (occurrences text) c.tree.view_is)

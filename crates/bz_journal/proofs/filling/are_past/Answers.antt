@@ -11,7 +11,7 @@ use Rattle.bz_journal.proofs.filling.are_past.Goals as goal
 pub loop-at-init : goal.loop-at-init
 loop-at-init c =
     let work = c.args.work in
-    first_tried (item_made_by work) (meant work.target.now.which work.lines.now c.args.items.now) c.args.items.now c.args.places.now c.requires.places (as_many work.target.now.which work.lines.now c.args.items.now)
+    first_tried (item_made_by work) (meant work.target.now.which work.lines.now c.args.items.now) c.args.items.now c.args.places.now c.requires.places (as_many work.target.now.which work.lines.now c.args.items.now) c.requires.build
 
 pub offset_bounds-items-at : goal.offset_bounds-items-at
 offset_bounds-items-at c =

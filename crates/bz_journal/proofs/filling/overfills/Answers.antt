@@ -1,11 +1,13 @@
-use Rattle.std.proofs.Common.{◌≡◌, ◌∙◌, ◌⊎◌, List, Err, ap, arith, subst, sym}
+use Rattle.std.proofs.Common.{◌≡◌, ◌∙◌, ◌⊎◌, List, Result, Err, ap, arith, subst, sym}
 use Rattle.std.specs.Prelude.{IfErr, IfOk, IsTrue}
 use Rattle.std.specs.Option.{option_copied}
 use Rattle.std.proofs.lemmas.Grind.{common_steps}
 use Rattle.bz_value.specs.Proper.{IsProper}
 use Rattle.bz_command_syntax.specs.Proper.{IsProperCommand}
 use Rattle.bz_command.specs.Effect.{effect, on_each}
-use Rattle.bz_journal.specs.Clauses.{Item, Overfills, Refusal, marked_places, meant}
+use Rattle.bz_journal.specs.Clauses.{AreBuild, Item, Overfills, Refusal, marked_places, meant}
+use Rattle.bz_journal.specs.Words.{on_meant}
+use Rattle.bz_journal.specs.private.Filling.{item_made}
 use Rattle.bz_journal.proofs.GrownItems.{ones_proper, one_by_one}
 use Rattle.bz_journal.proofs.filling.overfills.Goals as goal
 
@@ -19,6 +21,14 @@ pub are_past-requires-clause-proper : goal.are_past-requires-clause-proper
 are_past-requires-clause-proper c =
     ones_proper c.args.work.command.now c.args.work.current.now (option_copied c.copied.result) c.args.file.now c.as_slice-2.result.now
     (subst IsProperCommand c.command.view_is c.command.invariant) (subst IsProper c.file.view_is c.file.invariant) c.copied.ensures (c.as_slice-2.ensures ∙ c.file.view_is)
+
+pub are_past-requires-clause-build : goal.are_past-requires-clause-build
+are_past-requires-clause-build c =
+    let work = c.args.work in
+    let each : effect work.command.now work.target.now work.current.now work.lines.now c.args.file.now ≡ on_each work.command.now work.current.now (meant work.target.now.which work.lines.now c.args.file.now) c.args.file.now = grind (arith, common_steps) in
+    let own : Result (List Item) Refusal = on_meant (item_made work.command.now work.current.now (option_copied c.copied.result)) (meant work.target.now.which work.lines.now c.as_slice-2.result.now) c.as_slice-2.result.now in
+    one_by_one work.command.now work.target.now.which work.lines.now work.current.now (option_copied c.copied.result) c.args.file.now c.as_slice-2.result.now _ c.copied.ensures (c.as_slice-2.ensures ∙ c.file.view_is) each
+    (λ items made. IfOk made AreBuild → IfOk own AreBuild) (λ build. build) c.requires
 
 pub returns-clause-ok : goal.returns-clause-ok
 returns-clause-ok c =

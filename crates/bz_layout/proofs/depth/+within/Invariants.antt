@@ -1,6 +1,6 @@
 use Rattle.std.proofs.Common.{◌≤◌, drop}
 use Rattle.std.specs.Prelude.{◌↔◌}
-use Rattle.bz_layout.specs.Depths.{deepest_of, deepest_line}
+use Rattle.bz_layout.specs.private.Depths.{deepest_of, deepest_line}
 use Rattle.bz_layout.proofs.depth.+within.Given as goal
 
 abbrev pub invariant-are_within-loop-expr : goal.invariant-are_within-loop-expr

@@ -1,5 +1,5 @@
 use Rattle.std.proofs.Common.{◌≡◌, OnOk, ap, sym, ◌∙◌, subst, arith}
-use Rattle.bz_layout.specs.Writings.{row_text}
+use Rattle.bz_layout.specs.private.Writings.{row_text}
 use Rattle.bz_layout.proofs.Writing.{three_of, three_pushed}
 use Rattle.bz_layout.proofs.texts.+push.Goals as goal
 

@@ -3,7 +3,7 @@ use Rattle.std.specs.Prelude.{nat_eq}
 use Rattle.bz_layout.specs.Layout.{is_tuple}
 use Rattle.bz_layout.specs.Drafts.{pushed}
 use Rattle.bz_layout.specs.Written.{statements_text}
-use Rattle.bz_layout.specs.Writings.{writings, row_text, joined_text, stacked_text}
+use Rattle.bz_layout.specs.private.Writings.{writings, row_text, joined_text, stacked_text}
 use Rattle.bz_layout.proofs.Writing.{head_text}
 use Rattle.bz_layout.proofs.texts.+push.Given as goal
 

@@ -13,7 +13,7 @@ none = record { from = 0; gone = 0; come = 0 }
 pub returns-then-not-branch : goal.returns-then-not-branch
 returns-then-not-branch c = λ before is old proper over.
     let here = over_next c.loop-window.writer c.args.windows.now c.loop-window.window-index none c.loop-window.rest.now c.loop-window-test.true (c.loop-window.invariant.1 before is old proper over) in
-    past_limit c.args.items.now proper (c.in_ok-advance.ensures.long c.if-not-branch.true (lines_from [] c.args.items.now) here.0 (omega (arith, here.1.0.1)) (sym here.1.0.3) here.1.1 here.2)
+    past_limit c.args.items.now proper.0 (c.in_ok-advance.ensures.long c.if-not-branch.true (lines_from [] c.args.items.now) here.0 (omega (arith, here.1.0.1)) (sym here.1.0.3) here.1.1 here.2)
 
 pub loop-window-preserved : goal.loop-window-preserved
 loop-window-preserved c =
@@ -29,14 +29,14 @@ loop-window-preserved c =
 pub returns-then-not-branch-2 : goal.returns-then-not-branch-2
 returns-then-not-branch-2 c = λ before is old proper over.
     let here = over_none c.loop-window.writer c.args.windows.now c.loop-window.window-index c.loop-window.rest.now (omega (arith, c.loop-window-test.false)) (c.loop-window.invariant.1 before is old proper over) in
-    past_limit c.args.items.now proper (c.in_ok-advance-2.ensures.long c.if-not-branch-2.true (lines_from [] c.args.items.now) here.0 (omega (arith, ap length here.1.0)) (ap (take (length c.loop-window.rest.now)) here.1.0) here.1.1 here.2)
+    past_limit c.args.items.now proper.0 (c.in_ok-advance-2.ensures.long c.if-not-branch-2.true (lines_from [] c.args.items.now) here.0 (omega (arith, ap length here.1.0)) (ap (take (length c.loop-window.rest.now)) here.1.0) here.1.1 here.2)
 
 pub returns-then-not-branch-3 : goal.returns-then-not-branch-3
 returns-then-not-branch-3 c = λ before is old proper over.
     let end = c.in_ok-put_end.ensures (lines_from [] c.args.items.now)
     (over_last c.loop-window.writer c.advance-2.new.writer c.args.windows.now c.loop-window.window-index c.loop-window.rest.now (omega (arith, c.loop-window-test.false)) (c.loop-window.invariant.1 before is old proper over)
     (c.in_ok-advance-2.ensures.fits c.if-not-branch-2.false)) in
-    past_limit c.args.items.now proper (c.in_ok-close.ensures.long c.if-not-branch-3.true c.args.parts.now (lines_from [] c.args.items.now) end.0 end.0 end.1)
+    past_limit c.args.items.now proper.0 (c.in_ok-close.ensures.long c.if-not-branch-3.true c.args.parts.now (lines_from [] c.args.items.now) end.0 end.0 end.1)
 
 pub returns : goal.returns
 returns c = λ before is old proper over.

@@ -1,7 +1,7 @@
 use Rattle.std.proofs.Common.{◌≡◌, List, [], drop}
 use Rattle.bz_layout.specs.LaidOut.{lines_from}
 use Rattle.bz_layout.specs.private.Windows.{AreCounted}
-use Rattle.bz_value.specs.Proper.{IsProper}
+use Rattle.bz_value.specs.BuildValues.{IsProperBuild}
 use Rattle.bz_value.specs.Windows.{AreWithin}
 use Rattle.bz_value.specs.declared.value.Item.{Item}
 use Rattle.bz_layout.proofs.Staying.{IsOver}
@@ -10,4 +10,4 @@ use Rattle.bz_layout.proofs.writer.go_over.Given as goal
 abbrev pub invariant-loop-window : goal.invariant-loop-window
 invariant-loop-window l =
     AreWithin (drop l.window-index l.windows) l.rest
-    × ((before : List Item) → lines_from [] before ≡ l.parts → IsProper before → IsProper l.items → AreCounted l.each_is_line l.windows before l.items → IsOver l.each_is_line l.parts (lines_from [] l.items) (drop l.window-index l.windows) l.writer l.rest)
+    × ((before : List Item) → lines_from [] before ≡ l.parts → IsProperBuild before → IsProperBuild l.items → AreCounted l.each_is_line l.windows before l.items → IsOver l.each_is_line l.parts (lines_from [] l.items) (drop l.window-index l.windows) l.writer l.rest)

@@ -1,9 +1,7 @@
-use Rattle.std.proofs.Common.{◌≡◌, ◌||◌, drop}
-use Rattle.std.specs.List.{list_any}
+use Rattle.std.proofs.Common.{◌≡◌, ◌||◌, drop, length}
 use Rattle.bz_items.specs.Characters.{Bytes}
-use Rattle.bz_load.specs.Fixes.{has_operand}
-use Rattle.bz_load.specs.private.Known.{knows_name}
+use Rattle.bz_load.specs.private.Known.{knows_name, operand_among, operand_in}
 use Rattle.bz_load.proofs.fixing.+uses.Given as goal
 
-abbrev pub invariant-insert_each-loop-x : goal.invariant-insert_each-loop-x
-invariant-insert_each-loop-x l = (text : Bytes) → (list_any (has_operand text) (drop l.x-index l.exprs) || knows_name l.names text) ≡ (list_any (has_operand text) l.exprs || knows_name l.fn.names text)
+abbrev pub invariant-insert_each-loop-at : goal.invariant-insert_each-loop-at
+invariant-insert_each-loop-at l = (text : Bytes) → (operand_among l.kind (length l.exprs) l.at text (drop l.at l.exprs) || knows_name l.names text) ≡ (operand_in l.kind text l.exprs || knows_name l.fn.names text)

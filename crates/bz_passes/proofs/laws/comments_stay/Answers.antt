@@ -1,4 +1,4 @@
-use Rattle.bz_passes.proofs.Counts.{comments_stay}
+use Rattle.bz_passes.proofs.Cases.{comments_stay}
 use Rattle.bz_passes.proofs.laws.comments_stay.Goals as goal
 
 pub returns : goal.returns

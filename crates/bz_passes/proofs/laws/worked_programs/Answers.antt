@@ -23,6 +23,6 @@ returns c = (
   renamed 34 (codes "//a") refl refl refl (λ current. unrepeated_same current (codes "//a:a") (codes "//a") (is_unrepeated (codes "//a:a"))),
   (λ h. never (tokens_kept _ _ h classes.Name (codes "deps") refl)),
   (λ h. never_two (tokens_kept _ _ h classes.Name (codes "name") refl)),
-  (λ h. other_name (ap argument_text (unmoved _ _ h h.quotes.same (λ g. refl) (λ g. refl) refl refl refl))),
-  (λ h. other_body (ap value_text (unmoved _ _ h (h.quotes.same ∙ ap (λ text. rule_named text ∷ []) (body_stays _ _ h)) (λ g. refl) (λ g. refl) refl refl refl))),
+  (λ h. other_name (ap argument_text (unmoved _ _ (h.1 refl) (h.1 refl).quotes.same (λ g. refl) (λ g. refl) refl refl refl))),
+  (λ h. other_body (ap value_text (unmoved _ _ (h.1 refl) ((h.1 refl).quotes.same ∙ ap (λ text. rule_named text ∷ []) (body_stays _ _ (h.1 refl))) (λ g. refl) (λ g. refl) refl refl refl))),
 )

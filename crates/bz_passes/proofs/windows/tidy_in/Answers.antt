@@ -1,18 +1,29 @@
-use Rattle.std.proofs.Common.{◌≡◌, ◌++◌, ◌∙◌, ap, drop, length, subst, sym, take}
-use Rattle.std.proofs.Math.Seq.{take-append_seam}
-use Rattle.bz_value.specs.Proper.{IsProper}
-use Rattle.bz_value.specs.Windows.{AreWithin}
+use Rattle.std.proofs.Common.{◌∙◌, List, subst, sym}
+use Rattle.bz_value.specs.BuildValues.{AreBuild, IsProperBuild}
+use Rattle.bz_value.specs.LineShapes.{build_grammar}
+use Rattle.bz_value.specs.Proper.{IsProper, IsProperItemIn}
+use Rattle.bz_value.specs.declared.value.Item.{Item}
+use Rattle.bz_value.specs.declared.windows.Window.{Window}
+use Rattle.bz_value.proofs.BuildValues.{build_values_proper}
 use Rattle.bz_passes.specs.private.Borders.{tidied_over}
-use Rattle.bz_passes.proofs.Pieces.{over_length, over_proper}
+use Rattle.bz_passes.proofs.EachChanged.{put_back}
+use Rattle.bz_passes.proofs.Pieces.{over_all, over_length}
+use Rattle.bz_passes.proofs.ProperPasses.{passed_proper}
 use Rattle.bz_passes.proofs.windows.tidy_in.Goals as goal
+
+over_proper : (ws : List Window) (file : List Item) → IsProper file → AreBuild file → IsProperBuild (tidied_over ws file)
+over_proper ws file h b = (build_values_proper (tidied_over ws file)).0 (over_all (IsProperItemIn build_grammar) passed_proper ws file ((build_values_proper file).1 (h, b)))
 
 pub invariant_of-file-2 : goal.invariant_of-file-2
 invariant_of-file-2 c =
-    let windows = c.args.windows.now in
-    let old = c.replace-items.result in
-    let new = c.tidy_each.new.items in
-    let own : old ≡ c.args.file.now = c.replace-items.ensures.value ∙ c.file.view_is in
-    let made : new ≡ tidied_over windows old = c.in_ok-tidy_each.ensures ∙ ap (tidied_over windows) c.as_mut_slice.ensures.value in
-    let same : length new ≡ length old = ap length made ∙ over_length windows old (subst (AreWithin windows) (sym own) c.requires) in
-    subst IsProper (sym (ap (λ n. take n (new ++ drop (length new) old)) (sym same) ∙ (take-append_seam new (drop (length new) old) ∙ made)))
-    (over_proper windows old (subst IsProper (c.file.view_is ∙ sym own) c.file.invariant))
+    let ws = c.args.windows.now in
+    let file = c.args.file.now in
+    let made = put_back (tidied_over ws) file _ _ _ (over_length ws file c.requires.within) c.in_ok-tidy_each.ensures c.as_mut_slice.ensures.value (c.replace-items.ensures.value ∙ c.file.view_is) in
+    subst IsProper (sym made) (over_proper ws file (subst IsProper c.file.view_is c.file.invariant) c.requires.build).0
+
+pub returns-clause-build : goal.returns-clause-build
+returns-clause-build c =
+    let ws = c.args.windows.now in
+    let file = c.args.file.now in
+    let made = put_back (tidied_over ws) file _ _ _ (over_length ws file c.requires.within) c.in_ok-tidy_each.ensures c.as_mut_slice.ensures.value (c.replace-items.ensures.value ∙ c.file.view_is) in
+    subst AreBuild (sym made) (over_proper ws file (subst IsProper c.file.view_is c.file.invariant) c.requires.build).1

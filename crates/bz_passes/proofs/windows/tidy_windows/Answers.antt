@@ -1,7 +1,14 @@
 use Rattle.std.proofs.Common.{Ok, ap, subst, ◌∙◌}
 use Rattle.bz_passes.specs.private.Borders.{AreSetApart, AreTidied, tidied_over}
+use Rattle.bz_passes.proofs.Cases.{windows_tidied}
 use Rattle.bz_passes.proofs.Pieces.{apart_tidied}
 use Rattle.bz_passes.proofs.windows.tidy_windows.Goals as goal
+
+pub returns-then-branch : goal.returns-then-branch
+returns-then-branch c =
+    let all = c.in_ok-tidy_single.ensures.done (ap Ok c.if-branch.true) in
+    let given = windows_tidied c.args.windows.now c.tidy_single.new.windows c.args.file.now c.tidy_single.new.file c.requires.build all in
+    record { within = all.within; tidied = λ before b t o. (given before b t o).0; over = λ before b t o. (given before b t o).1 }
 
 pub returns : goal.returns
 returns c =
@@ -12,6 +19,7 @@ returns c =
     let new = c.tidy_in.new.file in
     let apart : AreTidied ws vs mid new =
     apart_tidied ws vs mid new (subst (AreSetApart ws vs) (c.as_slice.ensures ∙ c.file.view_is) c.in_ok-set_apart.ensures)
-    (c.in_ok-tidy_in.ensures ∙ ap (λ ws. tidied_over ws mid) c.as_slice-2.ensures) in
+    (c.in_ok-tidy_in.ensures.made ∙ ap (λ ws. tidied_over ws mid) c.as_slice-2.ensures) in
     let all = left.goes new vs (subst (λ ws. AreTidied ws vs mid new) left.same apart) in
-    record { within = all.within; tidied = all.tidy; over = all.over }
+    let given = windows_tidied c.args.windows.now vs c.args.file.now new c.requires.build all in
+    record { within = all.within; tidied = λ before b t o. (given before b t o).0; over = λ before b t o. (given before b t o).1 }

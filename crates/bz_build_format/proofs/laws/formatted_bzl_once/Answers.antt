@@ -1,6 +1,0 @@
-use Rattle.bz_build_format.proofs.Formatting.{bzl_formatted_again}
-use Rattle.bz_build_format.proofs.laws.formatted_bzl_once.Goals as goal
-
-pub returns : goal.returns
-returns c =
-    bzl_formatted_again c.one_bzl_reading.ensures c.bzl_comments_kept.ensures c.level_stays.ensures c.level_keeps_comments.ensures c.level_keeps_program.ensures c.bzl_views_keep_programs.ensures

@@ -1,9 +1,0 @@
-use Rattle.std.proofs.Common.{◌≡◌, ◌≤◌, true, length, drop}
-use Rattle.bz_lex.specs.Gaps.{are_indents}
-use Rattle.bz_bzl_value.proofs.viewing.indent_len.Given as goal
-
-abbrev pub invariant-blanks : goal.invariant-blanks
-invariant-blanks l = record { within : l.at ≤ length l.gap; blank : are_indents (drop l.at l.gap) ≡ true }
-
-abbrev pub decreases-blanks : goal.decreases-blanks
-decreases-blanks l = l.at

@@ -1,6 +1,0 @@
-use Rattle.std.proofs.Common.{◌≡◌, ◌++◌}
-use Rattle.bz_hosts.specs.Suites.{exprs_in}
-use Rattle.bz_bzl_value.proofs.viewing.push_exprs.Given as goal
-
-abbrev pub invariant-loop-item : goal.invariant-loop-item
-invariant-loop-item l = l.out ++ exprs_in l.item-iterator.rest.items ≡ l.fn.out ++ exprs_in l.fn.items

@@ -1,5 +1,0 @@
-use Rattle.bz_bzl_value.proofs.Branches.{Gathers}
-use Rattle.bz_bzl_value.proofs.viewing.push_gathered.Given as goal
-
-abbrev pub invariant-loop-form : goal.invariant-loop-form
-invariant-loop-form l = Gathers l.fn.suites l.first l.form-iterator.rest.items

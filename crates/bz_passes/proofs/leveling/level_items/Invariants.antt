@@ -1,0 +1,6 @@
+use Rattle.std.proofs.Common.{◌≡◌, ◌++◌, map, take, drop}
+use Rattle.bz_layout.specs.Flags.{item_with_flags}
+use Rattle.bz_passes.proofs.leveling.level_items.Given as goal
+
+abbrev pub invariant-loop-item : goal.invariant-loop-item
+invariant-loop-item l = take l.item-index l.items ++ map item_with_flags (drop l.item-index l.items) ≡ map item_with_flags l.fn.items

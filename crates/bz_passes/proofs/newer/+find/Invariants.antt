@@ -1,0 +1,7 @@
+use Rattle.std.proofs.Common.{◌≡◌, drop}
+use Rattle.std.specs.List.{list_any}
+use Rattle.bz_passes.specs.Newer.{has_newer_node}
+use Rattle.bz_passes.proofs.newer.+find.Given as goal
+
+abbrev pub invariant-have_newer_nodes-loop-x : goal.invariant-have_newer_nodes-loop-x
+invariant-have_newer_nodes-loop-x l = list_any has_newer_node (drop l.x-index l.exprs) ≡ list_any has_newer_node l.fn.exprs

@@ -1,0 +1,29 @@
+use Rattle.std.proofs.Common.{List, subst, sym, ◌∙◌}
+use Rattle.bz_value.specs.LineShapes.{whole_grammar}
+use Rattle.bz_value.specs.Proper.{IsProper}
+use Rattle.bz_value.specs.declared.value.Item.{Item}
+use Rattle.bz_passes.specs.Passes.{passed}
+use Rattle.bz_passes.proofs.Cases.{build_passed, made_again, made_comments, made_program, made_settled, passed_stays_proper}
+use Rattle.bz_passes.proofs.EachChanged.{put_back}
+use Rattle.bz_passes.proofs.Pieces.{passed_length}
+use Rattle.bz_passes.proofs.tidying.tidy_build.Goals as goal
+
+pub invariant_of-result : goal.invariant_of-result
+invariant_of-result c =
+    let made = put_back passed c.args.file _ _ _ (passed_length c.args.file) c.in_ok-tidy_items.ensures c.as_mut_slice.ensures.value c.file.view_is in
+    subst (λ (items : List Item). IsProper items) (sym made) (passed_stays_proper whole_grammar c.args.file c.requires (subst (λ (items : List Item). IsProper items) c.file.view_is c.file.invariant))
+
+pub returns-clause-tidied : goal.returns-clause-tidied
+returns-clause-tidied c = put_back passed c.args.file _ _ _ (passed_length c.args.file) c.in_ok-tidy_items.ensures c.as_mut_slice.ensures.value c.file.view_is ∙ sym (build_passed c.args.file c.requires)
+
+pub returns-clause-settled : goal.returns-clause-settled
+returns-clause-settled c = made_settled c.args.file _ (returns-clause-tidied c)
+
+pub returns-clause-again : goal.returns-clause-again
+returns-clause-again c = made_again c.args.file _ (returns-clause-tidied c)
+
+pub returns-clause-comments : goal.returns-clause-comments
+returns-clause-comments c = made_comments _ _ (returns-clause-tidied c)
+
+pub returns-clause-program : goal.returns-clause-program
+returns-clause-program c = made_program _ _ (returns-clause-tidied c)
