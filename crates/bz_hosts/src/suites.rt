@@ -258,7 +258,9 @@ pub(crate) fn items_of(alloc: Global, parts: &[Part]) -> Result<(Items<Item>, bo
     let mut rest = rest_of_gap(gap_at(parts, 0));
     let mut spent = true;
     for at in 0..parts.len() {
-        spent = is_spent(rest);
+        if at + 1 == parts.len() {
+            spent = is_spent(rest);
+        }
         rest = push_part(
             alloc,
             rest,

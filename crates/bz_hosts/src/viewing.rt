@@ -50,26 +50,18 @@ pub fn view_front(alloc: Global, tree: &Tree) -> Result<(File, bool), Memory>
 /// The file value that `view` makes, of a tree that is given up: where it has no suites its tokens are moved, and each line of it is
 /// dropped as soon as its items are made, a long one piece by piece, so that the whole tree is not held beside the whole value. The
 /// error: memory was refused.
+#[tactic(auto, using(crate::proofs::BuildFiles::lines_say_the_same))]
 pub fn into_view(alloc: Global, tree: Tree) -> Result<File, Memory>
     ensures value { IfOk result (λ file. file ≡ view_of tree) }
     ensures comments { IfOk result (λ file. (text : Bytes) → times text file ≡ occurrences text tree) }
 {
     let Tree { root } = tree;
-    let items = given_up(alloc, root.parts)?;
-    Ok(File { items })
-}
-
-/// The items of the parts of a file, which are given up.
-#[tactic(auto, using(crate::proofs::BuildFiles::lines_say_the_same))]
-fn given_up(alloc: Global, parts: Items<Part>) -> Result<Items<Item>, Memory>
-    ensures { IfOk result (λ items. items ≡ items_from (indented_lines_before (map stated parts) []) parts) }
-{
-    if are_lines(parts.as_slice()) {
-        let items = into_items(alloc, parts)?;
-        return Ok(items);
+    if are_lines(root.parts.as_slice()) {
+        let items = into_items(alloc, root.parts)?;
+        return Ok(File { items });
     }
-    let (items, _) = items_of(alloc, parts.as_slice())?;
-    Ok(items)
+    let (items, _) = items_of(alloc, root.parts.as_slice())?;
+    Ok(File { items })
 }
 
 /// Whether a part is a line of statements.

@@ -40,23 +40,18 @@ impl From<AllocError> for SetFault {
     }
 }
 
-/// Whether the tree of the layout of the items is within the limit of depth.
-#[tactic(auto, using(crate::proofs::Deep::laid_out_depth))]
-fn is_shallow(items: &[Item]) -> bool
-    ensures shallow { IsTrue result → depth_of (laid_out items.now) ≤ depth_limit }
-    ensures deep { result ≡ false → depth_limit < depth_of (laid_out items.now) }
-{
-    are_items_within(items, DEPTH_LIMIT as usize - 1)
-}
+/// How deep the lines of a layout may be, below its root.
+const LINE_DEPTH: usize = DEPTH_LIMIT as usize - 1;
 
 /// Appends the layout of items to a text, below an item where one is given. None: a growth was refused, or the text or the tree of the
 /// layout would be past a limit; what was appended by then is not specified.
+#[tactic(auto, using(crate::proofs::Deep::laid_out_depth))]
 pub fn append_items(out: &mut Vec<u8>, above: &Option<Item>, items: &[Item]) -> Option<()>
     ensures text { IfSome result (λ _. out.new.items ≡ out.old.items ++ (gap_below above.now items.now ++ layout items.now)) }
     ensures short { IfSome result (λ _. length out.new.items ≤ limit) }
     ensures shallow { IfSome result (λ _. depth_of (laid_out items.now) ≤ depth_limit) }
 {
-    if !is_shallow(items) {
+    if !are_items_within(items, LINE_DEPTH) {
         return None;
     }
     out.extend_from_slice(blank_before(above.as_ref(), items))
@@ -71,6 +66,7 @@ pub fn append_items(out: &mut Vec<u8>, above: &Option<Item>, items: &[Item]) -> 
 /// The layout of items, as text, with no tree made for it: `about` how many bytes it has, by estimate, is the room that it begins
 /// with, and some more, since a text that doubles holds as much again. Errors: `TooLarge` exactly where the layout is past the limit
 /// of a text, else `TooDeep` exactly where its tree would be past the limit of depth; `Memory`: a growth was refused.
+#[tactic(auto, using(crate::proofs::Deep::laid_out_depth))]
 pub fn text_of_items(alloc: Global, items: &[Item], about: usize) -> Result<Text, SetFault>
     ensures text { IfOk result (λ text. text ≡ layout items.now) }
     ensures short { IfOk result (λ _. length (layout items.now) ≤ limit) }
@@ -82,7 +78,7 @@ pub fn text_of_items(alloc: Global, items: &[Item], about: usize) -> Result<Text
     let mut out = Draft::new(room, LENGTH_LIMIT);
     push_items(&mut out, items)?;
     let bytes = out.into_bytes().ok_or(SetFault::TooLarge)?;
-    if !is_shallow(items) {
+    if !are_items_within(items, LINE_DEPTH) {
         return Err(SetFault::TooDeep);
     }
     Ok(Text::from_vec(bytes))

@@ -1,5 +1,4 @@
-use Rattle.std.proofs.Common.{◌≡◌, ◌++◌, List, map, refl, sym, ap, ◌∙◌}
-use Rattle.bz_items.specs.Characters.{Bytes}
+use Rattle.std.proofs.Common.{◌≡◌, ◌++◌, map, sym, ◌∙◌}
 use Rattle.bz_value.specs.Gaps.{lines_of}
 use Rattle.bz_hosts.specs.Seen.{seen}
 use Rattle.bz_hosts.specs.Suites.{line_read, stated}
