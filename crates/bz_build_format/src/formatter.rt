@@ -4,7 +4,7 @@ ghost use Rattle.bz_build_format.specs.Faults.{FormatsTo, FormatsBzlTo};
 ghost use Rattle.bz_build_format.specs.Fixed.{IsFormatted, IsFormattedBzl};
 
 use crate::chunks::{FileKind, chunks_formatted};
-use crate::laws::{formatted_suites_once, formatted_once};
+use crate::laws::{formatted_once, formatted_suites_once};
 use crate::writing::written_text;
 use bz_grammar::ReadFault;
 use bz_hosts::{build_views, into_view, views_are_proper};

@@ -75,7 +75,7 @@ pub fn formatted_suites_once()
     views_keep_programs();
 }
 
-/// The formatted text of one with suites has the same tokens in the same order, but for commas, semicolons, colons, brackets and newlines.
+/// The formatted text of a text that may have suites has the same tokens in the same order, but for commas, semicolons, colons, brackets and newlines.
 #[tactic(auto, using(crate::proofs::TreeWords::formatted_words))]
 pub fn words_kept()
     ensures { FormattingKeepsWords }

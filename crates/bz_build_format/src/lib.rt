@@ -12,7 +12,7 @@ mod writing;
 
 pub use formatter::{FormatFault, format, format_bzl};
 pub use laws::{
-    formatted_suites_once, formatted_once, tokens_kept, views_keep_programs, words_kept,
+    formatted_once, formatted_suites_once, tokens_kept, views_keep_programs, words_kept,
     writing_keeps_program,
 };
 pub use reading::{is_mostly_other, read_text, read_windows};
