@@ -3,11 +3,9 @@ pub mod Joined
 pub mod Kept
 pub mod Laws
 pub mod Seen
-pub mod SuiteHostRows
 pub mod SuiteHosts
 pub mod Suites
 pub mod SuitesJoined
-pub mod SuitesWorked
 pub mod View
 pub mod private
 pub mod Worked

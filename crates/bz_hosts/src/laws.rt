@@ -3,10 +3,8 @@
 ghost use Rattle.bz_hosts.specs.Joined.{EmptyReads, ViewsJoin};
 ghost use Rattle.bz_hosts.specs.Kept.{CommentsKept};
 ghost use Rattle.bz_hosts.specs.Laws.{BuildViews, HostsByPlace, ViewsAreProper};
-ghost use Rattle.bz_hosts.specs.SuiteHostRows.{WorkedSuiteHosts};
 ghost use Rattle.bz_hosts.specs.SuitesJoined.{SuitesJoin};
-ghost use Rattle.bz_hosts.specs.SuitesWorked.{WorkedSuites};
-ghost use Rattle.bz_hosts.specs.Worked.{WorkedHosts, WorkedViews};
+ghost use Rattle.bz_hosts.specs.Worked.{WorkedHosts, WorkedSuites, WorkedViews};
 
 use bz_grammar::laws::lines_join;
 
@@ -45,11 +43,6 @@ pub fn worked_views()
     ensures { WorkedViews }
 {}
 
-/// Worked rows of what files with suites say: for each a text, its tree, and its items.
-pub fn worked_suites()
-    ensures { WorkedSuites }
-{}
-
 /// The view of a legal tree has each comment at the host that its place in the whole text gives it, and each suite its end comments.
 pub fn hosts_by_place()
     ensures { HostsByPlace }
@@ -60,7 +53,8 @@ pub fn worked_hosts()
     ensures { WorkedHosts }
 {}
 
-/// Worked rows of files with suites: for each a tree, and its comments with their hosts, by their places and by what the tree says.
-pub fn worked_suite_hosts()
-    ensures { WorkedSuiteHosts }
+/// Worked rows of files with suites: for each a text, its tree, and its items; and its comments with their hosts, by their places and
+/// by what the tree says.
+pub fn worked_suites()
+    ensures { WorkedSuites }
 {}

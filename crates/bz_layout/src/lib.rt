@@ -20,7 +20,7 @@ pub use changed::{Laid, text_windows};
 pub use draft::Draft;
 pub use laws::{
     build_layout_is_build, flags_keep_layout, layout_is_accepted, layout_is_too_deep,
-    layout_reads_back, layouts_join, worked_rows, worked_suite_rows,
+    layout_reads_back, layouts_join, worked_rows,
 };
 pub use setting::{SetFault, append_items, text_of_items};
 pub use texts::{expr_text, item_text, push_expr};

@@ -56,7 +56,6 @@ fn call_values() {
     bz_hosts::comments_kept();
     bz_hosts::hosts_by_place();
     bz_hosts::worked_hosts();
-    bz_hosts::worked_suite_hosts();
     bz_rule::worked_bodies();
     bz_layout::flags_keep_layout();
     bz_layout::layout_is_accepted();
@@ -64,7 +63,6 @@ fn call_values() {
     bz_layout::layout_is_too_deep();
     bz_layout::layout_reads_back();
     bz_layout::worked_rows();
-    bz_layout::worked_suite_rows();
 }
 
 fn call_tidying() {
