@@ -21,12 +21,12 @@ use Rattle.bz_value.proofs.LegalBy.{LegalBy, LegalRowBy}
 use Rattle.bz_value.proofs.Wider.{values_wider}
 use Rattle.bz_hosts.specs.Seen.{Seen, seen, seen_row, plain, first_seen_gap, loose_in, row_exprs, items_in, is_split, is_open, seen_node}
 use Rattle.bz_hosts.proofs.SeenParts.{seen_rows}
-use Rattle.bz_hosts.specs.Hosts.{Region, host, Comment, Measured, sizes, measured, in_node, Hosted, by_frame, inside_expr}
+use Rattle.bz_hosts.specs.Hosts.{Region, host, Comment, Measured, sizes, measured, in_node, Hosted, ended, by_frame, inside_expr}
 use Rattle.bz_hosts.proofs.Around.{SeesAt}
 use Rattle.bz_hosts.proofs.Parts.{measured_rows, leaves_rows, comments_after, after_parts, parts_after}
 use Rattle.bz_hosts.proofs.Alternating.{Alternating, Regions}
 use Rattle.bz_hosts.proofs.InnerParts.{line_framed}
-use Rattle.bz_hosts.proofs.Insides.{inside_list, inside_first, inside_rest, form_inside, insides, row_insides, head_insides}
+use Rattle.bz_hosts.proofs.Insides.{within, form_inside, parts_inside, items_inside, insides, row_insides, head_insides}
 use Rattle.bz_hosts.proofs.Texts.{Texts, InHost, first_texts}
 use Rattle.bz_hosts.proofs.Cuts.{Cut, sequence_cut}
 use Rattle.bz_hosts.proofs.Nodes.{cut_regions, head_of, body_of, cut_size, node_cut, parted, row_regions, row_solid, leaf_texts, same_texts, sequence_hosts, cut_texts}
@@ -37,7 +37,7 @@ row_hosts : (kind : Kind) → frame kind ≡ row → (xs : List Part) → inside
 row_hosts kind e xs =
     let es : List Expr = row_exprs (is_binary kind) false false (map seen xs) in
     let form : Form = record { kind = kind; parts = es; seq = record { items = []; end = []; split = false }; open_break = is_comprehension kind && is_open (map seen xs); comments = no_comments } in
-    form_inside form ∙ (ap (λ (g : Frame). by_frame g (flat_map inside_expr es) [] [] (inside_first es) (inside_rest es)) e ∙ row_insides (is_binary kind) false false xs)
+    form_inside form ∙ (ap (λ (g : Frame). by_frame g (map within es) [] []) e ∙ (parts_inside es ∙ row_insides (is_binary kind) false false xs))
 
 bracket_hosts : (kind : Kind) (opener closer : ℕ) → frame kind ≡ sequence opener closer → (xs : List Part) →
     inside_expr (plain (seen_node (sequence opener closer) kind (map seen xs))) ≡ insides (take (lead kind) xs) ++ sequence_hosts (all_in (first_seen_gap (map seen (drop (suc (lead kind)) xs)))) (map seen (drop (suc (lead kind)) xs))
@@ -48,10 +48,12 @@ bracket_hosts kind opener closer e xs =
     let es : List Expr = map plain (take n (map seen xs)) in
     let form : Form = record { kind = kind; parts = es; seq = record { items = found.0; end = found.1; split = is_split body }; open_break = false; comments = no_comments } in
     form_inside form
-    ∙ (ap (λ (g : Frame). by_frame g (flat_map inside_expr es) (inside_list found.0) found.1 (inside_first es) (inside_rest es)) e
+    ∙ (ap (λ (g : Frame). by_frame g (map within es) (map within found.0) found.1) e
+    ∙ (ap (λ (z : List Hosted). z ++ ended found.1 ∷ flat_map (λ x. x.0 ∷ x.1) (map within found.0)) (parts_inside es)
+    ∙ (ap (λ (z : List Hosted). flat_map inside_expr es ++ ended found.1 ∷ z) (items_inside found.0)
     ∙ (ap (λ (ys : List Seen). flat_map inside_expr (map plain ys) ++ sequence_hosts (all_in (first_seen_gap body)) body) (take-map seen n xs)
     ∙ (ap (λ (z : List Hosted). z ++ sequence_hosts (all_in (first_seen_gap body)) body) (head_insides (take n xs))
-    ∙ ap (λ (ys : List Seen). insides (take n xs) ++ sequence_hosts (all_in (first_seen_gap ys)) ys) (drop-map seen (suc n) xs))))
+    ∙ ap (λ (ys : List Seen). insides (take n xs) ++ sequence_hosts (all_in (first_seen_gap ys)) ys) (drop-map seen (suc n) xs))))))
 
 module _ (all : List Region) (h b e n : ℕ) (under : h ≤ n) where
   body_case : (head : List Part) (l : Leaf) (body : List Part) → Alternating s.comma_mark body → AllByRecursion Regions head → AllByRecursion Regions body → AllByRecursion (InHost all) head → AllByRecursion (InHost all) body →

@@ -17,14 +17,13 @@ use Rattle.bz_value.specs.Gaps.{comments_in, lines_of}
 use Rattle.bz_value.specs.LineShapes.{whole_shape}
 use Rattle.bz_value.proofs.LegalBy.{as_bzl}
 use Rattle.bz_hosts.specs.Seen.{seen}
-use Rattle.bz_hosts.specs.Hosts.{Hosted, sizes, measured, in_node}
+use Rattle.bz_hosts.specs.Hosts.{Hosted, sizes, measured, in_node, Stretch, header, Page, in_compound, suite_there}
 use Rattle.bz_hosts.specs.Suites.{ReadStatements, SuiteRead, stated, branches, indented_lines_before}
 use Rattle.bz_hosts.proofs.InnerParts.{in_line, inner_legal, token_inner}
 use Rattle.bz_hosts.proofs.Nodes.{part_regions, sizes_joined}
 use Rattle.bz_hosts.proofs.Parts.{size, Solid, part_solid}
 use Rattle.bz_hosts.proofs.QuietGaps.{part_silent}
 use Rattle.bz_hosts.proofs.SuiteLines.{gap_of, Lines, PieceRead, with_left}
-use Rattle.bz_hosts.specs.SuiteHosts.{Stretch, header, placed, SuitesAndLeaves, in_compound, suite_there}
 use Rattle.bz_hosts.proofs.Colons.{header_ends, InHeader}
 use Rattle.bz_hosts.proofs.Compounds.{KnownOf}
 use Rattle.bz_hosts.proofs.HeadParts.{Headed, BeginsWith}
@@ -41,10 +40,10 @@ use Rattle.bz_grammar.specs.Shapes as s
 abbrev as_branches : Bool → Kind → List Bytes → Lines → List Part → PieceRead
 as_branches first kind above left xs after = hosts_read (branches first kind [] above left (map stated xs) after)
 
-module _ (page : SuitesAndLeaves) where
+module _ (page : Page) where
   -- headers from one on
   abbrev pub BranchesPiece : Bool → Kind → List Part → Type 0
-  BranchesPiece first kind xs = (n : ℕ) (above : List Bytes) (left : Lines) → Piece page n (n + sizes (map measured xs)) (flat_map leaves_part xs) (in_compound kind n [] (map placed xs)) above (as_branches first kind above left xs)
+  BranchesPiece first kind xs = (n : ℕ) (above : List Bytes) (left : Lines) → Piece page n (n + sizes (map measured xs)) (flat_map leaves_part xs) (in_compound kind n [] (map measured xs)) above (as_branches first kind above left xs)
 
   -- What is read of these parts where these lines are left before them. Of none nothing is read, and the lines are left.
   abbrev pub More : List Part → ℕ → ℕ → List Stretch → (Lines → PieceRead) → Type 0
@@ -68,7 +67,7 @@ module _ (page : SuitesAndLeaves) where
 
   -- alternatives, or none
   abbrev pub Alternatives : Kind → List Part → Type 0
-  Alternatives kind xs = (m : ℕ) → More xs m (m + sizes (map measured xs)) (in_compound kind m [] (map placed xs)) (λ left. as_branches false kind (comments_in left) left xs)
+  Alternatives kind xs = (m : ℕ) → More xs m (m + sizes (map measured xs)) (in_compound kind m [] (map measured xs)) (λ left. as_branches false kind (comments_in left) left xs)
 
   pub no_alternatives : (kind : Kind) → Alternatives kind []
   no_alternatives kind m = (omega arith, refl, λ left after. refl)
@@ -83,7 +82,7 @@ module _ (page : SuitesAndLeaves) where
 
   -- what is known of each part of a statement
   pub record Parted (x : Part) : Type 0 where
-    pub suite : IsNonterminal s.suite x → AtLeaves Stands Along x → (n : ℕ) → OwnPiece page n (n + size x) (leaves_part x) (suite_there n (measured x) x) ((placed x).stretches n) (stated x).suffix (stated x).suite
+    pub suite : IsNonterminal s.suite x → AtLeaves Stands Along x → (n : ℕ) → OwnPiece page n (n + size x) (leaves_part x) (suite_there n (n + size x) x) ((measured x).stretches n) (stated x).suffix (stated x).suite
     pub legal : LegalPart x
 
   -- what is in a header may be in a line
@@ -93,7 +92,7 @@ module _ (page : SuitesAndLeaves) where
 
   one_header : (first : Bool) (kind : Kind) (x : Part) (xs : List Part) (c : Leaf) (own : Part) (back : List Part) → is_inner_frame (frame kind) ≡ true → Fits IsNonterminal (whole_shape kind) (x ∷ xs) → AllLegal (x ∷ xs) → AllByRecursion InHeader (x ∷ xs) → has_token s.colon_mark (p.Leaf c) ≡ true
       → AtLeaves Stands Along (p.Leaf c)
-      → ((n : ℕ) → OwnPiece page n (n + size own) (leaves_part own) (suite_there n (measured own) own) ((placed own).stretches n) (stated own).suffix (stated own).suite) → Alternatives kind back → BranchesPiece first kind (x ∷ xs ++ p.Leaf c ∷ own ∷ back)
+      → ((n : ℕ) → OwnPiece page n (n + size own) (leaves_part own) (suite_there n (n + size own) own) ((measured own).stretches n) (stated own).suffix (stated own).suite) → Alternatives kind back → BranchesPiece first kind (x ∷ xs ++ p.Leaf c ∷ own ∷ back)
   one_header first kind x xs c own back framed fits legal inner i at_ q b n above left =
       let hs : List Part = x ∷ xs in
       let f : ℕ = suc (n + sizes (map measured hs)) in
@@ -102,20 +101,20 @@ module _ (page : SuitesAndLeaves) where
       let suffix : Option Bytes = (stated own).suffix in
       let read : PieceRead = header_read kind (map seen hs) above suffix (stated own).suite in
       let more : Lines → PieceRead = λ left. as_branches false kind (comments_in left) left back in
-      let sts : List Stretch = header n f (in_node (frame kind) kind n (map measured hs)) (suite_there f (measured own) own) ∷ (placed own).stretches f in
+      let sts : List Stretch = header n f (in_node (frame kind) kind n (map measured hs)) (suite_there f (f + size own) own) ∷ (measured own).stretches f in
       let one : Piece page n m ls sts above read =
-      header_piece page kind n m above suffix x xs c (suite_there f (measured own) own) (leaves_part own) ((placed own).stretches f) (stated own).suite
+      header_piece page kind n m above suffix x xs c (suite_there f (f + size own) own) (leaves_part own) ((measured own).stretches f) (stated own).suite
       f refl framed fits legal (part_regions x legal.0).some (part_silent (p.Leaf c) tt (token_inner s.colon_mark (p.Leaf c) refl i) at_) (q f) in
       let cut : ls ++ flat_map leaves_part back ≡ flat_map leaves_part (hs ++ p.Leaf c ∷ own ∷ back) =
       append_assoc (flat_map leaves_part hs) (c ∷ leaves_part own) (flat_map leaves_part back) ∙ sym (flat_map-append leaves_part hs (p.Leaf c ∷ own ∷ back)) in
       same_piece page n (m + sizes (map measured back)) (n + sizes (map measured (hs ++ p.Leaf c ∷ own ∷ back))) (ls ++ flat_map leaves_part back) (flat_map leaves_part (hs ++ p.Leaf c ∷ own ∷ back))
-      (sts ++ in_compound kind m [] (map placed back)) (in_compound kind n [] (map placed (hs ++ p.Leaf c ∷ own ∷ back))) above _ (as_branches first kind above left (hs ++ p.Leaf c ∷ own ∷ back))
+      (sts ++ in_compound kind m [] (map measured back)) (in_compound kind n [] (map measured (hs ++ p.Leaf c ∷ own ∷ back))) above _ (as_branches first kind above left (hs ++ p.Leaf c ∷ own ∷ back))
       (omega (arith, sizes_joined hs (p.Leaf c ∷ own ∷ back))) cut (sym (header_placed kind n f hs (p.Leaf c) own back refl inner i))
       (λ after.
       let own_read : SuiteRead = (stated own).suite (indented_lines_before (map stated back) after) in
       let others : ReadStatements (List Expr) = branches false kind [] (comments_in own_read.1) own_read.1 (map stated back) after in
       ap hosts_read (header_ends first kind above left hs (p.Leaf c) own back after inner (colon_is (p.Leaf c) i)) ∙ ap (λ (z : List Hosted). with_left z others.1) (suite_hosts first kind (map seen hs) above suffix own_read.0 others.0))
-      (then_more n m (m + sizes (map measured back)) ls sts above read back (in_compound kind m [] (map placed back)) more one (b m))
+      (then_more n m (m + sizes (map measured back)) ls sts above read back (in_compound kind m [] (map measured back)) more one (b m))
 
   pub headed : (first : Bool) (kind : Kind) (word : Bytes) (back xs : List Part) → is_inner_frame (frame kind) ≡ true → (h : Headed kind word back xs) → KnownOf Parted h → Alternatives kind back → BranchesPiece first kind xs × FirstSolid xs
   headed first kind word back xs framed h g b =

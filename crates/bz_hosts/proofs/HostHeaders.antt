@@ -1,6 +1,7 @@
 -- Headers with their suites: what is read of them, with the hosts by their places.
-use Rattle.std.proofs.Common.{◌≡◌, ℕ, suc, ◌+◌, ◌<◌, Bool, true, false, List, [], ◌∷◌, ◌++◌, Option, Some, None, length, refl, sym, ap, ◌∙◌, subst, map, append-nil, append_assoc, length-append, arith}
+use Rattle.std.proofs.Common.{◌≡◌, ℕ, suc, ◌+◌, ◌<◌, Bool, true, false, List, [], ◌∷◌, ◌++◌, Option, Some, None, length, refl, sym, ap, ◌∙◌, map, append-nil, append_assoc, length-append, arith}
 use Rattle.std.specs.List.{flat_map}
+use Rattle.std.proofs.lemmas.Grind.{flat_map-append}
 use Rattle.bz_lex.specs.declared.leaf.Leaf.{Leaf}
 use Rattle.bz_grammar.specs.declared.kind.Kind.{Kind}
 use Rattle.bz_grammar.specs.declared.tree.Part.{Part}
@@ -14,23 +15,22 @@ use Rattle.bz_value.specs.Frames.{frame, is_inner_frame}
 use Rattle.bz_value.specs.Gaps.{all_in, as_list, lines_of, suffix_in}
 use Rattle.bz_value.specs.LineShapes.{whole_shape}
 use Rattle.bz_hosts.specs.Seen.{Seen, seen, seen_node, plain}
-use Rattle.bz_hosts.specs.Hosts.{Region, host, CommentPlace, suffix_of, above, outside, comments_at, comments_from, texts_at, Hosted, block, hosted, hosted_at, sizes, measured, in_node, leaf_gap, inside_expr}
+use Rattle.bz_hosts.specs.Hosts.{Region, host, CommentPlace, suffix_of, above, outside, comments_at, comments_from, texts_at, Hosted, block, hosted, hosted_at, sizes, measured, in_node, leaf_gap, inside_expr, Suite, Stretch, header, Page, suite_end}
 use Rattle.bz_hosts.specs.Suites.{SuiteRead, suite_form, put_header}
 use Rattle.bz_hosts.proofs.Alternating.{inside_joined}
 use Rattle.bz_hosts.proofs.Claim.{node_texts}
 use Rattle.bz_hosts.proofs.SuiteReads.{gap_outside, outside_none}
 use Rattle.bz_hosts.proofs.Gathered.{key, pick, pick_same, pick_other, GapPlaces, texts_joined, three_none, three_first, three_third}
-use Rattle.bz_hosts.proofs.Insides.{inside_list, form_inside}
+use Rattle.bz_hosts.proofs.Insides.{within, inside_list, form_inside, items_inside}
 use Rattle.bz_hosts.proofs.Nodes.{node_inside}
 use Rattle.bz_hosts.proofs.Parts.{size, comments_after, comments_joined, after_parts, parts_from}
 use Rattle.bz_hosts.proofs.Sequences.{From}
 use Rattle.bz_hosts.proofs.Statements.{gap_ended, gap_suffix, silent_gap}
 use Rattle.bz_hosts.proofs.Texts.{Texts}
-use Rattle.bz_hosts.proofs.SuiteLines.{gap_of, last_leaf_gap, last_leaf_after, Lines, AllBetween, suites_wider, last_joined, PieceRead, with_left}
-use Rattle.bz_hosts.specs.SuiteHosts.{Suite, Stretch, header, SuitesAndLeaves, suites_in, suite_end}
-use Rattle.bz_hosts.proofs.HostPieces.{regions_of, comments, along, SeesSuites, At, Piece, Extent}
+use Rattle.bz_hosts.proofs.SuiteLines.{gap_of, last_leaf_gap, last_leaf_after, Lines, suites_wider, last_joined, PieceRead, with_left}
+use Rattle.bz_hosts.proofs.HostPieces.{regions_of, suites_of, comments, along, At, Piece, Extent}
 use Rattle.bz_hosts.proofs.HostReads.{AllLegal, all_solid, all_regions, all_texts}
-use Rattle.bz_hosts.proofs.HostSuites.{own_list, suites_headed, leaf_there, OwnAt, OwnPiece}
+use Rattle.bz_hosts.proofs.HostSuites.{leaf_there, OwnAt, OwnPiece}
 use Rattle.bz_hosts.proofs.SuiteHeaders.{measured_leaves}
 use Rattle.bz_grammar.specs.declared.kind.Kind.TheVariants as k
 use Rattle.bz_hosts.proofs.Around as r
@@ -49,7 +49,9 @@ header_hosts kind ss group suffix own =
 form_hosts : (kind : Kind) (ss : List Seen) (group : List Bytes) (suffix : Option Bytes) (own : List Expr × List Bytes) (others : List Expr)
     → inside_expr (suite_form kind ss group suffix own others) ≡ inside_expr (plain (seen_node (frame kind) kind ss)) ++ block own.1 ∷ (inside_list own.0 ++ inside_list others)
 form_hosts kind ss group suffix own others =
+    let head : List Hosted = inside_expr (plain (seen_node (frame kind) kind ss)) in
     form_inside (record { kind = k.Suite; parts = plain (seen_node (frame kind) kind ss) ∷ others; seq = record { items = own.0; end = own.1; split = false }; open_break = false; comments = no_comments })
+    ∙ rw (append-nil head, flat_map-append (λ x. x.0 ∷ x.1) (map within own.0) (map within others), items_inside own.0, items_inside others) refl
 
 -- the hosts of its alternatives follow
 pub suite_hosts : (first : Bool) (kind : Kind) (ss : List Seen) (group : List Bytes) (suffix : Option Bytes) (own : List Expr × List Bytes) (others : List Expr)
@@ -65,7 +67,7 @@ header_read kind ss group suffix read after = with_left (header_hosts kind ss gr
 -- ---- a header, its colon and its suite
 
 -- hs: the parts of a header that begins at n; c: its colon, and own what is after that
-module _ (page : SuitesAndLeaves) (kind : Kind) (n e : ℕ) (group : List Bytes) (suffix : Option Bytes) (x : Part) (xs : List Part) (c : Leaf) (own : Option Suite) (ls' : List Leaf) (sts' : List Stretch) (read : Lines → SuiteRead)
+module _ (page : Page) (kind : Kind) (n e : ℕ) (group : List Bytes) (suffix : Option Bytes) (x : Part) (xs : List Part) (c : Leaf) (own : List Suite) (ls' : List Leaf) (sts' : List Stretch) (read : Lines → SuiteRead)
     (f : ℕ) (is_f : f ≡ suc (n + sizes (map measured (x ∷ xs)))) (framed : is_inner_frame (frame kind) ≡ true) (fits : Fits IsNonterminal (whole_shape kind) (x ∷ xs))
     (legal : AllLegal (x ∷ xs)) (some_parts : 0 < size x) (quiet : all_in c.gap ≡ [])
     (o : OwnPiece page f e ls' own sts' suffix read) where
@@ -140,7 +142,7 @@ module _ (page : SuitesAndLeaves) (kind : Kind) (n e : ℕ) (group : List Bytes)
       record {
         some = omega arith;
         up = omega arith;
-        bounds = subst (AllBetween n e) (sym (suites_headed n f rs own sts')) (suites_wider f e n e (omega arith) (omega arith) (own_list own ++ suites_in sts') o.bounds);
+        bounds = suites_wider f e n e (omega arith) (omega arith) (own ++ suites_of sts') o.bounds;
         within = whole;
         outer = λ s q d u.
             collected s q d ∙ three_none _ _ _ (header_outer s q (λ j. u (omega arith, omega arith))) (pick_other (suffix_of n) q (as_list (suffix_in (gap_of ls'))) (λ t. u (omega arith, omega arith)))
@@ -162,7 +164,7 @@ module _ (page : SuitesAndLeaves) (kind : Kind) (n e : ℕ) (group : List Bytes)
         counted = omega arith;
         before = omega arith;
         quiet = ap all_in (last_leaf_after (z.front ++ front_leaves) c []) ∙ quiet;
-        sees = subst (SeesSuites page n e) (suites_headed n f rs own sts') z.sees;
+        sees = z.sees;
         regions = own_sees z.regions;
         texts = λ q j.
             z.texts q (omega arith, omega arith) ∙ (collected z.regions q (omega arith) ∙ three_third _ _ _ (texts_at page.regions q (comments_after f ls')) (header_outer z.regions q (λ t. omega (arith, t.1)))
@@ -173,7 +175,7 @@ module _ (page : SuitesAndLeaves) (kind : Kind) (n e : ℕ) (group : List Bytes)
   header_piece = record {
     extent = header_extent;
     starts = refl;
-    left = λ a i after. o.left a (omega arith) after ∙ rw (suites_headed n f rs own sts', last_there) refl;
+    left = λ a i after. o.left a (omega arith) after ∙ rw last_there refl;
     hosts = λ z.
         let y : OwnAt page n f e ls' own sts' = own_at z in
         let after : Lines = lines_of (gap_of z.back) in
@@ -186,5 +188,5 @@ module _ (page : SuitesAndLeaves) (kind : Kind) (n e : ℕ) (group : List Bytes)
         z.texts q (omega arith, omega arith) ∙ (collected z.regions q (omega arith) ∙ three_first _ _ _ (texts_at page.regions q (after_parts n hs)) refl (pick_other (suffix_of n) q (as_list (suffix_in (gap_of ls'))) (λ d. omega arith))
         (own_outer z.regions q (omega arith) (λ i. omega (arith, i.0))))) in
         let gap : leaf_gap page.leaves f ≡ gap_of ls' = leaf_there f page.leaves y.front ls' y.back y.leaves y.counted o.some in
-        rw (at_above, gap, sym o.suffix_is, inside, o.ends n y, o.statements n y, append_assoc (inside_expr (plain head)) (block (suite_end page own) ∷ []) (along page sts')) refl;
+        rw (at_above, gap, sym o.suffix_is, inside, o.ends n y, o.statements n y, append_assoc (inside_expr (plain head)) (block (flat_map (suite_end page) own) ∷ []) (along page sts')) refl;
   }

@@ -1,23 +1,25 @@
 -- Pieces of a file: what is read of leaves that follow each other, with the hosts in it, and the hosts by their places.
-use Rattle.std.proofs.Common.{◌≡◌, ◌≢◌, ℕ, ◌+◌, ◌<◌, ◌≤◌, false, ◌||◌, List, [], ◌∷◌, ◌++◌, None, length, refl, sym, ap, ◌∙◌, subst, append_assoc, append-nil, length-append, nat_eq, arith}
-use Rattle.std.specs.List.{AllByRecursion, flat_map}
+use Rattle.std.proofs.Common.{◌≡◌, ◌≢◌, ℕ, ◌+◌, ◌<◌, ◌≤◌, Bool, false, ◌||◌, List, [], ◌∷◌, ◌++◌, None, length, refl, sym, ap, ◌∙◌, subst, append_assoc, append-nil, length-append, nat_eq, arith}
+use Rattle.std.specs.List.{AllByRecursion, flat_map, list_any}
 use Rattle.std.proofs.lemmas.Bool.{ne_eqb}
 use Rattle.std.proofs.lemmas.Grind.{flat_map-append}
 use Rattle.bz_lex.specs.declared.leaf.Leaf.{Leaf}
 use Rattle.bz_items.specs.Characters.{Bytes}
 use Rattle.bz_value.specs.Gaps.{comments_in, lines_of, after_first_line}
-use Rattle.bz_hosts.specs.Hosts.{Region, Comment, CommentPlace, Hosted, comments_from, texts_at, lines_before}
+use Rattle.bz_hosts.specs.Hosts.{Region, Comment, CommentPlace, Hosted, comments_from, texts_at, lines_before, Suite, Stretch, Page, regions_in, suites_in, first_leaf, left_by, lines_of_leaf, stretch_hosts, statement_hosts}
 use Rattle.bz_hosts.proofs.Alternating.{inside_joined}
 use Rattle.bz_hosts.proofs.Gathered.{key, texts_joined}
 use Rattle.bz_hosts.proofs.Parts.{comments_joined}
 use Rattle.bz_hosts.proofs.Sequences.{From}
-use Rattle.bz_hosts.proofs.SuiteLines.{gap_of, last_leaf_gap, Lines, Between, AllBetween, suites_wider, left_joined, past, beyond, gap_joined, last_joined, suites_joined, PieceRead, with_left, lines_there}
-use Rattle.bz_hosts.specs.SuiteHosts.{Suite, Stretch, SuitesAndLeaves, regions_in, suites_in, first_leaf, left_by, begins_suite, lines_of_leaf, stretch_hosts, statement_hosts}
+use Rattle.bz_hosts.proofs.SuiteLines.{gap_of, last_leaf_gap, Lines, Between, AllBetween, suites_wider, left_joined, past, beyond, gap_joined, last_joined, PieceRead, with_left, lines_there}
 use Rattle.bz_hosts.proofs.SeenParts.{all_mapped}
 use Rattle.bz_value.proofs.GapComments.{all_joined}
 use Rattle.bz_hosts.proofs.Around as r
 
 -- ---- where suites begin
+
+abbrev pub begins_suite : ℕ → List Suite → Bool
+begins_suite m xs = list_any (λ x. nat_eq x.first m) xs
 
 none_begin : (m : ℕ) (xs : List Suite) → AllByRecursion (λ x. x.first ≢ m) xs → begins_suite m xs ≡ false
 none_begin m [] h = refl
@@ -40,6 +42,9 @@ first_after lo hi m xs l h = all_mapped (Between lo hi) (λ x. x.first ≢ m) (�
 abbrev pub regions_of : List Stretch → List Region
 regions_of sts = flat_map regions_in sts
 
+abbrev pub suites_of : List Stretch → List Suite
+suites_of sts = flat_map suites_in sts
+
 abbrev pub Starts : ℕ → List Stretch → Type 0
 Starts n [] = ⊥
 Starts n (x ∷ xs) = first_leaf x ≡ n
@@ -48,7 +53,7 @@ starts_joined : (n : ℕ) (a b : List Stretch) → Starts n a → Starts n (a ++
 starts_joined n [] b h = absurd h
 starts_joined n (x ∷ a) b h = h
 
-module _ (page : SuitesAndLeaves) where
+module _ (page : Page) where
   abbrev pub comments : List Comment
   comments = comments_from 0 page.leaves
 
@@ -79,7 +84,7 @@ module _ (page : SuitesAndLeaves) where
   pub record Extent (n e : ℕ) (ls : List Leaf) (sts : List Stretch) : Type 0 where
     pub some : 0 < length ls
     pub up : n + length ls ≡ e
-    pub bounds : AllBetween n e (suites_in sts)
+    pub bounds : AllBetween n e (suites_of sts)
     pub within : r.AllInside n e (regions_of sts)
     pub outer : r.SeesAt page.regions None n e (regions_of sts) → (q : CommentPlace) → 0 < key q → (From n e q → ⊥) → texts_at page.regions q (comments_from n ls) ≡ []
 
@@ -89,7 +94,7 @@ module _ (page : SuitesAndLeaves) where
     pub back : List Leaf
     pub leaves : page.leaves ≡ front ++ (ls ++ back)
     pub counted : length front ≡ n
-    pub sees : SeesSuites n e (suites_in sts)
+    pub sees : SeesSuites n e (suites_of sts)
     pub regions : r.SeesAt page.regions None n e (regions_of sts)
     pub texts : (q : CommentPlace) → From n e q → texts_at page.regions q comments ≡ texts_at page.regions q (comments_from n ls)
 
@@ -116,16 +121,16 @@ module _ (page : SuitesAndLeaves) where
         record {
           some = omega arith;
           up = omega arith;
-          bounds = subst (AllBetween n e) (sym (suites_joined sts sts'))
-              (all_joined (Between n e) (suites_in sts) (suites_in sts') (suites_wider n m n e (omega arith) (omega arith) (suites_in sts) h.bounds) (suites_wider m e n e (omega arith) (omega arith) (suites_in sts') h'.bounds));
+          bounds = subst (AllBetween n e) (sym (flat_map-append suites_in sts sts'))
+              (all_joined (Between n e) (suites_of sts) (suites_of sts') (suites_wider n m n e (omega arith) (omega arith) (suites_of sts) h.bounds) (suites_wider m e n e (omega arith) (omega arith) (suites_of sts') h'.bounds));
           within = subst (r.AllInside n e) (sym (flat_map-append regions_in sts sts'))
               (inside_joined n e (regions_of sts) (regions_of sts') (r.all_wider n m n e (omega arith) (omega arith) (regions_of sts) h.within) (r.all_wider m e n e (omega arith) (omega arith) (regions_of sts') h'.within));
           outer = λ s q d o. mine q ∙ rw (h.outer (regions_first s) q d (λ j. o (j.0, omega (arith, j.1))), h'.outer (regions_second s) q d (λ j. o (omega (arith, j.0), j.1))) refl;
         }
 
     module _ (x : At n e (ls ++ ls') (sts ++ sts')) where
-      pub seen_suites : SeesSuites n e (suites_in sts ++ suites_in sts')
-      seen_suites = subst (SeesSuites n e) (suites_joined sts sts') x.sees
+      pub seen_suites : SeesSuites n e (suites_of sts ++ suites_of sts')
+      seen_suites = subst (SeesSuites n e) (flat_map-append suites_in sts sts') x.sees
 
       pub leaves_first : page.leaves ≡ x.front ++ (ls ++ (ls' ++ x.back))
       leaves_first = x.leaves ∙ ap (λ (z : List Leaf). x.front ++ z) (append_assoc ls ls' x.back)
@@ -137,7 +142,7 @@ module _ (page : SuitesAndLeaves) where
             back = ls' ++ x.back;
             leaves = leaves_first;
             counted = x.counted;
-            sees = sees_first n m e (suites_in sts) (suites_in sts') (omega arith) h'.bounds seen_suites;
+            sees = sees_first n m e (suites_of sts) (suites_of sts') (omega arith) h'.bounds seen_suites;
             regions = regions_first x.regions;
             texts = λ q f. x.texts q (omega arith, omega arith) ∙ (mine q ∙ rw (h'.outer (regions_second x.regions) q (omega arith) (λ j. omega (arith, j.0)), append-nil (texts_at page.regions q (comments_from n ls))) refl);
           }
@@ -150,7 +155,7 @@ module _ (page : SuitesAndLeaves) where
             back = x.back;
             leaves = leaves_first ∙ sym (append_assoc x.front ls (ls' ++ x.back));
             counted = omega arith;
-            sees = sees_second n m e (suites_in sts) (suites_in sts') (omega arith) h.bounds seen_suites;
+            sees = sees_second n m e (suites_of sts) (suites_of sts') (omega arith) h.bounds seen_suites;
             regions = regions_second x.regions;
             texts = λ q f. x.texts q (omega arith, omega arith) ∙ (mine q ∙ rw (h.outer (regions_first x.regions) q (omega arith) (λ j. omega (arith, j.1))) refl);
           }
@@ -159,7 +164,7 @@ module _ (page : SuitesAndLeaves) where
   pub record Piece (n e : ℕ) (ls : List Leaf) (sts : List Stretch) (group : List Bytes) (read : PieceRead) : Type 0 where
     pub extent : Extent n e ls sts
     pub starts : Starts n sts
-    pub left : (a : ℕ) → a ≤ n → (after : Lines) → (read after).1 ≡ left_by a e (suites_in sts) (after_first_line (lines_of (last_leaf_gap ls)) ++ after)
+    pub left : (a : ℕ) → a ≤ n → (after : Lines) → (read after).1 ≡ left_by a e (suites_of sts) (after_first_line (lines_of (last_leaf_gap ls)) ++ after)
     pub hosts : (x : At n e ls sts) → (read (lines_of (gap_of x.back))).0 ≡ statement_hosts page group sts
 
   pub same_piece : (n e e' : ℕ) (ls ls' : List Leaf) (sts sts' : List Stretch) (group : List Bytes) (read read' : PieceRead) → e ≡ e' → ls ≡ ls' → sts ≡ sts' → ((after : Lines) → read' after ≡ read after) → Piece n e ls sts group read → Piece n e' ls' sts' group read'
@@ -176,11 +181,11 @@ module _ (page : SuitesAndLeaves) where
     pub left_there : (read (lines_of (gap_of ls'))).1 ≡ left_by 0 m page.suites (lines_before page.leaves m)
     left_there =
         let y : At n m ls sts = at_first n m e ls ls' sts sts' h.extent h' x in
-        let s : SeesSuites n e (suites_in sts ++ suites_in sts') = seen_suites n m e ls ls' sts sts' h.extent h' x in
+        let s : SeesSuites n e (suites_of sts ++ suites_of sts') = seen_suites n m e ls ls' sts sts' h.extent h' x in
         rw (
           s.inner 0 m (omega arith) (omega arith) (lines_before page.leaves m),
-          left_joined 0 m (suites_in sts) (suites_in sts') (lines_before page.leaves m),
-          beyond 0 m m e (suites_in sts') (lines_before page.leaves m) (omega arith) h'.bounds,
+          left_joined 0 m (suites_of sts) (suites_of sts') (lines_before page.leaves m),
+          beyond 0 m m e (suites_of sts') (lines_before page.leaves m) (omega arith) h'.bounds,
           lines_there page n m y.front ls y.back h.extent.some h.extent.up y.leaves y.counted,
           gap_joined ls' x.back h'.some,
         ) (h.left 0 (omega arith) (lines_of (gap_of ls')))
@@ -188,9 +193,9 @@ module _ (page : SuitesAndLeaves) where
     -- and the comment lines above that
     group_there : comments_in (read (lines_of (gap_of ls'))).1 ≡ lines_of_leaf page m
     group_there =
-        let s : SeesSuites n e (suites_in sts ++ suites_in sts') = seen_suites n m e ls ls' sts sts' h.extent h' x in
+        let s : SeesSuites n e (suites_of sts ++ suites_of sts') = seen_suites n m e ls ls' sts sts' h.extent h' x in
         let begins : begins_suite m page.suites ≡ false =
-        s.begins m (omega arith) (omega arith) ∙ (begins_second m (suites_in sts) (suites_in sts') (first_before n m m (suites_in sts) (omega arith) h.extent.bounds) ∙ none_begin m (suites_in sts') (first_after m e m (suites_in sts') (omega arith) h'.bounds)) in
+        s.begins m (omega arith) (omega arith) ∙ (begins_second m (suites_of sts) (suites_of sts') (first_before n m m (suites_of sts) (omega arith) h.extent.bounds) ∙ none_begin m (suites_of sts') (first_after m e m (suites_of sts') (omega arith) h'.bounds)) in
         rw (begins, left_there) refl
 
   pub along_first : (m : ℕ) (b : List Stretch) → Starts m b → along b ≡ statement_hosts page (lines_of_leaf page m) b
@@ -209,7 +214,7 @@ module _ (page : SuitesAndLeaves) where
     starts = starts_joined n sts sts' h.starts;
     left = λ a l after.
         let lines : Lines = after_first_line (lines_of (last_leaf_gap ls')) ++ after in
-        rw (last_joined ls ls' h'.extent.some, suites_joined sts sts', left_joined a e (suites_in sts) (suites_in sts') lines, past a e n m (suites_in sts) (left_by a e (suites_in sts') lines) (omega arith) h.extent.bounds) (h'.left a (omega arith) after);
+        rw (last_joined ls ls' h'.extent.some, flat_map-append suites_in sts sts', left_joined a e (suites_of sts) (suites_of sts') lines, past a e n m (suites_of sts) (left_by a e (suites_of sts') lines) (omega arith) h.extent.bounds) (h'.left a (omega arith) after);
     hosts = λ x.
         let first : (read (lines_of (gap_of ls'))).0 ≡ statement_hosts page group sts = rw (sym (gap_joined ls' x.back h'.extent.some)) (h.hosts (at_first n m e ls ls' sts sts' h.extent h'.extent x)) in
         rw (statement_joined n m group sts sts' h.starts h'.starts, first, h'.hosts (at_second n m e ls ls' sts sts' h.extent h'.extent x), group_there n m e ls ls' sts sts' group read h h'.extent x) refl;

@@ -1,17 +1,17 @@
 -- The hosts in a line of statements, by their places.
-use Rattle.std.proofs.Common.{◌≡◌, ℕ, suc, ◌+◌, ◌<◌, List, [], ◌∷◌, ◌++◌, None, length, refl, sym, ap, ◌∙◌, subst, map, append-nil, append_assoc, arith}
+use Rattle.std.proofs.Common.{◌≡◌, ℕ, suc, ◌+◌, ◌<◌, List, [], ◌∷◌, None, length, refl, sym, ap, ◌∙◌, subst, map, append-nil, arith}
 use Rattle.std.specs.List.{AllByRecursion, flat_map}
+use Rattle.std.proofs.lemmas.List.Folds.{flat_map-map}
 use Rattle.bz_grammar.specs.declared.tree.Part.{Part}
 use Rattle.bz_grammar.specs.Spell.{leaves_part}
 use Rattle.bz_value.specs.declared.value.Expr.{Expr}
 use Rattle.bz_items.specs.Characters.{Bytes}
 use Rattle.bz_value.specs.Gaps.{lines_of}
 use Rattle.bz_value.specs.LineShapes.{line_shape}
-use Rattle.bz_value.specs.Proper.{comments_of}
 use Rattle.bz_value.proofs.LegalBy.{LegalBy, as_bzl}
 use Rattle.bz_hosts.specs.Suites.{ReadStatements, stated, line_read, exprs_in}
 use Rattle.bz_hosts.specs.Seen.{Seen, seen, statements_in}
-use Rattle.bz_hosts.specs.Hosts.{Region, CommentPlace, outside, comments_at, comments_from, texts_at, Hosted, hosted_at, hosted_by, sizes, measured, hosts_from, inside_expr, inside_item}
+use Rattle.bz_hosts.specs.Hosts.{Region, CommentPlace, outside, comments_at, comments_from, texts_at, Hosted, hosted_at, sizes, measured, hosts_from, inside_item, Page, Stretch, simple_line, statement_hosts}
 use Rattle.bz_hosts.proofs.Alternating.{Alternating, Regions, hosts_inside}
 use Rattle.bz_hosts.proofs.Claim.{part_texts}
 use Rattle.bz_hosts.proofs.SuiteReads.{gap_outside, outside_none, group_above}
@@ -24,7 +24,6 @@ use Rattle.bz_hosts.proofs.SeenParts.{all_mapped}
 use Rattle.bz_hosts.proofs.Statements.{LineTexts, line_texts}
 use Rattle.bz_hosts.proofs.Texts.{InHost}
 use Rattle.bz_hosts.proofs.SuiteLines.{gap_of, Lines, with_left}
-use Rattle.bz_hosts.specs.SuiteHosts.{SuitesAndLeaves, Stretch, simple_line, statement_hosts}
 use Rattle.bz_hosts.proofs.Stated.{parts_seen, all_simple}
 use Rattle.bz_hosts.proofs.HostPieces.{comments, Extent, At}
 use Rattle.bz_grammar.specs.Shapes as s
@@ -47,15 +46,9 @@ all_texts all xs h = all_mapped (LegalBy line_shape) (InHost all) (part_texts al
 
 -- ---- the hosts in expressions one after the other
 
-pub joined_inside : (xs ys : List Expr) → inside_list (xs ++ ys) ≡ inside_list xs ++ inside_list ys
-joined_inside [] ys = refl
-joined_inside (x ∷ xs) ys =
-    ap (λ (z : List Hosted). hosted_by (comments_of x) ∷ (inside_expr x ++ z)) (joined_inside xs ys) ∙ ap (λ (z : List Hosted). hosted_by (comments_of x) ∷ z) (sym (append_assoc (inside_expr x) (inside_list xs) (inside_list ys)))
-
 -- they are the items of a file
-pub items_inside : (xs : List Expr) → flat_map inside_item (map i.Stmt xs) ≡ inside_list xs
-items_inside [] = refl
-items_inside (x ∷ xs) = ap (λ (z : List Hosted). inside_item (i.Stmt x) ++ z) (items_inside xs)
+pub file_inside : (xs : List Expr) → flat_map inside_item (map i.Stmt xs) ≡ inside_list xs
+file_inside xs = flat_map-map inside_item i.Stmt xs
 
 -- what is read of statements, as hosts
 abbrev pub hosts_read : ReadStatements (List Expr) → List Hosted × Lines
@@ -63,11 +56,11 @@ hosts_read r' = with_left (inside_list r'.0) r'.1
 
 -- the statements of a line
 pub simple_inside : (group : List Bytes) (ss : List Seen) → inside_list (exprs_in (statements_in group ss)) ≡ flat_map inside_item (statements_in group ss)
-simple_inside group ss = sym (items_inside (exprs_in (statements_in group ss))) ∙ ap (flat_map inside_item) (all_simple group ss)
+simple_inside group ss = sym (file_inside (exprs_in (statements_in group ss))) ∙ ap (flat_map inside_item) (all_simple group ss)
 
 -- ---- a line
 
-module _ (page : SuitesAndLeaves) (n : ℕ) (group : List Bytes) (x : Part) (xs : List Part) (fits : Statements (x ∷ xs)) (quiet : Quiet (x ∷ xs)) (legal : AllLegal (x ∷ xs)) where
+module _ (page : Page) (n : ℕ) (group : List Bytes) (x : Part) (xs : List Part) (fits : Statements (x ∷ xs)) (quiet : Quiet (x ∷ xs)) (legal : AllLegal (x ∷ xs)) where
   abbrev ys : List Part
   ys = x ∷ xs
 

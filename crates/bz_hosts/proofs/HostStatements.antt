@@ -1,6 +1,6 @@
 -- Statements as pieces with the hosts in them, and the law of hosts: in what a legal tree says each comment is where its place
 -- in the text says.
-use Rattle.std.proofs.Common.{◌≡◌, ℕ, suc, ◌+◌, true, false, List, [], ◌∷◌, ◌++◌, inl, inr, Option, Some, None, length, refl, sym, ap, ◌∙◌, subst, map, drop, append-nil, append_assoc, arith}
+use Rattle.std.proofs.Common.{◌≡◌, ℕ, suc, ◌+◌, true, false, List, [], ◌∷◌, ◌++◌, inl, inr, length, refl, sym, ap, ◌∙◌, subst, map, drop, append-nil, append_assoc, arith}
 use Rattle.std.specs.List.{AllByRecursion, flat_map}
 use Rattle.std.proofs.lemmas.Grind.{flat_map-append}
 use Rattle.bz_lex.specs.declared.leaf.Leaf.{Leaf}
@@ -19,12 +19,13 @@ use Rattle.bz_items.specs.Characters.{Bytes}
 use Rattle.bz_value.specs.Frames.{is_header}
 use Rattle.bz_value.specs.Gaps.{GapLine, all_but_last, comments_in, groups_of, last_group, lines_of}
 use Rattle.bz_value.specs.LineShapes.{line_shape}
+use Rattle.bz_value.specs.Proper.{comments_of}
 use Rattle.bz_value.proofs.LegalBy.{LegalBy, each_legal, as_bzl}
 use Rattle.bz_hosts.specs.Seen.{blocks}
-use Rattle.bz_hosts.specs.Hosts.{comments_at, texts_at, Measured, Hosted, hosts_alone, sizes, measured, measured_row, hosts_from, right_above, bare_lines, lines_before, inside_item}
+use Rattle.bz_hosts.specs.Hosts.{comments_at, texts_at, Measured, Hosted, hosts_alone, sizes, measured, measured_row, right_above, bare_lines, lines_before, hosted_by, inside_expr, inside_item, Suite, Stretch, in_statement, in_compound, one_by_one, regions_in, Page, suite_there, left_by, left_above, statement_hosts, hosted_from}
 use Rattle.bz_hosts.specs.Suites.{ReadStatements, Stated, stated, stated_row, statement_read, suite_in, suffix_before, branches, indented_lines_before, walked, margin_of}
 use Rattle.bz_hosts.specs.View.{items_from}
-use Rattle.bz_hosts.proofs.SuiteReads.{blocks_alone, gap_outside, outside_none, stated_gap, placed_measured, line_some, line_left}
+use Rattle.bz_hosts.proofs.SuiteReads.{blocks_alone, gap_outside, outside_none, stated_gap, line_some, line_left}
 use Rattle.bz_hosts.proofs.InnerParts.{nonterminal_inner}
 use Rattle.bz_hosts.proofs.Insides.{inside_list}
 use Rattle.bz_hosts.proofs.Numbered.{all_numbered, alone_numbered, last_numbered}
@@ -32,13 +33,12 @@ use Rattle.bz_hosts.proofs.Parts.{size, measured_rows, leaves_rows, Solid, part_
 use Rattle.bz_hosts.proofs.QuietGaps.{Quiet, Statements, Silent, part_silent, legal_statements, statements_quiet}
 use Rattle.bz_hosts.proofs.SeenParts.{all_mapped}
 use Rattle.bz_hosts.proofs.SuiteLines.{gap_of, Lines, gap_joined, first_at, beyond, PieceRead, with_left}
-use Rattle.bz_hosts.specs.SuiteHosts.{Suite, Stretch, simple_line, Placed, placed, placed_row, in_statement, in_compound, one_by_one, regions_in, suites_in, SuitesAndLeaves, suite_there, left_by, left_above, statement_hosts, hosted_from}
 use Rattle.bz_hosts.specs.Laws.{HostsByPlace}
 use Rattle.bz_hosts.proofs.Compounds.{First, function, loop, condition, Further, KnownOf, statement}
 use Rattle.bz_hosts.proofs.HeadParts.{Headed, after_stmt}
 use Rattle.bz_hosts.proofs.HostBranches.{More, then_more, BranchesPiece, Alternatives, no_alternatives, some_alternatives, Parted, headed}
-use Rattle.bz_hosts.proofs.HostPieces.{At, at_first, at_second, Extent, both_extents, Piece, same_piece, left_there}
-use Rattle.bz_hosts.proofs.HostReads.{AllLegal, all_solid, joined_inside, items_inside, hosts_read, line_extent, line_piece_hosts}
+use Rattle.bz_hosts.proofs.HostPieces.{suites_of, At, at_first, at_second, Extent, both_extents, Piece, same_piece, left_there}
+use Rattle.bz_hosts.proofs.HostReads.{AllLegal, all_solid, file_inside, hosts_read, line_extent, line_piece_hosts}
 use Rattle.bz_hosts.proofs.HostSuites.{OwnPiece, line_own, suite_own, as_walked}
 use Rattle.bz_hosts.proofs.KeptGaps.{newline_ends, newline_comment}
 use Rattle.bz_hosts.proofs.Stated.{stated_rows}
@@ -50,10 +50,6 @@ use Rattle.bz_value.specs.declared.value.Item.TheVariants as i
 
 -- ---- parts and values
 
-placed_rows : (m : _) (r : Row_of-Part m) → placed_row r ≡ map placed (items-the_row-Part m r)
-placed_rows m end_of-Part = refl
-placed_rows m (more_of-Part x rest) = ap (λ (z : List Placed). placed x ∷ z) (placed_rows _ rest)
-
 indent_first : (ls : List Leaf) → first_indent ls ≡ indent (gap_of ls)
 indent_first [] = refl
 indent_first (l ∷ ls) = refl
@@ -62,42 +58,35 @@ before_first : (xs : List Part) → AllByRecursion Solid xs → indented_lines_b
 before_first [] g = refl
 before_first (x ∷ xs) g = ap lines_of (stated_gap x (flat_map leaves_part xs) g.0)
 
-measured_list : (xs : List Part) → map (λ x. x.measured) (map placed xs) ≡ map measured xs
-measured_list [] = refl
-measured_list (x ∷ xs) = rw (placed_measured x, measured_list xs) refl
-
-line_placed : (n : ℕ) (xs : List Part) → in_statement k.Line n (map placed xs) ≡ simple_line n (hosts_from s.semicolon n (map measured xs)) ∷ []
-line_placed n xs = ap (λ (ms : List Measured). simple_line n (hosts_from s.semicolon n ms) ∷ []) (measured_list xs)
-
 line_legal : (m : _) (r : Row_of-Part m) → LegalRow r → Statements (items-the_row-Part m r) → AllLegal (items-the_row-Part m r)
 line_legal m r h fits = each_legal line_shape m r (legal_statements m r fits h)
 
 all_silent : (xs : List Part) → AllLegal xs → AllByRecursion Silent xs
 all_silent xs h = all_mapped (LegalBy line_shape) Silent (λ x l. part_silent x (as_bzl x l)) xs h
 
-module _ (page : SuitesAndLeaves) where
+module _ (page : Page) where
   -- ---- nodes, by the lists of their parts
 
   abbrev as_statement : Part → List Bytes → PieceRead
   as_statement x group after = hosts_read ((stated x).statement group after)
 
   abbrev StatementPiece : Part → Type 0
-  StatementPiece x = (n : ℕ) (group : List Bytes) → Piece page n (n + size x) (leaves_part x) ((placed x).stretches n) group (as_statement x group)
+  StatementPiece x = (n : ℕ) (group : List Bytes) → Piece page n (n + size x) (leaves_part x) ((measured x).stretches n) group (as_statement x group)
 
   abbrev AsStatement : Part → Type 0
   AsStatement x = IsNonterminal s.stmt x → AtLeaves Stands Begins x → StatementPiece x
 
-  abbrev NodeRead : Kind → List Measured → List Leaf → List Placed → List Stated → Type 0
-  NodeRead kind ms ls ps ss = (n : ℕ) (group : List Bytes) → Piece page n (n + sizes ms) ls (in_statement kind n ps) group (λ after. hosts_read (statement_read kind ss group after))
+  abbrev NodeRead : Kind → List Measured → List Leaf → List Stated → Type 0
+  NodeRead kind ms ls ss = (n : ℕ) (group : List Bytes) → Piece page n (n + sizes ms) ls (in_statement kind n ms) group (λ after. hosts_read (statement_read kind ss group after))
 
   abbrev NodePiece : Kind → List Part → Type 0
-  NodePiece kind xs = NodeRead kind (map measured xs) (flat_map leaves_part xs) (map placed xs) (map stated xs)
+  NodePiece kind xs = NodeRead kind (map measured xs) (flat_map leaves_part xs) (map stated xs)
 
-  node_rows : (kind : Kind) (m : _) (r' : Row_of-Part m) → NodePiece kind (items-the_row-Part m r') → NodeRead kind (measured_row r') (leaves_row r') (placed_row r') (stated_row r')
-  node_rows kind m r' h = rw (measured_rows m r', leaves_rows m r', placed_rows m r', stated_rows m r') h
+  node_rows : (kind : Kind) (m : _) (r' : Row_of-Part m) → NodePiece kind (items-the_row-Part m r') → NodeRead kind (measured_row r') (leaves_row r') (stated_row r')
+  node_rows kind m r' h = rw (measured_rows m r', leaves_rows m r', stated_rows m r') h
 
   abbrev Headers : Kind → List Part → Type 0
-  Headers kind xs = (n : ℕ) (group : List Bytes) → Piece page n (n + sizes (map measured xs)) (flat_map leaves_part xs) (in_compound kind n [] (map placed xs)) group (λ after. hosts_read (branches true kind [] group after (map stated xs) after))
+  Headers kind xs = (n : ℕ) (group : List Bytes) → Piece page n (n + sizes (map measured xs)) (flat_map leaves_part xs) (in_compound kind n [] (map measured xs)) group (λ after. hosts_read (branches true kind [] group after (map stated xs) after))
 
   -- the lines that are left where no header follows are those after the statement
   all_headers : (kind : Kind) (xs : List Part) → BranchesPiece page true kind xs → Headers kind xs
@@ -125,12 +114,12 @@ module _ (page : SuitesAndLeaves) where
       let ys : List Part = x ∷ xs in
       let e : ℕ = n + sizes (map measured ys) in
       let solids : AllByRecursion Solid ys = all_solid ys legal in
-      subst (λ (sts : List Stretch). Piece page n e (flat_map leaves_part ys) sts group (λ after. hosts_read (statement_read k.Line (map stated ys) group after))) (sym (line_placed n ys)) (record {
+      record {
         extent = line_extent page n group x xs fits quiet legal (line_some x xs solids.0) (omega (arith, measured_leaves ys));
         starts = refl;
         left = λ a l after. line_left group ys fits solids after;
         hosts = λ z. line_piece_hosts page n group x xs fits quiet legal z;
-      })
+      }
 
   node_piece : (kind : Kind) (xs : List Part) → nonterminal_has_kind s.stmt kind ≡ true → Fits IsNonterminal (bzl_shape kind) xs → AtParts Stands Begins Begins xs → (Statements xs → AllLegal xs) → AllByRecursion (Parted page) xs → NodePiece kind xs
   node_piece k.Line xs h f at_ lines g n group = line_node xs f (statements_quiet Begins Begins xs refl f (all_silent xs (lines f)) at_) (lines f) n group
@@ -141,7 +130,7 @@ module _ (page : SuitesAndLeaves) where
 
   -- ---- statements one after the other
 
-  walked_more : (n : ℕ) (xs : List Part) → Several (IsNonterminal s.stmt) (Fits IsNonterminal done) xs → AtParts Stands Along Begins xs → AllByRecursion AsStatement xs → AllByRecursion Solid xs → More page xs n (n + sizes (map measured xs)) (one_by_one n (map placed xs)) (as_walked page xs)
+  walked_more : (n : ℕ) (xs : List Part) → Several (IsNonterminal s.stmt) (Fits IsNonterminal done) xs → AtParts Stands Along Begins xs → AllByRecursion AsStatement xs → AllByRecursion Solid xs → More page xs n (n + sizes (map measured xs)) (one_by_one n (map measured xs)) (as_walked page xs)
   walked_more n [] h at_ w g = (omega arith, refl, λ left after. refl)
   walked_more n (x ∷ xs) (inl h) at_ w g = absurd h
   walked_more n (x ∷ xs) (inr h) at_ w g = (
@@ -150,39 +139,38 @@ module _ (page : SuitesAndLeaves) where
         let m : ℕ = n + size x in
         let e : ℕ = m + sizes (map measured xs) in
         let ls : List Leaf = leaves_part x ++ flat_map leaves_part xs in
-        let sts : List Stretch = (placed x).stretches n in
+        let sts : List Stretch = (measured x).stretches n in
         let there : AtParts Stands Along Begins xs = subst (λ z. AtParts Stands Along z xs) (after_stmt x Along Begins h.0) at_.1 in
         let one : Lines → ReadStatements (List Expr) = λ after. (stated x).statement group (indented_lines_before (map stated xs) after) in
-        same_piece page n e (n + sizes (map measured (x ∷ xs))) ls ls (sts ++ one_by_one m (map placed xs)) (one_by_one n (map placed (x ∷ xs))) group _ (as_walked page (x ∷ xs) left)
-        (omega arith) refl (ap (λ (z : Measured). sts ++ one_by_one (n + z.size) (map placed xs)) (sym (placed_measured x)))
-        (λ after. ap (λ (z : List Hosted). with_left z (walked (one after).1 (map stated xs) after).1) (joined_inside (one after).0 (walked (one after).1 (map stated xs) after).0))
-        (then_more page n m e (leaves_part x) sts group (as_statement x group) xs (one_by_one m (map placed xs)) (as_walked page xs) (w.0 h.0 at_.0 n group) (walked_more m xs h.1 there w.1 g.1)),
+        same_piece page n e (n + sizes (map measured (x ∷ xs))) ls ls (sts ++ one_by_one m (map measured xs)) (one_by_one n (map measured (x ∷ xs))) group _ (as_walked page (x ∷ xs) left)
+        (omega arith) refl refl
+        (λ after. ap (λ (z : List Hosted). with_left z (walked (one after).1 (map stated xs) after).1) (flat_map-append (λ x. hosted_by (comments_of x) ∷ inside_expr x) (one after).0 (walked (one after).1 (map stated xs) after).0))
+        (then_more page n m e (leaves_part x) sts group (as_statement x group) xs (one_by_one m (map measured xs)) (as_walked page xs) (w.0 h.0 at_.0 n group) (walked_more m xs h.1 there w.1 g.1)),
     g.0,
   )
 
   -- ---- suites
 
   -- what is after a colon is a suite of its own, but for a line
-  abbrev own_of : Kind → ℕ → ℕ → List Leaf → Option Suite
-  own_of k.Suite n e ls = Some (record { first = suc n; following = e; margin = length (first_indent (drop 1 ls)) })
-  own_of _ n e ls = None
+  abbrev own_of : Kind → ℕ → ℕ → List Leaf → List Suite
+  own_of k.Suite n e ls = record { first = suc n; following = e; margin = length (first_indent (drop 1 ls)) } ∷ []
+  own_of _ n e ls = []
 
-  abbrev OwnNode : Kind → List Measured → List Leaf → List Placed → List Stated → Type 0
-  OwnNode kind ms ls ps ss = (n : ℕ) → OwnPiece page n (n + sizes ms) ls (own_of kind n (n + sizes ms) ls) (in_statement kind n ps) (suffix_before kind ss) (suite_in kind ss)
+  abbrev OwnNode : Kind → List Measured → List Leaf → List Stated → Type 0
+  OwnNode kind ms ls ss = (n : ℕ) → OwnPiece page n (n + sizes ms) ls (own_of kind n (n + sizes ms) ls) (in_statement kind n ms) (suffix_before kind ss) (suite_in kind ss)
 
   abbrev OwnList : Kind → List Part → Type 0
-  OwnList kind xs = OwnNode kind (map measured xs) (flat_map leaves_part xs) (map placed xs) (map stated xs)
+  OwnList kind xs = OwnNode kind (map measured xs) (flat_map leaves_part xs) (map stated xs)
 
-  own_rows : (kind : Kind) (m : _) (r' : Row_of-Part m) → OwnList kind (items-the_row-Part m r') → OwnNode kind (measured_row r') (leaves_row r') (placed_row r') (stated_row r')
-  own_rows kind m r' h = rw (measured_rows m r', leaves_rows m r', placed_rows m r', stated_rows m r') h
+  own_rows : (kind : Kind) (m : _) (r' : Row_of-Part m) → OwnList kind (items-the_row-Part m r') → OwnNode kind (measured_row r') (leaves_row r') (stated_row r')
+  own_rows kind m r' h = rw (measured_rows m r', leaves_rows m r', stated_rows m r') h
 
   line_list : (xs : List Part) → Statements xs → AtParts Stands Along Along xs → AllLegal xs → OwnList k.Line xs
   line_list [] fits at_ legal n = absurd fits
   line_list (x ∷ xs) fits at_ legal n =
       let ys : List Part = x ∷ xs in
       let silent = all_silent ys legal in
-      subst (λ (sts : List Stretch). OwnPiece page n (n + sizes (map measured ys)) (flat_map leaves_part ys) None sts None (suite_in k.Line (map stated ys))) (sym (line_placed n ys))
-      (line_own page n x xs fits (statements_quiet Along Along ys refl fits silent at_) legal (silent.0 (nonterminal_inner s.small x refl fits.0) at_.0) (omega (arith, measured_leaves ys)))
+      line_own page n x xs fits (statements_quiet Along Along ys refl fits silent at_) legal (silent.0 (nonterminal_inner s.small x refl fits.0) at_.0) (omega (arith, measured_leaves ys))
 
   suite_list : (xs : List Part) → Fits IsNonterminal (bzl_shape k.Suite) xs → AtParts Stands Along Along xs → AllByRecursion AsStatement xs → AllByRecursion (Parted page) xs → OwnList k.Suite xs
   suite_list [] fits at_ g w n = absurd fits
@@ -196,17 +184,17 @@ module _ (page : SuitesAndLeaves) where
       let margin : length (first_indent ls) ≡ margin_of (map stated (x ∷ xs)) = ap length (indent_first ls ∙ ap indent (sym (stated_gap x (flat_map leaves_part xs) (part_solid x w.1.0.legal)))) in
       let up : suc n + sizes (map measured (x ∷ xs)) ≡ e = omega arith in
       let lines : Lines = indented_lines_before (map stated (x ∷ xs)) [] in
-      let inner : Piece page (suc n) e ls (one_by_one (suc n) (map placed (x ∷ xs))) (comments_in lines) (as_walked page (x ∷ xs) lines) =
-      subst (λ z. Piece page (suc n) z ls (one_by_one (suc n) (map placed (x ∷ xs))) (comments_in lines) (as_walked page (x ∷ xs) lines)) up ((walked_more (suc n) (x ∷ xs) (inr (fits.1.0, fits.1.1)) there g.1 (all_mapped (Parted page) Solid (λ y h. part_solid y h.legal) (x ∷ xs) w.1)).0 lines) in
+      let inner : Piece page (suc n) e ls (one_by_one (suc n) (map measured (x ∷ xs))) (comments_in lines) (as_walked page (x ∷ xs) lines) =
+      subst (λ z. Piece page (suc n) z ls (one_by_one (suc n) (map measured (x ∷ xs))) (comments_in lines) (as_walked page (x ∷ xs) lines)) up ((walked_more (suc n) (x ∷ xs) (inr (fits.1.0, fits.1.1)) there g.1 (all_mapped (Parted page) Solid (λ y h. part_solid y h.legal) (x ∷ xs) w.1)).0 lines) in
       let one : suc n ≡ n + 1 = omega arith in
-      subst (λ z. OwnPiece page n e (flat_map leaves_part all) (own_of k.Suite n e (flat_map leaves_part all)) (one_by_one z (map placed (x ∷ xs))) (suffix_before k.Suite (map stated all)) (suite_in k.Suite (map stated all))) one
+      subst (λ z. OwnPiece page n e (flat_map leaves_part all) (own_of k.Suite n e (flat_map leaves_part all)) (one_by_one z (map measured (x ∷ xs))) (suffix_before k.Suite (map stated all)) (suite_in k.Suite (map stated all))) one
       (suite_own page n e (length (first_indent ls)) l x xs (part_solid x w.1.0.legal) margin (newline_comment (p.Leaf l) fits.0 at_.0) inner)
 
   abbrev Inside : Part → Type 0
   Inside (p.Leaf l) = Unit {0}
   Inside (Node' kind m r') = AllByRecursion AsStatement (items-the_row-Part _ r') × AllByRecursion (Parted page) (items-the_row-Part _ r')
 
-  own_piece : (x : Part) → LegalPart x → Inside x → IsNonterminal s.suite x → AtLeaves Stands Along x → (n : ℕ) → OwnPiece page n (n + size x) (leaves_part x) (suite_there n (measured x) x) ((placed x).stretches n) (stated x).suffix (stated x).suite
+  own_piece : (x : Part) → LegalPart x → Inside x → IsNonterminal s.suite x → AtLeaves Stands Along x → (n : ℕ) → OwnPiece page n (n + size x) (leaves_part x) (suite_there n (n + size x) x) ((measured x).stretches n) (stated x).suffix (stated x).suite
   own_piece (p.Leaf l) h g i at_ = no_such i
   own_piece (Node' k.Line m r') h g i at_ = own_rows k.Line _ r' (line_list (items-the_row-Part _ r') h.0 (parts_of_row Stands Along Along _ r' at_) (line_legal _ r' h.1 h.0))
   own_piece (Node' k.Suite m r') h g i at_ = own_rows k.Suite _ r' (suite_list (items-the_row-Part _ r') h.0 (parts_of_row Stands Along Along _ r' at_) g.0 g.1)
@@ -248,8 +236,8 @@ module _ (page : SuitesAndLeaves) where
 
   -- statements and the end, from the leaf n on
   record FilePiece (n e : ℕ) (xs : List Part) : Type 0 where
-    extent : Extent page n e (flat_map leaves_part xs) (one_by_one n (map placed xs))
-    hosts : (lines : Lines) → At page n e (flat_map leaves_part xs) (one_by_one n (map placed xs)) → lines ≡ left_by 0 n page.suites (lines_before page.leaves n)
+    extent : Extent page n e (flat_map leaves_part xs) (one_by_one n (map measured xs))
+    hosts : (lines : Lines) → At page n e (flat_map leaves_part xs) (one_by_one n (map measured xs)) → lines ≡ left_by 0 n page.suites (lines_before page.leaves n)
         → flat_map inside_item (items_from lines xs) ≡ hosted_from page n xs
 
   file_piece : (n e : ℕ) (xs : List Part) → e ≡ n + sizes (map measured xs) → FileParts xs → AllByRecursion AsStatement xs → AllByRecursion Solid xs → AtParts Stands Begins Begins xs → FilePiece n e xs
@@ -267,8 +255,8 @@ module _ (page : SuitesAndLeaves) where
   file_piece n e (Node' kind s' r' ∷ xs) u (inr h) g w at_ =
       let x : Part = Node' kind s' r' in
       let m : ℕ = n + size x in
-      let sts : List Stretch = (placed x).stretches n in
-      let later : List Stretch = one_by_one m (map placed xs) in
+      let sts : List Stretch = (measured x).stretches n in
+      let later : List Stretch = one_by_one m (map measured xs) in
       let more : List Leaf = flat_map leaves_part xs in
       let following : FilePiece m e xs = file_piece m e xs (omega arith) h.1 g.1 w.1 (subst (λ z. AtParts Stands Begins z xs) (after_stmt x Begins Begins h.0) at_.1) in
       let after_it : Extent page m e more later = following.extent in
@@ -288,15 +276,15 @@ module _ (page : SuitesAndLeaves) where
             let tail_hosts : flat_map inside_item tail ≡ hosted_from page m xs = following.hosts own.1 (at_second page n m e (leaves_part x) more sts later piece.extent after_it z) own_left in
             let alone : hosts_alone (all_but_last (groups_of ls)) ≡ hosts_alone (map (right_above gs) (bare_lines 0 gs)) = ap (λ (t : Lines). hosts_alone (all_but_last (groups_of t))) same ∙ ap hosts_alone (alone_numbered gs) in
             let above : group ≡ right_above gs (length gs) = ap (λ (t : Lines). last_group (groups_of t)) same ∙ last_numbered gs in
-            rw (flat_map-append inside_item (blocks (all_but_last (groups_of ls))) (map i.Stmt own.0 ++ tail), flat_map-append inside_item (map i.Stmt own.0) tail, blocks_alone (all_but_last (groups_of ls)), alone, items_inside own.0, own_hosts, tail_hosts, above)
+            rw (flat_map-append inside_item (blocks (all_but_last (groups_of ls))) (map i.Stmt own.0 ++ tail), flat_map-append inside_item (map i.Stmt own.0) tail, blocks_alone (all_but_last (groups_of ls)), alone, file_inside own.0, own_hosts, tail_hosts, above)
             (sym (append_assoc (hosts_alone (map (right_above gs) (bare_lines 0 gs))) (statement_hosts page (right_above gs (length gs)) sts) (hosted_from page m xs)));
       }
 
 pub hosts_by_place : HostsByPlace
 hosts_by_place n h =
     let fits : Fits IsNonterminal (bzl_shape k.File) n.parts = subst (λ kd. Fits IsNonterminal (bzl_shape kd) n.parts) h.file.root h.file.shapes.0 in
-    let sts : List Stretch = one_by_one 0 (map placed n.parts) in
-    let page : SuitesAndLeaves = record { leaves = leaves_of n; regions = flat_map regions_in sts; suites = suites_in sts } in
+    let sts : List Stretch = one_by_one 0 (map measured n.parts) in
+    let page : Page = record { leaves = leaves_of n; regions = flat_map regions_in sts; suites = suites_of sts } in
     let pieces = all_mapped LegalPart (AsStatement page) (λ x g. (part_piece page x g).0) n.parts h.file.shapes.1 in
     let solids : AllByRecursion Solid n.parts = all_mapped LegalPart Solid part_solid n.parts h.file.shapes.1 in
     let e : ℕ = 0 + sizes (map measured n.parts) in
@@ -311,4 +299,4 @@ hosts_by_place n h =
       texts = λ q f. refl;
     } in
     file.hosts (indented_lines_before (map stated n.parts) []) all
-    (before_first n.parts solids ∙ (ap lines_of (sym (first_at (leaves_of n))) ∙ sym (beyond 0 0 0 e (suites_in sts) (lines_before (leaves_of n) 0) (omega arith) file.extent.bounds)))
+    (before_first n.parts solids ∙ (ap lines_of (sym (first_at (leaves_of n))) ∙ sym (beyond 0 0 0 e (suites_of sts) (lines_before (leaves_of n) 0) (omega arith) file.extent.bounds)))

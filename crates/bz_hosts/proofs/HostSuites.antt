@@ -1,5 +1,5 @@
 -- Suites, and lines in their place: what is read of them, with the hosts by their places.
-use Rattle.std.proofs.Common.{◌≡◌, ℕ, suc, ◌+◌, ◌<◌, ◌≤◌, true, false, ◌||◌, List, [], ◌∷◌, ◌++◌, Option, Some, None, length, refl, sym, ap, ◌∙◌, subst, map, append-nil, append_assoc, length-append, nat_eq, nat_lt, arith}
+use Rattle.std.proofs.Common.{◌≡◌, ℕ, suc, ◌+◌, ◌<◌, ◌≤◌, true, false, ◌||◌, List, [], ◌∷◌, ◌++◌, Option, None, length, refl, sym, ap, ◌∙◌, subst, map, append-nil, append_assoc, length-append, nat_eq, nat_lt, arith}
 use Rattle.std.specs.List.{AllByRecursion, flat_map}
 use Rattle.std.proofs.lemmas.Bool.{and_right, eq-eqb, ne_eqb, lt-ltb, le-ltb}
 use Rattle.bz_lex.specs.declared.leaf.Leaf.{Leaf}
@@ -8,18 +8,17 @@ use Rattle.bz_grammar.specs.Spell.{leaves_part}
 use Rattle.bz_value.specs.declared.value.Expr.{Expr}
 use Rattle.bz_items.specs.Characters.{Bytes}
 use Rattle.bz_value.specs.Gaps.{all_in, as_list, comments_in, lines_of, after_first_line}
-use Rattle.bz_hosts.specs.Suites.{ReadStatements, SuiteRead, stated, line_read, walked, suite_read, margin_of, only_comment, indented_lines_before}
+use Rattle.bz_hosts.specs.Suites.{ReadStatements, SuiteRead, end_comments, stated, line_read, walked, suite_read, margin_of, only_comment, indented_lines_before}
 use Rattle.bz_hosts.specs.Seen.{seen, statements_in}
-use Rattle.bz_hosts.specs.Hosts.{Region, CommentPlace, texts_at, Hosted, hosted_at, sizes, measured, hosts_from, leaf_gap, inside_item, lines_before}
+use Rattle.bz_hosts.specs.Hosts.{Region, CommentPlace, texts_at, Hosted, hosted_at, sizes, measured, hosts_from, leaf_gap, inside_item, lines_before, Suite, Stretch, simple_line, header, one_by_one, Page, left_by, lines_of_leaf, statement_hosts, suite_end}
 use Rattle.bz_hosts.proofs.SuiteReads.{group_above, stated_gap, line_some, line_left}
 use Rattle.bz_hosts.proofs.Gathered.{key}
 use Rattle.bz_hosts.proofs.Insides.{inside_list}
 use Rattle.bz_hosts.proofs.Parts.{Solid, comments_after, after_parts, parts_after}
 use Rattle.bz_hosts.proofs.QuietGaps.{Quiet, Statements}
 use Rattle.bz_hosts.proofs.Sequences.{From}
-use Rattle.bz_hosts.proofs.SuiteLines.{gap_of, last_leaf_gap, Lines, AllBetween, suites_wider, ends_are, rest_is, gap_joined, first_at, last_joined, lines_there}
-use Rattle.bz_hosts.specs.SuiteHosts.{Suite, Stretch, simple_line, header, placed, one_by_one, SuitesAndLeaves, suites_in, begins_suite, left_by, lines_of_leaf, statement_hosts, suite_end}
-use Rattle.bz_hosts.proofs.HostPieces.{regions_of, comments, along, along_first, SeesSuites, At, Piece}
+use Rattle.bz_hosts.proofs.SuiteLines.{gap_of, last_leaf_gap, Lines, AllBetween, suites_wider, gap_joined, first_at, last_joined, lines_there}
+use Rattle.bz_hosts.proofs.HostPieces.{regions_of, suites_of, begins_suite, comments, along, along_first, SeesSuites, At, Piece}
 use Rattle.bz_hosts.proofs.HostReads.{AllLegal, all_solid, hosts_read, line, within, simple_inside}
 use Rattle.bz_hosts.proofs.BlankLines.{comments_append}
 use Rattle.bz_hosts.proofs.Stated.{parts_seen}
@@ -50,44 +49,36 @@ silent_lines g g' h h' = rw (comments_append (after_first_line (lines_of g)) (li
 
 -- ---- suites
 
-abbrev pub own_list : Option Suite → List Suite
-own_list None = []
-own_list (Some own) = own ∷ []
-
-pub suites_headed : (h f : ℕ) (rs : List Region) (own : Option Suite) (sts : List Stretch) → suites_in (header h f rs own ∷ sts) ≡ own_list own ++ suites_in sts
-suites_headed h f rs None sts = refl
-suites_headed h f rs (Some own) sts = refl
-
-module _ (page : SuitesAndLeaves) where
+module _ (page : Page) where
   -- the leaves of a suite from n on up to e are there, after a header that begins at n0
-  pub record OwnAt (n0 n e : ℕ) (ls : List Leaf) (own : Option Suite) (sts : List Stretch) : Type 0 where
+  pub record OwnAt (n0 n e : ℕ) (ls : List Leaf) (own : List Suite) (sts : List Stretch) : Type 0 where
     pub front : List Leaf
     pub back : List Leaf
     pub leaves : page.leaves ≡ front ++ (ls ++ back)
     pub counted : length front ≡ n
     pub before : n0 < n
     pub quiet : all_in (last_leaf_gap front) ≡ []
-    pub sees : SeesSuites page n0 e (own_list own ++ suites_in sts)
+    pub sees : SeesSuites page n0 e (own ++ suites_of sts)
     pub regions : r.SeesAt page.regions None (suc n) e (regions_of sts)
     pub texts : (q : CommentPlace) → From n e q → texts_at page.regions q (comments page) ≡ texts_at page.regions q (comments_after n ls)
 
-  pub record OwnPiece (n e : ℕ) (ls : List Leaf) (own : Option Suite) (sts : List Stretch) (suffix : Option Bytes) (read : Lines → SuiteRead) : Type 0 where
+  pub record OwnPiece (n e : ℕ) (ls : List Leaf) (own : List Suite) (sts : List Stretch) (suffix : Option Bytes) (read : Lines → SuiteRead) : Type 0 where
     pub some : 0 < length ls
     pub up : n + length ls ≡ e
-    pub bounds : AllBetween n e (own_list own ++ suites_in sts)
+    pub bounds : AllBetween n e (own ++ suites_of sts)
     pub within : r.AllInside n e (regions_of sts)
     pub outer : r.SeesAt page.regions None (suc n) e (regions_of sts) → (q : CommentPlace) → 0 < key q → (From n e q → ⊥) → texts_at page.regions q (comments_after n ls) ≡ []
     pub suffix_is : as_list suffix ≡ all_in (gap_of ls)
-    pub left : (a : ℕ) → a ≤ n → (after : Lines) → (read after).1 ≡ left_by a e (own_list own ++ suites_in sts) (after_first_line (lines_of (last_leaf_gap ls)) ++ after)
+    pub left : (a : ℕ) → a ≤ n → (after : Lines) → (read after).1 ≡ left_by a e (own ++ suites_of sts) (after_first_line (lines_of (last_leaf_gap ls)) ++ after)
     pub statements : (n0 : ℕ) (x : OwnAt n0 n e ls own sts) → inside_list (read (lines_of (gap_of x.back))).0.0 ≡ along page sts
-    pub ends : (n0 : ℕ) (x : OwnAt n0 n e ls own sts) → (read (lines_of (gap_of x.back))).0.1 ≡ suite_end page own
+    pub ends : (n0 : ℕ) (x : OwnAt n0 n e ls own sts) → (read (lines_of (gap_of x.back))).0.1 ≡ flat_map (suite_end page) own
 
   -- ---- a line in the place of a suite
 
   abbrev line_suite : List Part → Lines → SuiteRead
   line_suite xs after = (((line_read (map (λ x. x.part) (map stated xs)) [] after).0, []), (line_read (map (λ x. x.part) (map stated xs)) [] after).1)
 
-  no_lines : (n0 n e : ℕ) (ls : List Leaf) (sts : List Stretch) → suites_in sts ≡ [] → 0 < length ls → n < e → all_in (gap_of ls) ≡ [] → OwnAt n0 n e ls None sts → lines_of_leaf page n ≡ []
+  no_lines : (n0 n e : ℕ) (ls : List Leaf) (sts : List Stretch) → suites_of sts ≡ [] → 0 < length ls → n < e → all_in (gap_of ls) ≡ [] → OwnAt n0 n e ls [] sts → lines_of_leaf page n ≡ []
   no_lines n0 n e ls sts none some l silent x =
       let begins : begins_suite n page.suites ≡ false = x.sees.begins n x.before l ∙ ap (begins_suite n) none in
       let lines : lines_before page.leaves n ≡ after_first_line (lines_of (last_leaf_gap x.front)) ++ lines_of (gap_of ls) =
@@ -96,7 +87,7 @@ module _ (page : SuitesAndLeaves) where
 
   pub line_own : (n : ℕ) (x : Part) (xs : List Part) → Statements (x ∷ xs) → Quiet (x ∷ xs) → AllLegal (x ∷ xs) → all_in (seen x).gap ≡ []
       → n + length (flat_map leaves_part (x ∷ xs)) ≡ n + sizes (map measured (x ∷ xs))
-      → OwnPiece n (n + sizes (map measured (x ∷ xs))) (flat_map leaves_part (x ∷ xs)) None (simple_line n (hosts_from s.semicolon n (map measured (x ∷ xs))) ∷ []) None (line_suite (x ∷ xs))
+      → OwnPiece n (n + sizes (map measured (x ∷ xs))) (flat_map leaves_part (x ∷ xs)) [] (simple_line n (hosts_from s.semicolon n (map measured (x ∷ xs))) ∷ []) None (line_suite (x ∷ xs))
   line_own n x xs fits quiet legal silent up =
       let ys : List Part = x ∷ xs in
       let e : ℕ = n + sizes (map measured ys) in
@@ -129,12 +120,12 @@ module _ (page : SuitesAndLeaves) where
   as_walked xs above after = hosts_read (walked above (map stated xs) after)
 
   pub suite_own : (n e m : ℕ) (l : Leaf) (x : Part) (xs : List Part) → Solid x → m ≡ margin_of (map stated (x ∷ xs)) → all_in l.gap ≡ as_list (only_comment (all_in l.gap))
-      → Piece page (suc n) e (flat_map leaves_part (x ∷ xs)) (one_by_one (suc n) (map placed (x ∷ xs))) (comments_in (indented_lines_before (map stated (x ∷ xs)) [])) (as_walked (x ∷ xs) (indented_lines_before (map stated (x ∷ xs)) []))
-      → OwnPiece n e (l ∷ flat_map leaves_part (x ∷ xs)) (Some (record { first = suc n; following = e; margin = m })) (one_by_one (suc n) (map placed (x ∷ xs))) (only_comment (all_in l.gap)) (λ after. suite_read (map stated (x ∷ xs)) after)
+      → Piece page (suc n) e (flat_map leaves_part (x ∷ xs)) (one_by_one (suc n) (map measured (x ∷ xs))) (comments_in (indented_lines_before (map stated (x ∷ xs)) [])) (as_walked (x ∷ xs) (indented_lines_before (map stated (x ∷ xs)) []))
+      → OwnPiece n e (l ∷ flat_map leaves_part (x ∷ xs)) (record { first = suc n; following = e; margin = m } ∷ []) (one_by_one (suc n) (map measured (x ∷ xs))) (only_comment (all_in l.gap)) (λ after. suite_read (map stated (x ∷ xs)) after)
   suite_own n e m l x xs solid i suffix inner =
       let ls : List Leaf = flat_map leaves_part (x ∷ xs) in
-      let sts : List Stretch = one_by_one (suc n) (map placed (x ∷ xs)) in
-      let suites : List Suite = suites_in sts in
+      let sts : List Stretch = one_by_one (suc n) (map measured (x ∷ xs)) in
+      let suites : List Suite = suites_of sts in
       let own : Suite = record { first = suc n; following = e; margin = m } in
       let lines : Lines = indented_lines_before (map stated (x ∷ xs)) [] in
       let all : Lines → ReadStatements (List Expr) = λ after. walked lines (map stated (x ∷ xs)) after in
@@ -153,7 +144,7 @@ module _ (page : SuitesAndLeaves) where
         within = r.all_wider (suc n) e n e (omega arith) (omega arith) (regions_of sts) inner.extent.within;
         outer = λ sees q d o. inner.extent.outer sees q d (λ j. o (omega arith, j.1));
         suffix_is = sym suffix;
-        left = λ a j after. rest_is M (all after).1 ∙ rw (sym i, left a (omega arith) after, lt-ltb a (suc n) (omega arith), eq-eqb e e refl) refl;
+        left = λ a j after. rw (sym i, left a (omega arith) after, lt-ltb a (suc n) (omega arith), eq-eqb e e refl) refl;
         statements = λ n0 z.
             let len = length-append z.front (l ∷ []) in
             let leaves : page.leaves ≡ (z.front ++ l ∷ []) ++ (ls ++ z.back) = z.leaves ∙ sym (append_assoc z.front (l ∷ []) (ls ++ z.back)) in
@@ -179,5 +170,5 @@ module _ (page : SuitesAndLeaves) where
             let found : Lines = left_by (suc n) e page.suites (lines_before page.leaves e) in
             let same : found ≡ (all after).1 =
             rw (z.sees.after (suc n) e (omega arith) (omega arith) (omega arith) (lines_before page.leaves e), others (suc n) e (omega arith) (lines_before page.leaves e), lines_there page n e z.front (l ∷ ls) z.back (omega arith) (omega arith) z.leaves z.counted, left (suc n) (omega arith) after) refl in
-            ends_are M (all after).1 ∙ rw (sym i, same) refl;
+            rw (sym i, append-nil (end_comments m found), same) refl;
       }

@@ -1,6 +1,7 @@
 -- The hosts and sequences in an expression, stated for lists.
 use Rattle.std.proofs.Common.{◌≡◌, Bool, not, ◌&&◌, ◌||◌, List, [], ◌∷◌, ◌++◌, refl, ap, ◌∙◌, map, if◌then◌else◌}
 use Rattle.std.specs.List.{flat_map}
+use Rattle.std.proofs.lemmas.List.Folds.{flat_map-map}
 use Rattle.bz_grammar.specs.declared.tree.Part.{Part, Node'}
 use Rattle.bz_grammar.specs.declared.tree.Part.TheVariants as p
 use Rattle.bz_value.specs.declared.value.Form.{Form}
@@ -12,50 +13,33 @@ use Rattle.bz_value.specs.Gaps.{has_newline}
 use Rattle.bz_value.specs.Proper.{comments_of, is_operator}
 use Rattle.bz_value.proofs.FormParts.{parts_in, items_in}
 use Rattle.bz_hosts.specs.Seen.{seen, plain, first_seen_gap, begins_seen_operator, row_exprs}
-use Rattle.bz_hosts.specs.Hosts.{Hosted, hosted_by, by_frame, inside_expr, inside_row, inside_items, inside_header, inside_others}
+use Rattle.bz_hosts.specs.Hosts.{Hosted, hosted_by, by_frame, inside_expr, inside_row}
+
+-- what an expression is as a host, and what is in it
+abbrev pub within : Expr → Hosted × List Hosted
+within x = (hosted_by (comments_of x), inside_expr x)
 
 -- the items of a sequence, each with what is in it
 abbrev pub inside_list : List Expr → List Hosted
-inside_list [] = []
-inside_list (x ∷ xs) = hosted_by (comments_of x) ∷ (inside_expr x ++ inside_list xs)
+inside_list xs = flat_map (λ x. hosted_by (comments_of x) ∷ inside_expr x) xs
 
-inside_rows : (m : _) (r : Row_of-Expr m) → inside_row r ≡ flat_map inside_expr (items-the_row-Expr m r)
+inside_rows : (m : _) (r : Row_of-Expr m) → inside_row r ≡ map within (items-the_row-Expr m r)
 inside_rows m end_of-Expr = refl
-inside_rows m (more_of-Expr x rest) = ap (λ (t : List Hosted). inside_expr x ++ t) (inside_rows _ rest)
+inside_rows m (more_of-Expr x rest) = ap (λ (t : List (Hosted × List Hosted)). within x ∷ t) (inside_rows _ rest)
 
-items_rows : (m : _) (r : Row_of-Expr m) → inside_items r ≡ inside_list (items-the_row-Expr m r)
-items_rows m end_of-Expr = refl
-items_rows m (more_of-Expr x rest) = ap (λ (t : List Hosted). hosted_by (comments_of x) ∷ (inside_expr x ++ t)) (items_rows _ rest)
-
--- of the first of these parts, and of the others
-abbrev pub inside_first : List Expr → List Hosted
-inside_first [] = []
-inside_first (x ∷ xs) = inside_expr x
-
-abbrev pub inside_rest : List Expr → List Hosted
-inside_rest [] = []
-inside_rest (x ∷ xs) = inside_list xs
-
-first_rows : (m : _) (r : Row_of-Expr m) → inside_header r ≡ inside_first (items-the_row-Expr m r)
-first_rows m end_of-Expr = refl
-first_rows m (more_of-Expr x rest) = refl
-
-rest_rows : (m : _) (r : Row_of-Expr m) → inside_others r ≡ inside_rest (items-the_row-Expr m r)
-rest_rows m end_of-Expr = refl
-rest_rows m (more_of-Expr x rest) = items_rows _ rest
-
-pub form_inside : (f : Form) → inside_expr (e.Form f) ≡ by_frame (frame f.kind) (flat_map inside_expr f.parts) (inside_list f.seq.items) f.seq.end (inside_first f.parts) (inside_rest f.parts)
+pub form_inside : (f : Form) → inside_expr (e.Form f) ≡ by_frame (frame f.kind) (map within f.parts) (map within f.seq.items) f.seq.end
 form_inside f =
     let ps = parts_in (e.Form f) in
     let qs = items_in (e.Form f) in
-    let parts : inside_row ps.1 ≡ flat_map inside_expr f.parts = inside_rows ps.0 ps.1 ∙ ap (flat_map inside_expr) (items_hidden-the_row-Expr-0 f.parts) in
-    let items : inside_items qs.1 ≡ inside_list f.seq.items = items_rows qs.0 qs.1 ∙ ap inside_list (items_hidden-the_row-Expr-0 f.seq.items) in
-    let header : inside_header ps.1 ≡ inside_first f.parts = first_rows ps.0 ps.1 ∙ ap inside_first (items_hidden-the_row-Expr-0 f.parts) in
-    let others : inside_others ps.1 ≡ inside_rest f.parts = rest_rows ps.0 ps.1 ∙ ap inside_rest (items_hidden-the_row-Expr-0 f.parts) in
-    ap (λ (z : List Hosted). by_frame (frame f.kind) z (inside_items qs.1) f.seq.end (inside_header ps.1) (inside_others ps.1)) parts
-    ∙ (ap (λ (z : List Hosted). by_frame (frame f.kind) (flat_map inside_expr f.parts) z f.seq.end (inside_header ps.1) (inside_others ps.1)) items
-    ∙ (ap (λ (z : List Hosted). by_frame (frame f.kind) (flat_map inside_expr f.parts) (inside_list f.seq.items) f.seq.end z (inside_others ps.1)) header
-    ∙ ap (λ (z : List Hosted). by_frame (frame f.kind) (flat_map inside_expr f.parts) (inside_list f.seq.items) f.seq.end (inside_first f.parts) z) others))
+    ap (λ (z : List (Hosted × List Hosted)). by_frame (frame f.kind) z (inside_row qs.1) f.seq.end) (inside_rows ps.0 ps.1 ∙ ap (map within) (items_hidden-the_row-Expr-0 f.parts))
+    ∙ ap (λ (z : List (Hosted × List Hosted)). by_frame (frame f.kind) (map within f.parts) z f.seq.end) (inside_rows qs.0 qs.1 ∙ ap (map within) (items_hidden-the_row-Expr-0 f.seq.items))
+
+-- what is in parts, and in items
+pub parts_inside : (xs : List Expr) → flat_map (λ x. x.1) (map within xs) ≡ flat_map inside_expr xs
+parts_inside xs = flat_map-map (λ x. x.1) within xs
+
+pub items_inside : (xs : List Expr) → flat_map (λ x. x.0 ∷ x.1) (map within xs) ≡ inside_list xs
+items_inside xs = flat_map-map (λ x. x.0 ∷ x.1) within xs
 
 -- ---- what is made of a part has the same in it for any comments and break
 

@@ -1,14 +1,17 @@
 -- Groups of comment lines, given by the numbers of the lines.
-use Rattle.std.proofs.Common.{◌≡◌, ℕ, zero, suc, Bool, true, false, ◌&&◌, List, [], ◌∷◌, ◌++◌, Option, None, Some, length, refl, sym, ap, ◌∙◌, map, append_assoc, if◌then◌else◌}
+use Rattle.std.proofs.Common.{◌≡◌, ℕ, zero, suc, Bool, true, false, ◌&&◌, List, [], ◌∷◌, ◌++◌, Option, None, Some, length, refl, sym, ap, ◌∙◌, map, get_or, append_assoc, if◌then◌else◌}
 use Rattle.std.proofs.Math.Bool.{and_assoc, and_comm}
 use Rattle.std.proofs.lemmas.List.{map-append}
 use Rattle.std.proofs.lemmas.Simd.{map-map}
 use Rattle.bz_items.specs.Characters.{Bytes}
 use Rattle.std.specs.Option.{option_map_or}
 use Rattle.bz_value.specs.Gaps.{GapLine, as_list, before_groups, groups_of, all_but_last, last_group}
-use Rattle.bz_hosts.specs.Hosts.{comment_on, right_above, bare_lines}
+use Rattle.bz_hosts.specs.Hosts.{right_above, bare_lines}
 
 -- ---- what one line more on top adds
+
+abbrev comment_on : List GapLine → ℕ → Option Bytes
+comment_on lines n = get_or (map (λ line. line.comment) lines) n None
 
 abbrev has : Option Bytes → Bool
 has None = false

@@ -1,8 +1,7 @@
 -- Statements and suites of a legal file are proper, and no comment of them is lost or doubled.
-use Rattle.std.proofs.Common.{◌≡◌, ℕ, ◌+◌, true, false, List, [], ◌∷◌, ◌++◌, inl, inr, Option, None, refl, sym, ap, ◌∙◌, subst, map, take, drop, arith}
+use Rattle.std.proofs.Common.{◌≡◌, ℕ, ◌+◌, Bool, true, false, List, [], ◌∷◌, ◌++◌, inl, inr, Option, None, refl, sym, ap, ◌∙◌, subst, map, append-nil, append_assoc, if◌then◌else◌, arith}
 use Rattle.std.specs.List.{AllByRecursion}
 use Rattle.std.proofs.lemmas.Bool.{or_left}
-use Rattle.std.proofs.lemmas.List.{take-append-drop}
 use Rattle.std.proofs.lemmas.List.Elements.{All-from_recursion}
 use Rattle.bz_items.specs.Characters.{Bytes}
 use Rattle.bz_lex.specs.Leaves.{IsCodedLeaf}
@@ -18,7 +17,7 @@ use Rattle.bz_value.specs.Comments.{HostComments}
 use Rattle.bz_value.specs.Counted.{total, suffix_amount, amount}
 use Rattle.bz_value.specs.Empty.{is_empty}
 use Rattle.bz_value.specs.Frames.{is_simple}
-use Rattle.bz_value.specs.Gaps.{suffix_in, all_in, lines_of, comments_in, after_first_line}
+use Rattle.bz_value.specs.Gaps.{GapLine, as_list, suffix_in, all_in, lines_of, comments_in, after_first_line}
 use Rattle.bz_value.specs.LineShapes.{whole_shape}
 use Rattle.bz_value.specs.Proper.{IsComment, MaybeComment, AreComments, ProperBy, comments_of}
 use Rattle.bz_value.specs.Statements.{has_simple_kind, is_whole_statement}
@@ -26,7 +25,7 @@ use Rattle.bz_value.proofs.Begun.{moved_expr}
 use Rattle.bz_value.proofs.FormParts.{AreLinesBy}
 use Rattle.bz_value.proofs.GapComments.{AreFine, Group, all_joined, fine_lines, fine_comments, fine_after, suffix_fine, all_fine}
 use Rattle.bz_value.proofs.Totals.{append_total}
-use Rattle.bz_hosts.specs.Suites.{ReadStatements, stated, exprs_in, line_read, indented_lines_before, walked, margin_of, suite_read, suite_in, suffix_before, only_comment, statement_read, end_comments, after_end}
+use Rattle.bz_hosts.specs.Suites.{ReadStatements, stated, exprs_in, line_read, indented_lines_before, walked, margin_of, suite_read, suite_in, suffix_before, only_comment, statement_read, is_taken_line, end_comments, after_end}
 use Rattle.bz_hosts.specs.Seen.{seen, first_seen_gap, last_gap, statements_in, Seen}
 use Rattle.bz_hosts.proofs.Cuts.{token}
 use Rattle.bz_hosts.proofs.InnerParts.{inner_legal, nonterminal_inner, nonterminal_goes, token_goes}
@@ -35,15 +34,14 @@ use Rattle.bz_hosts.proofs.KeptParts.{AllKept, token_part, part_kept}
 use Rattle.bz_hosts.proofs.ProperParts.{IsLexed, line_proper}
 use Rattle.bz_hosts.proofs.QuietGaps.{Quiet, Statements, in_statements, Silent, part_silent, statements_quiet, line_alternating}
 use Rattle.bz_hosts.proofs.RowParts.{on_twice}
-use Rattle.bz_hosts.proofs.SeenParts.{all_mapped, all_parted, comments_made, part_decoded, seen_rows, AllDecoded, all_cut}
+use Rattle.bz_hosts.proofs.SeenParts.{all_mapped, all_parted, comments_made, part_decoded, seen_rows, AllDecoded}
 use Rattle.bz_hosts.proofs.Sums.{gap_amount, suffix_total, lines_joined, part_amount, row_leaves}
-use Rattle.bz_hosts.specs.SuiteHosts.{reach}
 use Rattle.bz_hosts.proofs.HeadParts.{after_stmt}
 use Rattle.bz_hosts.proofs.KeptGaps.{newline_comment, newline_ends}
 use Rattle.bz_hosts.proofs.Stated.{stated_part, parts_seen, stated_rows}
 use Rattle.bz_hosts.proofs.ProperBranches.{Reads, Ends, Known, AllKnown, StatementOf, all_decoded, all_kept, before_lines, before_amount, header_statement}
 use Rattle.bz_hosts.proofs.ProperValues.{AreSome, some_joined}
-use Rattle.bz_hosts.proofs.SuiteLines.{Lines, ends_are, rest_is}
+use Rattle.bz_hosts.proofs.SuiteLines.{Lines}
 use Rattle.std.specs.Str.{IsUtf8}
 use Rattle.std.proofs.lemmas.Str.{IsUtf8-nil}
 use Rattle.bz_grammar.specs.declared.kind.Kind.TheVariants as k
@@ -64,11 +62,25 @@ only_fine [] h = tt
 only_fine (text ∷ texts) h = h.0
 
 -- the end comments of a suite, and what is left after them
+ends_step : (b : Bool) (m : ℕ) (x : GapLine) (xs : Lines) → end_comments m xs ++ comments_in (after_end m xs) ≡ comments_in xs
+    → (if b then comments_in (x ∷ []) ++ end_comments m xs else []) ++ comments_in (if b then after_end m xs else x ∷ xs) ≡ comments_in (x ∷ xs)
+ends_step true m x xs h = rw (append-nil (as_list x.comment), append_assoc (as_list x.comment) (end_comments m xs) (comments_in (after_end m xs)), h) refl
+ends_step false m x xs h = refl
+
+ends_parted : (m : ℕ) (lines : Lines) → end_comments m lines ++ comments_in (after_end m lines) ≡ comments_in lines
+ends_parted m [] = refl
+ends_parted m (x ∷ xs) = ends_step (is_taken_line m x.indent x.comment) m x xs (ends_parted m xs)
+
+left_step : (b : Bool) (x : GapLine) (xs left : Lines) → AreFine (x ∷ xs) → AreFine left → AreFine (if b then left else x ∷ xs)
+left_step true x xs left h f = f
+left_step false x xs left h f = h
+
+left_fine : (m : ℕ) (lines : Lines) → AreFine lines → AreFine (after_end m lines)
+left_fine m [] h = tt
+left_fine m (x ∷ xs) h = left_step (is_taken_line m x.indent x.comment) x xs (after_end m xs) h (left_fine m xs h.1)
+
 ends_fine : (m : ℕ) (lines : Lines) → AreFine lines → Group (end_comments m lines) × AreFine (after_end m lines)
-ends_fine m lines h =
-    let front : Lines = take (reach m lines) lines in
-    let w = all_cut (λ line. MaybeComment line.comment) (reach m lines) lines h in
-    (subst Group (sym (ends_are m lines)) (fine_comments front w.0), subst AreFine (sym (rest_is m lines)) w.1)
+ends_fine m lines h = ((all_parted IsComment (end_comments m lines) (comments_in (after_end m lines)) (subst Group (sym (ends_parted m lines)) (fine_comments lines h))).0, left_fine m lines h)
 
 -- ---- simple statements
 
@@ -161,9 +173,7 @@ module _ (number : Bytes → ℕ) where
   -- ---- suites
 
   ends_kept : (m : ℕ) (lines : Lines) → total number (end_comments m lines) + lines_amount number (after_end m lines) ≡ lines_amount number lines
-  ends_kept m lines =
-      let whole = ap (lines_amount number) (take-append-drop (reach m lines) lines) in
-      omega (arith, ap (total number) (ends_are m lines), ap (lines_amount number) (rest_is m lines), lines_joined number (take (reach m lines) lines) (drop (reach m lines) lines))
+  ends_kept m lines = omega (arith, ap (total number) (ends_parted m lines), append_total number (end_comments m lines) (comments_in (after_end m lines)))
 
   suite_reads : (outer : Spot) (x : Part) (xs : List Part) → StatementParts (x ∷ xs) → AllKnown number (x ∷ xs) → AtParts Stands outer Begins (x ∷ xs) → Ends number None (total (part_amount number) (x ∷ xs)) (suite_read (map stated (x ∷ xs)))
   suite_reads outer x xs h g at_ = (

@@ -1,14 +1,12 @@
 -- The lines before a leaf, those that suites leave of them, and what is read of leaves, by their numbers.
-use Rattle.std.proofs.Common.{◌≡◌, ◌≢◌, ℕ, zero, suc, ◌<◌, ◌≤◌, Bool, true, false, not, ◌&&◌, List, [], ◌∷◌, ◌++◌, inl, inr, Option, Some, None, length, refl, sym, ap, ◌∙◌, take, drop, append-nil, nat_eq, nat_lt, nat_le, if◌then◌else◌, arith, ◌+◌, append_assoc, length-append}
+use Rattle.std.proofs.Common.{◌≡◌, ◌≢◌, ℕ, zero, ◌<◌, ◌≤◌, ◌&&◌, List, [], ◌∷◌, ◌++◌, length, refl, sym, ap, ◌∙◌, nat_eq, nat_lt, if◌then◌else◌, arith, ◌+◌, append_assoc, length-append}
 use Rattle.std.specs.List.{AllByRecursion}
-use Rattle.std.proofs.lemmas.Bool.{and_right, cases_Bool, cond-false, ne_eqb}
-use Rattle.std.proofs.lemmas.Bool.Decides.{nat_tests}
+use Rattle.std.proofs.lemmas.Bool.{and_right, cond-false, ne_eqb}
 use Rattle.bz_lex.specs.declared.leaf.Leaf.{Leaf}
 use Rattle.bz_items.specs.Characters.{Bytes}
-use Rattle.bz_value.specs.Gaps.{GapLine, as_list, comments_in, lines_of, after_first_line}
-use Rattle.bz_hosts.specs.Hosts.{leaf_gap, lines_before, Hosted}
-use Rattle.bz_hosts.specs.SuiteHosts.{Suite, is_further_out, reach, left_by, Stretch, simple_line, header, suites_in, SuitesAndLeaves}
-use Rattle.bz_hosts.specs.Suites.{is_taken_line, end_comments, after_end}
+use Rattle.bz_value.specs.Gaps.{GapLine, lines_of, after_first_line}
+use Rattle.bz_hosts.specs.Hosts.{leaf_gap, lines_before, Hosted, Suite, left_by, Page}
+use Rattle.bz_hosts.specs.Suites.{after_end}
 use Rattle.bz_hosts.proofs.SeenParts.{all_mapped}
 
 abbrev pub Lines : Type 0
@@ -30,42 +28,11 @@ last_leaf_after [] m ms = refl
 last_leaf_after (l ∷ []) m ms = refl
 last_leaf_after (l ∷ l' ∷ ls) m ms = last_leaf_after (l' ∷ ls) m ms
 
--- ---- what a suite takes
-
-opposite : (margin indent : ℕ) (c : Option Bytes) → is_further_out margin indent c ≡ not (is_taken_line margin indent c)
-opposite margin indent None = refl
-opposite margin indent (Some text) = elim (cases_Bool (nat_le margin indent)) [
-  | inl e ↦ let e' : nat_lt indent margin ≡ false = grind (arith, nat_tests, e) in rw (e, e') refl
-  | inr e ↦ let e' : nat_lt indent margin ≡ true = grind (arith, nat_tests, e) in rw (e, e') refl
-]
-
-ends_step : (b : Bool) (m : ℕ) (x : GapLine) (xs : Lines) → end_comments m xs ≡ comments_in ((take (reach m xs) xs))
-    → (if b then comments_in (x ∷ []) ++ end_comments m xs else []) ≡ comments_in ((take (if not b then 0 else suc (reach m xs)) (x ∷ xs)))
-ends_step true m x xs h =
-    ap (λ (t : List Bytes). (as_list x.comment ++ []) ++ t) h ∙ ap (λ (t : List Bytes). t ++ comments_in ((take (reach m xs) xs))) (append-nil (as_list x.comment))
-ends_step false m x xs h = refl
-
-pub ends_are : (m : ℕ) (xs : Lines) → end_comments m xs ≡ comments_in ((take (reach m xs) xs))
-ends_are m [] = refl
-ends_are m (x ∷ xs) =
-    ends_step (is_taken_line m x.indent x.comment) m x xs (ends_are m xs)
-    ∙ ap (λ (t : Bool). comments_in ((take (if t then 0 else suc (reach m xs)) (x ∷ xs)))) (sym (opposite m x.indent x.comment))
-
-rest_step : (b : Bool) (m : ℕ) (x : GapLine) (xs : Lines) → after_end m xs ≡ drop (reach m xs) xs → (if b then after_end m xs else x ∷ xs) ≡ drop (if not b then 0 else suc (reach m xs)) (x ∷ xs)
-rest_step true m x xs h = h
-rest_step false m x xs h = refl
-
-pub rest_is : (m : ℕ) (xs : Lines) → after_end m xs ≡ drop (reach m xs) xs
-rest_is m [] = refl
-rest_is m (x ∷ xs) =
-    rest_step (is_taken_line m x.indent x.comment) m x xs (rest_is m xs)
-    ∙ ap (λ (t : Bool). drop (if t then 0 else suc (reach m xs)) (x ∷ xs)) (sym (opposite m x.indent x.comment))
-
 -- ---- what several suites leave
 
 pub left_joined : (a n : ℕ) (xs ys : List Suite) (lines : Lines) → left_by a n (xs ++ ys) lines ≡ left_by a n xs (left_by a n ys lines)
 left_joined a n [] ys lines = refl
-left_joined a n (x ∷ xs) ys lines = ap (λ (z : Lines). if nat_lt a x.first && nat_eq x.following n then drop (reach x.margin z) z else z) (left_joined a n xs ys lines)
+left_joined a n (x ∷ xs) ys lines = ap (λ (z : Lines). if nat_lt a x.first && nat_eq x.following n then after_end x.margin z else z) (left_joined a n xs ys lines)
 
 -- suites that end elsewhere
 abbrev Apart : ℕ → Suite → Type 0
@@ -74,7 +41,7 @@ Apart n x = x.following ≢ n
 none_leave : (a n : ℕ) (xs : List Suite) (lines : Lines) → AllByRecursion (Apart n) xs → left_by a n xs lines ≡ lines
 none_leave a n [] lines h = refl
 none_leave a n (x ∷ xs) lines h =
-    cond-false (nat_lt a x.first && nat_eq x.following n) (drop (reach x.margin (left_by a n xs lines)) (left_by a n xs lines)) (left_by a n xs lines) (and_right (nat_lt a x.first) (nat_eq x.following n) (ne_eqb x.following n h.0))
+    cond-false (nat_lt a x.first && nat_eq x.following n) (after_end x.margin (left_by a n xs lines)) (left_by a n xs lines) (and_right (nat_lt a x.first) (nat_eq x.following n) (ne_eqb x.following n h.0))
     ∙ none_leave a n xs lines h.1
 
 -- suites among the leaves after lo, which end at hi or before
@@ -120,12 +87,6 @@ pub last_joined : (ls ms : List Leaf) → 0 < length ms → last_leaf_gap (ls ++
 last_joined ls [] h = absurd (omega arith)
 last_joined ls (m ∷ ms) h = last_leaf_after ls m ms
 
-pub suites_joined : (a b : List Stretch) → suites_in (a ++ b) ≡ suites_in a ++ suites_in b
-suites_joined [] b = refl
-suites_joined (simple_line n rs ∷ a) b = suites_joined a b
-suites_joined (header n following rs None ∷ a) b = suites_joined a b
-suites_joined (header n following rs (Some own) ∷ a) b = ap (λ (z : List Suite). own ∷ z) (suites_joined a b)
-
 -- what is read of leaves, by the lines after them: hosts, and the lines that are left
 abbrev pub PieceRead : Type 0
 PieceRead = Lines → List Hosted × Lines
@@ -133,7 +94,7 @@ PieceRead = Lines → List Hosted × Lines
 abbrev pub with_left : List Hosted → Lines → List Hosted × Lines
 with_left hs lines = (hs, lines)
 
-module _ (page : SuitesAndLeaves) where
+module _ (page : Page) where
   -- the lines before the leaf after it
   pub lines_there : (n e : ℕ) (front ls back : List Leaf) → 0 < length ls → n + length ls ≡ e → page.leaves ≡ front ++ (ls ++ back) → length front ≡ n → lines_before page.leaves e ≡ after_first_line (lines_of (last_leaf_gap ls)) ++ lines_of (gap_of back)
   lines_there n e front ls back some up i d =

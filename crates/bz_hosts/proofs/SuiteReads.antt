@@ -6,11 +6,10 @@ use Rattle.bz_grammar.specs.declared.tree.Part.{Part, Node'}
 use Rattle.bz_grammar.specs.Spell.{leaves_part}
 use Rattle.bz_items.specs.Characters.{Bytes}
 use Rattle.bz_value.specs.Gaps.{after_first_line, lines_of}
-use Rattle.bz_hosts.specs.Hosts.{measured, Region, comments_at, CommentPlace, outside, texts_at, Hosted, block, hosted_by, hosts_alone, with_group, inside_expr, inside_item}
+use Rattle.bz_hosts.specs.Hosts.{Region, comments_at, CommentPlace, outside, texts_at, Hosted, block, hosted_by, hosts_alone, with_group, inside_expr, inside_item}
 use Rattle.bz_hosts.proofs.Parts.{Solid}
 use Rattle.bz_hosts.proofs.QuietGaps.{Statements, line_alternating}
 use Rattle.bz_hosts.proofs.SuiteLines.{gap_of, last_leaf_gap, Lines, last_leaf_after}
-use Rattle.bz_hosts.specs.SuiteHosts.{placed}
 use Rattle.bz_hosts.specs.Suites.{stated, line_read}
 use Rattle.bz_hosts.proofs.Stated.{stated_part, parts_seen}
 use Rattle.bz_value.specs.Comments.{HostComments}
@@ -28,12 +27,6 @@ use Rattle.bz_hosts.specs.Seen as v
 
 pub stated_gap : (x : Part) (ls : List Leaf) → Solid x → (stated x).part.gap ≡ gap_of (leaves_part x ++ ls)
 stated_gap x ls h = ap (λ s. s.gap) (stated_part x) ∙ (h.gap ∙ ap (λ (z : List Leaf). gap_of (z ++ ls)) (sym h.leaves))
-
--- ---- parts by their sizes
-
-pub placed_measured : (x : Part) → (placed x).measured ≡ measured x
-placed_measured (p.Leaf l) = refl
-placed_measured (Node' kind n r) = refl
 
 -- ---- comment lines
 

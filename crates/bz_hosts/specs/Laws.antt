@@ -5,8 +5,7 @@ use Rattle.bz_grammar.specs.declared.tree.Node.{Node}
 use Rattle.bz_grammar.specs.Legal.{IsBuild, Legal}
 use Rattle.bz_value.specs.BuildValues.{AreBuild}
 use Rattle.bz_value.specs.Proper.{IsProper}
-use Rattle.bz_hosts.specs.Hosts.{inside_item}
-use Rattle.bz_hosts.specs.SuiteHosts.{hosted_in}
+use Rattle.bz_hosts.specs.Hosts.{inside_item, hosted_in}
 use Rattle.bz_hosts.specs.View.{view_of}
 
 -- What a legal tree says is proper.

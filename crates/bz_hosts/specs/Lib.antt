@@ -3,7 +3,6 @@ pub mod Joined
 pub mod Kept
 pub mod Laws
 pub mod Seen
-pub mod SuiteHosts
 pub mod Suites
 pub mod SuitesJoined
 pub mod View

@@ -17,8 +17,7 @@ use Rattle.bz_value.specs.declared.value.Item.{Item}
 use Rattle.bz_value.specs.declared.value.Item.TheVariants as i
 use Rattle.bz_value.specs.Comments.{HostComments, no_comments}
 use Rattle.bz_value.specs.Counted.{times}
-use Rattle.bz_hosts.specs.Hosts.{Hosted, block, hosted, ended, inside_item}
-use Rattle.bz_hosts.specs.SuiteHosts.{hosted_in}
+use Rattle.bz_hosts.specs.Hosts.{Hosted, block, hosted, ended, inside_item, hosted_in}
 use Rattle.bz_hosts.specs.Kept.{comments_of_tree, occurrences}
 use Rattle.bz_hosts.specs.View.{view_of}
 
