@@ -6,7 +6,7 @@ ghost use Rattle.bz_build_format.specs.private.Chunks.{IsAppended, IsFormattedAs
 use crate::cut::{CHUNK, TRIES, chunk_end, may_go_on};
 use bz_grammar::{LENGTH_LIMIT, ReadFault};
 use bz_hosts::{
-    begins_bare, build_views, ends_with_line, into_view, suites_join, view_front, views_join,
+    begins_bare, build_views, ends_with_line, into_front, into_view, suites_join, views_join,
 };
 use bz_items::Text;
 use bz_layout::{append_items, layouts_join};
@@ -52,7 +52,7 @@ fn suites_seen(
     if !is_first && !begins_bare(&tree) {
         return Ok(None);
     }
-    let front = view_front(alloc, &tree)?;
+    let front = into_front(alloc, tree)?;
     Ok(Some(front))
 }
 

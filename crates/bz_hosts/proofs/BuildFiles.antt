@@ -1,21 +1,15 @@
--- BUILD files: what lines without suites say is what they say one after the other, and has none of the newer kinds.
-use Rattle.std.proofs.Common.{◌≡◌, List, [], ◌∷◌, ◌++◌, inl, inr, refl, sym, ap, subst, ◌∙◌, map, append_assoc, ◌<◌, suc, Bool, true, false, if◌then◌else◌, take, drop, arith}
+-- What BUILD files say has none of the newer kinds.
+use Rattle.std.proofs.Common.{◌≡◌, List, [], ◌∷◌, ◌++◌, refl, sym, subst, map, ◌<◌, suc, Bool, true, false, if◌then◌else◌, take, drop, arith}
 use Rattle.std.specs.List.{AllByRecursion}
-use Rattle.bz_lex.specs.declared.leaf.Leaf.{Leaf}
-use Rattle.bz_grammar.specs.declared.tree.Node.{Node}
-use Rattle.bz_grammar.specs.declared.tree.Part.{Part, Node', items-the_row-Part, Row_of-Part, end_of-Part, more_of-Part}
-use Rattle.bz_grammar.specs.Shapes.{Fits, Several, tok, done, is_kind}
-use Rattle.bz_grammar.specs.Legal.{IsNonterminal, LegalBuild, IsBuildPart, IsBuildRow}
-use Rattle.bz_grammar.proofs.Balance.{no_such}
-use Rattle.bz_grammar.proofs.Build.{file_lines}
-use Rattle.bz_value.specs.declared.value.Item.{Item}
-use Rattle.bz_value.specs.Gaps.{GapLine, lines_of, after_first_line, groups_of, all_but_last, last_group, others_in, all_in}
-use Rattle.bz_hosts.specs.Seen.{Seen, seen, seen_row, first_seen_gap, last_gap, blocks, statements_in, form_of_frame, held_in, items_in, plain, row_exprs}
+use Rattle.bz_grammar.specs.declared.tree.Part.{Part, Node', Row_of-Part, end_of-Part, more_of-Part}
+use Rattle.bz_grammar.specs.Shapes.{is_kind}
+use Rattle.bz_grammar.specs.Legal.{IsBuildPart, IsBuildRow}
+use Rattle.bz_value.specs.Gaps.{GapLine, groups_of, all_but_last, last_group, others_in, all_in}
+use Rattle.bz_hosts.specs.Seen.{Seen, seen, seen_row, first_seen_gap, blocks, statements_in, form_of_frame, held_in, items_in, plain, row_exprs}
 use Rattle.bz_hosts.specs.Suites.{stated, stated_row, indented_lines_before, exprs_in, ReadStatements, Stated, branches, line_read, statement_read}
-use Rattle.bz_hosts.specs.View.{items_from, view_of}
-use Rattle.bz_hosts.specs.private.Lines.{AreLines, IsSimpleLine, line_items, file_items}
-use Rattle.bz_hosts.proofs.SeenParts.{seen_rows, all_cut}
-use Rattle.bz_hosts.proofs.Stated.{lines_first, parts_seen, stated_rows, all_simple}
+use Rattle.bz_hosts.specs.View.{items_from}
+use Rattle.bz_hosts.proofs.SeenParts.{all_cut}
+use Rattle.bz_hosts.proofs.Stated.{row_parts}
 use Rattle.std.proofs.lemmas.List.Elements.{All-from_recursion}
 use Rattle.bz_items.specs.Characters.{Bytes}
 use Rattle.bz_grammar.specs.declared.kind.Kind.{Kind}
@@ -30,61 +24,8 @@ use Rattle.bz_value.proofs.GapComments.{all_joined}
 use Rattle.bz_hosts.specs.Laws.{BuildViews}
 use Rattle.bz_grammar.specs.declared.kind.Kind.TheVariants as k
 use Rattle.bz_grammar.specs.declared.tree.Part.TheVariants as p
-use Rattle.bz_grammar.specs.Shapes as s
 use Rattle.bz_value.specs.declared.value.Item.TheVariants as i
 use Rattle.bz_value.specs.declared.value.Expr.TheVariants as e
-
--- the lines of the gap before the first of these parts
-abbrev first_lines : List Part → List GapLine
-first_lines xs = lines_of (first_seen_gap (map seen xs))
-
--- the items of a line, with those that follow
-line_same : (lines : List GapLine) (ss : List Seen) (more : List Item) →
-    blocks (all_but_last (groups_of lines)) ++ (map i.Stmt (exprs_in (statements_in (last_group (groups_of lines)) ss)) ++ more) ≡ line_items lines ss ++ more
-line_same lines ss more =
-    let front : List Item = blocks (all_but_last (groups_of lines)) in
-    ap (λ own. front ++ (own ++ more)) (all_simple (last_group (groups_of lines)) ss) ∙ sym (append_assoc front (statements_in (last_group (groups_of lines)) ss) more)
-
--- lines and the end of a file, where these lines are before the first of them
-items_same : (left : List GapLine) (lines : List GapLine) (xs : List Part) → lines ≡ left ++ first_lines xs → AreLines xs → items_from lines xs ≡ file_items left xs
-items_same left lines [] e h = refl
-items_same left lines (p.Leaf l ∷ []) e h = ap (λ ls. blocks (groups_of ls) ++ []) e
-items_same left lines (p.Leaf l ∷ y ∷ xs) e h = absurd h
-items_same left lines (Node' k.Line n r ∷ xs) e h =
-    let parts : List Seen = map (λ x. x.part) (stated_row r) in
-    let is_row : parts ≡ seen_row r = ap (map (λ x. x.part)) (stated_rows _ r) ∙ (parts_seen (items-the_row-Part _ r) ∙ sym (seen_rows _ r)) in
-    let following : List GapLine = after_first_line (lines_of (last_gap (seen_row r))) in
-    let rest : List GapLine = after_first_line (lines_of (last_gap parts)) ++ indented_lines_before (map stated xs) [] in
-    let is_rest : rest ≡ following ++ first_lines xs =
-    ap (λ ls. after_first_line (lines_of (last_gap parts)) ++ ls) (sym (lines_first xs)) ∙ ap (λ ss. after_first_line (lines_of (last_gap ss)) ++ first_lines xs) is_row in
-    line_same lines parts (items_from rest xs)
-    ∙ (ap (λ items. line_items lines parts ++ items) (items_same following rest xs is_rest h.1)
-    ∙ (ap (λ ls. line_items ls parts ++ file_items following xs) e ∙ ap (λ ss. line_items (left ++ lines_of (first_seen_gap (seen_row r))) ss ++ file_items following xs) is_row))
-items_same left lines (Node' _ n r ∷ xs) e h = no_such h.0
-
-pub lines_say_the_same : (xs : List Part) → AreLines xs → items_from (indented_lines_before (map stated xs) []) xs ≡ file_items [] xs
-lines_say_the_same xs h = items_same [] (indented_lines_before (map stated xs) []) xs (sym (lines_first xs)) h
-
-lines_ended : (front : List Part) (l : Leaf) → AllByRecursion IsSimpleLine front → AreLines (front ++ p.Leaf l ∷ [])
-lines_ended [] l h = tt
-lines_ended (p.Leaf m ∷ front) l h = absurd h.0
-lines_ended (Node' kind n r ∷ front) l h = (h.0, lines_ended front l h.1)
-
-pub lines_and_end : (xs front : List Part) (x : Part) (l : Leaf) → xs ≡ front ++ x ∷ [] → x ≡ p.Leaf l → AllByRecursion IsSimpleLine front → AreLines xs
-lines_and_end xs front x l e f h = subst AreLines (sym (e ∙ ap (λ y. front ++ y ∷ []) f)) (lines_ended front l h)
-
--- ---- BUILD files
-
-build_lines : (xs : List Part) → Several (IsNonterminal s.line) (Fits IsNonterminal (tok s.end done)) xs → AreLines xs
-build_lines [] h = tt
-build_lines (p.Leaf l ∷ []) h = tt
-build_lines (p.Leaf l ∷ y ∷ xs) (inl h) = absurd h.1
-build_lines (p.Leaf l ∷ y ∷ xs) (inr h) = no_such h.0
-build_lines (Node' kind n r ∷ xs) (inl h) = no_such h.0
-build_lines (Node' kind n r ∷ xs) (inr h) = (h.0, build_lines xs h.1)
-
-pub build_view : (n : Node) → LegalBuild n → view_of n ≡ file_items [] n.parts
-build_view n h = lines_say_the_same n.parts (build_lines n.parts (file_lines n h))
 
 -- ---- forms, by lists
 
@@ -164,8 +105,7 @@ statement_build : (kind : Kind) (m : _) (row : Row_of-Part m) → (kind_number k
 statement_build kind m row h above after =
     let xs : List Stated = stated_row row in
     let ss : List Seen = map (λ x. x.part) xs in
-    let same : seen_row row ≡ ss = seen_rows _ row ∙ (sym (parts_seen (items-the_row-Part _ row)) ∙ sym (ap (map (λ x. x.part)) (stated_rows _ row))) in
-    let line : AreBuildList (line_read ss above after).0 = statements_build above ss (subst AreBuildSeen same (row_seen _ row h.1)) in
+    let line : AreBuildList (line_read ss above after).0 = statements_build above ss (subst AreBuildSeen (row_parts _ row) (row_seen _ row h.1)) in
     if_either (λ (z : ReadStatements (List Expr)). AreBuildList z.0) (is_kind kind k.Line) _ _ line
     (subst (λ b. AreBuildList (if b then branches true kind [] above after xs after else ([], after)).0) (sym (no_header kind h.0)) tt)
 

@@ -64,11 +64,5 @@ all_groups (t ∷ ts) (next ∷ gs) = ap (λ r. i.Block (t ∷ ts) ∷ r) (all_g
 abbrev last_apart : List (List Bytes) → Type 0
 last_apart gs = blocks gs ≡ blocks (all_but_last gs) ++ blocks (last_group gs ∷ [])
 
-last_block : (ls : List GapLine) → last_apart (groups_of ls)
+pub last_block : (ls : List GapLine) → last_apart (groups_of ls)
 last_block ls = let w = has_group ls in subst last_apart (sym w.is) (all_groups w.group w.others)
-
-pub all_pushed : (old mid new : List Item) (group : List Bytes) (ls : List GapLine) → mid ≡ old ++ blocks (all_but_last (groups_of ls)) → group ≡ last_group (groups_of ls) →
-    new ≡ mid ++ blocks (group ∷ []) → new ≡ old ++ blocks (groups_of ls)
-all_pushed old mid new group ls m g n =
-    n ∙ (ap (λ t. mid ++ blocks (t ∷ [])) g ∙ (ap (λ t. t ++ blocks (last_group (groups_of ls) ∷ [])) m ∙
-    (append_assoc old (blocks (all_but_last (groups_of ls))) (blocks (last_group (groups_of ls) ∷ [])) ∙ ap (λ t. old ++ t) (sym (last_block ls)))))

@@ -1,5 +1,5 @@
 -- What a file says after another one, where either may have suites.
-use Rattle.std.proofs.Common.{◌≡◌, ◌<◌, ◌≤◌, List, [], ◌∷◌, ◌++◌, refl, sym, ap, ap₂, ◌∙◌, subst, map, length, append_assoc, arith}
+use Rattle.std.proofs.Common.{◌≡◌, List, [], ◌∷◌, ◌++◌, refl, sym, ap, ap₂, ◌∙◌, subst, map, append_assoc}
 use Rattle.std.specs.List.{AllByRecursion, flat_map}
 use Rattle.std.proofs.lemmas.Grind.{flat_map-append}
 use Rattle.std.proofs.lemmas.List.{append-nil}
@@ -168,43 +168,6 @@ ends_with_statement n ps i left (lines, end, parts, whole, nothing) = record {
 pub bare_so : (n : Node) (ps : List Part) (gap : Bytes) → ps ≡ n.parts → gap ≡ first_seen_gap (map seen ps) → all_in gap ≡ [] → BeginsBare n
 bare_so n ps gap i j h =
     ap (λ qs. comments_in (before qs)) (sym i) ∙ (ap comments_in (sym (lines_first ps)) ∙ (ap (λ g. comments_in (lines_of g)) (sym j) ∙ h))
-
--- the end of a file, after these items
-pub file_ended : (lines left : Lines) (x : Part) (l : Leaf) (xs : List Part) (old new : List Item) → x ≡ p.Leaf l → left ≡ [] → new ≡ old ++ blocks (groups_of lines) → new ++ items_from left xs ≡ old ++ items_from lines (x ∷ xs)
-file_ended lines left x l xs old new is none h =
-    ap₂ (λ z m. z ++ items_from m xs) h none ∙ (append_assoc old (blocks (groups_of lines)) (items_from [] xs) ∙ ap (λ y. old ++ items_from lines (y ∷ xs)) (sym is))
-
--- a statement that was read, with what it left
-module _ (lines left after : Lines) (x : Part) (n : Node) (above : List Bytes) (read : ReadStatements (List Expr)) (is : x ≡ p.Node n) (last : above ≡ last_group (groups_of lines)) (same : read ≡ (stated x).statement above after) (own : left ≡ read.1) where
-  abbrev reads : Lines → ReadStatements (List Expr)
-  reads = (stated (p.Node n)).statement (last_group (groups_of lines))
-
-  known : read ≡ reads after
-  known = same ∙ (ap (λ y. (stated y).statement above after) is ∙ ap (λ a. (stated (p.Node n)).statement a after) last)
-
-  pub statement_left : left ≡ lines_after lines x after
-  statement_left = own ∙ (ap (λ r. r.1) known ∙ ap (λ y. lines_after lines y after) (sym is))
-
-  pub statement_items : (xs : List Part) (old middle new : List Item) → middle ≡ old ++ blocks (all_but_last (groups_of lines)) → new ≡ middle ++ map item.Stmt read.0 → after ≡ before xs → new ++ items_from left xs ≡ old ++ items_from lines (x ∷ xs)
-  statement_items xs old middle new h g a =
-      let front : List Item = blocks (all_but_last (groups_of lines)) in
-      let there : read ≡ reads (before xs) = known ∙ ap reads a in
-      ap (λ z. z ++ items_from left xs) (g ∙ ap (λ z. z ++ map item.Stmt read.0) h)
-      ∙ (append_assoc (old ++ front) (map item.Stmt read.0) (items_from left xs) ∙ (append_assoc old front (map item.Stmt read.0 ++ items_from left xs)
-      ∙ (ap₂ (λ r m. old ++ (front ++ (map item.Stmt r.0 ++ items_from m xs))) there (own ∙ ap (λ r. r.1) there) ∙ ap (λ y. old ++ items_from lines (y ∷ xs)) (sym is))))
-
--- one statement further
-pub goes_on : (x : Part) (xs : List Part) (lines left all : Lines) → 0 < length xs → left ≡ lines_after lines x (before xs) → lines_at_end lines (x ∷ xs) ≡ all → lines_at_end left xs ≡ all
-goes_on x [] lines left all h e g = absurd (omega (arith, h))
-goes_on x (y ∷ xs) lines left all h e g = ap (λ l. lines_at_end l (y ∷ xs)) e ∙ g
-
-pub is_end : (x : Part) (xs : List Part) (lines all : Lines) → length xs ≤ 0 → lines ≡ [] → lines_at_end lines (x ∷ xs) ≡ all → all ≡ []
-is_end x [] lines all h n g = sym g ∙ n
-is_end x (y ∷ xs) lines all h n g = absurd (omega (arith, h))
-
-pub none_left : (xs : List Part) → length xs ≤ 0 → lines_at_end (before xs) xs ≡ []
-none_left [] h = refl
-none_left (x ∷ xs) h = absurd (omega (arith, h))
 
 -- ---- the law
 

@@ -1,6 +1,6 @@
 -- Views of lines after lines.
-use Rattle.std.proofs.Common.{◌≡◌, false, List, [], ◌∷◌, ◌++◌, inl, refl, sym, ap, ◌∙◌, subst, append_assoc, append-nil, map, arith}
-use Rattle.std.specs.List.{flat_map}
+use Rattle.std.proofs.Common.{◌≡◌, false, List, [], ◌∷◌, ◌++◌, inl, inr, refl, sym, ap, ◌∙◌, subst, append_assoc, append-nil, map, arith}
+use Rattle.std.specs.List.{AllByRecursion, flat_map}
 use Rattle.std.proofs.lemmas.Str.{IsUtf8-nil}
 use Rattle.std.proofs.lemmas.Grind.{flat_map-append}
 use Rattle.bz_token.specs.declared.class.Class.TheVariants as c
@@ -10,30 +10,61 @@ use Rattle.bz_grammar.specs.declared.tree.Node.{Node}
 use Rattle.bz_grammar.specs.declared.tree.Part.{Part, Node'}
 use Rattle.bz_grammar.specs.declared.tree.Part.TheVariants as p
 use Rattle.bz_grammar.specs.Spell.{leaves_part}
-use Rattle.bz_grammar.specs.Legal.{LegalBuild}
+use Rattle.bz_grammar.specs.declared.kind.Kind.TheVariants as k
+use Rattle.bz_grammar.specs.Shapes as s
+use Rattle.bz_grammar.specs.Shapes.{Fits, shape}
+use Rattle.bz_grammar.specs.Legal.{IsNonterminal, LegalBuild}
+use Rattle.bz_grammar.proofs.Balance.{no_such}
+use Rattle.bz_grammar.proofs.Build.{file_lines}
 use Rattle.bz_grammar.specs.Joined.{last_token, AreWholeLines, file_with, LinesJoin}
 use Rattle.bz_grammar.proofs.Spells.{leaves_Node}
+use Rattle.bz_items.specs.Characters.{Bytes}
 use Rattle.bz_value.specs.declared.value.Item.{Item}
-use Rattle.bz_value.specs.Gaps.{GapLine, lines_of, after_first_line, groups_of}
-use Rattle.bz_hosts.specs.Seen.{seen, seen_row, first_seen_gap, last_gap, blocks}
-use Rattle.bz_hosts.specs.private.Lines.{line_items, file_items}
-use Rattle.bz_hosts.specs.View.{view_of}
+use Rattle.bz_value.specs.declared.value.Item.TheVariants as i
+use Rattle.bz_value.specs.Gaps.{GapLine, lines_of, after_first_line, groups_of, all_but_last, last_group}
+use Rattle.bz_hosts.specs.Seen.{Seen, seen, seen_row, last_gap, blocks, statements_in}
+use Rattle.bz_hosts.specs.Suites.{exprs_in, indented_lines_before, stated, stated_row}
+use Rattle.bz_hosts.specs.View.{items_from, view_of}
 use Rattle.bz_hosts.specs.Joined.{lines_left, EndsWithLine, ViewsJoin, EmptyReads}
-use Rattle.bz_hosts.proofs.BuildFiles.{build_view}
 use Rattle.bz_hosts.proofs.NodeViews.{seen_parts}
+use Rattle.bz_hosts.proofs.Stated.{row_parts}
 
 -- ---- items
 
-items_joined : (left : List GapLine) (xs : List Part) (e : Leaf) (ys : List Part) → lines_left left xs ≡ [] → e.gap ≡ [] → file_items left (xs ++ ys) ≡ file_items left (xs ++ p.Leaf e ∷ []) ++ file_items [] ys
-items_joined left [] e ys h n =
-    ap (λ ls. file_items ls ys) h ∙ sym (ap (λ ls. (blocks (groups_of (ls ++ lines_of e.gap)) ++ []) ++ file_items [] ys) h ∙ ap (λ g. (blocks (groups_of (lines_of g)) ++ []) ++ file_items [] ys) n)
-items_joined left (p.Leaf l ∷ xs) e ys h n =
-    let own : List Item = blocks (groups_of (left ++ lines_of l.gap)) in
-    ap (λ is. own ++ is) (items_joined [] xs e ys h n) ∙ sym (append_assoc own (file_items [] (xs ++ p.Leaf e ∷ [])) (file_items [] ys))
-items_joined left (Node' kind size row ∷ xs) e ys h n =
-    let own : List Item = line_items (left ++ lines_of (first_seen_gap (seen_row row))) (seen_row row) in
-    let next : List GapLine = after_first_line (lines_of (last_gap (seen_row row))) in
-    ap (λ is. own ++ is) (items_joined next xs e ys h n) ∙ sym (append_assoc own (file_items next (xs ++ p.Leaf e ∷ [])) (file_items [] ys))
+-- the lines before a file's end are lines of statements
+abbrev AreLines : List Part → Type 0
+AreLines xs = AllByRecursion (IsNonterminal s.line) xs
+
+front_lines : (xs : List Part) (e : Leaf) → Fits IsNonterminal (shape k.File) (xs ++ p.Leaf e ∷ []) → AreLines xs
+front_lines [] e h = tt
+front_lines (p.Leaf l ∷ []) e (inl h) = absurd h.1
+front_lines (p.Leaf l ∷ []) e (inr h) = no_such h.0
+front_lines (p.Leaf l ∷ x ∷ xs) e (inl h) = absurd h.1
+front_lines (p.Leaf l ∷ x ∷ xs) e (inr h) = no_such h.0
+front_lines (Node' kind size row ∷ xs) e (inl h) = no_such h.0
+front_lines (Node' kind size row ∷ xs) e (inr h) = (h.0, front_lines xs e h.1)
+
+abbrev before : List Part → List GapLine
+before xs = indented_lines_before (map stated xs) []
+
+-- left: what the line before these leaves
+items_joined : (left : List GapLine) (xs : List Part) (e : Leaf) (ys : List Part) → AreLines xs → lines_left left xs ≡ [] → e.gap ≡ [] →
+    items_from (left ++ before (xs ++ ys)) (xs ++ ys) ≡ items_from (left ++ before (xs ++ p.Leaf e ∷ [])) (xs ++ p.Leaf e ∷ []) ++ items_from (before ys) ys
+items_joined left [] e ys are h n =
+    ap (λ ls. items_from (ls ++ before ys) ys) h
+    ∙ sym (ap (λ ls. (blocks (groups_of (ls ++ lines_of e.gap)) ++ []) ++ items_from (before ys) ys) h ∙ ap (λ g. (blocks (groups_of (lines_of g)) ++ []) ++ items_from (before ys) ys) n)
+items_joined left (p.Leaf l ∷ xs) e ys are h n = no_such are.0
+items_joined left (Node' k.Line size row ∷ xs) e ys are h n =
+    let ss : List Seen = map (λ x. x.part) (stated_row row) in
+    let groups : List (List Bytes) = groups_of (left ++ lines_of (seen (Node' k.Line size row)).gap) in
+    let front : List Item = blocks (all_but_last groups) in
+    let own : List Item = map i.Stmt (exprs_in (statements_in (last_group groups) ss)) in
+    let next : List GapLine = after_first_line (lines_of (last_gap ss)) in
+    let one : List Item = items_from (next ++ before (xs ++ p.Leaf e ∷ [])) (xs ++ p.Leaf e ∷ []) in
+    let two : List Item = items_from (before ys) ys in
+    ap (λ is. front ++ (own ++ is)) (items_joined next xs e ys are.1 (subst (λ rs. lines_left (after_first_line (lines_of (last_gap rs))) xs ≡ []) (row_parts _ row) h) n)
+    ∙ (ap (λ is. front ++ is) (sym (append_assoc own one two)) ∙ sym (append_assoc front (own ++ one) two))
+items_joined left (Node' _ size row ∷ xs) e ys are h n = no_such are.0
 
 left_both : (left : List GapLine) (xs ys : List Part) → lines_left left (xs ++ ys) ≡ lines_left (lines_left left xs) ys
 left_both left [] ys = refl
@@ -70,12 +101,11 @@ ends_both xs m w l h = record {
 
 pub views_join : LinesJoin → ViewsJoin
 views_join law s t n m h r q le =
-    let read = law s t n m h.lines h.end h.parts h.whole h.nothing r q le in (
+    let read = law s t n m h.lines h.end h.parts h.whole h.nothing r q le in
+    let are : AreLines h.lines = front_lines h.lines h.end (subst (Fits IsNonterminal (shape k.File)) h.parts (file_lines n r.0)) in (
       file_with (h.lines ++ m.parts),
       read,
-      build_view (file_with (h.lines ++ m.parts)) read.0
-          ∙ (items_joined [] h.lines h.end m.parts h.left h.nothing
-          ∙ (ap (λ ps. file_items [] ps ++ file_items [] m.parts) (sym h.parts) ∙ (ap (λ is. is ++ file_items [] m.parts) (sym (build_view n r.0)) ∙ ap (λ is. view_of n ++ is) (sym (build_view m q.0))))),
+      items_joined [] h.lines h.end m.parts are h.left h.nothing ∙ ap (λ ps. items_from (before ps) ps ++ view_of m) (sym h.parts),
       ends_both h.lines m h.whole h.left,
     )
 

@@ -7,6 +7,7 @@ pub mod Claim
 pub mod Colons
 pub mod Compounds
 pub mod Cuts
+pub mod FileSteps
 pub mod Gathered
 pub mod GroupSteps
 pub mod HeadParts

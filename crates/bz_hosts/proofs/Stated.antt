@@ -8,7 +8,7 @@ use Rattle.bz_grammar.proofs.Nested.{row_of, items_of_row}
 use Rattle.bz_items.specs.Characters.{Bytes}
 use Rattle.bz_value.specs.Frames.{is_header}
 use Rattle.bz_value.specs.Gaps.{GapLine, lines_of, all_in}
-use Rattle.bz_hosts.specs.Seen.{Seen, seen, first_seen_gap, statement, statements_in}
+use Rattle.bz_hosts.specs.Seen.{Seen, seen, seen_row, first_seen_gap, statement, statements_in}
 use Rattle.bz_hosts.specs.Suites.{stated, stated_row, indented_lines_before, exprs_in, statement_read, suite_in, suffix_before, line_read, branches, only_comment, margin_of, suite_read, SuiteRead}
 use Rattle.bz_lex.specs.Gaps.{indent}
 use Rattle.std.proofs.lemmas.List.{drop-map}
@@ -41,6 +41,10 @@ stated_part (Node' kind size row) = refl
 pub parts_seen : (xs : List Part) → map (λ x. x.part) (map stated xs) ≡ map seen xs
 parts_seen [] = refl
 parts_seen (x ∷ xs) = ap (λ s. s ∷ map (λ y. y.part) (map stated xs)) (stated_part x) ∙ ap (λ t. seen x ∷ t) (parts_seen xs)
+
+pub row_parts : (m : _) (r : Row_of-Part m) → seen_row r ≡ map (λ x. x.part) (stated_row r)
+row_parts m end_of-Part = refl
+row_parts m (more_of-Part x rest) = ap (λ s. s ∷ seen_row rest) (sym (stated_part x)) ∙ ap (λ t. (stated x).part ∷ t) (row_parts _ rest)
 
 -- the lines before the first of these parts
 pub lines_first : (ps : List Part) → lines_of (first_seen_gap (map seen ps)) ≡ indented_lines_before (map stated ps) []

@@ -1,4 +1,4 @@
 -- What the contracts of private functions cite, and no contract of a public call reaches: nobody has to trust it.
+pub mod FileParts
 pub mod Gathered
-pub mod Lines
 pub mod Walks

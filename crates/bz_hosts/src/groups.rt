@@ -9,7 +9,7 @@ use bz_value::{Item, first_line};
 use std::alloc::Global;
 
 /// Appends comment lines on their own, if there are any.
-fn push_block(lines: Items<Text>, items: &mut Items<Item>) -> Result<(), Memory>
+pub(crate) fn push_block(lines: Items<Text>, items: &mut Items<Item>) -> Result<(), Memory>
     ensures { OnOk result (items.new ≡ items.old ++ blocks (lines ∷ [])) }
 {
     if !lines.is_empty() {
@@ -57,17 +57,4 @@ pub(crate) fn push_groups(
     let group = push_lines(alloc, left, Items::new(alloc), items)?;
     let last = push_lines(alloc, gap, group, items)?;
     Ok(last)
-}
-
-/// Appends all groups of comment lines of two gaps that follow each other.
-pub(crate) fn push_all_groups(
-    alloc: Global,
-    left: &[u8],
-    gap: &[u8],
-    items: &mut Items<Item>,
-) -> Result<(), Memory>
-    ensures { OnOk result (items.new ≡ items.old ++ blocks (groups_of (lines_of left.now ++ lines_of gap.now))) }
-{
-    let lines = push_groups(alloc, left, gap, items)?;
-    push_block(lines, items)
 }

@@ -19,4 +19,4 @@ pub use laws::{
     build_views, comments_kept, hosts_by_place, suites_join, views_are_proper, views_join,
     worked_hosts, worked_suites, worked_views,
 };
-pub use viewing::{into_view, view, view_front};
+pub use viewing::{into_front, into_view, view};

@@ -1,18 +1,18 @@
 //! What statements are read as, those with suites too, and the items of a file.
-ghost use Rattle.std.specs.Prelude.{◌≡◌, ◌++◌, ◌<◌, [], ◌∷◌, List, map, drop, length, IfOk, IsTrue, OnOk, false};
+ghost use Rattle.std.specs.Prelude.{◌≡◌, ◌++◌, ◌<◌, [], ◌∷◌, List, map, drop, length, IfOk, OnOk, false};
 ghost use Rattle.bz_lex.specs.Gaps.{indent};
 ghost use Rattle.bz_grammar.specs.declared.tree.Part.{Part};
 ghost use Rattle.bz_hosts.specs.Seen.{seen, statements_in};
-ghost use Rattle.bz_hosts.specs.SuitesJoined.{lines_after, lines_at_end};
+ghost use Rattle.bz_hosts.specs.private.FileParts.{part_read};
 ghost use Rattle.bz_hosts.specs.private.Gathered.{gathered};
-ghost use Rattle.bz_hosts.specs.View.{items_from, view_of};
+ghost use Rattle.bz_hosts.specs.View.{items_from};
 ghost use Rattle.bz_hosts.specs.Suites.{branches, exprs_in, line_read, indented_lines_before, stated, walked};
 ghost use Rattle.bz_value.specs.Gaps.{lines_of};
 
 use crate::before::{gap_at, gap_before, gap_of_last};
-use crate::groups::{push_all_groups, push_groups};
+use crate::groups::{push_block, push_groups};
 use crate::headers::{colon_from, headed_suite, is_kind};
-use crate::rest::{Rest, comments, is_spent, rest_of_gap, take_end};
+use crate::rest::{Rest, comments, rest_of_gap, take_end};
 use crate::viewing::{push_statements, without_room};
 use bz_grammar::{Kind, Part, Tree};
 use bz_items::{Items, Memory, Text};
@@ -36,7 +36,7 @@ fn indent_len(gap: &[u8]) -> usize
 
 /// The gap of the part with this index; past the last part the one after all of them.
 #[tactic(auto, using(crate::proofs::Stated::lines_of_part))]
-fn gap_after<'a>(parts: &'a [Part], at: usize, after: &'a [u8]) -> &'a [u8]
+pub(crate) fn gap_after<'a>(parts: &'a [Part], at: usize, after: &'a [u8]) -> &'a [u8]
     ensures { lines_of result.now ≡ indented_lines_before (map stated (drop at parts.now)) (lines_of after.now) }
 {
     match parts.get(at) {
@@ -247,61 +247,46 @@ fn push_items(statements: Items<Expr>, items: &mut Items<Item>) -> Result<(), Me
     Ok(())
 }
 
-/// The items of the statements of a file and of its end, and whether no line is left before the end. The error: memory was refused.
-#[tactic(auto, using(crate::proofs::Stated::lines_first, crate::proofs::Colons::part_here, crate::proofs::JoinedFiles::goes_on, crate::proofs::JoinedFiles::is_end, crate::proofs::JoinedFiles::none_left))]
-pub(crate) fn items_of(alloc: Global, parts: &[Part]) -> Result<(Items<Item>, bool), Memory>
-    ensures items { IfOk result (λ seen. seen.0 ≡ items_from (indented_lines_before (map stated parts.now) []) parts.now) }
-    ensures left { IfOk result (λ seen. IsTrue seen.1 → lines_at_end (indented_lines_before (map stated parts.now) []) parts.now ≡ []) }
+/// The items of the statements of a file and of its end. The error: memory was refused.
+#[tactic(auto, using(crate::proofs::Stated::lines_first, crate::proofs::Colons::part_here, crate::proofs::FileSteps::turned))]
+pub(crate) fn items_of(alloc: Global, parts: &[Part]) -> Result<Items<Item>, Memory>
+    ensures { IfOk result (λ items. items ≡ items_from (indented_lines_before (map stated parts.now) []) parts.now) }
 {
     // most files have an item a line
     let mut items = Items::from_vec(Vec::with_capacity(alloc, parts.len())?);
     let mut rest = rest_of_gap(gap_at(parts, 0));
-    let mut spent = true;
     for at in 0..parts.len() {
-        if at + 1 == parts.len() {
-            spent = is_spent(rest);
-        }
-        rest = push_part(
-            alloc,
-            rest,
-            &parts[at],
-            gap_after(parts, at + 1, &[]),
-            &mut items,
-        )?;
+        let above = push_groups(alloc, rest.left, rest.gap, &mut items)?;
+        let after = gap_after(parts, at + 1, &[]);
+        rest = push_part(alloc, &parts[at], above, after, &mut items)?;
     }
-    Ok((without_room(items), spent))
+    Ok(without_room(items))
 }
 
-/// Appends the items of a statement of a file, or those of its end, where these lines are before it; gives the lines that are
-/// left of the gap after it.
-#[tactic(auto, using(crate::proofs::JoinedFiles::file_ended))]
-fn push_part<'a>(
+/// Appends the items of a part of a file: of a statement with these comments above it, or of the end, where they are a block; gives the
+/// lines that are left of those after it.
+#[tactic(auto, using(crate::proofs::FileSteps::end_read, crate::proofs::FileSteps::node_read))]
+pub(crate) fn push_part<'a>(
     alloc: Global,
-    rest: Rest<'_>,
     part: &'a Part,
+    above: Items<Text>,
     after: &'a [u8],
     items: &mut Items<Item>,
 ) -> Result<Rest<'a>, Memory>
-    ensures left { IfOk result (λ left. lines_of left.left.now ++ lines_of left.gap.now ≡ lines_after (lines_of rest.entry.left.now ++ lines_of rest.entry.gap.now) part.now (lines_of after.now)) }
-    ensures items { IfOk result (λ left. (xs : List Part) → lines_of after.now ≡ indented_lines_before (map stated xs) []
-        → items.new ++ items_from (lines_of left.left.now ++ lines_of left.gap.now) xs ≡ items.old ++ items_from (lines_of rest.entry.left.now ++ lines_of rest.entry.gap.now) (part.now ∷ xs)) }
+    ensures items { OnOk result (items.new ≡ items.old ++ (part_read part.now above (lines_of after.now)).0) }
+    ensures left { IfOk result (λ left. lines_of left.left.now ++ lines_of left.gap.now ≡ (part_read part.now above (lines_of after.now)).1) }
 {
-    match part {
-        Part::Leaf(_) => {
-            push_all_groups(alloc, rest.left, rest.gap, items)?;
-            Ok(rest_of_gap(&[]))
-        }
-        Part::Node(node) => {
-            let above = push_groups(alloc, rest.left, rest.gap, items)?;
-            // a line is by far the most frequent one, so its statements are made in their place
-            if is_kind(node.kind, Kind::Line) {
-                let left = push_line_items(alloc, node.parts.as_slice(), above, after, items)?;
-                return Ok(left);
-            }
-            let mut statements = Items::new(alloc);
-            let left = push_statement(alloc, part, above, after, &mut statements)?;
-            push_items(statements, items)?;
-            Ok(left)
-        }
+    let Part::Node(node) = part else {
+        push_block(above, items)?;
+        return Ok(rest_of_gap(&[]));
+    };
+    // a line is by far the most frequent one, so its statements are made in their place
+    if is_kind(node.kind, Kind::Line) {
+        let left = push_line_items(alloc, node.parts.as_slice(), above, after, items)?;
+        return Ok(left);
     }
+    let mut statements = Items::new(alloc);
+    let left = push_statement(alloc, part, above, after, &mut statements)?;
+    push_items(statements, items)?;
+    Ok(left)
 }

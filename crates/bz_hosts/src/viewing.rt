@@ -1,23 +1,26 @@
 //! The view of a tree as a file value, of one that stays and of one that is given up.
-ghost use Rattle.std.specs.Prelude.{◌≡◌, [], ◌++◌, map, IfOk, IsTrue, OnOk};
-ghost use Rattle.std.specs.List.{AllByRecursion};
+ghost use Rattle.std.specs.Prelude.{◌≡◌, ◌<◌, ◌+◌, [], ◌++◌, map, drop, length, true, IfOk, IsTrue, OnOk};
+ghost use Rattle.bz_grammar.specs.Shapes.{is_kind as has_kind};
+ghost use Rattle.bz_grammar.specs.declared.tree.Node.{Node};
 ghost use Rattle.bz_value.specs.Counted.{times};
 ghost use Rattle.bz_items.specs.Characters.{Bytes};
 ghost use Rattle.bz_hosts.specs.Kept.{occurrences};
-ghost use Rattle.bz_hosts.specs.Seen.{seen, statements_in};
+ghost use Rattle.bz_value.specs.Gaps.{all_but_last, groups_of, last_group, lines_of};
+ghost use Rattle.bz_hosts.specs.Seen.{blocks, seen, statements_in};
 ghost use Rattle.bz_hosts.specs.Suites.{indented_lines_before, stated};
-ghost use Rattle.bz_hosts.specs.SuitesJoined.{EndsWithStatement};
+ghost use Rattle.bz_hosts.specs.SuitesJoined.{EndsWithStatement, lines_at_end};
 ghost use Rattle.bz_hosts.specs.View.{items_from, view_of};
-ghost use Rattle.bz_hosts.specs.private.Lines.{AreLines, IsSimpleLine, file_items};
+ghost use Rattle.bz_hosts.specs.private.FileParts.{MovesOn};
 
 use crate::before::{gap_at, gap_of_last, is_followed};
 use crate::commented::push_statement;
 use crate::expr::push_expr;
-use crate::groups::{push_all_groups, push_groups};
+use crate::groups::push_groups;
 use crate::headers::is_kind;
 use crate::joined::ends_in_line;
 use crate::moved::{DEPTH, drop_row, give_back, push_moved};
-use crate::suites::items_of;
+use crate::rest::{Rest, is_spent};
+use crate::suites::{gap_after, items_of, push_part};
 use bz_grammar::{Kind, Part, Tree};
 use bz_items::{Items, Memory, Text};
 use bz_value::{File, Item, past_first_line};
@@ -30,43 +33,38 @@ pub fn view(alloc: Global, tree: &Tree) -> Result<File, Memory>
     ensures value { IfOk result (λ file. file ≡ view_of tree.now) }
     ensures comments { IfOk result (λ file. (text : Bytes) → times text file ≡ occurrences text tree.now) }
 {
-    let (items, _) = items_of(alloc, tree.root.parts.as_slice())?;
+    let items = items_of(alloc, tree.root.parts.as_slice())?;
     Ok(File { items })
 }
 
-/// What `view` gives, and whether the text of the tree ends with the newline of a statement that leaves no line to what follows: then
+/// What `into_view` gives, and whether the text of the tree ends with the newline of a statement that leaves no line to what follows: then
 /// one that `begins_bare` may follow it. The error: memory was refused.
 #[tactic(auto, using(crate::proofs::JoinedFiles::ends_with_statement))]
-pub fn view_front(alloc: Global, tree: &Tree) -> Result<(File, bool), Memory>
-    ensures file { IfOk result (λ seen. seen.0 ≡ view_of tree.now) }
-    ensures ends { IfOk result (λ seen. IsTrue seen.1 → EndsWithStatement tree.now) }
+pub fn into_front(alloc: Global, tree: Tree) -> Result<(File, bool), Memory>
+    ensures file { IfOk result (λ seen. seen.0 ≡ view_of tree) }
+    ensures ends { IfOk result (λ seen. IsTrue seen.1 → EndsWithStatement tree) }
 {
-    let parts = tree.root.parts.as_slice();
-    let (items, is_spent) = items_of(alloc, parts)?;
-    let ends = is_spent && ends_in_line(parts);
-    Ok((File { items }, ends))
+    let Tree { root } = tree;
+    let ends = ends_in_line(root.parts.as_slice());
+    let (items, is_spent) = into_items(alloc, root.parts)?;
+    Ok((File { items }, is_spent && ends))
 }
 
-/// The file value that `view` makes, of a tree that is given up: where it has no suites its tokens are moved, and each line of it is
-/// dropped as soon as its items are made, a long one piece by piece, so that the whole tree is not held beside the whole value. The
-/// error: memory was refused.
-#[tactic(auto, using(crate::proofs::BuildFiles::lines_say_the_same))]
+/// The file value that `view` makes, of a tree that is given up: the tokens of its lines are moved, and each line of it is dropped as
+/// soon as its items are made, a long one piece by piece, so that the whole tree is not held beside the whole value. The error: memory
+/// was refused.
 pub fn into_view(alloc: Global, tree: Tree) -> Result<File, Memory>
     ensures value { IfOk result (λ file. file ≡ view_of tree) }
     ensures comments { IfOk result (λ file. (text : Bytes) → times text file ≡ occurrences text tree) }
 {
     let Tree { root } = tree;
-    if are_lines(root.parts.as_slice()) {
-        let items = into_items(alloc, root.parts)?;
-        return Ok(File { items });
-    }
-    let (items, _) = items_of(alloc, root.parts.as_slice())?;
+    let (items, _) = into_items(alloc, root.parts)?;
     Ok(File { items })
 }
 
 /// Whether a part is a line of statements.
 fn is_line(part: &Part) -> bool
-    ensures { IsTrue result → IsSimpleLine part.now }
+    ensures { IsTrue result → (node : Node) × (part.now ≡ Part.Node node) × (has_kind node.kind Kind.Line ≡ true) }
 {
     match part {
         Part::Leaf(_) => false,
@@ -74,22 +72,14 @@ fn is_line(part: &Part) -> bool
     }
 }
 
-/// Whether all these parts are lines of statements.
-fn are_all_lines(parts: &[Part]) -> bool
-    ensures { IsTrue result → AllByRecursion IsSimpleLine parts.now }
+/// Takes the parts out of a node.
+fn take_parts(part: &mut Part, alloc: Global) -> Items<Part>
+    ensures { (node : Node) → part.old ≡ Part.Node node → result ≡ node.parts }
 {
-    parts.iter().all(is_line)
-}
-
-/// Whether these parts of a file are lines of statements, and its end.
-#[tactic(auto, using(crate::proofs::BuildFiles::lines_and_end))]
-fn are_lines(parts: &[Part]) -> bool
-    ensures { IsTrue result → AreLines parts.now }
-{
-    let Some((Part::Leaf(_), lines)) = parts.split_last() else {
-        return false;
-    };
-    are_all_lines(lines)
+    match part {
+        Part::Leaf(_) => Items::new(alloc),
+        Part::Node(node) => mem::replace(&mut node.parts, Items::new(alloc)),
+    }
 }
 
 /// Of this many items or fewer the room beside them is let be.
@@ -126,28 +116,76 @@ pub(crate) fn push_statements(
     Ok(())
 }
 
-/// The items of the lines of a file and of its end, each of which is dropped before the next one is looked at.
-fn into_items(alloc: Global, lines: Items<Part>) -> Result<Items<Item>, Memory>
-    ensures { IfOk result (λ items. items ≡ file_items [] lines) }
+/// What `items_of` gives of parts that are given up, and whether no line is left before the end. Each line is dropped before the next one
+/// is looked at. The error: memory was refused.
+fn into_items(alloc: Global, parts: Items<Part>) -> Result<(Items<Item>, bool), Memory>
+    ensures items { IfOk result (λ seen. seen.0 ≡ items_from (indented_lines_before (map stated parts) []) parts) }
+    ensures left { IfOk result (λ seen. IsTrue seen.1 → lines_at_end (indented_lines_before (map stated parts) []) parts ≡ []) }
 {
-    let mut items = Items::from_vec(Vec::with_capacity(alloc, lines.len())?);
-    let mut left = Text::from_vec(Vec::new(alloc));
-    for mut line in lines.into_vec() {
-        let before = left.as_slice();
-        match &mut line {
-            Part::Leaf(end) => {
-                push_all_groups(alloc, before, end.gap.as_slice(), &mut items)?;
-                left = Text::from_vec(Vec::new(alloc));
-            }
-            Part::Node(line) => {
-                let parts = mem::replace(&mut line.parts, Items::new(alloc));
-                let above = push_groups(alloc, before, gap_at(parts.as_slice(), 0), &mut items)?;
-                left = Text::from_slice(alloc, past_first_line(gap_of_last(parts.as_slice())))?;
-                push_moved_statements(alloc, parts, above, &mut items)?;
-            }
-        }
+    let mut items = Items::from_vec(Vec::with_capacity(alloc, parts.len())?);
+    let mut parts = parts.into_vec();
+    if parts.is_empty() {
+        return Ok((items, true));
     }
-    Ok(without_room(items))
+    let gap = gap_at(parts.as_slice(), 0);
+    let (mut above, mut spent) = push_before(alloc, &[], gap, parts.len() == 1, &mut items)?;
+    let mut at = 0;
+    while is_followed(parts.as_slice(), at) {
+        let (next, is_spent) = push_moved_part(alloc, &mut parts, at, above, &mut items)?;
+        above = next;
+        spent = is_spent;
+        at += 1;
+    }
+    push_part(alloc, &parts[at], above, &[], &mut items)?;
+    drop_row(parts);
+    Ok((without_room(items), spent))
+}
+
+/// Appends the groups of comment lines of two gaps that follow each other before a part; gives the comments right above it, and of the last
+/// part whether no line is before it.
+fn push_before(
+    alloc: Global,
+    left: &[u8],
+    gap: &[u8],
+    is_last: bool,
+    items: &mut Items<Item>,
+) -> Result<(Items<Text>, bool), Memory>
+    ensures items { OnOk result (items.new ≡ items.old ++ blocks (all_but_last (groups_of (lines_of left.now ++ lines_of gap.now)))) }
+    ensures above { IfOk result (λ next. next.0 ≡ last_group (groups_of (lines_of left.now ++ lines_of gap.now))) }
+    ensures spent { IfOk result (λ next. IsTrue next.1 → lines_of left.now ++ lines_of gap.now ≡ []) }
+{
+    let above = push_groups(alloc, left, gap, items)?;
+    Ok((above, is_last && is_spent(Rest { left, gap })))
+}
+
+/// Appends the items of the part with this index, where these comments are above it, and the groups before the next part; gives for that
+/// what `push_before` gives. A line is given up.
+fn push_moved_part(
+    alloc: Global,
+    parts: &mut Vec<Part>,
+    at: usize,
+    above: Items<Text>,
+    items: &mut Items<Item>,
+) -> Result<(Items<Text>, bool), Memory>
+    requires { at + 1 < length parts.old.items }
+    ensures count { OnOk result (length parts.new.items ≡ length parts.old.items) }
+    ensures rest { OnOk result (drop (at + 1) parts.new.items ≡ drop (at + 1) parts.old.items) }
+    ensures turn { IfOk result (λ next. MovesOn parts.old.items at above next.0 next.1 items.old items.new) }
+{
+    let is_last = parts.len() - at == 2;
+    if is_line(&parts[at]) {
+        let line = take_parts(&mut parts[at], alloc);
+        // what the Newline leaves, mostly nothing
+        let left = Text::from_slice(alloc, past_first_line(gap_of_last(line.as_slice())))?;
+        push_moved_statements(alloc, line, above, items)?;
+        let gap = gap_after(parts.as_slice(), at + 1, &[]);
+        let next = push_before(alloc, left.as_slice(), gap, is_last, items)?;
+        return Ok(next);
+    }
+    let gap = gap_after(parts.as_slice(), at + 1, &[]);
+    let rest = push_part(alloc, &parts[at], above, gap, items)?;
+    let next = push_before(alloc, rest.left, rest.gap, is_last, items)?;
+    Ok(next)
 }
 
 /// Appends the statements of a line, which are given up, the first with these comments above it.

@@ -1,27 +1,31 @@
-use Rattle.std.proofs.Common.{◌≡◌, ◌∷◌, ◌++◌, List, map, sym, ap, ◌∙◌}
-use Rattle.std.specs.Vec.Iter.{into_iter_items}
-use Rattle.bz_lex.specs.declared.leaf.Leaf.{Leaf}
+use Rattle.std.proofs.Common.{rules, ◌<◌, ◌≤◌, ◌+◌, ◌++◌, List, map, length, sym, ap, ◌∙◌, subst, arith}
 use Rattle.bz_grammar.specs.declared.tree.Part.{Part}
-use Rattle.bz_grammar.specs.declared.tree.Part.TheVariants as p
-use Rattle.bz_value.specs.Gaps.{lines_of}
-use Rattle.bz_hosts.specs.private.Lines.{file_items}
-use Rattle.bz_hosts.specs.Seen.{first_seen_gap, last_gap, seen}
-use Rattle.bz_hosts.proofs.LineSteps.{end_pushed, line_pushed}
+use Rattle.bz_hosts.specs.Seen.{first_seen_gap, seen}
+use Rattle.bz_hosts.specs.private.FileParts.{items_below, left_below}
+use Rattle.bz_hosts.proofs.FileSteps.{begun, finished}
 use Rattle.bz_hosts.proofs.viewing.into_items.Goals as goal
-use Rattle.bz_hosts.proofs.viewing.into_items.Goals.{in-Leaf+in_ok-push_all_groups-in-Leaf, in-Node+in_ok-above-in-Node+in_ok-left-in-Node+in_ok-push_moved_statements-in-Node}
 
-pub loop-line-preserved : goal.loop-line-preserved
-loop-line-preserved c =
-    let line = c.in-Some.line in
-    let rest = into_iter_items c.next.new.self in
-    let left = lines_of c.as_slice-before.result.now in
-    let pushed : c.match-line.items ++ file_items (lines_of c.match-line.left) rest ≡ c.loop-line.items ++ file_items left (line ∷ rest) =
-    elim c.match-line.branch [
-      | in-Leaf+in_ok-push_all_groups-in-Leaf w ↦
-          end_pushed line w.in-Leaf.end left w.as_slice.result.now c.match-line.left c.loop-line.items _ w.in-Leaf.is (w.as_slice.ensures ∙ ap (λ (end : Leaf). end.gap) w.in-Leaf.end-is) (w.items-is ∙ w.in_ok-push_all_groups-in-Leaf.ensures) (w.left-is ∙ (w.from_vec-left-in-Leaf.ensures ∙ w.new-in-Leaf.ensures.items)) rest
-      | in-Node+in_ok-above-in-Node+in_ok-left-in-Node+in_ok-push_moved_statements-in-Node w ↦
-          line_pushed line _ w.replace-parts.result left w.gap_at.result.now w.gap_of_last.result.now c.match-line.left _ c.loop-line.items _ _ (w.in-Node.is ∙ ap p.Node (sym w.in-Node.line-is)) w.replace-parts.ensures.value
-          (w.gap_at.ensures ∙ ap (λ (ps : List Part). first_seen_gap (map seen ps)) w.as_slice-in-Node.ensures) w.in_ok-above-in-Node.ensures.blocks w.in_ok-above-in-Node.ensures.last (w.items-is ∙ w.in_ok-push_moved_statements-in-Node.ensures)
-          (w.gap_of_last.ensures ∙ ap (λ (ps : List Part). last_gap (map seen ps)) w.as_slice-in-Node-2.ensures) (ap lines_of (w.left-is ∙ w.in_ok-left-in-Node.ensures) ∙ w.past_first_line.ensures) rest
-    ] in
-    pushed ∙ (ap (λ bytes. c.loop-line.items ++ file_items (lines_of bytes) (line ∷ rest)) c.as_slice-before.ensures ∙ (ap (λ xs. c.loop-line.items ++ file_items (lines_of c.loop-line.left) xs) (sym c.in-Some.ensures.steps.0) ∙ c.loop-line.invariant))
+some : (c : goal.In_ok-above) → 0 < length c.into_vec-parts.result.items
+some c = search rules
+
+pub loop-alloc-init : goal.loop-alloc-init
+loop-alloc-init c =
+    let w = begun c.into_vec-parts.result.items c.args.parts c.gap_at-gap.result.now c.in_ok-above.above c.in_ok-above.spent c.from_vec-items.result c.push_before.new.items (some c) c.into_vec-parts.ensures
+    (c.gap_at-gap.ensures ∙ ap (λ (ps : List Part). first_seen_gap (map seen ps)) c.as_slice.ensures.value) (c.from_vec-items.ensures ∙ c.in_ok-with_capacity.ensures.items) c.in_ok-above.ensures.items c.in_ok-above.ensures.above c.in_ok-above.ensures.spent in
+    record { some = some c; items = w.0; going = w.1.0; ended = w.1.1 }
+
+pub loop-alloc-preserved : goal.loop-alloc-preserved
+loop-alloc-preserved c =
+    let turn = c.in_ok-next.ensures.turn in
+    let more : c.loop-alloc.at + 1 < length c.loop-alloc.parts.items = subst (λ (ps : List Part). c.loop-alloc.at + 1 < length ps) c.as_slice-in-loop-alloc.ensures.value (c.is_followed.ensures.yes c.loop-alloc-test.true) in
+    record {
+      some = omega (arith, more, c.in_ok-next.ensures.count);
+      items = ap (λ (ps : List Part). c.push_moved_part.new.items ++ items_below c.in_ok-next.next ps) c.in_ok-next.ensures.rest ∙ (turn.items ∙ c.loop-alloc.invariant.items);
+      going = λ further. ap (left_below c.in_ok-next.next) c.in_ok-next.ensures.rest ∙ (turn.going (omega (arith, further, c.in_ok-next.ensures.count)) ∙ c.loop-alloc.invariant.going more);
+      ended = λ last spent. sym (c.loop-alloc.invariant.going more) ∙ turn.ended (omega (arith, last, c.in_ok-next.ensures.count)) spent;
+    }
+
+pub returns-clause-items : goal.returns-clause-items
+returns-clause-items c =
+    let last : length c.loop-alloc.parts.items ≤ c.loop-alloc.at + 1 = subst (λ (ps : List Part). length ps ≤ c.loop-alloc.at + 1) c.as_slice-in-loop-alloc.ensures.value (c.is_followed.ensures.no c.loop-alloc-test.false) in
+    c.without_room.ensures ∙ finished c.loop-alloc.parts.items c.loop-alloc.at c.index.result.now c.loop-alloc.above c.loop-alloc.items c.push_part.new.items _ last c.loop-alloc.invariant.some c.index.ensures c.in_ok-push_part.ensures.items c.loop-alloc.invariant.items

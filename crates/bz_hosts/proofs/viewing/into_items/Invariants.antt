@@ -1,9 +1,17 @@
-use Rattle.std.proofs.Common.{◌≡◌, ◌++◌, []}
-use Rattle.std.specs.Vec.Iter.{into_iter_items}
-use Rattle.bz_value.specs.Gaps.{lines_of}
-use Rattle.bz_hosts.specs.private.Lines.{file_items}
+use Rattle.std.proofs.Common.{◌≡◌, ◌<◌, ◌≤◌, ◌+◌, ◌-◌, ◌++◌, true, [], map, drop, length}
+use Rattle.bz_hosts.specs.SuitesJoined.{lines_at_end}
+use Rattle.bz_hosts.specs.View.{items_from}
+use Rattle.bz_hosts.specs.Suites.{indented_lines_before, stated}
+use Rattle.bz_hosts.specs.private.FileParts.{items_below, left_below}
 use Rattle.bz_hosts.proofs.viewing.into_items.Given as goal
 
--- the items so far, and those of the lines that are left, are those of all lines
-abbrev pub invariant-loop-line : goal.invariant-loop-line
-invariant-loop-line l = l.items ++ file_items (lines_of l.left) (into_iter_items l.line-iterator) ≡ file_items [] l.fn.lines
+abbrev pub invariant-loop-alloc : goal.invariant-loop-alloc
+invariant-loop-alloc l = record {
+  some : l.at < length l.parts.items;
+  items : l.items ++ items_below l.above (drop l.at l.parts.items) ≡ items_from (indented_lines_before (map stated l.fn.parts) []) l.fn.parts;
+  going : l.at + 1 < length l.parts.items → left_below l.above (drop l.at l.parts.items) ≡ lines_at_end (indented_lines_before (map stated l.fn.parts) []) l.fn.parts;
+  ended : length l.parts.items ≤ l.at + 1 → l.spent ≡ true → lines_at_end (indented_lines_before (map stated l.fn.parts) []) l.fn.parts ≡ [];
+}
+
+abbrev pub decreases-loop-alloc : goal.decreases-loop-alloc
+decreases-loop-alloc l = length l.parts.items - l.at

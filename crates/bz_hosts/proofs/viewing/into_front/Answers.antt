@@ -1,0 +1,7 @@
+use Rattle.std.proofs.Common.{subst, sym}
+use Rattle.bz_value.specs.Proper.{IsProper}
+use Rattle.bz_hosts.proofs.ProperViews.{views_proper}
+use Rattle.bz_hosts.proofs.viewing.into_front.Goals as goal
+
+pub invariant_of-result : goal.invariant_of-result
+invariant_of-result c = subst IsProper (sym c.in_ok-items.ensures.items) (views_proper c.tree.inside.root c.tree.invariant.0)
