@@ -11,13 +11,12 @@ use crate::marks::{gap_after_statement, gaps_after_item};
 use bz_grammar::Part;
 use bz_items::{Items, Memory, Text};
 use bz_value::{Comments, Expr, Item, push_all, push_others, suffix_in};
-use std::alloc::{AllocError, Global};
+use std::alloc::AllocError;
 use std::mem;
 
 /// Makes the last item a host: with these comments above it, and the suffix after it, where this index is that of its comma or of
 /// the closing bracket. What is above the next item, or at the end, is left `above` then. The error: memory was refused.
 pub(crate) fn comment_last(
-    alloc: Global,
     parts: &[Part],
     at: usize,
     above: &mut Items<Text>,
@@ -32,6 +31,7 @@ pub(crate) fn comment_last(
         return Ok(());
     }
     let (between, after) = gaps_after_item(parts, at);
+    let alloc = above.alloc();
     let mut next = Items::new(alloc);
     push_all(alloc, between, &mut next)?;
     push_others(alloc, after, &mut next)?;
@@ -48,7 +48,6 @@ pub(crate) fn comment_last(
 /// Appends the last expression as a statement: with these comments above it, of which none are left, and the suffix after it, where this index
 /// is that of its semicolon or of the Newline. The error: memory was refused.
 pub(crate) fn push_statement(
-    alloc: Global,
     parts: &[Part],
     at: usize,
     above: &mut Items<Text>,
@@ -61,6 +60,7 @@ pub(crate) fn push_statement(
     ensures items { OnOk result ((x : Part) → exprs.old.items ≡ plain (seen x) ∷ []
         → items.new ≡ items.old ++ Item.Stmt ((seen x).make (record { before = above.old; suffix = suffix_decoded (line_gap (map seen (drop at parts.now))) }) false) ∷ []) }
 {
+    let alloc = above.alloc();
     let suffix = suffix_in(alloc, gap_after_statement(parts, at))?;
     let comments = Comments::new(alloc, mem::replace(above, Items::new(alloc)), suffix)?;
     let Some(expr) = exprs.pop() else {

@@ -44,7 +44,6 @@ pub(crate) fn form_of(kind: Kind, parts: Items<Expr>, seq: Seq, open_break: bool
 #[cycle(seen)]
 #[inline(always)]
 pub(crate) fn push_expr(
-    alloc: Global,
     part: &Part,
     line_break: bool,
     loose: &mut Items<Text>,
@@ -61,7 +60,7 @@ pub(crate) fn push_expr(
             Ok(())
         }
         Part::Node(node) => {
-            push_form(alloc, node, loose, exprs)?;
+            push_form(node, loose, exprs)?;
             Ok(())
         }
     }
@@ -70,7 +69,6 @@ pub(crate) fn push_expr(
 /// The same of a node.
 #[cycle(seen)]
 pub(crate) fn push_form(
-    alloc: Global,
     node: &Node,
     loose: &mut Items<Text>,
     exprs: &mut Vec<Expr>,
@@ -78,7 +76,7 @@ pub(crate) fn push_form(
     ensures exprs { OnOk result (exprs.new.items ≡ exprs.old.items ++ Expr.Form (form_of_frame (frame node.now.kind) node.now.kind (map seen node.now.parts) no_comments) ∷ []) }
     ensures loose { OnOk result (loose.new ≡ loose.old ++ loose_of (frame node.now.kind) node.now.kind (map seen node.now.parts)) }
 {
-    push_parts(alloc, node.kind, node.parts.as_slice(), loose, exprs)?;
+    push_parts(node.kind, node.parts.as_slice(), loose, exprs)?;
     Ok(())
 }
 
@@ -86,7 +84,6 @@ pub(crate) fn push_form(
 #[cycle(seen)]
 #[inline(always)]
 pub(crate) fn push_parts(
-    alloc: Global,
     kind: Kind,
     parts: &[Part],
     loose: &mut Items<Text>,
@@ -98,14 +95,14 @@ pub(crate) fn push_parts(
     exprs.reserve(1)?;
     if is_sequence(kind) {
         let lead = lead_of(kind);
-        let head = head_of(alloc, parts, lead, loose)?;
-        let seq = seq_of(alloc, parts, lead + 1)?;
+        let head = head_of(parts, lead, loose)?;
+        let seq = seq_of(loose.alloc(), parts, lead + 1)?;
         exprs.push_reserved(form_of(kind, head, seq, false));
         return Ok(());
     }
-    let row = row_of(alloc, parts, is_binary(kind), loose)?;
+    let row = row_of(parts, is_binary(kind), loose)?;
     let seq = Seq {
-        items: Items::new(alloc),
+        items: Items::new(loose.alloc()),
         end: EndComments::empty(),
         split: false,
     };
@@ -116,7 +113,6 @@ pub(crate) fn push_parts(
 /// All parts of a row, with the breaks of its operators where it has some.
 #[cycle(seen)]
 pub(crate) fn row_of(
-    alloc: Global,
     parts: &[Part],
     binary: bool,
     loose: &mut Items<Text>,
@@ -124,7 +120,7 @@ pub(crate) fn row_of(
     ensures exprs { IfOk result (λ exprs. exprs ≡ row_exprs binary false false (map seen parts.now)) }
     ensures loose { OnOk result (loose.new ≡ loose.old ++ loose_in (map seen parts.now)) }
 {
-    let mut exprs = Vec::with_capacity(alloc, parts.len())?;
+    let mut exprs = Vec::with_capacity(loose.alloc(), parts.len())?;
     // the part before is a token of an operator, and a newline is before that operator
     let mut operator = false;
     let mut newline = false;
@@ -133,9 +129,9 @@ pub(crate) fn row_of(
         operator = is_operator_in(binary, part);
         newline = breaks_operator(operator, parts, at, inside, newline);
         let line_break = breaks_after(operator, newline, parts, at + 1);
-        push_expr(alloc, part, line_break, loose, &mut exprs)?;
+        push_expr(part, line_break, loose, &mut exprs)?;
         // what is before the first part is outside
-        push_gap(alloc, parts, at + 1, loose)?;
+        push_gap(parts, at + 1, loose)?;
     }
     Ok(Items::from_vec(exprs))
 }
@@ -143,7 +139,6 @@ pub(crate) fn row_of(
 /// The parts before the opening bracket of a sequence. What is loose in them and in the bracket is appended to `loose`.
 #[cycle(seen)]
 pub(crate) fn head_of(
-    alloc: Global,
     parts: &[Part],
     lead: usize,
     loose: &mut Items<Text>,
@@ -152,15 +147,16 @@ pub(crate) fn head_of(
     ensures loose { OnOk result (loose.new ≡ loose.old ++ loose_in (take (suc lead) (map seen parts.now))) }
 {
     if lead >= parts.len() {
-        let exprs = row_of(alloc, parts, false, loose)?;
+        let exprs = row_of(parts, false, loose)?;
         return Ok(exprs);
     }
-    let exprs = row_of(alloc, &parts[..lead], false, loose)?;
+    let exprs = row_of(&parts[..lead], false, loose)?;
     if lead > 0 {
-        push_gap(alloc, parts, lead, loose)?;
+        push_gap(parts, lead, loose)?;
     }
     if let Part::Node(bracket) = &parts[lead] {
-        push_form(alloc, bracket, loose, &mut Vec::new(alloc))?;
+        let mut made = Vec::new(loose.alloc());
+        push_form(bracket, loose, &mut made)?;
     }
     Ok(exprs)
 }
@@ -174,11 +170,11 @@ pub(crate) fn seq_of(alloc: Global, parts: &[Part], from: usize) -> Result<Seq, 
     let mut items = Vec::with_capacity(alloc, parts.len() / 2)?;
     // the comments above the next item; what is loose in the item goes there too
     let mut above = Items::new(alloc);
-    push_gap(alloc, parts, from, &mut above)?;
+    push_gap(parts, from, &mut above)?;
     let mut at = from;
     while is_followed(parts, at) {
-        push_expr(alloc, &parts[at], false, &mut above, &mut items)?;
-        comment_last(alloc, parts, at + 1, &mut above, &mut items)?;
+        push_expr(&parts[at], false, &mut above, &mut items)?;
+        comment_last(parts, at + 1, &mut above, &mut items)?;
         at += 2;
     }
     Ok(Seq {

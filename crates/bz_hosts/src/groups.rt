@@ -6,7 +6,6 @@ ghost use Rattle.bz_hosts.specs.private.Walks.{prepend};
 
 use bz_items::{Items, Memory, Text};
 use bz_value::{Item, first_line};
-use std::alloc::Global;
 
 /// Appends comment lines on their own, if there are any.
 pub(crate) fn push_block(lines: Items<Text>, items: &mut Items<Item>) -> Result<(), Memory>
@@ -20,7 +19,6 @@ pub(crate) fn push_block(lines: Items<Text>, items: &mut Items<Item>) -> Result<
 
 /// Goes on with a group over the lines of a gap: appends the groups that end there, and returns the last one.
 fn push_lines(
-    alloc: Global,
     gap: &[u8],
     group: Items<Text>,
     items: &mut Items<Item>,
@@ -33,10 +31,10 @@ fn push_lines(
     while let Some(line) = first_line(rest) {
         rest = line.rest;
         match line.comment {
-            Some(comment) => last.push(Text::from_slice(alloc, comment)?)?,
+            Some(comment) => last.push(Text::from_slice(items.alloc(), comment)?)?,
             None => {
                 push_block(last, items)?;
-                last = Items::new(alloc);
+                last = Items::new(items.alloc());
             }
         }
     }
@@ -46,7 +44,6 @@ fn push_lines(
 /// Appends the groups of comment lines of two gaps that follow each other, but for those right above what follows them, and
 /// returns those.
 pub(crate) fn push_groups(
-    alloc: Global,
     left: &[u8],
     gap: &[u8],
     items: &mut Items<Item>,
@@ -54,7 +51,7 @@ pub(crate) fn push_groups(
     ensures blocks { OnOk result (items.new ≡ items.old ++ blocks (all_but_last (groups_of (lines_of left.now ++ lines_of gap.now)))) }
     ensures last { IfOk result (λ last. last ≡ last_group (groups_of (lines_of left.now ++ lines_of gap.now))) }
 {
-    let group = push_lines(alloc, left, Items::new(alloc), items)?;
-    let last = push_lines(alloc, gap, group, items)?;
+    let group = push_lines(left, Items::new(items.alloc()), items)?;
+    let last = push_lines(gap, group, items)?;
     Ok(last)
 }

@@ -89,7 +89,7 @@ pub(crate) fn headed_suite(
     let suffix = suffix_before(alloc, suite)?;
     let mut above = above;
     let mut header = Vec::new(alloc);
-    push_parts(alloc, kind, parts, &mut above, &mut header)?;
+    push_parts(kind, parts, &mut above, &mut header)?;
     Ok(Form {
         kind: Kind::Suite,
         parts: Items::from_vec(header),

@@ -9,23 +9,17 @@ use crate::before::{breaks_before, gap_at, gap_of_last, is_followed, is_operator
 use bz_grammar::{Kind, Part};
 use bz_items::{Items, Memory, Text};
 use bz_value::{is_comprehension, push_all};
-use std::alloc::Global;
 
 /// Appends the comments of the gap before the part with this index. The error: memory was refused.
 #[tactic(auto, using(crate::proofs::UnsignedGaps::gap_quiet))]
 #[inline(always)]
-pub fn push_gap(
-    alloc: Global,
-    parts: &[Part],
-    at: usize,
-    comments: &mut Items<Text>,
-) -> Result<(), Memory>
+pub fn push_gap(parts: &[Part], at: usize, comments: &mut Items<Text>) -> Result<(), Memory>
     ensures { OnOk result (comments.new ≡ comments.old ++ all_in (first_seen_gap (map seen (drop at parts.now)))) }
 {
     if is_quiet_at(parts, at) {
         return Ok(());
     }
-    push_all(alloc, gap_at(parts, at), comments)
+    push_all(comments.alloc(), gap_at(parts, at), comments)
 }
 
 /// Whether the part with this index is a token of an operator and an unescaped newline is before that: `newline`, where the

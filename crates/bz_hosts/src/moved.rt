@@ -58,7 +58,6 @@ pub(crate) fn drop_row(row: Vec<Part>) {
 #[cycle(moved)]
 #[inline(always)]
 pub(crate) fn push_moved(
-    alloc: Global,
     part: &mut Part,
     depth: usize,
     line_break: bool,
@@ -71,12 +70,12 @@ pub(crate) fn push_moved(
     match part {
         Part::Leaf(leaf) => {
             exprs.reserve(1)?;
-            let text = mem::replace(&mut leaf.token, Text::from_slice(alloc, &[])?);
+            let text = mem::replace(&mut leaf.token, Text::from_slice(loose.alloc(), &[])?);
             exprs.push_reserved(token_of(leaf.class, text, line_break));
             Ok(())
         }
         Part::Node(node) => {
-            push_form_moved(alloc, node, depth, loose, exprs)?;
+            push_form_moved(node, depth, loose, exprs)?;
             Ok(())
         }
     }
@@ -84,7 +83,6 @@ pub(crate) fn push_moved(
 
 #[cycle(moved)]
 fn push_form_moved(
-    alloc: Global,
     node: &mut Node,
     depth: usize,
     loose: &mut Items<Text>,
@@ -94,22 +92,22 @@ fn push_form_moved(
     ensures loose { OnOk result (loose.new ≡ loose.old ++ loose_of (frame node.old.kind) node.old.kind (map seen node.old.parts)) }
 {
     if depth == 0 {
-        return push_form(alloc, node, loose, exprs);
+        return push_form(node, loose, exprs);
     }
     exprs.reserve(1)?;
     let kind = node.kind;
-    let parts = mem::replace(&mut node.parts, Items::new(alloc));
+    let parts = mem::replace(&mut node.parts, Items::new(loose.alloc()));
     if is_sequence(kind) {
         let lead = lead_of(kind);
-        let head = head_of(alloc, parts.as_slice(), lead, loose)?;
-        let seq = seq_moved(alloc, parts, depth - 1, lead + 1)?;
+        let head = head_of(parts.as_slice(), lead, loose)?;
+        let seq = seq_moved(loose.alloc(), parts, depth - 1, lead + 1)?;
         exprs.push_reserved(form_of(kind, head, seq, false));
         return Ok(());
     }
     let open_break = opens(kind, parts.as_slice());
-    let row = row_moved(alloc, parts, depth - 1, is_binary(kind), loose)?;
+    let row = row_moved(parts, depth - 1, is_binary(kind), loose)?;
     let seq = Seq {
-        items: Items::new(alloc),
+        items: Items::new(loose.alloc()),
         end: EndComments::empty(),
         split: false,
     };
@@ -120,7 +118,6 @@ fn push_form_moved(
 /// All parts of a row, with the breaks of its operators where it has some.
 #[cycle(moved)]
 fn row_moved(
-    alloc: Global,
     parts: Items<Part>,
     depth: usize,
     binary: bool,
@@ -129,7 +126,7 @@ fn row_moved(
     ensures exprs { IfOk result (λ exprs. exprs ≡ row_exprs binary false false (map seen parts)) }
     ensures loose { OnOk result (loose.new ≡ loose.old ++ loose_in (map seen parts)) }
 {
-    let mut exprs = Vec::with_capacity(alloc, parts.len())?;
+    let mut exprs = Vec::with_capacity(loose.alloc(), parts.len())?;
     let mut left = parts.into_vec();
     let mut operator = false;
     let mut newline = false;
@@ -139,8 +136,8 @@ fn row_moved(
         operator = is_operator_in(binary, &left[at]);
         newline = breaks_operator(operator, left.as_slice(), at, inside, newline);
         let line_break = breaks_after(operator, newline, left.as_slice(), at + 1);
-        push_moved(alloc, &mut left[at], depth, line_break, loose, &mut exprs)?;
-        push_gap(alloc, left.as_slice(), at + 1, loose)?;
+        push_moved(&mut left[at], depth, line_break, loose, &mut exprs)?;
+        push_gap(left.as_slice(), at + 1, loose)?;
         at = give_back(at + 1, &mut left);
     }
     drop_row(left);
@@ -157,12 +154,12 @@ fn seq_moved(alloc: Global, parts: Items<Part>, depth: usize, from: usize) -> Re
     let mut items = Vec::with_capacity(alloc, parts.len() / 2)?;
     // the comments above the next item; what is loose in the item goes there too
     let mut above = Items::new(alloc);
-    push_gap(alloc, parts.as_slice(), from, &mut above)?;
+    push_gap(parts.as_slice(), from, &mut above)?;
     let mut left = parts.into_vec();
     let mut at = from;
     while is_followed(left.as_slice(), at) {
-        push_moved(alloc, &mut left[at], depth, false, &mut above, &mut items)?;
-        comment_last(alloc, left.as_slice(), at + 1, &mut above, &mut items)?;
+        push_moved(&mut left[at], depth, false, &mut above, &mut items)?;
+        comment_last(left.as_slice(), at + 1, &mut above, &mut items)?;
         at = give_back(at + 2, &mut left);
     }
     drop_row(left);

@@ -49,10 +49,7 @@ pub(crate) fn gap_after<'a>(parts: &'a [Part], at: usize, after: &'a [u8]) -> &'
 fn after_first_part(parts: &[Part]) -> &[Part]
     ensures { result.now ≡ drop 1 parts.now }
 {
-    match parts {
-        [] => &[],
-        [_, rest @ ..] => rest,
-    }
+    parts.split_first().map_or(&[], |(_, rest)| rest)
 }
 
 /// Appends the statements among items.
@@ -69,19 +66,16 @@ fn push_exprs(items: Items<Item>, out: &mut Items<Expr>) -> Result<(), Memory>
 
 /// Appends the statements of a line as items, the first with these comments above it; gives the lines that are left before what
 /// follows.
-#[tactic(auto, using(crate::proofs::Stated::all_simple))]
 fn push_line_items<'a>(
-    alloc: Global,
     parts: &'a [Part],
     above: Items<Text>,
     after: &'a [u8],
     items: &mut Items<Item>,
 ) -> Result<Rest<'a>, Memory>
     ensures items { OnOk result (items.new ≡ items.old ++ statements_in above (map seen parts.now)) }
-    ensures read { OnOk result (items.new ≡ items.old ++ map Item.Stmt (line_read (map seen parts.now) above (lines_of after.now)).0) }
     ensures rest { IfOk result (λ rest. lines_of rest.left.now ++ lines_of rest.gap.now ≡ (line_read (map seen parts.now) above (lines_of after.now)).1) }
 {
-    push_statements(alloc, parts, above, items)?;
+    push_statements(parts, above, items)?;
     Ok(Rest {
         left: past_first_line(gap_of_last(parts)),
         gap: after,
@@ -90,7 +84,6 @@ fn push_line_items<'a>(
 
 /// The same, as statements.
 fn push_line<'a>(
-    alloc: Global,
     parts: &'a [Part],
     above: Items<Text>,
     after: &'a [u8],
@@ -99,8 +92,8 @@ fn push_line<'a>(
     ensures out { OnOk result (out.new ≡ out.old ++ (line_read (map seen parts.now) above (lines_of after.now)).0) }
     ensures rest { IfOk result (λ rest. lines_of rest.left.now ++ lines_of rest.gap.now ≡ (line_read (map seen parts.now) above (lines_of after.now)).1) }
 {
-    let mut items = Items::new(alloc);
-    let rest = push_line_items(alloc, parts, above, after, &mut items)?;
+    let mut items = Items::new(out.alloc());
+    let rest = push_line_items(parts, above, after, &mut items)?;
     push_exprs(items, out)?;
     Ok(rest)
 }
@@ -109,7 +102,6 @@ fn push_line<'a>(
 #[cycle(stated)]
 #[tactic(auto, using(crate::proofs::Stated::line_of, crate::proofs::Stated::compound_of, crate::proofs::Branches::as_one))]
 fn push_statement<'a>(
-    alloc: Global,
     part: &'a Part,
     above: Items<Text>,
     after: &'a [u8],
@@ -123,14 +115,14 @@ fn push_statement<'a>(
     };
     let parts = node.parts.as_slice();
     if is_kind(node.kind, Kind::Line) {
-        let rest = push_line(alloc, parts, above, after, out)?;
+        let rest = push_line(parts, above, after, out)?;
         return Ok(rest);
     }
     if !is_header(node.kind) {
         return Ok(rest_of_gap(after));
     }
-    let mut own = Items::new(alloc);
-    let rest = push_branches(alloc, node.kind, parts, above, after, &mut own)?;
+    let mut own = Items::new(out.alloc());
+    let rest = push_branches(node.kind, parts, above, after, &mut own)?;
     push_gathered(own, out)?;
     Ok(rest)
 }
@@ -154,7 +146,6 @@ fn push_gathered(suites: Items<Form>, out: &mut Items<Expr>) -> Result<(), Memor
 /// Appends the suites of a statement, each with its header.
 #[cycle(stated)]
 fn push_branches<'a>(
-    alloc: Global,
     kind: Kind,
     parts: &'a [Part],
     above: Items<Text>,
@@ -171,13 +162,13 @@ fn push_branches<'a>(
         let Some(suite) = parts.get(colon + 1) else {
             return Ok(rest);
         };
-        let mut form = headed_suite(alloc, kind, &parts[from..colon], above, suite)?;
-        let mut end = Items::new(alloc);
+        let mut form = headed_suite(own.alloc(), kind, &parts[from..colon], above, suite)?;
+        let mut end = Items::new(own.alloc());
         let following = gap_after(parts, colon + 2, after);
-        rest = push_suite(alloc, suite, following, &mut form.seq.items, &mut end)?;
-        form.seq.end = EndComments::new(alloc, end)?;
+        rest = push_suite(suite, following, &mut form.seq.items, &mut end)?;
+        form.seq.end = EndComments::new(own.alloc(), end)?;
         own.push(form)?;
-        above = comments(alloc, rest)?;
+        above = comments(own.alloc(), rest)?;
         from = colon + 2;
     }
     Ok(rest)
@@ -188,7 +179,6 @@ fn push_branches<'a>(
 #[cycle(stated)]
 #[tactic(auto, using(crate::proofs::Stated::line_as_suite, crate::proofs::Stated::suite_of, crate::proofs::Stated::margin_is))]
 fn push_suite<'a>(
-    alloc: Global,
     part: &'a Part,
     after: &'a [u8],
     statements: &mut Items<Expr>,
@@ -203,16 +193,16 @@ fn push_suite<'a>(
     };
     let parts = node.parts.as_slice();
     if is_kind(node.kind, Kind::Line) {
-        let rest = push_line(alloc, parts, Items::new(alloc), after, statements)?;
+        let rest = push_line(parts, Items::new(statements.alloc()), after, statements)?;
         return Ok(rest);
     }
     if !is_kind(node.kind, Kind::Suite) {
         return Ok(rest_of_gap(after));
     }
     let own = after_first_part(parts);
-    let rest = push_all_statements(alloc, own, after, statements)?;
+    let rest = push_all_statements(own, after, statements)?;
     let margin = indent_len(gap_at(own, 0));
-    let rest = take_end(alloc, margin, rest, end)?;
+    let rest = take_end(statements.alloc(), margin, rest, end)?;
     Ok(rest)
 }
 
@@ -220,7 +210,6 @@ fn push_suite<'a>(
 #[cycle(stated)]
 #[tactic(auto, using(crate::proofs::Stated::lines_first))]
 fn push_all_statements<'a>(
-    alloc: Global,
     parts: &'a [Part],
     after: &'a [u8],
     out: &mut Items<Expr>,
@@ -230,9 +219,9 @@ fn push_all_statements<'a>(
 {
     let mut rest = rest_of_gap(gap_at(parts, 0));
     for at in 0..parts.len() {
-        let above = comments(alloc, rest)?;
+        let above = comments(out.alloc(), rest)?;
         let following = gap_after(parts, at + 1, after);
-        rest = push_statement(alloc, &parts[at], above, following, out)?;
+        rest = push_statement(&parts[at], above, following, out)?;
     }
     Ok(rest)
 }
@@ -256,9 +245,9 @@ pub(crate) fn items_of(alloc: Global, parts: &[Part]) -> Result<Items<Item>, Mem
     let mut items = Items::from_vec(Vec::with_capacity(alloc, parts.len())?);
     let mut rest = rest_of_gap(gap_at(parts, 0));
     for at in 0..parts.len() {
-        let above = push_groups(alloc, rest.left, rest.gap, &mut items)?;
+        let above = push_groups(rest.left, rest.gap, &mut items)?;
         let after = gap_after(parts, at + 1, &[]);
-        rest = push_part(alloc, &parts[at], above, after, &mut items)?;
+        rest = push_part(&parts[at], above, after, &mut items)?;
     }
     Ok(without_room(items))
 }
@@ -267,7 +256,6 @@ pub(crate) fn items_of(alloc: Global, parts: &[Part]) -> Result<Items<Item>, Mem
 /// lines that are left of those after it.
 #[tactic(auto, using(crate::proofs::FileSteps::end_read, crate::proofs::FileSteps::node_read))]
 pub(crate) fn push_part<'a>(
-    alloc: Global,
     part: &'a Part,
     above: Items<Text>,
     after: &'a [u8],
@@ -282,11 +270,11 @@ pub(crate) fn push_part<'a>(
     };
     // a line is by far the most frequent one, so its statements are made in their place
     if is_kind(node.kind, Kind::Line) {
-        let left = push_line_items(alloc, node.parts.as_slice(), above, after, items)?;
+        let left = push_line_items(node.parts.as_slice(), above, after, items)?;
         return Ok(left);
     }
-    let mut statements = Items::new(alloc);
-    let left = push_statement(alloc, part, above, after, &mut statements)?;
+    let mut statements = Items::new(items.alloc());
+    let left = push_statement(part, above, after, &mut statements)?;
     push_items(statements, items)?;
     Ok(left)
 }

@@ -98,7 +98,6 @@ pub(crate) fn without_room(items: Items<Item>) -> Items<Item>
 
 /// Appends the statements of a line, the first with these comments above it.
 pub(crate) fn push_statements(
-    alloc: Global,
     parts: &[Part],
     above: Items<Text>,
     items: &mut Items<Item>,
@@ -106,11 +105,11 @@ pub(crate) fn push_statements(
     ensures { OnOk result (items.new ≡ items.old ++ statements_in above (map seen parts.now)) }
 {
     let mut before = above;
-    let mut exprs = Vec::with_capacity(alloc, 1)?;
+    let mut exprs = Vec::with_capacity(items.alloc(), 1)?;
     let mut at = 0;
     while is_followed(parts, at) {
-        push_expr(alloc, &parts[at], false, &mut before, &mut exprs)?;
-        push_statement(alloc, parts, at + 1, &mut before, &mut exprs, items)?;
+        push_expr(&parts[at], false, &mut before, &mut exprs)?;
+        push_statement(parts, at + 1, &mut before, &mut exprs, items)?;
         at += 2;
     }
     Ok(())
@@ -128,15 +127,15 @@ fn into_items(alloc: Global, parts: Items<Part>) -> Result<(Items<Item>, bool), 
         return Ok((items, true));
     }
     let gap = gap_at(parts.as_slice(), 0);
-    let (mut above, mut spent) = push_before(alloc, &[], gap, parts.len() == 1, &mut items)?;
+    let (mut above, mut spent) = push_before(&[], gap, parts.len() == 1, &mut items)?;
     let mut at = 0;
     while is_followed(parts.as_slice(), at) {
-        let (next, is_spent) = push_moved_part(alloc, &mut parts, at, above, &mut items)?;
+        let (next, is_spent) = push_moved_part(&mut parts, at, above, &mut items)?;
         above = next;
         spent = is_spent;
         at += 1;
     }
-    push_part(alloc, &parts[at], above, &[], &mut items)?;
+    push_part(&parts[at], above, &[], &mut items)?;
     drop_row(parts);
     Ok((without_room(items), spent))
 }
@@ -144,7 +143,6 @@ fn into_items(alloc: Global, parts: Items<Part>) -> Result<(Items<Item>, bool), 
 /// Appends the groups of comment lines of two gaps that follow each other before a part; gives the comments right above it, and of the last
 /// part whether no line is before it.
 fn push_before(
-    alloc: Global,
     left: &[u8],
     gap: &[u8],
     is_last: bool,
@@ -154,14 +152,13 @@ fn push_before(
     ensures above { IfOk result (λ next. next.0 ≡ last_group (groups_of (lines_of left.now ++ lines_of gap.now))) }
     ensures spent { IfOk result (λ next. IsTrue next.1 → lines_of left.now ++ lines_of gap.now ≡ []) }
 {
-    let above = push_groups(alloc, left, gap, items)?;
+    let above = push_groups(left, gap, items)?;
     Ok((above, is_last && is_spent(Rest { left, gap })))
 }
 
 /// Appends the items of the part with this index, where these comments are above it, and the groups before the next part; gives for that
 /// what `push_before` gives. A line is given up.
 fn push_moved_part(
-    alloc: Global,
     parts: &mut Vec<Part>,
     at: usize,
     above: Items<Text>,
@@ -174,23 +171,22 @@ fn push_moved_part(
 {
     let is_last = parts.len() - at == 2;
     if is_line(&parts[at]) {
-        let line = take_parts(&mut parts[at], alloc);
+        let line = take_parts(&mut parts[at], items.alloc());
         // what the Newline leaves, mostly nothing
-        let left = Text::from_slice(alloc, past_first_line(gap_of_last(line.as_slice())))?;
-        push_moved_statements(alloc, line, above, items)?;
+        let left = Text::from_slice(items.alloc(), past_first_line(gap_of_last(line.as_slice())))?;
+        push_moved_statements(line, above, items)?;
         let gap = gap_after(parts.as_slice(), at + 1, &[]);
-        let next = push_before(alloc, left.as_slice(), gap, is_last, items)?;
+        let next = push_before(left.as_slice(), gap, is_last, items)?;
         return Ok(next);
     }
     let gap = gap_after(parts.as_slice(), at + 1, &[]);
-    let rest = push_part(alloc, &parts[at], above, gap, items)?;
-    let next = push_before(alloc, rest.left, rest.gap, is_last, items)?;
+    let rest = push_part(&parts[at], above, gap, items)?;
+    let next = push_before(rest.left, rest.gap, is_last, items)?;
     Ok(next)
 }
 
 /// Appends the statements of a line, which are given up, the first with these comments above it.
 fn push_moved_statements(
-    alloc: Global,
     parts: Items<Part>,
     above: Items<Text>,
     items: &mut Items<Item>,
@@ -199,18 +195,11 @@ fn push_moved_statements(
 {
     let mut left = parts.into_vec();
     let mut above = above;
-    let mut exprs = Vec::with_capacity(alloc, 1)?;
+    let mut exprs = Vec::with_capacity(items.alloc(), 1)?;
     let mut at = 0;
     while is_followed(left.as_slice(), at) {
-        push_moved(alloc, &mut left[at], DEPTH, false, &mut above, &mut exprs)?;
-        push_statement(
-            alloc,
-            left.as_slice(),
-            at + 1,
-            &mut above,
-            &mut exprs,
-            items,
-        )?;
+        push_moved(&mut left[at], DEPTH, false, &mut above, &mut exprs)?;
+        push_statement(left.as_slice(), at + 1, &mut above, &mut exprs, items)?;
         at = give_back(at + 2, &mut left);
     }
     drop_row(left);

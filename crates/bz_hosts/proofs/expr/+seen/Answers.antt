@@ -36,16 +36,16 @@ row_of-returns-clause-exprs t c = row_done c.args.parts.now c.loop-at.at _ _ _ _
 pub row_of-returns-clause-loose : goal.row_of-returns-clause-loose
 row_of-returns-clause-loose t c = loose_done c.args.parts.now c.loop-at.at _ _ (omega arith) c.loop-at.invariant.loose
 
-pub seq_of-loop-alloc-preserved : goal.seq_of-loop-alloc-preserved
-seq_of-loop-alloc-preserved t c =
+pub seq_of-loop-above-preserved : goal.seq_of-loop-above-preserved
+seq_of-loop-above-preserved t c =
     let ps = c.args.parts.now in
-    let turn = item_more ps ps (drop (c.loop-alloc.at + 2) ps) c.loop-alloc.at c.index-parts-at.result c.loop-alloc.above c.push_expr.new.loose c.comment_last.new.above c.loop-alloc.items.items c.push_expr.new.exprs.items c.comment_last.new.items.items
-    (c.is_followed.ensures.yes c.loop-alloc-test.true) c.index-parts-at.is refl refl c.in_ok-push_expr.ensures.loose c.in_ok-push_expr.ensures.exprs c.in_ok-comment_last.ensures.above c.in_ok-comment_last.ensures.items in
-    record { items = turn.0 ∙ c.loop-alloc.invariant.items; end = turn.1 ∙ c.loop-alloc.invariant.end }
+    let turn = item_more ps ps (drop (c.loop-above.at + 2) ps) c.loop-above.at c.index-parts-at.result c.loop-above.above c.push_expr.new.loose c.comment_last.new.above c.loop-above.items.items c.push_expr.new.exprs.items c.comment_last.new.items.items
+    (c.is_followed.ensures.yes c.loop-above-test.true) c.index-parts-at.is refl refl c.in_ok-push_expr.ensures.loose c.in_ok-push_expr.ensures.exprs c.in_ok-comment_last.ensures.above c.in_ok-comment_last.ensures.items in
+    record { items = turn.0 ∙ c.loop-above.invariant.items; end = turn.1 ∙ c.loop-above.invariant.end }
 
 pub seq_of-returns : goal.seq_of-returns
 seq_of-returns t c =
-    items_done c.args.parts.now (drop c.args.from c.args.parts.now) c.loop-alloc.at c.loop-alloc.above _ c.loop-alloc.items.items _ _ (omega arith) c.in_ok-new.ensures c.from_vec.ensures c.loop-alloc.invariant.items c.loop-alloc.invariant.end c.breaks_from.ensures
+    items_done c.args.parts.now (drop c.args.from c.args.parts.now) c.loop-above.at c.loop-above.above _ c.loop-above.items.items _ _ (omega arith) c.in_ok-new.ensures c.from_vec.ensures c.loop-above.invariant.items c.loop-above.invariant.end c.breaks_from.ensures
 
 pub head_of-row_of-requires-2 : goal.head_of-row_of-requires-2
 head_of-row_of-requires-2 t c = (grind (arith, most_taken), tt)

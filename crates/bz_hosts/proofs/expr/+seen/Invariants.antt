@@ -9,11 +9,11 @@ invariant-row_of-loop-at l = record {
   loose : l.loose ++ loose_in (map seen (drop l.at l.parts)) ≡ l.fn.loose ++ loose_in (map seen l.parts);
 }
 
-abbrev pub invariant-seq_of-loop-alloc : goal.invariant-seq_of-loop-alloc
-invariant-seq_of-loop-alloc l = record {
+abbrev pub invariant-seq_of-loop-above : goal.invariant-seq_of-loop-above
+invariant-seq_of-loop-above l = record {
   items : l.items.items ++ (items_in l.above (map seen (drop l.at l.parts))).0 ≡ (items_in (all_in (first_seen_gap (map seen (drop l.from l.parts)))) (map seen (drop l.from l.parts))).0;
   end : (items_in l.above (map seen (drop l.at l.parts))).1 ≡ (items_in (all_in (first_seen_gap (map seen (drop l.from l.parts)))) (map seen (drop l.from l.parts))).1;
 }
 
-abbrev pub decreases-seq_of-loop-alloc : goal.decreases-seq_of-loop-alloc
-decreases-seq_of-loop-alloc l = length l.parts - l.at
+abbrev pub decreases-seq_of-loop-above : goal.decreases-seq_of-loop-above
+decreases-seq_of-loop-above l = length l.parts - l.at

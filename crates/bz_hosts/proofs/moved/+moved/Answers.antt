@@ -15,15 +15,15 @@ push_moved-returns-in_ok-push_form_moved-in-Node-clause-exprs t c = node_pushed 
 pub push_moved-returns-in_ok-push_form_moved-in-Node-clause-loose : goal.push_moved-returns-in_ok-push_form_moved-in-Node-clause-loose
 push_moved-returns-in_ok-push_form_moved-in-Node-clause-loose t c = node_loose c.args.part.now _ c.args.loose.now _ (c.in-Node.is ∙ ap p.Node (sym c.in-Node.node-is)) c.in_ok-push_form_moved-in-Node.ensures.loose
 
-pub seq_moved-loop-alloc-preserved : goal.seq_moved-loop-alloc-preserved
-seq_moved-loop-alloc-preserved t c =
-    let ps = c.loop-alloc.left.items in
-    let at = c.loop-alloc.at in
-    let more : at + 1 < length ps = subst (λ (rs : List Part). at + 1 < length rs) c.as_slice-in-loop-alloc.ensures.value (c.is_followed.ensures.yes c.loop-alloc-test.true) in
-    let turn = item_more ps c.as_slice-in-loop-alloc-2.result.now _ at c.index_mut.result.now c.loop-alloc.above c.push_moved.new.loose c.comment_last.new.above c.loop-alloc.items.items c.push_moved.new.exprs.items c.comment_last.new.items.items
-    more c.index_mut.ensures.value (ap (drop (at + 1)) c.as_slice-in-loop-alloc-2.ensures.value ∙ drop-set-lt (at + 1) ps at _ (omega arith)) (c.give_back-at.ensures.rest ∙ drop-set-lt (at + 2) ps at _ (omega arith)) c.in_ok-push_moved.ensures.loose c.in_ok-push_moved.ensures.exprs
+pub seq_moved-loop-left-preserved : goal.seq_moved-loop-left-preserved
+seq_moved-loop-left-preserved t c =
+    let ps = c.loop-left.left.items in
+    let at = c.loop-left.at in
+    let more : at + 1 < length ps = subst (λ (rs : List Part). at + 1 < length rs) c.as_slice-in-loop-left.ensures.value (c.is_followed.ensures.yes c.loop-left-test.true) in
+    let turn = item_more ps c.as_slice-in-loop-left-2.result.now _ at c.index_mut.result.now c.loop-left.above c.push_moved.new.loose c.comment_last.new.above c.loop-left.items.items c.push_moved.new.exprs.items c.comment_last.new.items.items
+    more c.index_mut.ensures.value (ap (drop (at + 1)) c.as_slice-in-loop-left-2.ensures.value ∙ drop-set-lt (at + 1) ps at _ (omega arith)) (c.give_back-at.ensures.rest ∙ drop-set-lt (at + 2) ps at _ (omega arith)) c.in_ok-push_moved.ensures.loose c.in_ok-push_moved.ensures.exprs
     c.in_ok-comment_last.ensures.above c.in_ok-comment_last.ensures.items in
-    record { items = turn.0 ∙ c.loop-alloc.invariant.items; end = turn.1 ∙ c.loop-alloc.invariant.end }
+    record { items = turn.0 ∙ c.loop-left.invariant.items; end = turn.1 ∙ c.loop-left.invariant.end }
 
 pub push_form_moved-returns-then-is_sequence-clause-exprs : goal.push_form_moved-returns-then-is_sequence-clause-exprs
 push_form_moved-returns-then-is_sequence-clause-exprs t c =
@@ -33,6 +33,6 @@ push_form_moved-returns-then-is_sequence-clause-exprs t c =
 
 pub seq_moved-returns : goal.seq_moved-returns
 seq_moved-returns t c =
-    let last : length c.loop-alloc.left.items ≤ c.loop-alloc.at + 1 = subst (λ (ps : List Part). length ps ≤ c.loop-alloc.at + 1) c.as_slice-in-loop-alloc.ensures.value (c.is_followed.ensures.no c.loop-alloc-test.false) in
-    items_done c.loop-alloc.left.items (drop c.args.from c.args.parts) c.loop-alloc.at c.loop-alloc.above _ c.loop-alloc.items.items _ _ last c.in_ok-new.ensures c.from_vec.ensures c.loop-alloc.invariant.items c.loop-alloc.invariant.end
+    let last : length c.loop-left.left.items ≤ c.loop-left.at + 1 = subst (λ (ps : List Part). length ps ≤ c.loop-left.at + 1) c.as_slice-in-loop-left.ensures.value (c.is_followed.ensures.no c.loop-left-test.false) in
+    items_done c.loop-left.left.items (drop c.args.from c.args.parts) c.loop-left.at c.loop-left.above _ c.loop-left.items.items _ _ last c.in_ok-new.ensures c.from_vec.ensures c.loop-left.invariant.items c.loop-left.invariant.end
     (c.breaks_from-split.ensures ∙ ap (λ (ps : List Part). is_split (map seen (drop c.args.from ps))) c.as_slice.ensures)

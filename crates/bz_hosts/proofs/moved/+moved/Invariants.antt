@@ -24,11 +24,11 @@ invariant-row_moved-loop-at l = record {
 abbrev pub decreases-row_moved-loop-at : goal.decreases-row_moved-loop-at
 decreases-row_moved-loop-at l = length l.left.items - l.at
 
-abbrev pub invariant-seq_moved-loop-alloc : goal.invariant-seq_moved-loop-alloc
-invariant-seq_moved-loop-alloc l = record {
+abbrev pub invariant-seq_moved-loop-left : goal.invariant-seq_moved-loop-left
+invariant-seq_moved-loop-left l = record {
   items : l.items.items ++ (items_in l.above (map seen (drop l.at l.left.items))).0 ≡ (items_in (all_in (first_seen_gap (map seen (drop l.from l.fn.parts)))) (map seen (drop l.from l.fn.parts))).0;
   end : (items_in l.above (map seen (drop l.at l.left.items))).1 ≡ (items_in (all_in (first_seen_gap (map seen (drop l.from l.fn.parts)))) (map seen (drop l.from l.fn.parts))).1;
 }
 
-abbrev pub decreases-seq_moved-loop-alloc : goal.decreases-seq_moved-loop-alloc
-decreases-seq_moved-loop-alloc l = length l.left.items - l.at
+abbrev pub decreases-seq_moved-loop-left : goal.decreases-seq_moved-loop-left
+decreases-seq_moved-loop-left l = length l.left.items - l.at

@@ -5,13 +5,13 @@ use Rattle.bz_hosts.specs.Suites.{indented_lines_before, stated}
 use Rattle.bz_hosts.specs.private.FileParts.{items_below, left_below}
 use Rattle.bz_hosts.proofs.viewing.into_items.Given as goal
 
-abbrev pub invariant-loop-alloc : goal.invariant-loop-alloc
-invariant-loop-alloc l = record {
+abbrev pub invariant-loop-parts : goal.invariant-loop-parts
+invariant-loop-parts l = record {
   some : l.at < length l.parts.items;
   items : l.items ++ items_below l.above (drop l.at l.parts.items) ≡ items_from (indented_lines_before (map stated l.fn.parts) []) l.fn.parts;
   going : l.at + 1 < length l.parts.items → left_below l.above (drop l.at l.parts.items) ≡ lines_at_end (indented_lines_before (map stated l.fn.parts) []) l.fn.parts;
   ended : length l.parts.items ≤ l.at + 1 → l.spent ≡ true → lines_at_end (indented_lines_before (map stated l.fn.parts) []) l.fn.parts ≡ [];
 }
 
-abbrev pub decreases-loop-alloc : goal.decreases-loop-alloc
-decreases-loop-alloc l = length l.parts.items - l.at
+abbrev pub decreases-loop-parts : goal.decreases-loop-parts
+decreases-loop-parts l = length l.parts.items - l.at
