@@ -22,6 +22,9 @@ use Rattle.bz_grammar.specs.Spell.{spell_node, leaves_part, leaves_of, limit}
 use Rattle.bz_grammar.specs.Shapes.{is_one_of, has_token, end, stmt, Several, Fits, done, tok, bzl_shape}
 use Rattle.bz_grammar.specs.Legal.{IsNonterminal, IsFile, IsFileOf, Legal, IsBuild, Reads, ReadsBzl, NoTree, NoBzlTree}
 use Rattle.bz_grammar.specs.Faults.{NoFile, IsOther}
+use Rattle.bz_tree.specs.declared.parsing.Dialect.{Dialect}
+use Rattle.bz_tree.specs.declared.parsing.Dialect.TheVariants as d
+use Rattle.bz_tree.specs.private.Dialects.{NoTreeIn, ReadsIn}
 use Rattle.bz_grammar.proofs.Exact.{token_leaf}
 use Rattle.bz_grammar.proofs.Spells.{node_spelled}
 use Rattle.bz_grammar.proofs.Unique.{one_bzl_tree}
@@ -139,10 +142,14 @@ of_result result at h e = let w = subst (λ (z : Result _ ReadFault). IfErr z Is
 pub not_answered : {X : Type 0} (result : Result X ReadFault) (text : List ℕ) (at : ℕ) → IsUtf8 text → IfErr result IsOther → NotUtf8Exactly result text at
 not_answered result text at u h = (λ e. absurd (of_result result at h e), λ w. absurd (valid_text text at u w.1))
 
--- ---- BUILD files
+-- ---- by the sort of files
 
-pub no_tree_bzl : (text : List ℕ) → NoBzlTree text → NoTree text
-no_tree_bzl text h n r = h n (r.0.legal, r.1, r.2)
+pub reads_bzl : (dialect : Dialect) (text : List ℕ) (tree : Node) → ReadsIn dialect text tree → ReadsBzl text tree
+reads_bzl d.Build text tree r = (r.0.legal, r.1, r.2)
+reads_bzl d.Bzl text tree r = r
+
+pub no_tree_in : (dialect : Dialect) (text : List ℕ) → NoBzlTree text → NoTreeIn dialect text
+no_tree_in dialect text h n r = h n (reads_bzl dialect text n r)
 
 -- the one tree of the text is none of a BUILD file
 pub no_build_tree : (text : List ℕ) (tree : Node) → ReadsBzl text tree → (IsBuild tree → ⊥) → NoTree text

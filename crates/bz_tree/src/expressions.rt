@@ -8,7 +8,7 @@ ghost use Rattle.bz_states.specs.States.{nonterminal_of};
 ghost use Rattle.bz_tree.specs.private.Ranks.{fitted_at, bound_at, level_at, RisesFrom, atom_at, argument_at, param_at};
 ghost use Rattle.bz_grammar.specs.declared.tree.Part.{Part};
 
-use crate::stack::{Deep, Stack, deeper};
+use crate::stack::{Deep, Stack};
 use bz_grammar::Kind;
 use bz_states::{
     ClausesAt, ItemsAt, LAMBDA, LambdaAt, Leaves, ListedItems, Move, NOT, NodeState, PRIMARY,
@@ -57,11 +57,11 @@ fn follow(
                 return Ok(deep + 1);
             }
             Move::Take(token, next) => {
-                deep = deeper(deep, stack.take(token, leaves)?);
+                deep = deep.max(stack.take(token, leaves)?);
                 state = next;
             }
             Move::Read(nonterminal, next) => {
-                deep = deeper(deep, part(nonterminal, depth, stack, leaves)?);
+                deep = deep.max(part(nonterminal, depth, stack, leaves)?);
                 state = next;
             }
             Move::Choose(token, one, other) => {
@@ -88,11 +88,11 @@ fn items_of_row(
     let row = listed.row();
     let mut deep = deep;
     'more: while !leaves.next_is(row.close) {
-        deep = deeper(deep, part(row.nonterminal, depth, stack, leaves)?);
+        deep = deep.max(part(row.nonterminal, depth, stack, leaves)?);
         if !leaves.next_is(row.separator) {
             return closing_token(from, deep, row.kind, row.close, depth, stack, leaves);
         }
-        deep = deeper(deep, stack.take(row.separator, leaves)?);
+        deep = deep.max(stack.take(row.separator, leaves)?);
     }
     closing_token(from, deep, row.kind, row.close, depth, stack, leaves)
 }
@@ -116,7 +116,7 @@ fn more_of_row(
     if leaves.next_is(row.close) {
         return closing_token(from, deep, row.kind, row.close, depth, stack, leaves);
     }
-    let deep = deeper(deep, stack.take(row.separator, leaves)?);
+    let deep = deep.max(stack.take(row.separator, leaves)?);
     items_of_row(from, deep, listed, depth, stack, leaves)
 }
 
@@ -140,7 +140,7 @@ fn square(depth: u32, stack: &mut Stack, leaves: &mut Leaves) -> Deep
             leaves,
         );
     }
-    let deep = deeper(open, part(TEST, depth, stack, leaves)?);
+    let deep = open.max(part(TEST, depth, stack, leaves)?);
     if leaves.next_is(TokenSet::For) {
         let clauses = NodeState::Clauses(Kind::ListComp, TokenSet::CloseSquare, ClausesAt::First);
         return follow(from, deep, clauses, depth, stack, leaves);
@@ -162,7 +162,7 @@ fn closing_token(
     ensures ok { IfOk result (λ deep. Pushes (found_from depth (drop from stack.old) (NodeState.Rest kind (Tail.Token close)) leaves.old) (take from stack.old) stack.new leaves.new deep) }
     ensures err { Fails result (found_from depth (drop from stack.old) (NodeState.Rest kind (Tail.Token close)) leaves.old) }
 {
-    let deep = deeper(deep, stack.take(close, leaves)?);
+    let deep = deep.max(stack.take(close, leaves)?);
     stack.close(kind, from)?;
     Ok(deep + 1)
 }
@@ -183,8 +183,8 @@ fn token_and_part(
     ensures ok { IfOk result (λ deep. Pushes (found_from depth (drop from stack.old) (NodeState.Rest kind (Tail.TokenPart token nonterminal)) leaves.old) (take from stack.old) stack.new leaves.new deep) }
     ensures err { Fails result (found_from depth (drop from stack.old) (NodeState.Rest kind (Tail.TokenPart token nonterminal)) leaves.old) }
 {
-    let front = deeper(deep, stack.take(token, leaves)?);
-    let whole = deeper(front, part(nonterminal, depth, stack, leaves)?);
+    let front = deep.max(stack.take(token, leaves)?);
+    let whole = front.max(part(nonterminal, depth, stack, leaves)?);
     stack.close(kind, from)?;
     Ok(whole + 1)
 }

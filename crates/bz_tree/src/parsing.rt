@@ -8,7 +8,7 @@ ghost use Rattle.bz_grammar.specs.Legal.{Reads, ReadsBzl, NoTree, NoBzlTree};
 ghost use Rattle.bz_grammar.specs.Spell.{limit};
 ghost use Rattle.bz_grammar.specs.Joined.{file_with};
 ghost use Rattle.bz_grammar.specs.Faults.{IsOfText, IsOther};
-ghost use Rattle.bz_tree.specs.private.Indents.{is_wrong, IsIndentedAt};
+ghost use Rattle.bz_tree.specs.private.Dialects.{IsIndentedAt, NoTreeIn, ReadsIn, is_wrong};
 
 use crate::indented::{file, read_so_far};
 use crate::stack::Stack;
@@ -39,15 +39,7 @@ pub fn parse(alloc: Global, text: &[u8]) -> Result<Tree, ReadFault>
     ensures refused { IfErr result (λ fault. IsOfText fault → NoTree text.now) }
     ensures placed { IfErr result (λ fault. is_of_leaves fault ≡ true → IsFaultAt (λ blanks. blanks ≢ []) text.now fault) }
 {
-    if text.len() > LENGTH_LIMIT {
-        return Err(ReadFault::TooLarge);
-    }
-    if let Err(fault) = from_utf8(text) {
-        return Err(ReadFault::NotUtf8 {
-            at: fault.valid_up_to(),
-        });
-    }
-    build_tree_of(alloc, text)
+    tree_of(alloc, Dialect::Build, text)
 }
 
 /// Reads the text of a `.bzl` file as the legal tree that spells it. The errors are those of `parse`; `Indented` reports the first
@@ -59,47 +51,26 @@ pub fn parse_bzl(alloc: Global, text: &[u8]) -> Result<Tree, ReadFault>
     ensures refused { IfErr result (λ fault. IsOfText fault → NoBzlTree text.now) }
     ensures placed { IfErr result (λ fault. is_of_leaves fault ≡ true → IsFaultAt (λ _. Unit {0}) text.now fault) }
 {
-    if LENGTH_LIMIT < text.len() {
+    tree_of(alloc, Dialect::Bzl, text)
+}
+
+/// The tree of a text, or its fault.
+fn tree_of(alloc: Global, dialect: Dialect, text: &[u8]) -> Result<Tree, ReadFault>
+    ensures ok { IfOk result (λ tree. ReadsIn dialect text.now tree) }
+    ensures too_large { (result ≡ Err ReadFault.TooLarge) ↔ (limit < length text.now) }
+    ensures not_utf8 { (at : ℕ) → ((result ≡ Err (ReadFault.NotUtf8 at)) ↔ ((length text.now ≤ limit) × IsValidUpTo text.now at)) }
+    ensures refused { IfErr result (λ fault. IsOfText fault → NoTreeIn dialect text.now) }
+    ensures placed { IfErr result (λ fault. is_of_leaves fault ≡ true → IsFaultAt (is_wrong dialect) text.now fault) }
+{
+    if text.len() > LENGTH_LIMIT {
         return Err(ReadFault::TooLarge);
     }
     if let Err(fault) = from_utf8(text) {
-        let at = fault.valid_up_to();
-        return Err(ReadFault::NotUtf8 { at });
+        return Err(ReadFault::NotUtf8 {
+            at: fault.valid_up_to(),
+        });
     }
-    bzl_tree_of(alloc, text)
-}
-
-/// The tree of the text of a BUILD file, of characters and within the limit, or a fault.
-fn build_tree_of(alloc: Global, text: &[u8]) -> Result<Tree, ReadFault>
-    requires within { length text.now ≤ limit }
-    requires coded { IsUtf8 text.now }
-    ensures ok { IfOk result (λ tree. Reads text.now tree) }
-    ensures other { IfErr result (λ fault. IsOther fault) }
-    ensures refused { IfErr result (λ fault. IsOfText fault → NoTree text.now) }
-    ensures placed { IfErr result (λ fault. is_of_leaves fault ≡ true → IsFaultAt (is_wrong Dialect.Build) text.now fault) }
-{
-    let parts = match parts_of(alloc, Dialect::Build, text) {
-        Ok(parts) => parts,
-        Err(fault) => return Err(fault),
-    };
-    if parts.holds_newer() {
-        return Err(newer_fault(alloc, text));
-    }
-    Ok(Tree {
-        root: parts.into_node(Kind::File),
-    })
-}
-
-/// The tree of the text of a `.bzl` file, of characters and within the limit, or a fault.
-fn bzl_tree_of(alloc: Global, text: &[u8]) -> Result<Tree, ReadFault>
-    requires within { length text.now ≤ limit }
-    requires coded { IsUtf8 text.now }
-    ensures ok { IfOk result (λ tree. ReadsBzl text.now tree) }
-    ensures other { IfErr result (λ fault. IsOther fault) }
-    ensures refused { IfErr result (λ fault. IsOfText fault → NoBzlTree text.now) }
-    ensures placed { IfErr result (λ fault. is_of_leaves fault ≡ true → IsFaultAt (is_wrong Dialect.Bzl) text.now fault) }
-{
-    match parts_of(alloc, Dialect::Bzl, text) {
+    match parts_of(alloc, dialect, text) {
         Ok(parts) => Ok(Tree {
             root: parts.into_node(Kind::File),
         }),
@@ -107,19 +78,25 @@ fn bzl_tree_of(alloc: Global, text: &[u8]) -> Result<Tree, ReadFault>
     }
 }
 
-/// What the file holds of a text of characters within the limit, newer kinds in a BUILD file too, or the fault that is
-/// first in it.
+/// What the file holds of a text of characters within the limit, or the fault that is first in it.
 fn parts_of(alloc: Global, dialect: Dialect, text: &[u8]) -> Result<Stack, ReadFault>
     requires within { length text.now ≤ limit }
     requires coded { IsUtf8 text.now }
-    ensures ok { IfOk result (λ parts. ReadsBzl text.now (file_with parts)) }
+    ensures ok { IfOk result (λ parts. ReadsIn dialect text.now (file_with parts)) }
     ensures other { IfErr result (λ fault. IsOther fault) }
-    ensures refused { IfErr result (λ fault. IsOfText fault → NoBzlTree text.now) }
+    ensures refused { IfErr result (λ fault. IsOfText fault → NoTreeIn dialect text.now) }
     ensures placed { IfErr result (λ fault. is_of_leaves fault ≡ true → IsFaultAt (is_wrong dialect) text.now fault) }
 {
     let mut leaves = Leaves::new(alloc, text);
     match file(alloc, &mut leaves) {
-        Ok(parts) => Ok(parts),
+        Ok(parts) => match dialect {
+            Dialect::Build if parts.holds_newer() => {
+                let first = first_newer(alloc, text, text.len());
+                Err(unexpected_at(text, first.unwrap_or(0)))
+            }
+            Dialect::Build => Ok(parts),
+            Dialect::Bzl => Ok(parts),
+        },
         Err(ParseHalt::Memory) => Err(ReadFault::Memory),
         Err(ParseHalt::Unexpected) => Err(fault_before(alloc, dialect, text, &leaves)),
     }
@@ -164,16 +141,6 @@ fn is_indented(dialect: Dialect, text: &[u8], at: usize, leaves: &Leaves) -> boo
         },
         None => false,
     }
-}
-
-/// The fault of a text of statements of which no BUILD file has one.
-fn newer_fault(alloc: Global, text: &[u8]) -> ReadFault
-    requires { length text.now ≤ limit }
-    ensures other { IsOther result }
-    ensures placed { is_of_leaves result ≡ true → IsFaultAt (is_wrong Dialect.Build) text.now result }
-{
-    let first = first_newer(alloc, text, text.len());
-    unexpected_at(text, first.unwrap_or(0))
 }
 
 /// The byte at which the first token begins that no BUILD file has, among those that begin in this many bytes of a text.

@@ -1,5 +1,5 @@
 //! The parts that are in no node yet.
-ghost use Rattle.std.specs.Prelude.{◌≡◌, ◌∷◌, ◌++◌, ◌≤◌, ◌<◌, [], false, length, take, drop, max, vec_len, vec_capacity, Ok, Some, OnOk, IfOk, IsTrue, slice_get};
+ghost use Rattle.std.specs.Prelude.{◌≡◌, ◌∷◌, ◌++◌, ◌≤◌, ◌<◌, [], false, length, take, drop, vec_len, vec_capacity, Ok, Some, OnOk, IfOk, IsTrue, slice_get};
 ghost use Rattle.std.specs.List.{AllByRecursion};
 ghost use Rattle.std.specs.Option.{option_copied};
 ghost use Rattle.bz_grammar.specs.declared.tree.Part.{Part};
@@ -200,10 +200,7 @@ fn may_be_newer(newer: bool, kind: Kind) -> bool
     ensures before { result ≡ false → newer ≡ false }
     ensures kind { result ≡ false → kind_number kind < 35 }
 {
-    if newer {
-        return true;
-    }
-    kind.is_newer()
+    newer || kind.is_newer()
 }
 
 /// Whether a part is a name.
@@ -214,11 +211,4 @@ fn is_name(part: &Part) -> bool
         Part::Leaf(leaf) => leaf.class == Class::Name,
         Part::Node(_) => false,
     }
-}
-
-/// The greater of two depths.
-pub(crate) fn deeper(one: u32, other: u32) -> u32
-    ensures { result ≡ max one other }
-{
-    if one < other { other } else { one }
 }

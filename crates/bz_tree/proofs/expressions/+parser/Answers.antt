@@ -160,8 +160,8 @@ follow-moves-preserved-in-Take t c = record {
   rest = takes _ _ _ _ _ _ _ _ c.in-Take.ensures.expects (added _ _ c.moves.invariant.from (token_at (terminals_of c.in-Take.token)) _ _ _ _ (c.in_ok-take-in-Take.ensures.ok)) ∙ c.moves.invariant.rest;
   below = take_push _ _ c.moves.invariant.from _ _ (c.in_ok-take-in-Take.ensures.ok).2 ∙ c.moves.invariant.below;
   from = within_push _ _ c.moves.invariant.from _ _ (c.in_ok-take-in-Take.ensures.ok).2;
-  deep = deepest_more _ _ c.moves.invariant.from _ _ _ _ _ _ c.moves.invariant.deep (c.in_ok-take-in-Take.ensures.ok) c.deeper-deep.ensures;
-  within = omega (arith, c.moves.invariant.within, c.deeper-deep.ensures, (c.in_ok-take-in-Take.ensures.ok).3, leaf_depth _ _ _ _ (c.in_ok-take-in-Take.ensures.ok).1);
+  deep = deepest_more _ _ c.moves.invariant.from _ _ _ _ _ _ c.moves.invariant.deep (c.in_ok-take-in-Take.ensures.ok) c.max-deep.ensures;
+  within = omega (arith, c.moves.invariant.within, c.max-deep.ensures, (c.in_ok-take-in-Take.ensures.ok).3, leaf_depth _ _ _ _ (c.in_ok-take-in-Take.ensures.ok).1);
 }
 
 pub follow-returns-in_err-part-in-Read-clause-err : goal.follow-returns-in_err-part-in-Read-clause-err
@@ -175,8 +175,8 @@ follow-moves-preserved-in-Read t c = record {
   rest = reads _ _ _ _ _ _ _ _ c.in-Read.ensures.expects (added _ _ c.moves.invariant.from (part_at c.args.depth (nonterminal_of c.in-Read.nonterminal)) _ _ _ _ (c.in_ok-part-in-Read.ensures.ok)) ∙ c.moves.invariant.rest;
   below = take_push _ _ c.moves.invariant.from _ _ (c.in_ok-part-in-Read.ensures.ok).2 ∙ c.moves.invariant.below;
   from = within_push _ _ c.moves.invariant.from _ _ (c.in_ok-part-in-Read.ensures.ok).2;
-  deep = deepest_more _ _ c.moves.invariant.from _ _ _ _ _ _ c.moves.invariant.deep (c.in_ok-part-in-Read.ensures.ok) c.deeper-deep-in-Read.ensures;
-  within = omega (arith, c.moves.invariant.within, c.deeper-deep-in-Read.ensures, (c.in_ok-part-in-Read.ensures.ok).3, part_depth _ _ _ _ _ (c.in_ok-part-in-Read.ensures.ok).1);
+  deep = deepest_more _ _ c.moves.invariant.from _ _ _ _ _ _ c.moves.invariant.deep (c.in_ok-part-in-Read.ensures.ok) c.max-deep-in-Read.ensures;
+  within = omega (arith, c.moves.invariant.within, c.max-deep-in-Read.ensures, (c.in_ok-part-in-Read.ensures.ok).3, part_depth _ _ _ _ _ (c.in_ok-part-in-Read.ensures.ok).1);
 }
 
 pub follow-moves-smaller-then-comes : goal.follow-moves-smaller-then-comes
@@ -290,8 +290,8 @@ items_of_row-returns-in_err-part-clause-err t c = handed_on _ _ _ _ c.from_resid
 pub items_of_row-closing_token-requires : goal.items_of_row-closing_token-requires
 items_of_row-closing_token-requires t c = record {
   from = within_push _ _ c.more.invariant.from _ _ c.in_ok-part.ensures.ok.2;
-  deep = deepest_more _ _ c.more.invariant.from _ _ _ _ _ _ c.more.invariant.deep c.in_ok-part.ensures.ok c.deeper-deep.ensures;
-  within = omega (arith, c.more.invariant.within, c.deeper-deep.ensures, c.in_ok-part.ensures.ok.3, part_depth _ _ _ _ _ c.in_ok-part.ensures.ok.1);
+  deep = deepest_more _ _ c.more.invariant.from _ _ _ _ _ _ c.more.invariant.deep c.in_ok-part.ensures.ok c.max-deep.ensures;
+  within = omega (arith, c.more.invariant.within, c.max-deep.ensures, c.in_ok-part.ensures.ok.3, part_depth _ _ _ _ _ c.in_ok-part.ensures.ok.1);
   small = c.requires.small;
 }
 
@@ -309,15 +309,15 @@ items_of_row-more-smaller t c = item_shorter c.args.depth (nonterminal_of c.row-
 
 pub items_of_row-more-preserved : goal.items_of_row-more-preserved
 items_of_row-more-preserved t c =
-    let deep = deepest_more _ _ c.more.invariant.from _ _ _ _ _ _ c.more.invariant.deep c.in_ok-part.ensures.ok c.deeper-deep.ensures in
-    let within : c.deeper-deep.result ≤ c.args.depth = omega (arith, c.more.invariant.within, c.deeper-deep.ensures, c.in_ok-part.ensures.ok.3, part_depth _ _ _ _ _ c.in_ok-part.ensures.ok.1) in
+    let deep = deepest_more _ _ c.more.invariant.from _ _ _ _ _ _ c.more.invariant.deep c.in_ok-part.ensures.ok c.max-deep.ensures in
+    let within : c.max-deep.result ≤ c.args.depth = omega (arith, c.more.invariant.within, c.max-deep.ensures, c.in_ok-part.ensures.ok.3, part_depth _ _ _ _ _ c.in_ok-part.ensures.ok.1) in
     record {
       row = c.more.invariant.row;
       rest = item_next c.args.depth c.args.listed c.row-row.result c.more.invariant.row (drop c.args.from c.more.stack) c.more.leaves (sym c.next_is.ensures ∙ c.more-test.true) (drop c.args.from c.part.new.stack) c.part.new.leaves (added _ _ c.more.invariant.from (part_at c.args.depth (nonterminal_of c.row-row.result.nonterminal)) _ _ _ _ c.in_ok-part.ensures.ok) (sym c.next_is-in-more.ensures ∙ c.if-not-next_is.false) (drop c.args.from c.take.new.self) c.take.new.leaves (added _ _ (within_push _ _ c.more.invariant.from _ _ c.in_ok-part.ensures.ok.2) (token_at (terminals_of c.row-row.result.separator)) _ _ _ _ c.in_ok-take.ensures.ok) ∙ c.more.invariant.rest;
       below = take_push _ _ (within_push _ _ c.more.invariant.from _ _ c.in_ok-part.ensures.ok.2) _ _ c.in_ok-take.ensures.ok.2 ∙ (take_push _ _ c.more.invariant.from _ _ c.in_ok-part.ensures.ok.2 ∙ c.more.invariant.below);
       from = within_push _ _ (within_push _ _ c.more.invariant.from _ _ c.in_ok-part.ensures.ok.2) _ _ c.in_ok-take.ensures.ok.2;
-      deep = deepest_more _ _ (within_push _ _ c.more.invariant.from _ _ c.in_ok-part.ensures.ok.2) _ _ _ _ _ _ deep c.in_ok-take.ensures.ok c.deeper-deep-in-more.ensures;
-      within = omega (arith, within, c.deeper-deep-in-more.ensures, c.in_ok-take.ensures.ok.3, leaf_depth _ _ _ _ c.in_ok-take.ensures.ok.1);
+      deep = deepest_more _ _ (within_push _ _ c.more.invariant.from _ _ c.in_ok-part.ensures.ok.2) _ _ _ _ _ _ deep c.in_ok-take.ensures.ok c.max-deep-in-more.ensures;
+      within = omega (arith, within, c.max-deep-in-more.ensures, c.in_ok-take.ensures.ok.3, leaf_depth _ _ _ _ c.in_ok-take.ensures.ok.1);
     }
 
 pub items_of_row-returns-clause-ok : goal.items_of_row-returns-clause-ok
@@ -334,8 +334,8 @@ token_and_part-returns-in_err-part-clause-err t c = handed_on _ _ _ _ c.from_res
 
 pub token_and_part-overflow_add-result : goal.token_and_part-overflow_add-result
 token_and_part-overflow_add-result t c =
-    let front : c.deeper-front.result ≤ c.args.depth = omega (arith, c.requires.within, c.deeper-front.ensures, c.in_ok-take.ensures.ok.3, leaf_depth _ _ _ _ c.in_ok-take.ensures.ok.1) in
-    let within : c.deeper-whole.result ≤ c.args.depth = omega (arith, front, c.deeper-whole.ensures, c.in_ok-part.ensures.ok.3, part_depth _ _ _ _ _ c.in_ok-part.ensures.ok.1) in
+    let front : c.max-front.result ≤ c.args.depth = omega (arith, c.requires.within, c.max-front.ensures, c.in_ok-take.ensures.ok.3, leaf_depth _ _ _ _ c.in_ok-take.ensures.ok.1) in
+    let within : c.max-whole.result ≤ c.args.depth = omega (arith, front, c.max-whole.ensures, c.in_ok-part.ensures.ok.3, part_depth _ _ _ _ _ c.in_ok-part.ensures.ok.1) in
     search rules
 
 pub token_and_part-returns-clause-ok : goal.token_and_part-returns-clause-ok
@@ -344,7 +344,7 @@ token_and_part-returns-clause-ok t c =
       node_part c.args.kind (drop c.args.from c.part.new.stack),
       both_read _ _ _ _ _ _ _ _ (added _ _ c.requires.from (token_at (terminals_of c.args.token)) _ _ _ _ c.in_ok-take.ensures.ok) _ _ (added _ _ from (part_at c.args.depth (nonterminal_of c.args.nonterminal)) _ _ _ _ c.in_ok-part.ensures.ok),
       c.in_ok-close.ensures ∙ ap (λ (ps : List Part). ps ++ (node_part c.args.kind (drop c.args.from c.part.new.stack) ∷ [])) (take_push _ _ from _ _ c.in_ok-part.ensures.ok.2 ∙ take_push _ _ c.requires.from _ _ c.in_ok-take.ensures.ok.2),
-      made_depth c.args.kind _ _ _ refl (deepest_more _ _ from _ _ _ _ _ _ (deepest_more _ _ c.requires.from _ _ _ _ _ _ c.requires.deep c.in_ok-take.ensures.ok c.deeper-front.ensures) c.in_ok-part.ensures.ok c.deeper-whole.ensures),
+      made_depth c.args.kind _ _ _ refl (deepest_more _ _ from _ _ _ _ _ _ (deepest_more _ _ c.requires.from _ _ _ _ _ _ c.requires.deep c.in_ok-take.ensures.ok c.max-front.ensures) c.in_ok-part.ensures.ok c.max-whole.ensures),
     )
 
 pub more_of_row-returns-then-next_is-clause-ok : goal.more_of_row-returns-then-next_is-clause-ok
@@ -361,8 +361,8 @@ more_of_row-items_of_row-requires t c = (
   omega arith,
   record {
     from = within_push _ _ c.requires.from _ _ c.in_ok-take.ensures.ok.2;
-    deep = deepest_more _ _ c.requires.from _ _ _ _ _ _ c.requires.deep c.in_ok-take.ensures.ok c.deeper-deep.ensures;
-    within = omega (arith, c.requires.within, c.deeper-deep.ensures, c.in_ok-take.ensures.ok.3, leaf_depth _ _ _ _ c.in_ok-take.ensures.ok.1);
+    deep = deepest_more _ _ c.requires.from _ _ _ _ _ _ c.requires.deep c.in_ok-take.ensures.ok c.max-deep.ensures;
+    within = omega (arith, c.requires.within, c.max-deep.ensures, c.in_ok-take.ensures.ok.3, leaf_depth _ _ _ _ c.in_ok-take.ensures.ok.1);
     small = c.requires.small;
   },
 )
@@ -406,8 +406,8 @@ square-follow-requires t c = (
   omega arith,
   record {
     from = within_push _ _ (within_push _ _ (within_all _ _ c.len-from.ensures) _ _ c.in_ok-open.ensures.ok.2) _ _ c.in_ok-part.ensures.ok.2;
-    deep = deepest_more _ _ (within_push _ _ (within_all _ _ c.len-from.ensures) _ _ c.in_ok-open.ensures.ok.2) _ _ _ _ _ _ (deepest_open _ _ _ _ _ c.len-from.ensures c.in_ok-open.ensures.ok) c.in_ok-part.ensures.ok c.deeper-deep.ensures;
-    within = omega (arith, c.deeper-deep.ensures, c.in_ok-open.ensures.ok.3, leaf_depth _ _ _ _ c.in_ok-open.ensures.ok.1, c.in_ok-part.ensures.ok.3, part_depth _ _ _ _ _ c.in_ok-part.ensures.ok.1);
+    deep = deepest_more _ _ (within_push _ _ (within_all _ _ c.len-from.ensures) _ _ c.in_ok-open.ensures.ok.2) _ _ _ _ _ _ (deepest_open _ _ _ _ _ c.len-from.ensures c.in_ok-open.ensures.ok) c.in_ok-part.ensures.ok c.max-deep.ensures;
+    within = omega (arith, c.max-deep.ensures, c.in_ok-open.ensures.ok.3, leaf_depth _ _ _ _ c.in_ok-open.ensures.ok.1, c.in_ok-part.ensures.ok.3, part_depth _ _ _ _ _ c.in_ok-part.ensures.ok.1);
     small = c.requires.small;
   },
 )
@@ -417,8 +417,8 @@ square-more_of_row-requires t c = (
   omega arith,
   record {
     from = within_push _ _ (within_push _ _ (within_all _ _ c.len-from.ensures) _ _ c.in_ok-open.ensures.ok.2) _ _ c.in_ok-part.ensures.ok.2;
-    deep = deepest_more _ _ (within_push _ _ (within_all _ _ c.len-from.ensures) _ _ c.in_ok-open.ensures.ok.2) _ _ _ _ _ _ (deepest_open _ _ _ _ _ c.len-from.ensures c.in_ok-open.ensures.ok) c.in_ok-part.ensures.ok c.deeper-deep.ensures;
-    within = omega (arith, c.deeper-deep.ensures, c.in_ok-open.ensures.ok.3, leaf_depth _ _ _ _ c.in_ok-open.ensures.ok.1, c.in_ok-part.ensures.ok.3, part_depth _ _ _ _ _ c.in_ok-part.ensures.ok.1);
+    deep = deepest_more _ _ (within_push _ _ (within_all _ _ c.len-from.ensures) _ _ c.in_ok-open.ensures.ok.2) _ _ _ _ _ _ (deepest_open _ _ _ _ _ c.len-from.ensures c.in_ok-open.ensures.ok) c.in_ok-part.ensures.ok c.max-deep.ensures;
+    within = omega (arith, c.max-deep.ensures, c.in_ok-open.ensures.ok.3, leaf_depth _ _ _ _ c.in_ok-open.ensures.ok.1, c.in_ok-part.ensures.ok.3, part_depth _ _ _ _ _ c.in_ok-part.ensures.ok.1);
     small = c.requires.small;
   },
 )

@@ -13,7 +13,7 @@ returns-in_err-take-clause-err c = handed_on _ _ _ _ c.from_residual.ensures.1 c
 
 pub overflow_add-result : goal.overflow_add-result
 overflow_add-result c =
-    let within : c.deeper-deep.result ≤ c.args.depth = omega (arith, c.requires.within, c.deeper-deep.ensures, c.in_ok-take.ensures.ok.3, leaf_depth _ _ _ _ c.in_ok-take.ensures.ok.1) in
+    let within : c.max-deep.result ≤ c.args.depth = omega (arith, c.requires.within, c.max-deep.ensures, c.in_ok-take.ensures.ok.3, leaf_depth _ _ _ _ c.in_ok-take.ensures.ok.1) in
     search rules
 
 pub returns-clause-ok : goal.returns-clause-ok
@@ -21,5 +21,5 @@ returns-clause-ok c = (
   node_part c.args.kind (drop c.args.from c.take.new.self),
   closes _ _ _ _ _ _ _ (added _ _ c.requires.from (token_at (terminals_of c.args.close)) _ _ _ _ c.in_ok-take.ensures.ok),
   c.in_ok-close.ensures ∙ ap (λ (ps : List Part). ps ++ (node_part c.args.kind (drop c.args.from c.take.new.self) ∷ [])) (take_push _ _ c.requires.from _ _ c.in_ok-take.ensures.ok.2),
-  made_depth c.args.kind _ _ _ refl (deepest_more _ _ c.requires.from _ _ _ _ _ _ c.requires.deep c.in_ok-take.ensures.ok c.deeper-deep.ensures),
+  made_depth c.args.kind _ _ _ refl (deepest_more _ _ c.requires.from _ _ _ _ _ _ c.requires.deep c.in_ok-take.ensures.ok c.max-deep.ensures),
 )
