@@ -1,29 +1,34 @@
 -- Chunk by chunk a text is formatted as a whole.
-use Rattle.std.proofs.Common.{◌≡◌, ◌≤◌, ◌<◌, ◌+◌, ◌-◌, ℕ, Bool, true, not, List, [], ◌∷◌, ◌++◌, ◌⊎◌, inl, inr, Option, None, Some, Ok, length, length-drop, length-take, take, drop, refl, sym, ap, ap₂, ◌∙◌, subst, append_assoc, arith}
+use Rattle.std.proofs.Common.{◌≡◌, ◌≤◌, ◌<◌, ◌+◌, ◌-◌, ℕ, Bool, false, true, not, List, [], ◌∷◌, ◌++◌, ◌⊎◌, inl, inr, Option, None, Some, Err, Ok, length, length-drop, length-take, take, drop, refl, sym, ap, ap₂, ◌∙◌, subst, append_assoc, arith}
 use Rattle.std.specs.Option.{is_some}
-use Rattle.std.proofs.lemmas.Bool.{not-true}
 use Rattle.std.proofs.Math.Seq.{take-add, take-length}
 use Rattle.bz_items.specs.Characters.{Bytes}
 use Rattle.bz_token.proofs.Tokens.{whole_rest}
 use Rattle.bz_grammar.specs.declared.tree.Node.{Node}
-use Rattle.bz_grammar.specs.Spell.{depth_limit, limit}
+use Rattle.bz_grammar.specs.Legal.{NoBzlTree}
+use Rattle.bz_grammar.specs.Spell.{depth_limit, depth_of, limit}
 use Rattle.bz_value.specs.declared.value.Item.{Item}
+use Rattle.bz_lex.specs.declared.fault.ReadFault.{ReadFault}
+use Rattle.bz_lex.specs.declared.fault.ReadFault.TheVariants as r
+use Rattle.bz_value.specs.Proper.{IsProper}
 use Rattle.bz_hosts.specs.Joined.{ViewsJoin}
 use Rattle.bz_hosts.specs.Laws.{BuildViews, ViewsAreProper}
 use Rattle.bz_hosts.specs.SuitesJoined.{SuitesJoin}
 use Rattle.bz_hosts.specs.View.{view_of}
 use Rattle.bz_layout.specs.Appended.{LayoutsJoin, DepthsJoin, gap_below}
-use Rattle.bz_layout.specs.Laws.{FlagsKeepLayout, LayoutIsAccepted, LayoutReadsBack}
+use Rattle.bz_layout.specs.Laws.{FlagsKeepLayout, LayoutIsAccepted, LayoutIsTooDeep, LayoutReadsBack}
+use Rattle.bz_layout.specs.Flags.{flags}
+use Rattle.bz_layout.specs.LaidOut.{laid_out}
 use Rattle.bz_layout.specs.Written.{layout}
 use Rattle.bz_passes.specs.Joined.{TidiedApart}
 use Rattle.bz_passes.specs.Passes.{tidied}
 use Rattle.bz_build_format.specs.declared.chunks.FileKind.{FileKind}
 use Rattle.bz_build_format.specs.declared.chunks.FileKind.TheVariants.{Build, Suites}
 use Rattle.bz_build_format.specs.private.Chunks.{IsAppended, IsFormattedAs, ReadsAs, of_kind}
-use Rattle.bz_build_format.specs.Faults.{FormatsBzlTo}
-use Rattle.bz_build_format.specs.Meaning.{gives, Formats}
+use Rattle.bz_build_format.specs.declared.formatter.FormatFault.{FormatFault}
+use Rattle.bz_build_format.specs.declared.formatter.FormatFault.TheVariants as f
 use Rattle.bz_build_format.proofs.Formatting.{laid_out_given}
-use Rattle.bz_build_format.proofs.Writes.{written_given}
+use Rattle.bz_build_format.proofs.Writes.{written_given, written_too_deep, written_too_large}
 
 -- ---- texts one after the other
 
@@ -48,7 +53,7 @@ module _ (views : ViewsJoin) (suites : SuitesJoin) (build : BuildViews) (apart :
   laid_both above item front items before there is =
       ap (λ xs. layout (xs ++ items)) is ∙ (layouts before item items ∙ sym (ap₂ (λ xs last. layout xs ++ (gap_below last items ++ layout items)) is there))
 
-  one_more : (s t before out : Bytes) (above : Option Item) (below : Item) (items : List Item) (first ends : Bool) → is_some above ≡ not first → IsBegun kind s before above true → ReadsAs (of_kind kind) t items first ends → IsAppended before above items out below
+  one_more : (s t before out : Bytes) (above : Option Item) (below : Item) (items : List Item) (first ends : Bool) → is_some above ≡ not first → IsBegun kind s before above true → ReadsAs (of_kind kind) t items (not first) ends → IsAppended before above items out below
       → length (s ++ t) ≤ limit → IsFormattedAs (of_kind kind) (s ++ t) out below ends
   one_more s t before out above below items first ends at_first (inl (none, empty, is)) (m, reads, says, follows, closes) k le = record {
     items = items;
@@ -57,7 +62,7 @@ module _ (views : ViewsJoin) (suites : SuitesJoin) (build : BuildViews) (apart :
   }
   one_more s t before out above below items first ends at_first (inr (item, is, h)) (m, reads, says, follows, closes) k le =
       let (n, own, seen, begin, closed) = h.reads in
-      let (new, read, both, joins) = texts_join views suites build apart kind s t n m (closed refl) (follows (not-true first (sym at_first ∙ ap is_some is))) own reads le in
+      let (new, read, both, joins) = texts_join views suites build apart kind s t n m (closed refl) (follows (sym at_first ∙ ap is_some is)) own reads le in
       record {
         items = h.items ++ items;
         reads = (new, read, ap₂ (λ xs ys. xs ++ ys) seen says ∙ sym both, λ e. absurd cc, λ e. joins (closes e));
@@ -71,9 +76,9 @@ module _ (views : ViewsJoin) (suites : SuitesJoin) (build : BuildViews) (apart :
 
   -- the same of a text that is read from its begin on
   pub next_begun : (text before out : Bytes) (at len : ℕ) (above : Option Item) (below : Item) (items : List Item) (ends first more : Bool) → at ≤ length text → is_some above ≡ not first → IsBegun kind (take at text) before above ends → ends ≡ true
-      → ReadsAs (of_kind kind) (take len (take (length text - at) (drop at text))) items first more → IsAppended before above items out below → length text ≤ limit → IsBegun kind (take (at + len) text) out (Some below) more
+      → ReadsAs (of_kind kind) (take len (take (length text - at) (drop at text))) items (not first) more → IsAppended before above items out below → length text ≤ limit → IsBegun kind (take (at + len) text) out (Some below) more
   next_begun text before out at len above below items ends first more inside at_first h e r k le =
-      let own : ReadsAs (of_kind kind) (take len (drop at text)) items first more = subst (λ z. ReadsAs (of_kind kind) (take len z) items first more) (whole_rest text at inside) r in
+      let own : ReadsAs (of_kind kind) (take len (drop at text)) items (not first) more = subst (λ z. ReadsAs (of_kind kind) (take len z) items (not first) more) (whole_rest text at inside) r in
       let whole : take (at + len) text ≡ take at text ++ take len (drop at text) = take-add at len text in
       let short : length (take at text ++ take len (drop at text)) ≤ limit = subst (λ z. length z ≤ limit) whole (omega (arith, length-take (at + len) text, le)) in
       subst (λ z. IsBegun kind z out (Some below) more) (sym whole)
@@ -92,14 +97,42 @@ whole_formatted kind text out at last ends g a b some =
       | inr h ↦ (h.0, ends, h.2)
     ]
 
-pub build_formatted : (text out : Bytes) (last : Item) (ends : Bool) → IsFormattedAs (of_kind Build) text out last ends → Formats text (gives out None)
-build_formatted text out last ends h =
-    let (tree, reads, says, follows, closed) = h.reads in
-    let laid = h.laid_out in
-    (tree, reads, sym (written_given (view_of tree) h.items out says laid.formatted (subst (λ t. length t ≤ limit) laid.formatted laid.short) laid.shallow None))
+-- ---- what formatting a text answers
 
-pub bzl_formatted : ViewsAreProper → FlagsKeepLayout → LayoutIsAccepted → LayoutReadsBack → (text out : Bytes) (last : Item) (ends : Bool) → IsFormattedAs (of_kind Suites) text out last ends → FormatsBzlTo text (Ok out)
-bzl_formatted proper keeps accepted back text out last ends h =
-    let (tree, reads, says, follows, closed) = h.reads in
-    let laid = h.laid_out in
-    laid_out_given keeps proper accepted back text out tree h.items reads says laid.formatted (subst (λ t. length t ≤ limit) laid.formatted laid.short) laid.shallow
+module _ (proper : ViewsAreProper) (keeps : FlagsKeepLayout) (accepted : LayoutIsAccepted) (back : LayoutReadsBack) where
+  pub answered_text : (kind : FileKind) (text out : Bytes) (items : List Item) (follows ends : Bool) → ReadsAs (of_kind kind) text items follows ends → out ≡ layout items → length (layout items) ≤ limit
+      → depth_of (laid_out items) ≤ depth_limit → (of_kind kind).formats text (Ok out)
+  answered_text Build text out items follows ends (tree, reads, says, below, above) is short shallow =
+      (tree, reads, sym (written_given (view_of tree) items out says is short shallow None))
+  answered_text Suites text out items follows ends (tree, reads, says, below, above) is short shallow = laid_out_given keeps proper accepted back text out tree items reads says is short shallow
+
+  -- the text that is made chunk by chunk
+  pub answered_chunks : (kind : FileKind) (text out : Bytes) (last : Item) (ends : Bool) → IsFormattedAs (of_kind kind) text out last ends → (of_kind kind).formats text (Ok out)
+  answered_chunks kind text out last ends h =
+      let laid = h.laid_out in
+      answered_text kind text out h.items false ends h.reads laid.formatted (subst (λ t. length t ≤ limit) laid.formatted laid.short) laid.shallow
+
+pub answered_too_large : FlagsKeepLayout → (kind : FileKind) (text : Bytes) (items : List Item) (follows ends : Bool) → ReadsAs (of_kind kind) text items follows ends → limit < length (layout items)
+    → (of_kind kind).formats text (Err f.TooLarge)
+answered_too_large keeps Build text items follows ends (tree, reads, says, below, above) long = (tree, reads, sym (written_too_large (view_of tree) items says long None))
+answered_too_large keeps Suites text items follows ends (tree, reads, says, below, above) long =
+    (tree, reads, subst (λ xs. limit < length (layout (flags xs))) says (subst (λ t. limit < length t) (sym (keeps items).0) long))
+
+pub answered_too_deep : ViewsAreProper → FlagsKeepLayout → LayoutIsTooDeep → (kind : FileKind) (text : Bytes) (items : List Item) (follows ends : Bool) → ReadsAs (of_kind kind) text items follows ends
+    → (length (layout items) ≤ limit) × (depth_limit < depth_of (laid_out items)) → (of_kind kind).formats text (Err f.TooDeep)
+answered_too_deep proper keeps no_tree Build text items follows ends (tree, reads, says, below, above) (short, deep) = (tree, reads, sym (written_too_deep (view_of tree) items says short deep None))
+answered_too_deep proper keeps no_tree Suites text items follows ends (tree, reads, says, below, above) (short, deep) =
+    let good : IsProper items = subst (λ (xs : List Item). IsProper xs) (sym says) (proper tree reads.0) in
+    let same = (keeps items).0 in
+    let own = subst (λ xs. (length (layout (flags xs)) ≤ limit) × (depth_limit < depth_of (laid_out (flags xs))) × NoBzlTree (layout (flags xs))) says
+    (subst (λ t. length t ≤ limit) (sym same) short, subst (λ n. depth_limit < depth_of n) (sym (keeps items).1) deep, subst NoBzlTree (sym same) (no_tree items good deep)) in
+    (tree, reads, own.0, own.1, own.2)
+
+no_memory : (kind : FileKind) (text : Bytes) → (of_kind kind).formats text (Err f.Memory)
+no_memory Build text = tt
+no_memory Suites text = tt
+
+pub answered_fault : (kind : FileKind) (text : Bytes) (fault : ReadFault) (answered : FormatFault) → ((answered ≡ f.Unread fault) × (fault ≡ r.Memory → ⊥)) ⊎ (answered ≡ f.Memory)
+    → ((fault ≡ r.Memory → ⊥) → (of_kind kind).formats text (Err (f.Unread fault))) → (of_kind kind).formats text (Err answered)
+answered_fault kind text fault answered (inl (is, other)) unread = subst (λ a. (of_kind kind).formats text (Err a)) (sym is) (unread other)
+answered_fault kind text fault answered (inr is) unread = subst (λ a. (of_kind kind).formats text (Err a)) (sym is) (no_memory kind text)

@@ -1,5 +1,6 @@
 -- A formatted text is formatted to itself, and says what the text says that it was made of.
-use Rattle.std.proofs.Common.{◌≡◌, ◌∙◌, List, refl, sym, ap, subst, None, ◌≤◌, length, Ok, Option}
+use Rattle.std.proofs.Common.{◌≡◌, ◌∙◌, List, refl, sym, ap, subst, None, ◌≤◌, length, Err, Ok, Option, Result}
+use Rattle.std.specs.Prelude.{IfOk}
 use Rattle.bz_items.specs.Characters.{Bytes}
 use Rattle.bz_grammar.specs.declared.tree.Node.{Node}
 use Rattle.bz_grammar.specs.Legal.{Reads, ReadsBzl}
@@ -70,6 +71,11 @@ formatted_again one proper build_view kept accepted build back stays build_stays
       tokens = λ t u h i class word other.
           ap (token_times class word) (sym (trees u)) ∙ tokens (view_of t) (view_of u) (same t u h i) class word other ∙ ap (token_times class word) (trees t);
     }
+
+-- what holds of each text that is given
+pub given_so : {E : Type 0} (Answers : Result Bytes E → Type 0) (Is : Bytes → Type 0) → ((formatted : Bytes) → Answers (Ok formatted) → Is formatted) → (result : Result Bytes E) → Answers result → IfOk result Is
+given_so Answers Is all (Ok formatted) h = all formatted h
+given_so Answers Is all (Err fault) h = tt
 
 -- ---- .bzl files
 

@@ -1,5 +1,5 @@
 -- The fault that is reported where a text is not formatted.
-use Rattle.std.proofs.Common.{◌≡◌, ◌⊎◌, ◌↔◌, ◌≤◌, ◌<◌, inl, inr, ℕ, true, length, Result, Err, refl, ap, subst, sym}
+use Rattle.std.proofs.Common.{◌≡◌, ◌↔◌, ◌≤◌, ◌<◌, ℕ, true, length, Result, Err, refl, ap}
 use Rattle.std.specs.Str.{IsValidUpTo}
 use Rattle.bz_lex.specs.declared.fault.ReadFault.{ReadFault}
 use Rattle.bz_lex.specs.declared.fault.ReadFault.TheVariants as f
@@ -9,8 +9,6 @@ use Rattle.bz_grammar.specs.Spell.{limit}
 use Rattle.bz_grammar.specs.Faults.{IsOfText, IsFaultOf}
 use Rattle.bz_items.specs.Characters.{Bytes}
 use Rattle.bz_build_format.specs.Faults.{IsReported}
-use Rattle.bz_build_format.specs.declared.formatter.FormatFault.{FormatFault}
-use Rattle.bz_build_format.specs.declared.formatter.FormatFault.TheVariants.{Unread, Memory}
 
 -- a fault of the text says that it is refused
 pub refused_text : (Refused : Type 0) (fault : ReadFault) → (IsOfText fault → Refused) → (fault ≡ f.Memory → ⊥) → Refused
@@ -27,13 +25,9 @@ fault_of_text A text fault large coding other = record {
   other = other;
 }
 
--- what is answered for a text that is not read
-pub unread_answered : (A Refused : Type 0) (Indented : Bytes → Type 0) (Answers : FormatFault → Type 0) (text : Bytes) (fault : ReadFault) (answered : FormatFault)
-    → ((answered ≡ Unread fault) × (fault ≡ f.Memory → ⊥)) ⊎ (answered ≡ Memory) → (IsReported Refused Indented text fault → Answers (Unread fault)) → Answers Memory
-    → (IsOfText fault → Refused)
+-- a fault that is reported where a text is not read
+pub reported : (A Refused : Type 0) (Indented : Bytes → Type 0) (text : Bytes) (fault : ReadFault) → (IsOfText fault → Refused)
     → (◌≡◌ {A = Result A ReadFault} (Err fault) (Err f.TooLarge) ↔ (limit < length text))
     → ((at : ℕ) → (◌≡◌ {A = Result A ReadFault} (Err fault) (Err (f.NotUtf8 at)) ↔ ((length text ≤ limit) × IsValidUpTo text at)))
-    → (is_of_leaves fault ≡ true → IsFaultAt Indented text fault) → Answers answered
-unread_answered A Refused Indented Answers text fault answered (inl of_text) unread memory refused large coding placed =
-    subst Answers (sym of_text.0) (unread (refused_text Refused fault refused of_text.1, fault_of_text A text fault large coding of_text.1, placed))
-unread_answered A Refused Indented Answers text fault answered (inr is) unread memory refused large coding placed = subst Answers (sym is) memory
+    → (is_of_leaves fault ≡ true → IsFaultAt Indented text fault) → (fault ≡ f.Memory → ⊥) → IsReported Refused Indented text fault
+reported A Refused Indented text fault refused large coding placed other = (refused_text Refused fault refused other, fault_of_text A text fault large coding other, placed)

@@ -1,6 +1,7 @@
 //! The formatted text of a long text, made chunk by chunk: its tree and its value are never in memory as a whole.
-ghost use Rattle.std.specs.Prelude.{◌≤◌, ◌<◌, Bool, IfOk, IfSome, length, take};
+ghost use Rattle.std.specs.Prelude.{◌≢◌, ◌≤◌, ◌<◌, Bool, Err, IfErr, IfOk, IfSome, length, not, take};
 ghost use Rattle.bz_value.specs.declared.value.Item.{Item};
+ghost use Rattle.bz_build_format.specs.declared.formatter.FormatFault.TheVariants.{Unread};
 ghost use Rattle.bz_build_format.specs.private.Chunks.{IsAppended, IsFormattedAs, ReadsAs, of_kind};
 
 use crate::cut::{CHUNK, TRIES, chunk_end, may_go_on};
@@ -24,51 +25,33 @@ pub(crate) enum FileKind {
     Suites,
 }
 
-/// What `seen` gives of a BUILD file, tidied.
-fn build_seen(alloc: Global, text: &[u8], is_first: bool) -> Result<Option<(File, bool)>, ReadFault>
-    ensures { IfOk result (λ seen. IfSome seen (λ chunk. ReadsAs (of_kind FileKind.Build) text.now chunk.0 is_first chunk.1)) }
-{
-    build_views();
-    let tree = parse(alloc, text)?;
-    let ends = ends_with_line(&tree);
-    let file = into_view(alloc, tree)?;
-    // a load is sorted with the one above it
-    if !is_first && begins_with_load(file.items.as_slice()) {
-        return Ok(None);
-    }
-    let tidied = tidy_build(alloc, file)?;
-    Ok(Some((tidied, ends)))
-}
-
-/// What `seen` gives of a file that may have suites.
-fn suites_seen(
-    alloc: Global,
-    text: &[u8],
-    is_first: bool,
-) -> Result<Option<(File, bool)>, ReadFault>
-    ensures { IfOk result (λ seen. IfSome seen (λ chunk. ReadsAs (of_kind FileKind.Suites) text.now chunk.0 is_first chunk.1)) }
-{
-    let tree = parse_bzl(alloc, text)?;
-    if !is_first && !begins_bare(&tree) {
-        return Ok(None);
-    }
-    let front = into_front(alloc, tree)?;
-    Ok(Some(front))
-}
-
-/// What a text says, and whether it ends so that another one may follow it. None: it may not follow another one, and isn't the first. The
-/// error: it is not read, or memory was refused.
-fn seen(
+/// What a text says, settled; whether it may follow another one; and whether another one may follow it. The error: it is not read, or memory
+/// was refused.
+pub(crate) fn seen(
     alloc: Global,
     kind: FileKind,
     text: &[u8],
-    is_first: bool,
-) -> Result<Option<(File, bool)>, ReadFault>
-    ensures { IfOk result (λ seen. IfSome seen (λ chunk. ReadsAs (of_kind kind) text.now chunk.0 is_first chunk.1)) }
+) -> Result<(File, bool, bool), ReadFault>
+    ensures ok { IfOk result (λ seen. ReadsAs (of_kind kind) text.now seen.0 seen.1 seen.2) }
+    ensures err { IfErr result (λ fault. fault ≢ ReadFault.Memory → (of_kind kind).formats text.now (Err (Unread fault))) }
 {
+    build_views();
     match kind {
-        FileKind::Build => build_seen(alloc, text, is_first),
-        FileKind::Suites => suites_seen(alloc, text, is_first),
+        FileKind::Build => {
+            let tree = parse(alloc, text)?;
+            let ends = ends_with_line(&tree);
+            let file = into_view(alloc, tree)?;
+            // a load is sorted with the one above it
+            let follows = !begins_with_load(file.items.as_slice());
+            let tidied = tidy_build(alloc, file)?;
+            Ok((tidied, follows, ends))
+        }
+        FileKind::Suites => {
+            let tree = parse_bzl(alloc, text)?;
+            let follows = begins_bare(&tree);
+            let (file, ends) = into_front(alloc, tree)?;
+            Ok((file, follows, ends))
+        }
     }
 }
 
@@ -81,7 +64,7 @@ fn first_chunk(
     is_first: bool,
 ) -> Option<(File, bool, usize)>
     requires { 0 < length text.now }
-    ensures reads { IfSome result (λ found. ReadsAs (of_kind kind) (take found.2 text.now) found.0 is_first found.1) }
+    ensures reads { IfSome result (λ found. ReadsAs (of_kind kind) (take found.2 text.now) found.0 (not is_first) found.1) }
     ensures len { IfSome result (λ found. (0 < found.2) × (found.2 ≤ length text.now)) }
 {
     for doublings in 0..TRIES {
@@ -89,9 +72,9 @@ fn first_chunk(
         let len = chunk_end(text, CHUNK << doublings, bare);
         let chunk = &text[..len];
         let is_last = len == text.len();
-        match seen(alloc, kind, chunk, is_first) {
-            Ok(Some((file, ends))) if ends || is_last => return Some((file, ends, len)),
-            Ok(None) => return None,
+        match seen(alloc, kind, chunk) {
+            Ok((_, follows, _)) if !is_first && !follows => return None,
+            Ok((file, _, ends)) if ends || is_last => return Some((file, ends, len)),
             Err(fault) if is_last || !may_go_on(&fault, chunk) => return None,
             _ => {} // more of the text is tried
         }

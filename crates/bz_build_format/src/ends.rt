@@ -87,15 +87,12 @@ fn may_have(side: Side, parts: &[Part], text: &[u8]) -> bool {
     let Some(len) = length_with(parts, 0) else {
         return false;
     };
-    let Some(others) = text.len().checked_sub(len) else {
-        return false;
-    };
     let end = match side {
         Side::Front => len,
-        Side::Back => others,
+        Side::Back => text.len().saturating_sub(len),
     };
-    let (before, _) = text.split_at(end);
-    before.is_empty() || before.ends_with(b"\n")
+    text.get(..end)
+        .is_some_and(|before| before.is_empty() || before.ends_with(b"\n"))
 }
 
 /// As `same` says, but that a line is looked through only where it may be there.

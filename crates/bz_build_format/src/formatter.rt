@@ -2,19 +2,17 @@
 ghost use Rattle.std.specs.Prelude.{◌≡◌, ◌≢◌, ◌⊎◌, IfOk};
 ghost use Rattle.bz_build_format.specs.Faults.{FormatsTo, FormatsBzlTo};
 ghost use Rattle.bz_build_format.specs.Fixed.{IsFormatted, IsFormattedBzl};
+ghost use Rattle.bz_build_format.specs.private.Chunks.{of_kind};
 
-use crate::chunks::{FileKind, chunks_formatted};
+use crate::chunks::{FileKind, chunks_formatted, seen};
 use crate::laws::{formatted_once, formatted_suites_once};
-use crate::writing::written_text;
 use bz_grammar::ReadFault;
-use bz_hosts::{build_views, into_view, views_are_proper};
+use bz_hosts::views_are_proper;
 use bz_items::Text;
 use bz_layout::{
     SetFault, flags_keep_layout, layout_is_accepted, layout_is_too_deep, layout_reads_back,
     text_of_items,
 };
-use bz_tree::{parse, parse_bzl};
-use bz_value::Refusal;
 use std::alloc::Global;
 use thiserror::Error;
 
@@ -45,6 +43,30 @@ fn of_read_fault(fault: ReadFault) -> FormatFault
     }
 }
 
+/// The formatted text of a text of a file of this kind, or why there is none.
+fn formatted(alloc: Global, kind: FileKind, text: &[u8]) -> Result<Text, FormatFault>
+    ensures { (of_kind kind).formats text.now result }
+{
+    views_are_proper();
+    flags_keep_layout();
+    layout_is_accepted();
+    layout_is_too_deep();
+    layout_reads_back();
+    if let Some(formatted) = chunks_formatted(alloc, kind, text) {
+        return Ok(formatted);
+    }
+    let file = match seen(alloc, kind, text) {
+        Ok((file, _, _)) => file,
+        Err(fault) => return Err(of_read_fault(fault)),
+    };
+    match text_of_items(alloc, file.items.as_slice(), text.len()) {
+        Ok(formatted) => Ok(formatted),
+        Err(SetFault::TooLarge) => Err(FormatFault::TooLarge),
+        Err(SetFault::TooDeep) => Err(FormatFault::TooDeep),
+        Err(SetFault::Memory) => Err(FormatFault::Memory),
+    }
+}
+
 /// The formatted text of a text: its value tidied and laid out, which keeps the program; to format it once more gives it
 /// again. Errors: `Unread` where the text is not accepted, with the fault of reading it; `TooLarge` and `TooDeep` where the
 /// formatted text would be past a limit; `Memory`: a growth was refused.
@@ -53,23 +75,7 @@ pub fn format(alloc: Global, text: &[u8]) -> Result<Text, FormatFault>
     ensures fixed { IfOk result (λ formatted. IsFormatted text.now formatted) }
 {
     formatted_once();
-    build_views();
-    if let Some(formatted) = chunks_formatted(alloc, FileKind::Build, text) {
-        return Ok(formatted);
-    }
-    let tree = match parse(alloc, text) {
-        Ok(tree) => tree,
-        Err(fault) => return Err(of_read_fault(fault)),
-    };
-    let Ok(value) = into_view(alloc, tree) else {
-        return Err(FormatFault::Memory);
-    };
-    match written_text(alloc, value, text.len()) {
-        Ok(formatted) => Ok(formatted),
-        Err(Refusal::TooLarge) => Err(FormatFault::TooLarge),
-        Err(Refusal::TooDeep) => Err(FormatFault::TooDeep),
-        Err(_) => Err(FormatFault::Memory),
-    }
+    formatted(alloc, FileKind::Build, text)
 }
 
 /// The formatted text of a .bzl text: what it says, laid out. (It would be levelled first, which changes no byte of a layout, and isn't
@@ -79,25 +85,5 @@ pub fn format_bzl(alloc: Global, text: &[u8]) -> Result<Text, FormatFault>
     ensures fixed { IfOk result (λ formatted. IsFormattedBzl text.now formatted) }
 {
     formatted_suites_once();
-    views_are_proper();
-    flags_keep_layout();
-    layout_is_accepted();
-    layout_is_too_deep();
-    layout_reads_back();
-    if let Some(formatted) = chunks_formatted(alloc, FileKind::Suites, text) {
-        return Ok(formatted);
-    }
-    let tree = match parse_bzl(alloc, text) {
-        Ok(tree) => tree,
-        Err(unread) => return Err(of_read_fault(unread)),
-    };
-    let Ok(file) = into_view(alloc, tree) else {
-        return Err(FormatFault::Memory);
-    };
-    match text_of_items(alloc, file.items.as_slice(), text.len()) {
-        Ok(new) => Ok(new),
-        Err(SetFault::TooLarge) => Err(FormatFault::TooLarge),
-        Err(SetFault::TooDeep) => Err(FormatFault::TooDeep),
-        Err(SetFault::Memory) => Err(FormatFault::Memory),
-    }
+    formatted(alloc, FileKind::Suites, text)
 }

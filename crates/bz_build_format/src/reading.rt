@@ -59,12 +59,7 @@ fn with_next<'a>(text: &'a [u8], beginning: &[u8], parts: &[Part]) -> Option<&'a
     ensures some { IfSome result (λ _. 0 < length parts.now) }
     ensures text { IfSome result (λ more. text.now ≡ more.now ++ spelled_parts (drop 1 parts.now)) }
 {
-    let Some(next) = parts.get(..1) else {
-        return None;
-    };
-    let Some(len) = length_with(next, beginning.len()) else {
-        return None;
-    };
+    let len = length_with(parts.get(..1)?, beginning.len())?;
     text.get(..len)
 }
 
@@ -104,10 +99,7 @@ fn cut_lines(
                 parts: lines,
             });
         }
-        let Some(more) = with_next(rest, middle, kept) else {
-            return None;
-        };
-        middle = more;
+        middle = with_next(rest, middle, kept)?;
         count -= 1;
     }
     None

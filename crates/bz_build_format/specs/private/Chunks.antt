@@ -1,5 +1,5 @@
 -- A text that is formatted chunk by chunk, as the private functions that do so state it.
-use Rattle.std.specs.Prelude.{◌≡◌, ◌≤◌, Bool, true, false, List, [], ◌∷◌, ◌++◌, Option, None, length}
+use Rattle.std.specs.Prelude.{◌≡◌, ◌≤◌, Bool, true, false, List, [], ◌∷◌, ◌++◌, Option, None, Result, length}
 use Rattle.bz_items.specs.Characters.{Bytes}
 use Rattle.bz_grammar.specs.declared.tree.Node.{Node}
 use Rattle.bz_grammar.specs.Legal.{Reads, ReadsBzl}
@@ -13,25 +13,28 @@ use Rattle.bz_layout.specs.LaidOut.{laid_out}
 use Rattle.bz_layout.specs.Written.{layout}
 use Rattle.bz_passes.specs.Joined.{begins_with_load}
 use Rattle.bz_passes.specs.Passes.{tidied}
+use Rattle.bz_build_format.specs.Faults.{FormatsBzlTo, FormatsTo}
 use Rattle.bz_build_format.specs.declared.chunks.FileKind.{FileKind}
 use Rattle.bz_build_format.specs.declared.chunks.FileKind.TheVariants.{Build, Suites}
+use Rattle.bz_build_format.specs.declared.formatter.FormatFault.{FormatFault}
 
 -- A kind of files: the trees of its texts; which of them may follow others, settled apart, and be followed; and how what they say is settled,
--- but for flags, which change no layout.
+-- but for flags, which change no layout; and what formatting a text answers.
 pub record SourceKind : Type 1 where
   pub reads : Bytes → Node → Type 0
   pub follows : Node → Type 0
   pub ends : Node → Type 0
   pub settled : List Item → List Item
+  pub formats : Bytes → Result Bytes FormatFault → Type 0
 
 abbrev pub of_kind : FileKind → SourceKind
-of_kind Build = record { reads = Reads; follows = λ tree. begins_with_load (view_of tree) ≡ false; ends = EndsWithLine; settled = tidied }
-of_kind Suites = record { reads = ReadsBzl; follows = BeginsBare; ends = EndsWithStatement; settled = λ items. items }
+of_kind Build = record { reads = Reads; follows = λ tree. begins_with_load (view_of tree) ≡ false; ends = EndsWithLine; settled = tidied; formats = FormatsTo }
+of_kind Suites = record { reads = ReadsBzl; follows = BeginsBare; ends = EndsWithStatement; settled = λ items. items; formats = FormatsBzlTo }
 
--- The text reads as a file that says these items, settled. It may follow another one if it isn't the first, and be followed where `ends` says so.
+-- The text reads as a file that says these items, settled. It may follow another one, and be followed, where these say so.
 abbrev pub ReadsAs : SourceKind → Bytes → List Item → Bool → Bool → Type 0
-ReadsAs kind text items is_first ends =
-    (tree : Node) × kind.reads text tree × (items ≡ kind.settled (view_of tree)) × (is_first ≡ false → kind.follows tree) × (ends ≡ true → kind.ends tree)
+ReadsAs kind text items follows ends =
+    (tree : Node) × kind.reads text tree × (items ≡ kind.settled (view_of tree)) × (follows ≡ true → kind.follows tree) × (ends ≡ true → kind.ends tree)
 
 -- After a text is the layout of further items, within the limits; the last of them.
 pub record IsAppended (before : Bytes) (above : Option Item) (items : List Item) (out : Bytes) (item : Item) : Type 0 where
@@ -43,5 +46,5 @@ pub record IsAppended (before : Bytes) (above : Option Item) (items : List Item)
 -- The formatted text of a text, and the last of its items.
 pub record IsFormattedAs (kind : SourceKind) (text out : Bytes) (item : Item) (ends : Bool) : Type 0 where
   pub items : List Item
-  pub reads : ReadsAs kind text items true ends
+  pub reads : ReadsAs kind text items false ends
   pub laid_out : IsAppended [] None items out item

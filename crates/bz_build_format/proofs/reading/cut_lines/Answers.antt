@@ -6,7 +6,7 @@ use Rattle.bz_build_format.proofs.reading.cut_lines.Goals as goal
 
 pub loop-preserved : goal.loop-preserved
 loop-preserved c =
-    less_kept _ c.split_at.result.1.now c.loop.count c.shared-at.result.1.now c.in-Some-with_next.more.now c.loop.invariant.0 c.split_at.ensures.back c.in-Some-with_next.ensures.some c.in-Some-with_next.ensures.text
+    less_kept _ c.split_at.result.1.now c.loop.count c.shared-at.result.1.now c.in_ok-middle.middle.now c.loop.invariant.0 c.split_at.ensures.back c.in_ok-middle.ensures.some c.in_ok-middle.ensures.text
 
 pub returns-in-loop : goal.returns-in-loop
 returns-in-loop c =
