@@ -129,17 +129,15 @@ pub(crate) fn read_format_line<'a, S: AsStr>(
     let Some(file_type) = FileType::called(type_name) else {
         return Err(FormatUsage::NoType(type_name));
     };
-    match argument_texts(alloc, &matches, "file") {
-        Ok(files) => Ok(FormatLine {
-            options: Options {
-                alloc,
-                mode,
-                file_type,
-            },
-            files,
-        }),
-        Err(_) => Err(FormatUsage::Memory),
-    }
+    let Ok(files) = argument_texts(alloc, &matches, "file") else {
+        return Err(FormatUsage::Memory);
+    };
+    let options = Options {
+        alloc,
+        mode,
+        file_type,
+    };
+    Ok(FormatLine { options, files })
 }
 
 // Whether help or the version was requested.

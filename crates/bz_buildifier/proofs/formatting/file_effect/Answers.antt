@@ -1,5 +1,4 @@
 use Rattle.std.proofs.Common.{◌≡◌, ◌∙◌, [], inl, inr, refl, sym, subst, ap, List, ℕ, true, false, Err}
-use Rattle.bz_files.specs.Folder.{Folder}
 use Rattle.bz_buildifier.specs.FormatRun.{FormatsAs, unread, without_memory, unformatted, kept, rewritten, Rewrites, Prints, is_rewritten, file_out, text_status}
 use Rattle.bz_buildifier.specs.Modes.{is_bzl}
 use Rattle.bz_buildifier.specs.FormatRun as r
