@@ -7,7 +7,7 @@ ghost use Rattle.bz_passes.specs.private.Borders.{AreLoads, AreSetApart, all_joi
 use crate::runs::InRuns;
 use bz_items::{Items, Memory};
 use bz_value::{Item, Window};
-use std::alloc::{AllocError, Global};
+use std::alloc::AllocError;
 
 /// Whether the first item is a load that is sorted with its neighbours.
 pub fn begins_with_load(items: &[Item]) -> bool
@@ -115,11 +115,7 @@ fn widened(items: &[Item], window: Window) -> Result<Window, Memory>
 
 /// Makes the windows ones that no load is sorted into or out of. Where loads are on both sides of a border, that is one window from
 /// the first to the last, wider by these loads. The error: memory was refused; the windows are then as before.
-pub(crate) fn set_apart(
-    alloc: Global,
-    items: &[Item],
-    windows: &mut Items<Window>,
-) -> Result<(), Memory>
+pub(crate) fn set_apart(items: &[Item], windows: &mut Items<Window>) -> Result<(), Memory>
     requires { AreWithin windows.old items.now }
     ensures { OnOk result (AreSetApart windows.old windows.new items.now) }
 {
@@ -131,6 +127,6 @@ pub(crate) fn set_apart(
     };
     let all = joined(*first, others)?;
     let wide = widened(items, all)?;
-    *windows = Items::from_vec(Vec::from_slice(alloc, &[wide])?);
+    *windows = Items::from_vec(Vec::from_slice(windows.alloc(), &[wide])?);
     Ok(())
 }

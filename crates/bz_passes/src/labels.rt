@@ -22,16 +22,13 @@ fn shorten_label(alloc: Global, x: &mut Expr) -> Result<(), Memory>
 
 /// Takes a repeated name off each label among the items of a list, where it has labels. The error: memory was refused; some items
 /// are then changed.
-pub(crate) fn shorten_labels(
-    alloc: Global,
-    has_labels: bool,
-    items: &mut Items<Expr>,
-) -> Result<(), Memory>
+pub(crate) fn shorten_labels(has_labels: bool, items: &mut Items<Expr>) -> Result<(), Memory>
     ensures { OnOk result (items.new ≡ labels_changed has_labels items.old) }
 {
     if !has_labels {
         return Ok(());
     }
+    let alloc = items.alloc();
     for x in items.as_mut_slice().iter_mut() {
         shorten_label(alloc, x)?;
     }

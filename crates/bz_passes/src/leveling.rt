@@ -1,25 +1,18 @@
 //! The last pass alone: flags.
 ghost use Rattle.std.specs.Prelude.{◌≡◌, IsOkAnd};
-ghost use Rattle.bz_layout.specs.Flags.{flags, item_with_flags};
+ghost use Rattle.bz_layout.specs.Flags.{flags};
 
 use crate::flags::settle;
 use bz_items::Memory;
 use bz_value::{File, Item};
 
-fn level_item(item: &mut Item)
-    ensures { item.new ≡ item_with_flags item.old }
-{
-    match item {
-        Item::Block(_) => {}
-        Item::Stmt(x) => settle(x),
-    }
-}
-
 fn level_items(items: &mut [Item])
     ensures { items.new ≡ flags items.old }
 {
     for item in items.iter_mut() {
-        level_item(item);
+        if let Item::Stmt(x) = item {
+            settle(x);
+        }
     }
 }
 

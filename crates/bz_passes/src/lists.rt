@@ -91,11 +91,11 @@ fn split_marks(alloc: Global, comments: &[Text], marked: bool) -> Result<Items<T
 }
 
 /// The item with these comments above it in place of its own.
-fn set_above(alloc: Global, before: Items<Text>, x: &mut Expr) -> Result<(), Memory>
+fn set_above(before: Items<Text>, x: &mut Expr) -> Result<(), Memory>
     ensures { OnOk result (x.new ≡ with_above before x.old) }
 {
     let suffix = x.comments().suffix().map(Text::copy).transpose()?;
-    let comments = Comments::new(alloc, before, suffix)?;
+    let comments = Comments::new(before.alloc(), before, suffix)?;
     match x {
         Expr::Token(token) => token.comments = comments,
         Expr::Form(form) => form.comments = comments,
@@ -112,38 +112,32 @@ fn take_marks(alloc: Global, items: &mut [Expr]) -> Result<Items<Text>, Memory>
         [first, ..] => {
             let marks = split_marks(alloc, first.comments().before(), true)?;
             let others = split_marks(alloc, first.comments().before(), false)?;
-            set_above(alloc, others, first)?;
+            set_above(others, first)?;
             Ok(marks)
         }
     }
 }
 
 /// Puts the marks above the comments above the first item.
-fn put_marks(alloc: Global, mut marks: Items<Text>, items: &mut [Expr]) -> Result<(), Memory>
+fn put_marks(mut marks: Items<Text>, items: &mut [Expr]) -> Result<(), Memory>
     ensures { OnOk result (items.new ≡ marked_by marks items.old) }
 {
     if let [first, ..] = items {
         for comment in first.comments().before() {
             marks.push(comment.copy()?)?;
         }
-        set_above(alloc, marks, first)?;
+        set_above(marks, first)?;
     }
     Ok(())
-}
-
-/// Whether the last item comes after the one before it.
-fn ends_rising(items: &[Expr]) -> bool {
-    match items {
-        [.., x, y] => item_order(x, y).is_lt(),
-        _ => true,
-    }
 }
 
 /// Whether each item comes before the next one: sorted, such a list stays as it is. The last one is looked at first, as it may have been added.
 fn are_rising(items: &[Expr]) -> bool
     ensures { IsTrue result → Climbs precedes items.now }
 {
-    if !ends_rising(items) {
+    if let [.., x, y] = items
+        && !item_order(x, y).is_lt()
+    {
         return false;
     }
     items.is_sorted_by(|x, y| item_order(x, y).is_lt())
@@ -165,16 +159,8 @@ fn is_any_before(x: &Expr, others: &[Expr]) -> bool
     others.iter().any(|other| item_order(other, x).is_lt())
 }
 
-/// The items in their order, without repeats, whatever their order was.
-fn sort_anew(alloc: Global, mut items: Vec<Expr>) -> Result<Vec<Expr>, Memory>
-    ensures { IfOk result (λ ordered. ordered.items ≡ in_order items.items) }
-{
-    items.sort_by(|x, y| item_order(x, y))?;
-    drop_repeats(alloc, items)
-}
-
 /// The items in their order, without repeats. One that was added to a list in order is put in its place, and the others stay.
-fn put_in_order(alloc: Global, mut items: Vec<Expr>) -> Result<Vec<Expr>, Memory>
+fn put_in_order(mut items: Vec<Expr>) -> Result<Vec<Expr>, Memory>
     ensures { IfOk result (λ ordered. ordered.items ≡ in_order items.items) }
 {
     let Some(last) = items.pop() else {
@@ -187,20 +173,21 @@ fn put_in_order(alloc: Global, mut items: Vec<Expr>) -> Result<Vec<Expr>, Memory
     }
     let last = items.remove(at);
     items.push(last)?;
-    sort_anew(alloc, items)
+    items.sort_by(|x, y| item_order(x, y))?;
+    drop_repeats(items)
 }
 
 /// The items of a list that is sorted.
 #[tactic(auto, using(crate::proofs::Listed::bare_in_order, crate::proofs::Listed::unpassed_in_order))]
-fn sort_taken(alloc: Global, mut items: Vec<Expr>) -> Result<Vec<Expr>, Memory>
+fn sort_taken(mut items: Vec<Expr>) -> Result<Vec<Expr>, Memory>
     ensures { IfOk result (λ taken. taken.items ≡ sorted items.items) }
 {
     if comments_above(items.as_slice()).is_empty() || !is_first_passed(items.as_slice()) {
-        return put_in_order(alloc, items);
+        return put_in_order(items);
     }
-    let marks = take_marks(alloc, items.as_mut_slice())?;
-    let mut ordered = put_in_order(alloc, items)?;
-    put_marks(alloc, marks, ordered.as_mut_slice())?;
+    let marks = take_marks(*items.allocator(), items.as_mut_slice())?;
+    let mut ordered = put_in_order(items)?;
+    put_marks(marks, ordered.as_mut_slice())?;
     Ok(ordered)
 }
 
@@ -209,7 +196,6 @@ fn sort_taken(alloc: Global, mut items: Vec<Expr>) -> Result<Vec<Expr>, Memory>
 /// The error: a growth was refused; the items are then lost.
 #[tactic(auto, using(crate::proofs::Listed::unmarked_stays, crate::proofs::Listed::rising_settled))]
 pub(crate) fn sort_list(
-    alloc: Global,
     outside: &[Text],
     by_table: bool,
     items: &mut Items<Expr>,
@@ -220,8 +206,9 @@ pub(crate) fn sort_list(
         return Ok(());
     }
     if !are_rising(items.as_slice()) && is_taken(outside, by_table, items.as_slice()) {
+        let alloc = items.alloc();
         let all = mem::replace(items, Items::new(alloc)).into_vec();
-        *items = Items::from_vec(sort_taken(alloc, all)?);
+        *items = Items::from_vec(sort_taken(all)?);
     }
     Ok(())
 }

@@ -1,7 +1,7 @@
 //! Whether a value has suites, or other nodes of the newer kinds, which BUILD files have not.
-ghost use Rattle.std.specs.Prelude.{◌≡◌, nat_lt};
+ghost use Rattle.std.specs.Prelude.{◌≡◌};
 ghost use Rattle.std.specs.List.{list_any};
-ghost use Rattle.bz_passes.specs.Newer.{has_newer as has_so, has_newer_node as is_so, item_newer};
+ghost use Rattle.bz_passes.specs.Newer.{has_newer as has_so, has_newer_node as is_so};
 
 use crate::names::are_called_names;
 use bz_grammar::Kind;
@@ -39,19 +39,11 @@ fn have_newer_nodes(kind: Kind, exprs: &[Expr]) -> bool
     false
 }
 
-/// Whether a statement is, or has, a node of these kinds.
-fn is_newer_item(item: &Item) -> bool
-    ensures { result ≡ nat_lt 0 (item_newer item.now) }
-{
-    match item {
-        Item::Block(_) => false,
-        Item::Stmt(x) => has_newer_node(x),
-    }
-}
-
 /// Whether one of the items of a file has such a node. It takes no memory.
 pub(crate) fn has_newer(items: &[Item]) -> bool
     ensures { result ≡ has_so items.now }
 {
-    items.iter().any(|item| is_newer_item(item))
+    items
+        .iter()
+        .any(|item| matches!(item, Item::Stmt(x) if has_newer_node(x)))
 }

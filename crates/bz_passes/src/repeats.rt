@@ -8,7 +8,6 @@ ghost use Rattle.bz_passes.specs.Sorting.{Rises};
 use bz_items::Memory;
 use bz_rule::{between, text_of};
 use bz_value::Expr;
-use std::alloc::Global;
 
 fn has_no_comment(x: &Expr) -> bool
     ensures { result ≡ is_bare x.now }
@@ -59,12 +58,12 @@ fn keep(kept: &mut Vec<Expr>, places: &mut Vec<usize>, x: Expr) -> Result<(), Me
 
 /// The items of a list in order, without each one that has no comment and whose token is at an earlier one. The error:
 /// a growth was refused.
-pub(crate) fn drop_repeats(alloc: Global, items: Vec<Expr>) -> Result<Vec<Expr>, Memory>
+pub(crate) fn drop_repeats(items: Vec<Expr>) -> Result<Vec<Expr>, Memory>
     requires { Rises precedes items.items }
     ensures { IfOk result (λ kept. kept.items ≡ without_repeats [] items.items) }
 {
-    let mut kept = Vec::new(alloc);
-    let mut places = Vec::new(alloc);
+    let mut kept = Vec::new(*items.allocator());
+    let mut places = Vec::new(*items.allocator());
     for x in items {
         keep(&mut kept, &mut places, x)?;
     }

@@ -25,12 +25,9 @@ pub(crate) fn sort_symbols(alloc: Global, x: &mut Expr) -> Result<(), Memory>
     ensures { OnOk result (x.new ≡ symbols_in x.old) }
 {
     match x {
-        Expr::Token(_) => Ok(()),
-        Expr::Form(form) => {
-            if form.kind == Kind::Load {
-                sort_rest(alloc, form.seq.items.as_mut_slice())?;
-            }
-            Ok(())
+        Expr::Form(form) if form.kind == Kind::Load => {
+            sort_rest(alloc, form.seq.items.as_mut_slice())
         }
+        _ => Ok(()),
     }
 }

@@ -30,7 +30,7 @@ fn tidy_item(alloc: Global, item: &mut Item) -> Result<(), Memory>
     if let Item::Stmt(x) = item {
         if !any_marked(LEAVE_ALONE, x.comments().before()) {
             quote(alloc, x)?;
-            change_lists_and_arguments(alloc, x)?;
+            change_lists_and_arguments(x)?;
             sort_symbols(alloc, x)?;
         }
         settle(x);

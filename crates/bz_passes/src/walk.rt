@@ -28,46 +28,46 @@ struct ListPlace<'a> {
 
 /// Changes a list; any other expression stays.
 #[tactic(auto, unfolding(crate::specs::Changes::list_changed))]
-fn change_list(alloc: Global, place: ListPlace<'_>, x: &mut Expr) -> Result<(), Memory>
+fn change_list(place: ListPlace<'_>, x: &mut Expr) -> Result<(), Memory>
     ensures { OnOk result (x.new ≡ on_items k.List (list_changed place.entry.has_labels place.entry.outside.now place.entry.by_table) x.old) }
 {
     if let Expr::Form(form) = x
         && form.kind == Kind::List
     {
-        shorten_labels(alloc, place.has_labels, &mut form.seq.items)?;
-        sort_list(alloc, place.outside, place.by_table, &mut form.seq.items)?;
+        shorten_labels(place.has_labels, &mut form.seq.items)?;
+        sort_list(place.outside, place.by_table, &mut form.seq.items)?;
     }
     Ok(())
 }
 
 /// Changes the lists of a value: itself, or the lists among the operands of a sum.
-fn change_lists(alloc: Global, place: ListPlace<'_>, x: &mut Expr) -> Result<(), Memory>
+fn change_lists(place: ListPlace<'_>, x: &mut Expr) -> Result<(), Memory>
     ensures { OnOk result (x.new ≡ on_lists (list_changed place.entry.has_labels place.entry.outside.now place.entry.by_table) x.old) }
 {
     if let Expr::Form(form) = x
         && form.kind == Kind::Sum
     {
         for operand in form.parts.as_mut_slice().iter_mut() {
-            change_list(alloc, place, operand)?;
+            change_list(place, operand)?;
         }
         return Ok(());
     }
-    change_list(alloc, place, x)
+    change_list(place, x)
 }
 
 /// Changes the lists of what is after a name or a target and its sign.
-fn change_third(alloc: Global, place: ListPlace<'_>, parts: &mut Items<Expr>) -> Result<(), Memory>
+fn change_third(place: ListPlace<'_>, parts: &mut Items<Expr>) -> Result<(), Memory>
     ensures { OnOk result (parts.new ≡ on_third (on_lists (list_changed place.entry.has_labels place.entry.outside.now place.entry.by_table)) parts.old) }
 {
     if let [_, _, value, ..] = parts.as_mut_slice() {
-        change_lists(alloc, place, value)?;
+        change_lists(place, value)?;
     }
     Ok(())
 }
 
 /// Changes the value of a named argument of a rule of this kind; any other argument stays.
 #[tactic(auto, unfolding(crate::specs::Changes::attribute_changed))]
-fn change_attribute(alloc: Global, kind: &[u8], x: &mut Expr) -> Result<(), Memory>
+fn change_attribute(kind: &[u8], x: &mut Expr) -> Result<(), Memory>
     ensures { OnOk result (x.new ≡ on_attribute (attribute_changed kind.now) x.old) }
 {
     if let Expr::Form(form) = x
@@ -79,7 +79,7 @@ fn change_attribute(alloc: Global, kind: &[u8], x: &mut Expr) -> Result<(), Memo
             outside: form.comments.before(),
             by_table: is_sorted(kind, name),
         };
-        change_third(alloc, place, &mut form.parts)?;
+        change_third(place, &mut form.parts)?;
     }
     Ok(())
 }
@@ -105,53 +105,49 @@ fn change_called(alloc: Global, function: &Expr, arguments: &mut [Expr]) -> Resu
     }
     let kind = kind_of(function);
     for x in arguments.iter_mut() {
-        change_attribute(alloc, kind, x)?;
+        change_attribute(kind, x)?;
     }
     sort_runs(alloc, arguments)?;
     Ok(())
 }
 
 /// Changes the arguments of such a call; any other expression stays.
-fn change_call(alloc: Global, x: &mut Expr) -> Result<(), Memory>
+fn change_call(x: &mut Expr) -> Result<(), Memory>
     ensures { OnOk result (x.new ≡ on_call arguments_changed x.old) }
 {
     if let Expr::Form(form) = x
         && form.kind == Kind::Call
         && let Some(function) = only(form.parts.as_slice())
     {
+        let alloc = form.seq.items.alloc();
         change_called(alloc, function, form.seq.items.as_mut_slice())?;
     }
     Ok(())
 }
 
-fn change_first(alloc: Global, parts: &mut Items<Expr>) -> Result<(), Memory>
+fn change_first(parts: &mut Items<Expr>) -> Result<(), Memory>
     ensures { OnOk result (parts.new ≡ on_first (on_call arguments_changed) parts.old) }
 {
     if let [call, ..] = parts.as_mut_slice() {
-        change_call(alloc, call)?;
+        change_call(call)?;
     }
     Ok(())
 }
 
 /// Changes the arguments of a rule; any other statement stays.
-fn change_rule(alloc: Global, x: &mut Expr) -> Result<(), Memory>
+fn change_rule(x: &mut Expr) -> Result<(), Memory>
     ensures { OnOk result (x.new ≡ on_rule_arguments arguments_changed x.old) }
 {
     match x {
-        Expr::Token(_) => Ok(()),
-        Expr::Form(form) => {
-            if form.kind == Kind::Bare {
-                change_first(alloc, &mut form.parts)?;
-            }
-            Ok(())
-        }
+        Expr::Form(form) if form.kind == Kind::Bare => change_first(&mut form.parts),
+        _ => Ok(()),
     }
 }
 
 /// Shortens the labels of a rule, sorts its lists or those of an assignment that are to be sorted, and sorts its arguments, all in
 /// one walk. The error: memory was refused; part of the statement is then lost.
 #[tactic(auto, unfolding(crate::specs::Changes::list_changed))]
-pub(crate) fn change_lists_and_arguments(alloc: Global, x: &mut Expr) -> Result<(), Memory>
+pub(crate) fn change_lists_and_arguments(x: &mut Expr) -> Result<(), Memory>
     ensures { OnOk result (x.new ≡ lists_and_arguments x.old) }
 {
     if let Expr::Form(form) = x
@@ -162,7 +158,7 @@ pub(crate) fn change_lists_and_arguments(alloc: Global, x: &mut Expr) -> Result<
             outside: form.comments.before(),
             by_table: false,
         };
-        return change_third(alloc, place, &mut form.parts);
+        return change_third(place, &mut form.parts);
     }
-    change_rule(alloc, x)
+    change_rule(x)
 }

@@ -139,7 +139,7 @@ pub fn tidy_windows(
     if tidy_single(alloc, file, windows)? {
         return Ok(());
     }
-    set_apart(alloc, file.items.as_slice(), windows)?;
+    set_apart(file.items.as_slice(), windows)?;
     tidy_in(alloc, windows.as_slice(), file)?;
     Ok(())
 }

@@ -3,5 +3,5 @@ use Rattle.bz_passes.specs.Lists.{precedes}
 use Rattle.bz_passes.proofs.Stable.{answers_climb}
 use Rattle.bz_passes.proofs.lists.are_rising.Goals as goal
 
-pub returns : goal.returns
-returns c = answers_climb precedes _ _ c.is_sorted_by.ensures.cases (λ h a b h' k. search rules)
+pub returns-2 : goal.returns-2
+returns-2 c = answers_climb precedes _ _ c.is_sorted_by.ensures.cases (λ h a b h' k. search rules)
