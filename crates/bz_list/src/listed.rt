@@ -155,13 +155,10 @@ fn append_to_first(more: &mut Vec<Expr>, operands: &mut Items<Expr>) -> Done
 fn append_to_value(more: &mut Vec<Expr>, value: &mut Expr) -> Done
     ensures { OnOk result (value.new ≡ with_more more.old.items value.old) }
 {
-    if !has_kind(Kind::Sum, value) {
-        return append_to(Kind::List, more, value);
+    match value {
+        Expr::Form(form) if form.kind == Kind::Sum => append_to_first(more, &mut form.parts),
+        _ => append_to(Kind::List, more, value),
     }
-    if let Expr::Form(form) = value {
-        append_to_first(more, &mut form.parts)?;
-    }
-    Ok(())
 }
 
 /// A value with items at the end of its first list, and whether it is the same; one that is no list becomes a sum with a new one.
@@ -225,32 +222,26 @@ fn take_from_list(slot: Slot<'_>, chosen: &Chosen, x: &mut Expr, taken: &mut Ite
     ensures left { OnOk result (x.new ≡ on_items kinds.List (filter (is_left slot.entry.current.now slot.entry.attribute.now chosen.now)) x.old) }
     ensures taken { OnOk result (taken.new ≡ taken.old ++ filter (chooses slot.entry.current.now slot.entry.attribute.now chosen.now) (as_listed x.old)) }
 {
-    if !has_kind(Kind::List, x) {
-        return Ok(());
+    match x {
+        Expr::Form(form) if form.kind == Kind::List => {
+            take_in(slot, chosen, &mut form.seq.items, taken)
+        }
+        _ => Ok(()),
     }
-    if let Expr::Form(form) = x {
-        take_in(slot, chosen, &mut form.seq.items, taken)?;
-    }
-    Ok(())
 }
 
 /// The same of the lists of a value.
 #[tactic(auto, using(crate::proofs::ListedForms::sum_taken, crate::proofs::ListedForms::own_items_in))]
-fn take_from_lists(
-    slot: Slot<'_>,
-    chosen: &Chosen,
-    value: &mut Expr,
-    taken: &mut Items<Expr>,
-) -> Done
-    ensures left { OnOk result (value.new ≡ on_lists (filter (is_left slot.entry.current.now slot.entry.attribute.now chosen.now)) value.old) }
-    ensures taken { OnOk result (taken.new ≡ taken.old ++ filter (chooses slot.entry.current.now slot.entry.attribute.now chosen.now) (items_in value.old)) }
+fn take_from_lists(slot: Slot<'_>, chosen: &Chosen, x: &mut Expr, taken: &mut Items<Expr>) -> Done
+    ensures left { OnOk result (x.new ≡ on_lists (filter (is_left slot.entry.current.now slot.entry.attribute.now chosen.now)) x.old) }
+    ensures taken { OnOk result (taken.new ≡ taken.old ++ filter (chooses slot.entry.current.now slot.entry.attribute.now chosen.now) (items_in x.old)) }
 {
-    if !has_kind(Kind::Sum, value) {
-        return take_from_list(slot, chosen, value, taken);
+    if !has_kind(Kind::Sum, x) {
+        return take_from_list(slot, chosen, x, taken);
     }
-    if let Expr::Form(form) = value {
-        for x in form.parts.as_mut_slice().iter_mut() {
-            take_from_list(slot, chosen, x, taken)?;
+    if let Expr::Form(form) = x {
+        for operand in form.parts.as_mut_slice().iter_mut() {
+            take_from_list(slot, chosen, operand, taken)?;
         }
     }
     Ok(())

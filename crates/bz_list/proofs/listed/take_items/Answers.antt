@@ -17,6 +17,6 @@ returns-clause-left c =
     let taken : c.as_slice.result.now ≡ filter test (items_in c.in-Some.value) = search rules in
     let own : attribute name c.args.arguments.now ≡ Some c.in-Some.value = search rules in
     c.put_back.ensures
-    ∙ (ap (λ (xs : List Expr). put_back name (not (is_empty xs)) c.take_from_lists.new.value after) taken
+    ∙ (ap (λ (xs : List Expr). put_back name (not (is_empty xs)) c.take_from_lists.new.x after) taken
     ∙ (ap (λ (x : Expr). put_back name (not (is_empty (filter test (items_in c.in-Some.value)))) x after) c.in_ok-take_from_lists.ensures.left
     ∙ left_there name test c.args.arguments.now after c.in-Some.value own c.in-Some.ensures.place c.in-Some.ensures.gone))
