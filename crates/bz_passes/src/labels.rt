@@ -12,12 +12,10 @@ use std::alloc::Global;
 fn shorten_label(alloc: Global, x: &mut Expr) -> Result<(), Memory>
     ensures { OnOk result (x.new ≡ labelled x.old) }
 {
-    if let Expr::Token(token) = x
-        && token.class == Class::String
-    {
-        shortened(alloc, &mut token.text)?;
+    match x {
+        Expr::Token(token) if token.class == Class::String => shortened(alloc, &mut token.text),
+        _ => Ok(()),
     }
-    Ok(())
 }
 
 /// Takes a repeated name off each label among the items of a list, where it has labels. The error: memory was refused; some items

@@ -18,16 +18,11 @@ pub(crate) fn quote(alloc: Global, x: &mut Expr) -> Result<(), Memory>
     ensures { OnOk result (x.new ≡ quotes_in x.old) }
 {
     match x {
-        Expr::Token(token) => {
-            if token.class == Class::String {
-                double_quoted(alloc, &mut token.text)?;
-            }
-            Ok(())
-        }
+        Expr::Token(token) if token.class == Class::String => double_quoted(alloc, &mut token.text),
+        Expr::Token(_) => Ok(()),
         Expr::Form(form) => {
             quote_each(alloc, form.kind, &mut form.parts)?;
-            quote_each(alloc, form.kind, &mut form.seq.items)?;
-            Ok(())
+            quote_each(alloc, form.kind, &mut form.seq.items)
         }
     }
 }
