@@ -85,18 +85,16 @@ pub fn take_value(alloc: Global, name: &[u8], arguments: &mut Items<Expr>) -> Op
     if !has_attribute(name, arguments.as_slice()) {
         return None;
     }
-    let mut value = token(Class::Name, Text::from_vec(Vec::new(alloc)));
-    swap_first(name, &mut value, arguments);
-    Some(value)
+    let mut taken = token(Class::Name, Text::from_vec(Vec::new(alloc)));
+    swap_first(name, &mut taken, arguments);
+    Some(taken)
 }
 
 /// The value becomes the attribute's.
-pub fn set_value(name: &[u8], value: Expr, arguments: &mut Items<Expr>)
+pub fn set_value(name: &[u8], mut value: Expr, arguments: &mut Items<Expr>)
     ensures { arguments.new ≡ with_value name.now value arguments.old }
 {
-    let mut old = value;
-    swap_first(name, &mut old, arguments);
-    drop(old);
+    swap_first(name, &mut value, arguments);
 }
 
 /// A new attribute, before the first starred argument, else last.

@@ -147,13 +147,12 @@ fn append(more: &mut Vec<Expr>, items: &mut Items<Expr>) -> Result<(), Memory>
 pub fn append_to(kind: Kind, more: &mut Vec<Expr>, x: &mut Expr) -> Result<(), Memory>
     ensures { OnOk result (x.new ≡ on_items kind (λ items. items ++ more.old.items) x.old) }
 {
-    if !has_kind(kind, x) {
-        return Ok(());
+    match x {
+        Expr::Form(form) if form.kind.number() == kind.number() => {
+            append(more, &mut form.seq.items)
+        }
+        _ => Ok(()),
     }
-    if let Expr::Form(form) = x {
-        append(more, &mut form.seq.items)?;
-    }
-    Ok(())
 }
 
 /// A list of these items.
