@@ -3,7 +3,7 @@
 ghost use Rattle.std.specs.Prelude.{◌≡◌, OnOk, codes, bytes_eq};
 ghost use Rattle.bz_grammar.specs.declared.kind.Kind.TheVariants as k;
 ghost use Rattle.bz_rule.specs.Rules.{is_text, dotted_name};
-ghost use Rattle.bz_rule.specs.Values.{on_first, on_items, on_third, on_lists};
+ghost use Rattle.bz_rule.specs.Values.{on_items, on_third, on_lists};
 ghost use Rattle.bz_passes.specs.Passes.{of_rule, on_attribute, on_call, on_rule_arguments};
 ghost use Rattle.bz_passes.specs.Changes.{arguments_changed, attribute_changed, list_changed, lists_and_arguments};
 
@@ -125,21 +125,15 @@ fn change_call(x: &mut Expr) -> Result<(), Memory>
     Ok(())
 }
 
-fn change_first(parts: &mut Items<Expr>) -> Result<(), Memory>
-    ensures { OnOk result (parts.new ≡ on_first (on_call arguments_changed) parts.old) }
-{
-    if let [call, ..] = parts.as_mut_slice() {
-        change_call(call)?;
-    }
-    Ok(())
-}
-
 /// Changes the arguments of a rule; any other statement stays.
 fn change_rule(x: &mut Expr) -> Result<(), Memory>
     ensures { OnOk result (x.new ≡ on_rule_arguments arguments_changed x.old) }
 {
     match x {
-        Expr::Form(form) if form.kind == Kind::Bare => change_first(&mut form.parts),
+        Expr::Form(form) if form.kind == Kind::Bare => match form.parts.as_mut_slice() {
+            [call, ..] => change_call(call),
+            [] => Ok(()),
+        },
         _ => Ok(()),
     }
 }
