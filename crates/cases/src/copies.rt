@@ -23,7 +23,7 @@ fn answer_of(alloc: Global, item: &Item, page: &mut Page) -> Result<(), CaseFaul
         return Err(CaseFault::Sheet("no form"));
     };
     page.answer(shown_copy(alloc, form)?.as_slice())?;
-    let answer: &[u8] = if is_copied(form)? && is_item_copied(item)? {
+    let answer: &[u8] = if is_copied(form)? && item.copy()?.equals(item) {
         b"copied"
     } else {
         b"another copy"
@@ -40,12 +40,11 @@ fn comments_of(alloc: Global, gap: &[u8], following: &[u8]) -> Result<Comments, 
 }
 
 fn token_of(alloc: Global, gap: &[u8], following: &[u8]) -> Result<Token, Memory> {
-    let comments = comments_of(alloc, gap, following)?;
     Ok(Token {
         class: Class::Name,
         text: Text::from_slice(alloc, b"f")?,
         line_break: true,
-        comments,
+        comments: comments_of(alloc, gap, following)?,
     })
 }
 
@@ -69,28 +68,15 @@ fn form_of(alloc: Global, gap: &[u8], following: &[u8]) -> Result<Form, Memory> 
     })
 }
 
+/// A copy of a form as it is shown.
 fn shown_copy(alloc: Global, form: &Form) -> Result<Vec<u8>, Memory> {
-    let copy = form.copy()?;
     let mut shown = Vec::new(alloc);
-    let answered = show_form(alloc, &copy, &mut shown);
-    drop(copy);
-    answered?;
+    show_form(alloc, &form.copy()?, &mut shown)?;
     Ok(shown)
 }
 
 /// Whether a form is equal to its copy, its sequence is copied, and its comments are not none.
 fn is_copied(form: &Form) -> Result<bool, Memory> {
-    let copy = form.copy()?;
-    let is_form_copied = copy.equals(form);
-    drop(copy);
-    let has_comments = !Comments::empty().equals(&form.comments);
-    drop(form.seq.copy()?);
-    Ok(is_form_copied && has_comments)
-}
-
-fn is_item_copied(item: &Item) -> Result<bool, Memory> {
-    let copy = item.copy()?;
-    let is_same = copy.equals(item);
-    drop(copy);
-    Ok(is_same)
+    let _copy = form.seq.copy()?;
+    Ok(form.copy()?.equals(form) && !Comments::empty().equals(&form.comments))
 }

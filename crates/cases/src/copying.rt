@@ -10,39 +10,27 @@ use std::alloc::Global;
 const NUL: u8 = 0;
 
 /// Whether two nodes are equal.
-fn are_equal(node: Node, other: Node) -> bool {
-    let part = Part::Node(node);
-    let other = Part::Node(other);
-    let equal = part.equals(&other);
-    drop(part);
-    drop(other);
-    equal
+pub(crate) fn are_equal(node: Node, other: Node) -> bool {
+    Part::Node(node).equals(&Part::Node(other))
 }
 
 /// Whether a tree and its root are copied; `None`: a copy is not there.
 fn is_tree_copied(tree: &Tree) -> Option<bool> {
-    let copy = tree.copy().ok()?;
-    let is_copied = copy.equals(tree);
-    drop(copy);
+    let is_copied = tree.copy().ok()?.equals(tree);
     Some(is_copied && are_equal(tree.root.copy().ok()?, tree.root.copy().ok()?))
 }
 
 /// Whether the expression of a statement is copied.
 fn is_statement_copied(item: &Item) -> Option<bool> {
-    let Item::Stmt(expression) = item else {
-        return Some(true);
-    };
-    let copy = expression.copy().ok()?;
-    let is_copied = copy.equals(expression);
-    drop(copy);
-    Some(is_copied)
+    match item {
+        Item::Stmt(expression) => Some(expression.copy().ok()?.equals(expression)),
+        Item::Block(_) => Some(true),
+    }
 }
 
 /// Whether a value is copied, and each of its statements.
 fn is_value_copied(file: &File) -> Option<bool> {
-    let copy = file.copy().ok()?;
-    let mut is_copied = copy.equals(file);
-    drop(copy);
+    let mut is_copied = file.copy().ok()?.equals(file);
     for item in file.items.as_slice() {
         is_copied = is_copied && is_statement_copied(item)?;
     }
@@ -52,23 +40,16 @@ fn is_value_copied(file: &File) -> Option<bool> {
 /// Whether a copy of the step that leads back to the last tree does so.
 fn is_step_copied(last: &Tree, tree: &Tree) -> Option<bool> {
     let mut next = last.copy().ok()?;
-    let step = advance(&mut next, tree.copy().ok()?).ok()?;
-    drop(next);
-    let mut copy = step.copy().ok()?;
-    drop(step);
+    let mut step = advance(&mut next, tree.copy().ok()?).ok()?.copy().ok()?;
     let mut root = tree.root.copy().ok()?;
-    let exchanged = exchange_node(&mut root, &mut copy);
-    drop(copy);
-    let is_back = are_equal(root, last.root.copy().ok()?);
-    Some(is_back && exchanged.is_ok())
+    let is_exchanged = exchange_node(&mut root, &mut step).is_ok();
+    Some(is_exchanged && are_equal(root, last.root.copy().ok()?))
 }
 
 /// Whether all that a tree says is copied, and the step from it to the tree before it.
 fn is_copied(alloc: Global, last: &Tree, tree: &Tree) -> Option<bool> {
-    let file = view(alloc, tree).ok()?;
-    let value = is_value_copied(&file);
-    drop(file);
-    Some(value? && is_tree_copied(tree)? && is_step_copied(last, tree)?)
+    let is_value = is_value_copied(&view(alloc, tree).ok()?)?;
+    Some(is_value && is_tree_copied(tree)? && is_step_copied(last, tree)?)
 }
 
 /// Prints of each text, a line each, whether it is refused, or all that it says is copied.

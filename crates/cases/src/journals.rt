@@ -1,58 +1,33 @@
 //! Journals: what a session saves after actions with notes, and that it goes on from there.
 use crate::sessions::{opened, request_of, show_reply};
-use crate::trees::read_fault_text;
 use bz_files::MemoryFiles;
 use bz_items::Memory;
 use bz_journal::{Action, KeepFault, Reply, ResumeFault, Session};
 use bz_resume::PairFault;
+use bz_value::Refusal;
 use sheets::{Case, CaseFault, Page};
 use std::alloc::Global;
 
 /// The name of the file that is kept.
 const FILE: &str = "BUILD";
 
-/// Writes the answers to the actions, which all texts but the last one name, each kept with its line as its note, in files in memory;
-/// then the journal that is there; and of the session that it is resumed as its listing, and the note of each step.
+/// Writes the answers to the actions of a case, each kept with its line as its note, in files in memory; then the journal that is
+/// there; and of the session that it is resumed as its listing, and the note of each step.
 pub(crate) fn answer(case: &Case, page: &mut Page) -> Result<(), CaseFault> {
-    let Some((text, names)) = case.texts.as_slice().split_last() else {
-        return Err(CaseFault::Sheet("a text is missing"));
-    };
-    let package = case.argument()?;
-    if package.len() > 65_536 {
-        return Err(CaseFault::Sheet("a package of more than 65,536 bytes"));
-    }
-    match opened(case.alloc, package, text.as_slice())? {
-        Ok(mut session) => play(case, names.len(), &mut session, text.as_slice(), page),
-        Err(fault) => Ok(page.answer(read_fault_text(case.alloc, &fault)?.as_bytes())?),
-    }
+    let mut session = opened(case)?;
+    play(case, &mut session, page)
 }
 
-/// Does the first actions of a case in a session, each kept in files in memory, and writes what came of it.
-fn play(
-    case: &Case,
-    count: usize,
-    session: &mut Session,
-    text: &[u8],
-    page: &mut Page,
-) -> Result<(), CaseFault> {
-    let mut files = MemoryFiles::of(case.alloc, &[(FILE, text)]).map_err(Memory::from)?;
-    for place in 0..count {
-        keep_line(case.alloc, session, case.text(place)?, &mut files, page)?;
+/// Does the actions of a case in a session, each kept in files in memory, and writes what came of it.
+fn play(case: &Case, session: &mut Session, page: &mut Page) -> Result<(), CaseFault> {
+    let given = [(FILE, case.last_text()?)];
+    let mut files = MemoryFiles::of(case.alloc, &given).map_err(Memory::from)?;
+    for place in 1..case.texts.len() {
+        let reply = kept_line(case.alloc, session, case.text(place - 1)?, &mut files)?;
+        show_reply(case.alloc, &reply, page)?;
     }
     show_journal(&files, page)?;
     show_resumed(case.alloc, session, page)
-}
-
-/// Does the action that a line names, with the line as its note, and writes what is answered.
-fn keep_line(
-    alloc: Global,
-    session: &mut Session,
-    line: &str,
-    files: &mut MemoryFiles,
-    page: &mut Page,
-) -> Result<(), CaseFault> {
-    let reply = kept_line(alloc, session, line, files)?;
-    Ok(show_reply(alloc, &reply, page)?)
 }
 
 /// What keeping the action that a line names answers. The request is dropped here, and nothing else is, so that this can be checked.
@@ -61,7 +36,7 @@ fn kept_line(
     session: &mut Session,
     line: &str,
     files: &mut MemoryFiles,
-) -> Result<Result<Reply, bz_value::Refusal>, CaseFault> {
+) -> Result<Result<Reply, Refusal>, CaseFault> {
     let request = request_of(alloc, line)?;
     kept(session, &request.action(), line, files)
 }
@@ -72,7 +47,7 @@ fn kept(
     action: &Action<'_>,
     note: &str,
     files: &mut MemoryFiles,
-) -> Result<Result<Reply, bz_value::Refusal>, CaseFault> {
+) -> Result<Result<Reply, Refusal>, CaseFault> {
     match session.keep_noted(action, note, FILE, files) {
         Ok(reply) => Ok(Ok(reply)),
         Err(KeepFault::Refused(refusal)) => Ok(Err(refusal)),

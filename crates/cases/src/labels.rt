@@ -6,91 +6,56 @@ use bz_label::bytes::{
 };
 use bz_label::{Label, LabelFault, Target, TargetFault, Which};
 use sheets::{Case, CaseFault, Page};
-use std::alloc::{AllocError, Global};
+use std::alloc::Global;
 
-/// A question about a text.
-#[derive(Clone, Copy)]
-pub(crate) enum LabelQuery {
-    Label,
-    Same,
-    Shorten,
-    Order,
-    Target,
-    Priority,
-    Sorted,
-    Labels,
-    Lists,
+/// Answers a question about labels or their like. Whether it is one.
+pub(crate) fn answer(case: &Case, page: &mut Page) -> Result<bool, CaseFault> {
+    let text = case.given_text(0)?;
+    let argument = case.argument.as_slice();
+    match case.question.as_str() {
+        "label" => show_label(case, page)?,
+        "same" => page.answer(sameness(argument, text, case.given_text(1)?))?,
+        "shorten" => {
+            page.answer(shortened(argument, text))?;
+            page.answer(unrepeated(text))?;
+        }
+        "order" => order_of(case, page)?,
+        "target" => show_target(case, page)?,
+        "priority" => page.answer(format!(in case.alloc; "{}", priority(text))?.as_bytes())?,
+        "sorted" => page.yes_or_no(is_sorted(argument, text))?,
+        "labels" => page.yes_or_no(is_label_attribute(text))?,
+        "lists" => page.yes_or_no(is_list_attribute(text))?,
+        _ => return Ok(false),
+    }
+    Ok(true)
 }
 
-impl LabelQuery {
-    pub(crate) fn named(name: &str) -> Option<LabelQuery> {
-        match name {
-            "label" => Some(LabelQuery::Label),
-            "same" => Some(LabelQuery::Same),
-            "shorten" => Some(LabelQuery::Shorten),
-            "order" => Some(LabelQuery::Order),
-            "target" => Some(LabelQuery::Target),
-            "priority" => Some(LabelQuery::Priority),
-            "sorted" => Some(LabelQuery::Sorted),
-            "labels" => Some(LabelQuery::Labels),
-            "lists" => Some(LabelQuery::Lists),
-            _ => None,
-        }
-    }
-
-    pub(crate) fn answer(self, case: &Case, page: &mut Page) -> Result<(), CaseFault> {
-        let text = case.given_text(0)?;
-        let argument = case.argument.as_slice();
-        match self {
-            LabelQuery::Label => label_of(case.alloc, case.argument()?, case.text(0)?, page)?,
-            LabelQuery::Same => page.answer(sameness(argument, text, case.given_text(1)?))?,
-            LabelQuery::Shorten => {
-                page.answer(shortened(argument, text))?;
-                page.answer(unrepeated(text))?;
-            }
-            LabelQuery::Order => order_of(case, page)?,
-            LabelQuery::Target => target_of(case.alloc, case.text(0)?, page)?,
-            LabelQuery::Priority => {
-                let place = priority(text);
-                page.answer(format!(in case.alloc; "{place}")?.as_bytes())?;
-            }
-            LabelQuery::Sorted => page.yes_or_no(is_sorted(argument, text))?,
-            LabelQuery::Labels => page.yes_or_no(is_label_attribute(text))?,
-            LabelQuery::Lists => page.yes_or_no(is_list_attribute(text))?,
-        }
-        Ok(())
-    }
-}
-
-/// Appends a text in double quotes, which no label or target holds.
-fn push_quoted(line: &mut Vec<u8>, text: &[u8]) -> Result<(), Memory> {
+/// Appends a text in double quotes, which no label or target holds, and in front of it what is there to be.
+fn push_quoted(line: &mut Vec<u8>, front: &[u8], text: &[u8]) -> Result<(), Memory> {
+    line.extend_from_slice(front)?;
     line.extend_from_slice(b"\"")?;
     line.extend_from_slice(text)?;
     line.extend_from_slice(b"\"")?;
     Ok(())
 }
 
-/// `Label::read`, of which nothing has to be known here.
-fn read_label(alloc: Global, current: &str, text: &str) -> Result<Label, LabelFault> {
-    Label::read(alloc, current, text)
+/// `Label::read`; a fault is the answer of the case.
+fn read_label(alloc: Global, current: &str, text: &str) -> Result<Label, CaseFault> {
+    match Label::read(alloc, current, text) {
+        Ok(label) => Ok(label),
+        Err(LabelFault::Memory) => Err(CaseFault::Memory),
+        Err(fault) => Err(CaseFault::Refused(format!(in alloc; "{} {fault}", fault.number())?)),
+    }
 }
 
-fn label_of(alloc: Global, current: &str, text: &str, page: &mut Page) -> Result<(), Memory> {
-    let label = match read_label(alloc, current, text) {
-        Ok(label) => label,
-        Err(LabelFault::Memory) => return Err(AllocError),
-        Err(fault) => {
-            let number = fault.number();
-            return page.answer(format!(in alloc; "{number} {fault}")?.as_bytes());
-        }
-    };
-    let mut line = Vec::new(alloc);
-    push_quoted(&mut line, label.repository.as_slice())?;
-    line.extend_from_slice(b" ")?;
-    push_quoted(&mut line, label.package.as_slice())?;
-    line.extend_from_slice(b" ")?;
-    push_quoted(&mut line, label.name.as_slice())?;
-    page.answer(line.as_slice())
+/// Writes the parts of a label.
+fn show_label(case: &Case, page: &mut Page) -> Result<(), CaseFault> {
+    let label = read_label(case.alloc, case.argument()?, case.text(0)?)?;
+    let mut line = Vec::new(case.alloc);
+    push_quoted(&mut line, b"", label.repository.as_slice())?;
+    push_quoted(&mut line, b" ", label.package.as_slice())?;
+    push_quoted(&mut line, b" ", label.name.as_slice())?;
+    Ok(page.answer(line.as_slice())?)
 }
 
 /// Whether two texts mean the same, compared in both orders.
@@ -123,41 +88,34 @@ fn order_of(case: &Case, page: &mut Page) -> Result<(), CaseFault> {
     Ok(())
 }
 
-/// `Target::read`, of which nothing has to be known here.
-fn read_target(alloc: Global, text: &str) -> Result<Target, TargetFault> {
-    Target::read(alloc, text)
+/// `Target::read`; a fault is the answer of the case.
+pub(crate) fn read_target(alloc: Global, text: &str) -> Result<Target, CaseFault> {
+    match Target::read(alloc, text) {
+        Ok(target) => Ok(target),
+        Err(TargetFault::Memory) => Err(CaseFault::Memory),
+        Err(fault) => Err(CaseFault::Refused(format!(in alloc; "{} {fault}", fault.number())?)),
+    }
 }
 
-fn target_of(alloc: Global, text: &str, page: &mut Page) -> Result<(), Memory> {
-    let target = match read_target(alloc, text) {
-        Ok(target) => target,
-        Err(TargetFault::Memory) => return Err(AllocError),
-        Err(fault) => {
-            let number = fault.number();
-            return page.answer(format!(in alloc; "{number} {fault}")?.as_bytes());
-        }
-    };
-    let mut line = Vec::new(alloc);
-    push_quoted(&mut line, target.package.as_slice())?;
-    push_which(alloc, &mut line, &target.which)?;
-    page.answer(line.as_slice())
+/// Writes the parts of a target.
+fn show_target(case: &Case, page: &mut Page) -> Result<(), CaseFault> {
+    let target = read_target(case.alloc, case.text(0)?)?;
+    let mut line = Vec::new(case.alloc);
+    push_quoted(&mut line, b"", target.package.as_slice())?;
+    push_which(&mut line, &target.which)?;
+    Ok(page.answer(line.as_slice())?)
 }
 
 /// Appends which rules are meant.
-fn push_which(alloc: Global, line: &mut Vec<u8>, which: &Which) -> Result<(), Memory> {
+fn push_which(line: &mut Vec<u8>, which: &Which) -> Result<(), Memory> {
     match which {
         Which::All => Ok(line.extend_from_slice(b" all")?),
         Which::Package => Ok(line.extend_from_slice(b" package")?),
-        Which::Line(number) => Ok(line.extend_from_slice(format!(in alloc;
-            " line {number}"
-        )?.as_bytes())?),
-        Which::Kind(kind) => {
-            line.extend_from_slice(b" kind ")?;
-            push_quoted(line, kind.as_slice())
+        Which::Line(number) => {
+            let text = format!(in *line.allocator(); " line {number}")?;
+            Ok(line.extend_from_slice(text.as_bytes())?)
         }
-        Which::Name(name) => {
-            line.extend_from_slice(b" name ")?;
-            push_quoted(line, name.as_slice())
-        }
+        Which::Kind(kind) => push_quoted(line, b" kind ", kind.as_slice()),
+        Which::Name(name) => push_quoted(line, b" name ", name.as_slice()),
     }
 }

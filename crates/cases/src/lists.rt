@@ -1,15 +1,17 @@
 //! Lists: items that are exchanged for others, and given back.
 use bz_items::{Items, Memory};
-use sheets::{Case, CaseFault, Page};
+use sheets::{Case, CaseFault, Page, number_of};
 use std::alloc::Global;
 
 /// Writes the list of the bytes of the first text, in which as many as the argument says, from the place that it says on,
 /// are exchanged for those of the second; then the bytes that were there, and the list from its last byte on.
 pub(crate) fn answer(case: &Case, page: &mut Page) -> Result<(), CaseFault> {
-    let (place, count) = range_of(case.argument()?)?;
+    let Some((place, count)) = case.argument()?.split_once(' ') else {
+        return Err(CaseFault::Sheet("no place and count"));
+    };
     let mut list = list_of(case.alloc, case.given_text(0)?)?;
     let mut other = list_of(case.alloc, case.given_text(1)?)?;
-    if !spliced(&mut list, place, count, &mut other)? {
+    if !spliced(&mut list, number_of(place)?, number_of(count)?, &mut other)? {
         return Err(CaseFault::Sheet("a place past the end"));
     }
     page.answer(list.as_slice())?;
@@ -31,21 +33,6 @@ fn spliced(
     }
     list.splice(place, count, other)?;
     Ok(true)
-}
-
-/// The two numbers of an argument, a space between them.
-fn range_of(argument: &str) -> Result<(usize, usize), CaseFault> {
-    match argument.split_once(' ') {
-        Some((place, count)) => Ok((number_of(place)?, number_of(count)?)),
-        None => Err(CaseFault::Sheet("no place and count")),
-    }
-}
-
-fn number_of(word: &str) -> Result<usize, CaseFault> {
-    match word.parse::<usize>() {
-        Ok(number) => Ok(number),
-        Err(_) => Err(CaseFault::Sheet("no number")),
-    }
 }
 
 fn list_of(alloc: Global, text: &[u8]) -> Result<Items<u8>, Memory> {

@@ -45,6 +45,7 @@
 //! | `identifier`, `rule_kind` | a text | whether it is an identifier, whether it is one or several joined by dots |
 //! | `session PACKAGE` | actions, and a text | the reply to each, the place in the history, and the present text |
 //! | `weights PACKAGE` | the same | the weight of each step between two texts, in their order |
+//! | `journal PACKAGE` | the same | the reply to each action, which is kept with its line as its note; the journal; of the session that it is resumed as its listing and its notes |
 //! | `laws` | nothing | that all laws were called |
 //!
 //! An action is `COMMAND TARGET`, `format`, `undo N` or `redo N`.
@@ -61,23 +62,47 @@ mod labels;
 mod laws;
 mod lists;
 mod measuring;
-mod query;
 mod sessions;
-mod suites;
 mod tokens;
 mod trees;
 mod values;
 
-use crate::query::Query;
 use anyhow::Result;
-use sheets::{answer, input};
+use sheets::{Case, CaseFault, Page, Questions, answer, input};
 use std::env;
 use std::process::ExitCode;
+
+/// The questions of the sheet, by the module that answers.
+#[derive(Clone, Copy)]
+struct Cases;
+
+impl Questions for Cases {
+    fn answer(self, case: &Case, page: &mut Page) -> Result<(), CaseFault> {
+        match case.question.as_str() {
+            "splice" => return lists::answer(case, page),
+            "copies" => return copies::answer(case, page),
+            "session" => return sessions::answer(case, page),
+            "weights" => return sessions::answer_weights(case, page),
+            "journal" => return journals::answer(case, page),
+            "laws" => return laws::answer(case, page),
+            _ => {}
+        }
+        if tokens::answer(case, page)?
+            || trees::answer(case, page)?
+            || values::answer(case, page)?
+            || labels::answer(case, page)?
+            || commands::answer(case, page)?
+        {
+            return Ok(());
+        }
+        Err(CaseFault::Sheet("no such question"))
+    }
+}
 
 fn main(rt: HostRuntime) -> Result<ExitCode> {
     let mut words = env::args(&rt)?.skip(1);
     let Some(word) = words.next() else {
-        answer::<Query>(&rt)?;
+        answer(&rt, Cases)?;
         return Ok(ExitCode::SUCCESS);
     };
     let bytes = input(&rt)?;

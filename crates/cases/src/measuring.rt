@@ -6,7 +6,7 @@
 //! as, or the fault of a text that has none to standard error. `copies` prints of each of several texts whether all that it says is copied.
 use crate::copying::answer_copies;
 use bz_build_format::{format, set};
-use bz_grammar::{ReadFault, Tree};
+use bz_grammar::Tree;
 use bz_hosts::view;
 use bz_lex::lex;
 use bz_tree::parse;
@@ -18,59 +18,31 @@ use std::time::Instant;
 /// How often `time` does a piece of work.
 const ROUNDS: u32 = 9;
 
-#[derive(Clone, Copy)]
-enum Work {
-    Copy,
-    Lex,
-    Tree,
-    Parse,
-    View,
-    Set,
-    Format,
-}
+/// The works that `time` does.
+const TIMED: [&str; 7] = ["copy", "lex", "tree", "parse", "view", "set", "format"];
 
-impl Work {
-    fn named(word: &str) -> Option<Work> {
-        match word {
-            "copy" => Some(Work::Copy),
-            "lex" => Some(Work::Lex),
-            "tree" => Some(Work::Tree),
-            "parse" => Some(Work::Parse),
-            "view" => Some(Work::View),
-            "set" => Some(Work::Set),
-            "format" => Some(Work::Format),
-            _ => None,
+/// Does the work of this name once. What it writes goes to `out`, where nobody can leave it out.
+fn count(work: &str, alloc: Global, bytes: &[u8], out: &mut Vec<u8>) -> Option<usize> {
+    out.clear();
+    match work {
+        "copy" => {
+            out.extend_from_slice(bytes).ok()?;
+            Some(out.len())
         }
-    }
-
-    /// Does the work once. What it writes goes to `out`, where nobody can leave it out.
-    fn count(self, alloc: Global, bytes: &[u8], out: &mut Vec<u8>) -> Option<usize> {
-        match self {
-            Work::Copy => {
-                out.clear();
-                out.extend_from_slice(bytes).ok()?;
-                Some(out.len())
-            }
-            Work::Lex => {
-                let text = str::from_utf8(bytes).ok()?;
-                Some(lex(alloc, text).ok()?.len())
-            }
-            Work::Tree => Some(parse(alloc, bytes).ok()?.len()),
-            Work::Parse => {
-                out.clear();
-                parse(alloc, bytes).ok()?.spell_into(out).ok()?;
-                Some(out.len())
-            }
-            Work::View => Some(view(alloc, &parse(alloc, bytes).ok()?).ok()?.items.len()),
-            Work::Set => {
-                out.clear();
-                laid_out(alloc, &parse(alloc, bytes).ok()?)?
-                    .spell_into(out)
-                    .ok()?;
-                Some(out.len())
-            }
-            Work::Format => Some(format(alloc, bytes).ok()?.len()),
+        "lex" => Some(lex(alloc, str::from_utf8(bytes).ok()?).ok()?.len()),
+        "tree" => Some(parse(alloc, bytes).ok()?.len()),
+        "parse" => {
+            parse(alloc, bytes).ok()?.spell_into(out).ok()?;
+            Some(out.len())
         }
+        "view" => Some(view(alloc, &parse(alloc, bytes).ok()?).ok()?.items.len()),
+        "set" => {
+            let tree = laid_out(alloc, &parse(alloc, bytes).ok()?)?;
+            tree.spell_into(out).ok()?;
+            Some(out.len())
+        }
+        "format" => Some(format(alloc, bytes).ok()?.len()),
+        _ => None,
     }
 }
 
@@ -80,11 +52,11 @@ fn laid_out(alloc: Global, tree: &Tree) -> Option<Tree> {
 }
 
 /// The nanoseconds of the fastest round.
-fn fastest(rt: &HostRuntime, work: Work, bytes: &[u8], out: &mut Vec<u8>) -> Option<u128> {
+fn fastest(rt: &HostRuntime, work: &str, bytes: &[u8], out: &mut Vec<u8>) -> Option<u128> {
     let mut best = u128::MAX;
     for _ in 0..ROUNDS {
         let start = Instant::now(rt).ok()?;
-        let _count = work.count(rt.alloc(), bytes, out)?;
+        let _count = count(work, rt.alloc(), bytes, out)?;
         best = best.min(start.elapsed(rt).ok()?.as_nanos());
     }
     Some(best)
@@ -92,17 +64,9 @@ fn fastest(rt: &HostRuntime, work: Work, bytes: &[u8], out: &mut Vec<u8>) -> Opt
 
 fn timed(rt: &HostRuntime, bytes: &[u8]) -> Option<()> {
     let mut out = Vec::new(rt.alloc());
-    for (name, work) in [
-        ("copy", Work::Copy),
-        ("lex", Work::Lex),
-        ("tree", Work::Tree),
-        ("parse", Work::Parse),
-        ("view", Work::View),
-        ("set", Work::Set),
-        ("format", Work::Format),
-    ] {
+    for work in TIMED {
         let best = fastest(rt, work, bytes, &mut out)?;
-        println!(rt; "{name} {best}").ok()?;
+        println!(rt; "{work} {best}").ok()?;
     }
     Some(())
 }
@@ -126,8 +90,7 @@ fn spelled(rt: &HostRuntime, tree: &Tree) -> Option<()> {
 
 /// The tree of a text, or the fault that is reported of it.
 fn read(rt: &HostRuntime, bytes: &[u8]) -> Option<Tree> {
-    let tree: Result<Tree, ReadFault> = parse(rt.alloc(), bytes);
-    match tree {
+    match parse(rt.alloc(), bytes) {
         Ok(tree) => Some(tree),
         Err(fault) => {
             let _read_fault_text = eprintln!(rt; "{fault}");
@@ -139,7 +102,7 @@ fn read(rt: &HostRuntime, bytes: &[u8]) -> Option<Tree> {
 /// Does the work that a word names once, and returns what it counts.
 fn counted(rt: &HostRuntime, word: &str, bytes: &[u8]) -> Option<usize> {
     let mut out = Vec::new(rt.alloc());
-    Work::named(word)?.count(rt.alloc(), bytes, &mut out)
+    count(word, rt.alloc(), bytes, &mut out)
 }
 
 /// Does on a text what the first word names; the second is the work of `peak`. None: there is no such work, the text is

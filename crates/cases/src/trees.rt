@@ -1,87 +1,65 @@
 //! Trees: what a text is read as, and where it is refused.
+use crate::copying::are_equal;
 use bz_grammar::{Class, Kind, Leaf, Node, Part, ReadFault, Tree};
 use bz_items::Memory;
 use bz_tree::{parse, parse_bzl};
-use sheets::{Case, CaseFault, Page};
-use std::alloc::{AllocError, Global};
+use sheets::{Case, CaseFault, Page, number_of};
+use std::alloc::Global;
 
-/// A question about a text.
-#[derive(Clone, Copy)]
-pub(crate) enum TreeQuery {
-    Tree,
-    Bzl,
-    Expression,
-    Statement,
-    Spelling,
-    Accepted,
-    Equal,
-    Lines,
-    Kind,
-}
-
-impl TreeQuery {
-    pub(crate) fn named(name: &str) -> Option<TreeQuery> {
-        match name {
-            "tree" => Some(TreeQuery::Tree),
-            "bzl" => Some(TreeQuery::Bzl),
-            "expression" => Some(TreeQuery::Expression),
-            "statement" => Some(TreeQuery::Statement),
-            "spelling" => Some(TreeQuery::Spelling),
-            "accepted" => Some(TreeQuery::Accepted),
-            "equal" => Some(TreeQuery::Equal),
-            "lines" => Some(TreeQuery::Lines),
-            "kind" => Some(TreeQuery::Kind),
-            _ => None,
+/// Answers a question about the tree of a text. Whether it is one.
+pub(crate) fn answer(case: &Case, page: &mut Page) -> Result<bool, CaseFault> {
+    let alloc = case.alloc;
+    let text = case.given_text(0)?;
+    match case.question.as_str() {
+        "tree" => page.answer(tree_of(alloc, Grammar::Build, text)?.as_bytes())?,
+        "bzl" => page.answer(tree_of(alloc, Grammar::Bzl, text)?.as_bytes())?,
+        "expression" => {
+            let tree = tree_of(alloc, Grammar::Build, text)?;
+            page.answer(within(tree.as_str(), "File(Line(Bare(", ") no_nl) end)").as_bytes())?;
         }
+        "statement" => statement(alloc, text, page)?,
+        "spelling" => {
+            let bytes = spelled(alloc, Grammar::Build, text)?.len();
+            page.answer(format!(in alloc; "{bytes} bytes")?.as_bytes())?;
+        }
+        "accepted" => page.answer(acceptance(alloc, text)?.as_bytes())?,
+        "equal" => page.answer(equality(alloc, text, case.given_text(1)?)?.as_bytes())?,
+        "lines" => page.answer(lines_of(alloc, text)?.as_bytes())?,
+        "kind" => page.answer(kind_of(case)?.as_bytes())?,
+        _ => return Ok(false),
     }
-
-    pub(crate) fn answer(self, case: &Case, page: &mut Page) -> Result<(), CaseFault> {
-        let text = case.given_text(0)?;
-        let answer = match self {
-            TreeQuery::Tree => tree_of(case.alloc, text)?,
-            TreeQuery::Bzl => read_as(case.alloc, parse_bzl(case.alloc, text), text)?,
-            TreeQuery::Expression => {
-                let tree = tree_of(case.alloc, text)?;
-                let inner = within(tree.as_str(), "File(Line(Bare(", ") no_nl) end)");
-                String::from_str(case.alloc, inner)?
-            }
-            TreeQuery::Statement => return statement(case.alloc, text, page),
-            TreeQuery::Spelling => spelling(case.alloc, text)?,
-            TreeQuery::Accepted => {
-                let word = if read(case.alloc, text)?.is_ok() {
-                    "accepted"
-                } else {
-                    "refused"
-                };
-                String::from_str(case.alloc, word)?
-            }
-            TreeQuery::Equal => equality(case.alloc, text, case.given_text(1)?)?,
-            TreeQuery::Lines => lines_of(case.alloc, text)?,
-            TreeQuery::Kind => kind_of(case.alloc, case.text(0)?)?,
-        };
-        page.answer(answer.as_bytes())?;
-        Ok(())
-    }
+    Ok(true)
 }
 
-/// An answer about a text; that memory was refused is none.
-pub(crate) fn apart<T>(answer: Result<T, ReadFault>) -> Result<Result<T, ReadFault>, Memory> {
+/// Which grammar a text is read by.
+#[derive(Clone, Copy)]
+pub(crate) enum Grammar {
+    Build,
+    Bzl,
+}
+
+/// What was read; a fault is the answer of the case, as its number and its text.
+pub(crate) fn known<T>(alloc: Global, answer: Result<T, ReadFault>) -> Result<T, CaseFault> {
     match answer {
-        Ok(answer) => Ok(Ok(answer)),
-        Err(ReadFault::Memory) => Err(AllocError),
-        Err(fault) => Ok(Err(fault)),
+        Ok(read) => Ok(read),
+        Err(fault) => Err(unread(alloc, &fault)?),
     }
 }
 
-/// `parse`, of which nothing has to be known here.
-fn read(alloc: Global, text: &[u8]) -> Result<Result<Tree, ReadFault>, Memory> {
-    apart(parse(alloc, text))
+/// A fault of reading as the answer of a case. The error: memory was refused for that.
+pub(crate) fn unread(alloc: Global, fault: &ReadFault) -> Result<CaseFault, Memory> {
+    match fault {
+        ReadFault::Memory => Ok(CaseFault::Memory),
+        _ => Ok(CaseFault::Refused(format!(in alloc; "{} {fault}", fault.number())?)),
+    }
 }
 
-/// A fault as its number and its text.
-pub(crate) fn read_fault_text(alloc: Global, fault: &ReadFault) -> Result<String, Memory> {
-    let number = fault.number();
-    format!(in alloc; "{number} {fault}")
+/// The tree of a text, of which nothing has to be known here.
+pub(crate) fn read(alloc: Global, grammar: Grammar, text: &[u8]) -> Result<Tree, CaseFault> {
+    match grammar {
+        Grammar::Build => known(alloc, parse(alloc, text)),
+        Grammar::Bzl => known(alloc, parse_bzl(alloc, text)),
+    }
 }
 
 /// Whether the tree spells the text and has its length, and so has a copy of it after what is there.
@@ -93,54 +71,41 @@ fn spells(alloc: Global, tree: &Tree, text: &[u8]) -> Result<bool, Memory> {
     Ok(first == text && second == text)
 }
 
-const OTHERWISE: &str = "a tree that is spelled otherwise";
-
-/// The tree that a text was read as, or its fault.
-fn read_as(alloc: Global, answer: Result<Tree, ReadFault>, text: &[u8]) -> Result<String, Memory> {
-    match apart(answer)? {
-        Ok(tree) => {
-            if !spells(alloc, &tree, text)? {
-                return String::from_str(alloc, OTHERWISE);
-            }
-            shown(alloc, &tree.root)
-        }
-        Err(fault) => read_fault_text(alloc, &fault),
+/// The tree of a text, which spells it.
+fn spelled(alloc: Global, grammar: Grammar, text: &[u8]) -> Result<Tree, CaseFault> {
+    let tree = read(alloc, grammar, text)?;
+    if !spells(alloc, &tree, text)? {
+        return Err(CaseFault::Sheet("a tree that is spelled otherwise"));
     }
+    Ok(tree)
 }
 
-/// The same of the text of a BUILD file.
-fn tree_of(alloc: Global, text: &[u8]) -> Result<String, Memory> {
-    read_as(alloc, parse(alloc, text), text)
+/// The tree of a text as a line: a node is its kind, and in brackets its parts with a space between two of them.
+fn tree_of(alloc: Global, grammar: Grammar, text: &[u8]) -> Result<String, CaseFault> {
+    let tree = spelled(alloc, grammar, text)?;
+    let mut out = String::new(alloc);
+    show_node(&tree.root, &mut out)?;
+    Ok(out)
 }
 
-/// How many bytes the tree of the text spells, or the fault of the text.
-fn spelling(alloc: Global, text: &[u8]) -> Result<String, Memory> {
-    match read(alloc, text)? {
-        Ok(tree) => {
-            if !spells(alloc, &tree, text)? {
-                return String::from_str(alloc, OTHERWISE);
-            }
-            let bytes = tree.len();
-            format!(in alloc; "{bytes} bytes")
-        }
-        Err(fault) => read_fault_text(alloc, &fault),
+/// Whether a text has a tree.
+fn acceptance(alloc: Global, text: &[u8]) -> Result<&'static str, CaseFault> {
+    match read(alloc, Grammar::Build, text) {
+        Ok(_) => Ok("accepted"),
+        Err(CaseFault::Refused(_)) => Ok("refused"),
+        Err(fault) => Err(fault),
     }
 }
 
 /// Whether the trees of two texts are equal.
-fn equality(alloc: Global, text: &[u8], other: &[u8]) -> Result<String, Memory> {
-    let answer = match (read(alloc, text)?, read(alloc, other)?) {
-        (Ok(tree), Ok(other)) => {
-            let part = Part::Node(tree.root.copy()?);
-            if part.equals(&Part::Node(other.root.copy()?)) {
-                "equal"
-            } else {
-                "different"
-            }
-        }
-        _ => "a text is refused",
-    };
-    String::from_str(alloc, answer)
+fn equality(alloc: Global, text: &[u8], other: &[u8]) -> Result<&'static str, CaseFault> {
+    let tree = read(alloc, Grammar::Build, text)?;
+    let other = read(alloc, Grammar::Build, other)?;
+    if are_equal(tree.root.copy()?, other.root.copy()?) {
+        Ok("equal")
+    } else {
+        Ok("different")
+    }
 }
 
 /// What is between this beginning and this end, or the whole.
@@ -155,8 +120,8 @@ fn within<'a>(shown: &'a str, begin: &str, end: &str) -> &'a str {
 fn statement(alloc: Global, text: &[u8], page: &mut Page) -> Result<(), CaseFault> {
     let mut line = text.to_vec(alloc)?;
     line.push(b'\n').map_err(Memory::from)?;
-    let bare = tree_of(alloc, text)?;
-    let ended = tree_of(alloc, line.as_slice())?;
+    let bare = tree_of(alloc, Grammar::Build, text)?;
+    let ended = tree_of(alloc, Grammar::Build, line.as_slice())?;
     let bare = within(bare.as_str(), "File(Line(", " no_nl) end)");
     let ended = within(ended.as_str(), "File(Line(", " nl) end)");
     page.answer(bare.as_bytes())?;
@@ -166,12 +131,9 @@ fn statement(alloc: Global, text: &[u8], page: &mut Page) -> Result<(), CaseFaul
     Ok(())
 }
 
-/// The lines of the statements of a text, or its fault.
-fn lines_of(alloc: Global, text: &[u8]) -> Result<String, Memory> {
-    let tree = match read(alloc, text)? {
-        Ok(tree) => tree,
-        Err(fault) => return read_fault_text(alloc, &fault),
-    };
+/// The lines of the statements of a text.
+fn lines_of(alloc: Global, text: &[u8]) -> Result<String, CaseFault> {
+    let tree = read(alloc, Grammar::Build, text)?;
     let mut lines = String::new(alloc);
     let all = tree.lines(alloc)?;
     for (place, line) in all.iter().enumerate() {
@@ -188,25 +150,11 @@ fn lines_of(alloc: Global, text: &[u8]) -> Result<String, Memory> {
 }
 
 /// The kind of this number, and the number of it.
-fn kind_of(alloc: Global, number: &str) -> Result<String, CaseFault> {
-    let Ok(number) = number.parse::<u8>() else {
-        return Err(CaseFault::Sheet("no number"));
-    };
-    let answer = match Kind::of(number) {
-        Some(kind) => {
-            let number = kind.number();
-            format!(in alloc; "{kind:?} {number}")?
-        }
-        None => String::from_str(alloc, "none")?,
-    };
-    Ok(answer)
-}
-
-/// The node as a line: a node is its kind, and in brackets its parts with a space between two of them.
-fn shown(alloc: Global, node: &Node) -> Result<String, Memory> {
-    let mut out = String::new(alloc);
-    show_node(node, &mut out)?;
-    Ok(out)
+fn kind_of(case: &Case) -> Result<String, CaseFault> {
+    match Kind::of(number_of::<u8>(case.text(0)?)?) {
+        Some(kind) => Ok(format!(in case.alloc; "{kind:?} {}", kind.number())?),
+        None => Ok(String::from_str(case.alloc, "none")?),
+    }
 }
 
 /// A leaf is its token: `nl` a newline, `no_nl` the empty one at the end of a text without, `end` the end.

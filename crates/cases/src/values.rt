@@ -1,68 +1,45 @@
-//! File values: what a text says, its layout, and the layout of it tidied.
-use crate::trees::{apart, read_fault_text};
-use bz_build_format::set;
-use bz_grammar::{ReadFault, Tree};
+//! File values: what a text says, its layout, the layout of it tidied or after a command, and formatted texts.
+use crate::commands::read_command;
+use crate::labels::read_target;
+use crate::trees::{Grammar, read, unread};
+use bz_build_format::{FormatFault, format_bzl, set};
+use bz_command::{Outcome, run};
+use bz_command_syntax::Command;
+use bz_grammar::Tree;
 use bz_hosts::view;
 use bz_items::{Memory, Text};
+use bz_label::Target;
 use bz_layout::SetFault;
 use bz_passes::tidy;
-use bz_tree::{parse, parse_bzl};
-use bz_value::{Comments, Expr, File, Form, Item};
+use bz_value::{Comments, Expr, File, Form, Item, Refusal};
 use sheets::{Case, CaseFault, Page};
-use std::alloc::{AllocError, Global};
+use std::alloc::Global;
 
-/// A question about a text.
-#[derive(Clone, Copy)]
-pub(crate) enum ValueQuery {
-    View,
-    Layout,
-    Formatted,
-    BzlTidied,
+/// Answers a question about the value of a text. Whether it is one.
+pub(crate) fn answer(case: &Case, page: &mut Page) -> Result<bool, CaseFault> {
+    match case.question.as_str() {
+        "view" => show_value(case, page)?,
+        "layout" | "formatted" | "bzl_tidied" | "bzl_formatted" => settled(case, page)?,
+        "bzl_run" => page.text("<", layout_after(case)?.as_slice())?,
+        _ => return Ok(false),
+    }
+    Ok(true)
 }
 
-impl ValueQuery {
-    pub(crate) fn named(name: &str) -> Option<ValueQuery> {
-        match name {
-            "view" => Some(ValueQuery::View),
-            "layout" => Some(ValueQuery::Layout),
-            "formatted" => Some(ValueQuery::Formatted),
-            "bzl_tidied" => Some(ValueQuery::BzlTidied),
-            _ => None,
-        }
-    }
-
-    pub(crate) fn answer(self, case: &Case, page: &mut Page) -> Result<(), CaseFault> {
-        match self {
-            ValueQuery::View => viewed(case, page),
-            _ => laid_out(case, self, page),
-        }
-    }
-}
-
-/// A copy of what a text says that was read, or why there is none.
-pub(crate) fn value_of(
-    alloc: Global,
-    answer: Result<Tree, ReadFault>,
-) -> Result<Result<File, String>, Memory> {
-    let tree = match apart(answer)? {
-        Ok(tree) => tree,
-        Err(fault) => return Ok(Err(read_fault_text(alloc, &fault)?)),
-    };
-    let file = view(alloc, &tree)?;
+/// A copy of what a text says.
+fn value_of(alloc: Global, grammar: Grammar, text: &[u8]) -> Result<File, CaseFault> {
+    let file = view(alloc, &read(alloc, grammar, text)?)?;
     let copy = file.copy()?;
-    if copy.equals(&file) {
-        return Ok(Ok(copy));
+    if !copy.equals(&file) {
+        return Err(CaseFault::Sheet("another copy"));
     }
-    Ok(Err(String::from_str(alloc, "another copy")?))
+    Ok(copy)
 }
 
 /// Writes the items of a value, each on a line.
-fn viewed(case: &Case, page: &mut Page) -> Result<(), CaseFault> {
+fn show_value(case: &Case, page: &mut Page) -> Result<(), CaseFault> {
     let alloc = case.alloc;
-    let file = match value_of(alloc, parse(alloc, case.given_text(0)?))? {
-        Ok(file) => file,
-        Err(fault) => return Ok(page.answer(fault.as_bytes())?),
-    };
+    let file = value_of(alloc, Grammar::Build, case.given_text(0)?)?;
     for item in file.items.as_slice() {
         let mut shown = Vec::new(alloc);
         match item {
@@ -152,57 +129,70 @@ fn tidied(alloc: Global, file: File) -> Result<File, Memory> {
     tidy(alloc, file)
 }
 
-/// The layout of a value, or why there is none.
-pub(crate) fn layout_of(alloc: Global, file: &File) -> Result<Result<Vec<u8>, String>, Memory> {
+/// The layout of a value.
+fn layout_of(alloc: Global, file: &File) -> Result<Vec<u8>, CaseFault> {
+    let mut layout = Vec::new(alloc);
     match tree_of(alloc, file) {
-        Ok(tree) => {
-            let mut layout = Vec::new(alloc);
-            tree.spell_into(&mut layout)?;
-            Ok(Ok(layout))
-        }
-        Err(SetFault::Memory) => Err(AllocError),
-        Err(fault) => Ok(Err(format!(in alloc; "{fault}")?)),
+        Ok(tree) => tree.spell_into(&mut layout)?,
+        Err(SetFault::Memory) => return Err(CaseFault::Memory),
+        Err(fault) => return Err(CaseFault::Refused(format!(in alloc; "{fault}")?)),
+    }
+    Ok(layout)
+}
+
+/// The layout of what a text says, tidied.
+fn tidied_layout(alloc: Global, grammar: Grammar, text: &[u8]) -> Result<Vec<u8>, CaseFault> {
+    layout_of(alloc, &tidied(alloc, value_of(alloc, grammar, text)?)?)
+}
+
+/// `format_bzl`; a fault is the answer of the case.
+fn formatted(alloc: Global, text: &[u8]) -> Result<Text, CaseFault> {
+    match format_bzl(alloc, text) {
+        Ok(new) => Ok(new),
+        Err(FormatFault::Unread(fault)) => Err(unread(alloc, &fault)?),
+        Err(FormatFault::Memory) => Err(CaseFault::Memory),
+        Err(fault) => Err(CaseFault::Refused(format!(in alloc; "{fault}")?)),
     }
 }
 
-/// The layout of what a text says, tidied where the question is about that.
-fn layout_said(
-    alloc: Global,
-    text: &[u8],
-    query: ValueQuery,
-) -> Result<Result<Vec<u8>, String>, Memory> {
-    let answer = match query {
-        ValueQuery::BzlTidied => parse_bzl(alloc, text),
-        _ => parse(alloc, text),
-    };
-    let file = match value_of(alloc, answer)? {
-        Ok(file) => file,
-        Err(fault) => return Ok(Err(fault)),
-    };
-    match query {
-        ValueQuery::Layout => layout_of(alloc, &file),
-        _ => layout_of(alloc, &tidied(alloc, file)?),
-    }
-}
-
-/// Writes the layout of a text; and, where the layout has another layout in its turn, that it has.
-fn laid_out(case: &Case, query: ValueQuery, page: &mut Page) -> Result<(), CaseFault> {
+/// What a question makes of a text.
+fn made(case: &Case, text: &[u8]) -> Result<Vec<u8>, CaseFault> {
     let alloc = case.alloc;
-    let layout = match layout_said(alloc, case.given_text(0)?, query)? {
-        Ok(layout) => layout,
-        Err(fault) => return Ok(page.answer(fault.as_bytes())?),
-    };
-    page.text("<", layout.as_slice())?;
-    if !is_settled(alloc, layout.as_slice(), query)? {
-        page.answer(b"and another layout of that")?;
+    match case.question.as_str() {
+        "layout" => layout_of(alloc, &value_of(alloc, Grammar::Build, text)?),
+        "formatted" => tidied_layout(alloc, Grammar::Build, text),
+        "bzl_tidied" => tidied_layout(alloc, Grammar::Bzl, text),
+        _ => Ok(formatted(alloc, text)?.as_slice().to_vec(alloc)?),
+    }
+}
+
+/// Writes what a question makes of a text; and, where it makes another text of that in its turn, that it does.
+fn settled(case: &Case, page: &mut Page) -> Result<(), CaseFault> {
+    let new = made(case, case.given_text(0)?)?;
+    page.text("<", new.as_slice())?;
+    if made(case, new.as_slice())?.as_slice() != new.as_slice() {
+        page.answer(b"and another text of that")?;
     }
     Ok(())
 }
 
-/// Whether a text is its own layout.
-fn is_settled(alloc: Global, text: &[u8], query: ValueQuery) -> Result<bool, Memory> {
-    match layout_said(alloc, text, query)? {
-        Ok(layout) => Ok(layout.as_slice() == text),
-        Err(_) => Ok(false),
+/// `run` in the topmost package, without lines, of which nothing has to be known here.
+fn ran(alloc: Global, command: &Command, target: &Target, file: &File) -> Result<Outcome, Refusal> {
+    run(alloc, command, target, b"", &[], file)
+}
+
+/// The layout of what the command of the second text, which ends with its target, makes of what the first one says.
+fn layout_after(case: &Case) -> Result<Vec<u8>, CaseFault> {
+    let alloc = case.alloc;
+    let Some((command, target)) = case.text(1)?.rsplit_once(' ') else {
+        return Err(CaseFault::Sheet("no command"));
+    };
+    let command = read_command(alloc, command)?;
+    let target = read_target(alloc, target)?;
+    let file = value_of(alloc, Grammar::Bzl, case.given_text(0)?)?;
+    match ran(alloc, &command, &target, &file) {
+        Ok(outcome) => layout_of(alloc, outcome.file.as_ref().unwrap_or(&file)),
+        Err(Refusal::Memory) => Err(CaseFault::Memory),
+        Err(fault) => Err(CaseFault::Refused(format!(in alloc; "{} {fault}", fault.number())?)),
     }
 }

@@ -20,7 +20,7 @@ const FEW: u64 = 4;
 const MOST: u64 = 1000;
 
 /// What fails.
-#[derive(Clone, Copy)]
+#[derive(Clone, Copy, PartialEq, Eq)]
 pub(crate) enum Way {
     /// A read of standard input.
     Read,
@@ -39,8 +39,8 @@ pub(crate) enum Way {
 /// Which call fails, from 1 (at 0 none does), and how many bytes its device gives or takes a call.
 #[derive(Clone, Copy)]
 pub(crate) struct Failure {
-    way: Way,
-    call: u64,
+    pub(crate) way: Way,
+    pub(crate) call: u64,
     step: usize,
 }
 
@@ -50,21 +50,6 @@ pub(crate) const SOUND: Failure = Failure {
     call: 0,
     step: STEP,
 };
-
-/// What is wrong with what a run left.
-#[derive(Clone, Copy)]
-enum Breach {
-    Changed,
-    Cut,
-    Status,
-    Output,
-    File,
-    Unreported,
-    Line,
-    Written,
-    Errors,
-    Calls,
-}
 
 /// What is said below the name of what is there and can't be opened.
 const DIRECTORY_HINT: &[u8] = b": if this is a directory, see buildifier-tree";
@@ -81,18 +66,6 @@ pub(crate) struct Trial<'a> {
 }
 
 impl Way {
-    fn is_read(self) -> bool {
-        matches!(self, Way::Read)
-    }
-
-    fn is_write(self) -> bool {
-        matches!(self, Way::Write)
-    }
-
-    fn is_report(self) -> bool {
-        matches!(self, Way::Report)
-    }
-
     /// By what a run is cut in which this fails.
     fn cut(self) -> Cut {
         match self {
@@ -116,33 +89,17 @@ impl Way {
 }
 
 impl Failure {
-    /// The number of the call that fails of a device, and its step; the other ones are sound.
-    fn of(self, is_its: bool) -> (usize, u64) {
-        if is_its {
+    fn new(way: Way, call: u64, step: usize) -> Failure {
+        Failure { way, call, step }
+    }
+
+    /// The step of the device that fails in this way, and the number of the call; the other ones are sound.
+    pub(crate) fn of(self, way: Way) -> (usize, u64) {
+        if self.way == way {
             (self.step, self.call)
         } else {
             (STEP, 0)
         }
-    }
-
-    pub(crate) fn of_reads(self) -> (usize, u64) {
-        self.of(self.way.is_read())
-    }
-
-    pub(crate) fn of_writes(self) -> (usize, u64) {
-        self.of(self.way.is_write())
-    }
-
-    pub(crate) fn of_reports(self) -> (usize, u64) {
-        self.of(self.way.is_report())
-    }
-
-    pub(crate) fn way(self) -> Way {
-        self.way
-    }
-
-    pub(crate) fn call(self) -> u64 {
-        self.call
     }
 
     /// Whether its device takes a byte a call.
@@ -153,23 +110,6 @@ impl Failure {
     /// How many calls came before.
     fn before(self) -> usize {
         (self.call as usize).saturating_sub(1)
-    }
-}
-
-impl Breach {
-    fn sentence(self) -> &'static str {
-        match self {
-            Breach::Changed => "something is not as in the sound run",
-            Breach::Cut => "the run is not cut by what failed",
-            Breach::Status => "the status is not that of a failure",
-            Breach::Output => "standard output is not what was to be written before",
-            Breach::File => "a file holds bytes that no sound run gives it",
-            Breach::Unreported => "nothing says what failed",
-            Breach::Line => "a line on standard error says something else",
-            Breach::Written => "a file is told as not written, and was",
-            Breach::Errors => "standard error lacks more than the end of a line",
-            Breach::Calls => "there were not as many calls as bytes",
-        }
     }
 }
 
@@ -209,12 +149,7 @@ fn is_cut_at(part: &[u8], whole: &[u8], place: usize) -> bool {
 
 /// Whether a text is another one that lacks the end of a line.
 fn is_cut_once(part: &[u8], whole: &[u8]) -> bool {
-    for place in 0..part.len().saturating_add(1) {
-        if is_cut_at(part, whole, place) {
-            return true;
-        }
-    }
-    false
+    (0..part.len().saturating_add(1)).any(|place| is_cut_at(part, whole, place))
 }
 
 /// Whether a line says what a package is, or what formats a directory: that depends on why a file can't be opened.
@@ -226,12 +161,8 @@ fn is_hint(line: &[u8]) -> bool {
 
 /// Whether each line of a text but such hints is one of another.
 fn says_no_more(text: &[u8], other: &[u8]) -> bool {
-    for line in text.split(|byte| *byte == b'\n') {
-        if !is_hint(line) && !has_line(other, line) {
-            return false;
-        }
-    }
-    true
+    text.split(|byte| *byte == b'\n')
+        .all(|line| is_hint(line) || has_line(other, line))
 }
 
 /// Whether two texts have the same lines but for such hints.
@@ -297,8 +228,8 @@ impl<'a> Trial<'a> {
         self.sweep(Way::Report, STEP, MOST, page)?;
         let calls = self.sweep(Way::FileBefore, STEP, MOST, page)?;
         for call in 1..calls.saturating_add(1) {
-            self.try_call(Way::FileAfter, STEP, call, page)?;
-            self.try_call(Way::FilesFrom, STEP, call, page)?;
+            self.try_call(Failure::new(Way::FileAfter, call, STEP), page)?;
+            self.try_call(Failure::new(Way::FilesFrom, call, STEP), page)?;
         }
         self.bytewise(Way::Read, self.task.input, page)?;
         self.bytewise(Way::Write, self.sound.out.bytes(), page)?;
@@ -312,18 +243,14 @@ impl<'a> Trial<'a> {
             return Ok(());
         }
         let calls = self.sweep(way, 1, MOST, page)?;
-        let is_whole = if way.is_read() {
+        let is_whole = if way == Way::Read {
             calls == 0 || calls == (text.len() as u64).saturating_add(1)
         } else {
             calls == text.len() as u64
         };
         if !is_whole {
-            let failure = Failure {
-                way,
-                call: calls,
-                step: 1,
-            };
-            self.report(failure, Breach::Calls, page)?;
+            let failure = Failure::new(way, calls, 1);
+            self.report(failure, "there were not as many calls as bytes", page)?;
         }
         Ok(())
     }
@@ -332,7 +259,7 @@ impl<'a> Trial<'a> {
     fn sweep(&self, way: Way, step: usize, last: u64, page: &mut Page) -> Result<u64, CaseFault> {
         let mut met = 0;
         for call in 1..last {
-            if !self.try_call(way, step, call, page)? {
+            if !self.try_call(Failure::new(way, call, step), page)? {
                 return Ok(met);
             }
             met = call;
@@ -341,54 +268,42 @@ impl<'a> Trial<'a> {
     }
 
     /// A run in which this call fails. Whether it met that call.
-    fn try_call(
-        &self,
-        way: Way,
-        step: usize,
-        call: u64,
-        page: &mut Page,
-    ) -> Result<bool, CaseFault> {
-        let failure = Failure { way, call, step };
+    fn try_call(&self, failure: Failure, page: &mut Page) -> Result<bool, CaseFault> {
         let left = self.task.run(self.task.given, failure)?;
-        let is_met = self.is_met(way, &left);
-        let breach = if is_met {
-            self.breach(failure, &left)
+        let is_met = self.is_met(failure.way, &left);
+        let wrong = if is_met {
+            self.wrong(failure, &left)
         } else {
             self.change(&left)
         };
-        if let Some(breach) = breach {
-            self.report(failure, breach, page)?;
+        if let Some(wrong) = wrong {
+            self.report(failure, wrong, page)?;
         }
         Ok(is_met)
     }
 
     /// Whether something failed in a run: it is then cut, or something is missing on standard error.
     fn is_met(&self, way: Way, left: &Left) -> bool {
-        if way.is_report() {
+        if way == Way::Report {
             left.err.bytes() != self.sound.err.bytes()
         } else {
             left.exit.cut != Cut::Whole
         }
     }
 
-    fn report(&self, failure: Failure, breach: Breach, page: &mut Page) -> Result<(), CaseFault> {
-        let (way, call, step) = (failure.way.name(), failure.call, failure.step);
-        let sentence = breach.sentence();
-        let line = format!(in self.task.alloc;
-            "{way}, call {call}, bytes a call {step}: {sentence}"
-        )?;
+    /// Writes what is wrong with what a run left.
+    fn report(&self, failure: Failure, wrong: &str, page: &mut Page) -> Result<(), CaseFault> {
+        let Failure { way, call, step } = failure;
+        let way = way.name();
+        let line = format!(in self.task.alloc; "{way}, call {call}, bytes a call {step}: {wrong}")?;
         Ok(page.line("?", line.as_bytes())?)
     }
 
     /// Whether a run left in its files what the sound one did.
     fn has_sound_files(&self, left: &Left) -> bool {
-        for name in self.names.as_slice() {
-            let name = name.as_str();
-            if left.files.bytes_at(name) != self.sound.files.bytes_at(name) {
-                return false;
-            }
-        }
-        true
+        self.names.iter().all(|name| {
+            left.files.bytes_at(name.as_str()) == self.sound.files.bytes_at(name.as_str())
+        })
     }
 
     /// Whether all but standard error is as in the sound run, and but what it was cut by.
@@ -399,41 +314,41 @@ impl<'a> Trial<'a> {
     }
 
     /// What is wrong where nothing failed.
-    fn change(&self, left: &Left) -> Option<Breach> {
+    fn change(&self, left: &Left) -> Option<&'static str> {
         if self.is_sound_beside(left) && left.err.bytes() == self.sound.err.bytes() {
             None
         } else {
-            Some(Breach::Changed)
+            Some("something is not as in the sound run")
         }
     }
 
     /// What is wrong where something failed.
-    fn breach(&self, failure: Failure, left: &Left) -> Option<Breach> {
+    fn wrong(&self, failure: Failure, left: &Left) -> Option<&'static str> {
         if left.exit.cut != failure.way.cut() {
-            return Some(Breach::Cut);
+            return Some("the run is not cut by what failed");
         }
-        if failure.way.is_report() {
-            return self.breach_of_report(failure, left);
+        if failure.way == Way::Report {
+            return self.wrong_report(failure, left);
         }
         if !self.is_failed(failure.way, left.exit.status) {
-            return Some(Breach::Status);
+            return Some("the status is not that of a failure");
         }
         if !self.is_output(failure, left.out.bytes()) {
-            return Some(Breach::Output);
+            return Some("standard output is not what was to be written before");
         }
         if !self.are_files(left) {
-            return Some(Breach::File);
+            return Some("a file holds bytes that no sound run gives it");
         }
         if self.is_written(failure.way, left) {
-            return Some(Breach::Written);
+            return Some("a file is told as not written, and was");
         }
-        self.breach_of_lines(left)
+        self.wrong_lines(left)
     }
 
     /// A fault of standard error is passed over.
-    fn breach_of_report(&self, failure: Failure, left: &Left) -> Option<Breach> {
+    fn wrong_report(&self, failure: Failure, left: &Left) -> Option<&'static str> {
         if !self.is_sound_beside(left) {
-            return Some(Breach::Changed);
+            return Some("something is not as in the sound run");
         }
         let (reported, whole) = (left.err.bytes(), self.sound.err.bytes());
         let is_cut = if failure.is_bytewise() {
@@ -441,23 +356,27 @@ impl<'a> Trial<'a> {
         } else {
             is_cut_once(reported, whole)
         };
-        if is_cut { None } else { Some(Breach::Errors) }
+        if is_cut {
+            None
+        } else {
+            Some("standard error lacks more than the end of a line")
+        }
     }
 
     /// Whether a status is that of a failure. A file of lines that can't be read is a fault of usage.
     fn is_failed(&self, way: Way, status: u8) -> bool {
         status == self.task.status_of_failure()
-            || status == 1 && !way.is_write() && self.task.has_word("-f")
+            || status == 1 && way != Way::Write && self.task.has_word("-f")
     }
 
     /// Whether this may be on standard output.
     fn is_output(&self, failure: Failure, out: &[u8]) -> bool {
         let whole = self.sound.out.bytes();
-        if failure.way.is_write() {
+        if failure.way == Way::Write {
             return whole.starts_with(out)
                 && (!failure.is_bytewise() || out.len() == failure.before());
         }
-        if failure.way.is_read() && self.task.given.is_empty() {
+        if failure.way == Way::Read && self.task.given.is_empty() {
             return out.is_empty();
         }
         is_within(out, whole)
@@ -492,17 +411,12 @@ impl<'a> Trial<'a> {
 
     /// Whether a file was written that is reported as not written, where no call went well after the failure and no call wrote before.
     fn is_written(&self, way: Way, left: &Left) -> bool {
-        if !matches!(way, Way::FilesFrom) || self.task.has_word("--journal") {
+        if way != Way::FilesFrom || self.task.has_word("--journal") {
             return false;
         }
-        for &(name, before) in self.task.given {
-            if left.files.bytes_at(name) != Some(before)
-                && reports_unwritten(left.err.bytes(), name)
-            {
-                return true;
-            }
-        }
-        false
+        self.task.given.iter().any(|&(name, before)| {
+            left.files.bytes_at(name) != Some(before) && reports_unwritten(left.err.bytes(), name)
+        })
     }
 
     /// Whether a sound run prints this line, or it says that there is no text to go back to, after one that was not opened, or is its hint.
@@ -523,19 +437,19 @@ impl<'a> Trial<'a> {
     }
 
     /// Each line is one of a sound run or says what failed, and one says what failed unless that changed nothing.
-    fn breach_of_lines(&self, left: &Left) -> Option<Breach> {
+    fn wrong_lines(&self, left: &Left) -> Option<&'static str> {
         let mut is_reported = false;
         for line in left.err.bytes().split(|byte| *byte == b'\n') {
             if is_fault_line(line) {
                 is_reported = is_reported || !has_line(self.sound.err.bytes(), line);
             } else if !self.is_known(line) {
-                return Some(Breach::Line);
+                return Some("a line on standard error says something else");
             }
         }
         if is_reported || self.is_unchanged(left) {
             None
         } else {
-            Some(Breach::Unreported)
+            Some("nothing says what failed")
         }
     }
 }

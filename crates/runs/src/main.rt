@@ -23,33 +23,20 @@
 mod failing;
 mod runs;
 
-use crate::runs::RunQuery;
 use anyhow::Result;
-use sheets::{Case, CaseFault, Page, Question, answer};
+use sheets::{Case, CaseFault, Page, Questions, answer};
 
-/// A question about a case.
+/// The questions of the sheet.
 #[derive(Clone, Copy)]
-enum Query {
-    Run(RunQuery),
-    Laws,
-}
+struct RunQuestions;
 
-impl Question for Query {
-    fn named(name: &str) -> Option<Query> {
-        match name {
-            "laws" => Some(Query::Laws),
-            _ => RunQuery::named(name).map(Query::Run),
-        }
-    }
-
+impl Questions for RunQuestions {
     fn answer(self, case: &Case, page: &mut Page) -> Result<(), CaseFault> {
-        match self {
-            Query::Run(query) => query.answer(case, page),
-            Query::Laws => {
-                call_laws();
-                Ok(page.answer(b"called")?)
-            }
+        if case.question.as_str() == "laws" {
+            call_laws();
+            return Ok(page.answer(b"called")?);
         }
+        runs::answer(case, page)
     }
 }
 
@@ -66,5 +53,5 @@ fn call_laws() {
 }
 
 fn main(rt: HostRuntime) -> Result<()> {
-    answer::<Query>(&rt)
+    answer(&rt, RunQuestions)
 }

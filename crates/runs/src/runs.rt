@@ -7,20 +7,11 @@ use bz_items::Memory;
 use sheets::{Case, CaseFault, Page, utf8_of};
 use std::alloc::Global;
 
-/// A question about a run.
-#[derive(Clone, Copy)]
-pub(crate) enum RunQuery {
-    Buildifier,
-    Buildozer,
-    Words,
-    Status,
-}
-
 /// A run that is wanted: of which program, by which words, over which standard input and files.
 #[derive(Clone, Copy)]
 pub(crate) struct Task<'a> {
     pub(crate) alloc: Global,
-    program: RunQuery,
+    is_buildifier: bool,
     words: &'a [&'a str],
     pub(crate) input: &'a [u8],
     pub(crate) given: &'a [(&'a str, &'a [u8])],
@@ -37,107 +28,78 @@ pub(crate) struct Left {
     pub(crate) moments: usize,
 }
 
-/// How a run ends, and what it writes.
-#[derive(Drop)]
-struct Ended {
-    exit: Exit,
-    out: MemorySink,
-    err: MemorySink,
-}
-
-impl RunQuery {
-    pub(crate) fn named(name: &str) -> Option<RunQuery> {
-        match name {
-            "buildifier" => Some(RunQuery::Buildifier),
-            "buildozer" => Some(RunQuery::Buildozer),
-            "words" => Some(RunQuery::Words),
-            "status" => Some(RunQuery::Status),
-            _ => None,
-        }
+/// Writes what a run leaves over the standard input and the files of the case; then each file that it changed.
+pub(crate) fn answer(case: &Case, page: &mut Page) -> Result<(), CaseFault> {
+    let alloc = case.alloc;
+    let question = case.question.as_str();
+    let (line, place) = match question {
+        "buildifier" | "buildozer" => (case.argument()?, 0),
+        "words" | "status" => (case.text(0)?, 1),
+        _ => return Err(CaseFault::Sheet("no such question")),
+    };
+    let words = words_of(alloc, line)?;
+    let given = files_of(case, place + 1)?;
+    let task = Task {
+        alloc,
+        is_buildifier: question == "buildifier",
+        words: words.as_slice(),
+        input: case.given_text(place)?,
+        given: given.as_slice(),
+    };
+    let left = task.run(task.given, SOUND)?;
+    if question == "status" {
+        left.show_status(alloc, page)?;
+    } else {
+        left.show(alloc, page)?;
     }
-
-    /// Writes what a run leaves over the standard input and the files of the case; then each file that it changed.
-    pub(crate) fn answer(self, case: &Case, page: &mut Page) -> Result<(), CaseFault> {
-        let alloc = case.alloc;
-        let (line, place) = match self {
-            RunQuery::Buildifier | RunQuery::Buildozer => (case.argument()?, 0),
-            RunQuery::Words | RunQuery::Status => (case.text(0)?, 1),
-        };
-        let words = words_of(alloc, line)?;
-        let input = case.given_text(place)?;
-        let given = files_of(case, place + 1)?;
-        let task = Task {
-            alloc,
-            program: self,
-            words: words.as_slice(),
-            input,
-            given: given.as_slice(),
-        };
-        let left = task.run(given.as_slice(), SOUND)?;
-        match self {
-            RunQuery::Status => left.show_status(alloc, page)?,
-            _ => left.show(alloc, page)?,
-        }
-        show_changed(given.as_slice(), &left.files, page)?;
-        Trial::new(task, left)?.try_all(page)
-    }
-
-    /// Whether the program is buildifier.
-    fn is_buildifier(self) -> bool {
-        matches!(self, RunQuery::Buildifier)
-    }
+    show_changed(task.given, &left.files, page)?;
+    Trial::new(task, left)?.try_all(page)
 }
 
 impl Task<'_> {
     /// A run over these files, in which this call fails. The error: memory was refused for the files.
     pub(crate) fn run(self, given: &[(&str, &[u8])], failure: Failure) -> Result<Left, Memory> {
         let mut files = MemoryFiles::of(self.alloc, given)?;
+        match failure.way {
+            Way::FileBefore => files.fail_at(failure.call),
+            Way::FileAfter => files.fail_after(failure.call),
+            Way::FilesFrom => files.stop_at(failure.call),
+            Way::Read | Way::Write | Way::Report => {}
+        }
+        Ok(self.end(failure, files))
+    }
+
+    /// The run of the program, of which nothing has to be known here.
+    fn end(self, failure: Failure, mut files: MemoryFiles) -> Left {
         let moments = files.moments();
-        plan(failure, &mut files);
-        let Ended { exit, out, err } = self.end(failure, &mut files);
-        Ok(Left {
+        let (step, call) = failure.of(Way::Read);
+        let mut source = MemorySource::new(self.input, step, call);
+        let (step, call) = failure.of(Way::Write);
+        let mut out = MemorySink::new(self.alloc, step, call);
+        let (step, call) = failure.of(Way::Report);
+        let mut err = MemorySink::new(self.alloc, step, call);
+        let (alloc, words) = (self.alloc, self.words);
+        let exit = if self.is_buildifier {
+            buildifier(alloc, words, &mut source, &mut out, &mut err, &mut files)
+        } else {
+            buildozer(alloc, words, &mut source, &mut out, &mut err, &mut files)
+        };
+        Left {
             exit,
             out,
             err,
             files,
             moments,
-        })
-    }
-
-    /// The run of the program, of which nothing has to be known here.
-    fn end(self, failure: Failure, files: &mut MemoryFiles) -> Ended {
-        let alloc = self.alloc;
-        let (step, call) = failure.of_reads();
-        let mut source = MemorySource::new(self.input, step, call);
-        let (step, call) = failure.of_writes();
-        let mut out = MemorySink::new(alloc, step, call);
-        let (step, call) = failure.of_reports();
-        let mut err = MemorySink::new(alloc, step, call);
-        let exit = if self.program.is_buildifier() {
-            buildifier(alloc, self.words, &mut source, &mut out, &mut err, files)
-        } else {
-            buildozer(alloc, self.words, &mut source, &mut out, &mut err, files)
-        };
-        Ended { exit, out, err }
+        }
     }
 
     /// The status of a run in which something failed.
     pub(crate) fn status_of_failure(self) -> u8 {
-        if self.program.is_buildifier() { 3 } else { 2 }
+        if self.is_buildifier { 3 } else { 2 }
     }
 
     pub(crate) fn has_word(self, wanted: &str) -> bool {
         self.words.iter().any(|word| *word == wanted)
-    }
-}
-
-/// Makes a call of the files fail, where one of them is to.
-fn plan(failure: Failure, files: &mut MemoryFiles) {
-    match failure.way() {
-        Way::FileBefore => files.fail_at(failure.call()),
-        Way::FileAfter => files.fail_after(failure.call()),
-        Way::FilesFrom => files.stop_at(failure.call()),
-        Way::Read | Way::Write | Way::Report => {}
     }
 }
 
@@ -195,12 +157,10 @@ fn words_of(alloc: Global, line: &str) -> Result<Vec<&str>, Memory> {
 impl Left {
     /// Whether a file held these bytes at some moment from the beginning of the run on.
     pub(crate) fn has_held(&self, name: &str, bytes: Option<&[u8]>) -> bool {
-        for moment in self.moments..self.files.moments().saturating_add(1) {
-            if self.files.bytes_then(moment, name) == bytes {
-                return true;
-            }
-        }
-        false
+        (self.moments..self.files.moments().saturating_add(1)).any(|moment| self
+            .files
+            .bytes_then(moment, name)
+            == bytes)
     }
 
     /// Writes the status, and where the run was cut.

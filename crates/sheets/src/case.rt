@@ -1,14 +1,16 @@
 //! A case as the questions see it.
 use bz_items::{Memory, at};
 use std::alloc::Global;
-use std::str::Utf8Error;
+use std::str::{FromStr, Utf8Error};
 
-/// Why a case has no answer.
+/// Why a case has no answer but this.
 #[derive(Drop)]
 pub enum CaseFault {
     /// A growth was refused.
     Memory,
-    /// The sheet is not written as it should be: why.
+    /// What the case is about is refused; why, which is the answer.
+    Refused(String),
+    /// The sheet is not written as it should be, or what it is about is not as it should be: why.
     Sheet(&'static str),
 }
 
@@ -24,10 +26,11 @@ impl From<Utf8Error> for CaseFault {
     }
 }
 
-/// The texts of a case, their escapes taken away, and the argument of its question.
+/// The name of the question of a case and its argument, and the texts of the case. Of these two the escapes are taken away.
 #[derive(Drop)]
 pub struct Case {
     pub alloc: Global,
+    pub question: String,
     pub argument: Vec<u8>,
     pub texts: Vec<Vec<u8>>,
 }
@@ -35,6 +38,17 @@ pub struct Case {
 /// The text of bytes that have to be UTF-8.
 pub fn utf8_of(bytes: &[u8]) -> Result<&str, CaseFault> {
     Ok(str::from_utf8(bytes)?)
+}
+
+/// The number that a word says.
+pub fn number_of<N: FromStr>(word: &str) -> Result<N, CaseFault>
+where
+    N::Err: Drop,
+{
+    match word.parse::<N>() {
+        Ok(number) => Ok(number),
+        Err(_) => Err(CaseFault::Sheet("no number")),
+    }
 }
 
 impl Case {
@@ -46,7 +60,12 @@ impl Case {
         }
     }
 
-    /// The same of a text that has to be UTF-8.
+    /// The last text.
+    pub fn last_text(&self) -> Result<&[u8], CaseFault> {
+        self.given_text(self.texts.len().saturating_sub(1))
+    }
+
+    /// The text at this place, which has to be UTF-8.
     pub fn text(&self, place: usize) -> Result<&str, CaseFault> {
         utf8_of(self.given_text(place)?)
     }

@@ -84,56 +84,35 @@ pub(crate) fn push_escaped(written: &mut String, bytes: &[u8]) -> Result<(), Mem
     Ok(())
 }
 
-/// The same of a text.
+/// The same of a text. At its end a space cannot be seen.
 fn push_text(written: &mut String, text: &str) -> Result<(), Memory> {
-    let mut run = Run {
-        character: ' ',
-        count: 0,
+    let (seen, end) = match text.strip_suffix(' ') {
+        Some(front) => (front, "`s`"),
+        None => (text, ""),
     };
-    for character in text.chars() {
-        if character != run.character {
-            run.push(written)?;
-            run = Run {
-                character,
-                count: 0,
-            };
+    let mut last = ' ';
+    let mut count = 0;
+    for character in seen.chars() {
+        if character != last {
+            push_run(written, last, count)?;
+            last = character;
+            count = 0;
         }
-        run.count = run.count.saturating_add(1);
+        count = count.saturating_add(1);
     }
-    run.push_last(written)
+    push_run(written, last, count)?;
+    written.push_str(end)
 }
 
-/// A character that is this many times in a row.
-#[derive(Clone, Copy)]
-struct Run {
-    character: char,
-    count: usize,
-}
-
-impl Run {
-    fn push(self, written: &mut String) -> Result<(), Memory> {
-        let Run { character, count } = self;
-        if count >= LONG && character != '`' && !is_hidden(character) {
-            return write!(written, "`{count}*{character}`");
-        }
-        for _ in 0..count {
-            push_character(written, character)?;
-        }
-        Ok(())
+/// Appends a character this many times.
+fn push_run(written: &mut String, character: char, count: usize) -> Result<(), Memory> {
+    if count >= LONG && character != '`' && !is_hidden(character) {
+        return write!(written, "`{count}*{character}`");
     }
-
-    /// At the end of a line a space cannot be seen.
-    fn push_last(self, written: &mut String) -> Result<(), Memory> {
-        if self.character != ' ' || self.count == 0 {
-            return self.push(written);
-        }
-        let others = Run {
-            character: ' ',
-            count: self.count - 1,
-        };
-        others.push(written)?;
-        written.push_str("`s`")
+    for _ in 0..count {
+        push_character(written, character)?;
     }
+    Ok(())
 }
 
 /// Whether a character is seen as none.

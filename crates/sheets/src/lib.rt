@@ -25,7 +25,7 @@ mod page;
 mod process;
 mod sheet;
 
-pub use case::{Case, CaseFault, utf8_of};
+pub use case::{Case, CaseFault, number_of, utf8_of};
 pub use page::Page;
 pub use process::{answer, input};
-pub use sheet::{Question, answer_sheet};
+pub use sheet::{Questions, answer_sheet};

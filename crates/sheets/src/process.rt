@@ -1,5 +1,5 @@
 //! A process that answers the sheet on its standard input.
-use crate::sheet::{Question, answer_sheet};
+use crate::sheet::{Questions, answer_sheet};
 use anyhow::Result;
 use std::io;
 use std::io::{Read, Write};
@@ -13,9 +13,9 @@ pub fn input(rt: &HostRuntime) -> io::Result<Vec<u8>> {
 
 /// Answers the sheet that is standard input, and writes it to standard output. Errors: one of both failed, the sheet is not UTF-8,
 /// or a growth was refused.
-pub fn answer<Q: Question>(rt: &HostRuntime) -> Result<()> {
+pub fn answer<Q: Questions>(rt: &HostRuntime, questions: Q) -> Result<()> {
     let sheet = input(rt)?;
-    let page = answer_sheet::<Q>(rt.alloc(), str::from_utf8(&sheet)?)?;
+    let page = answer_sheet(rt.alloc(), str::from_utf8(&sheet)?, questions)?;
     rt.stdout().write_all(page.as_bytes())?;
     Ok(())
 }

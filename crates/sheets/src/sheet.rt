@@ -5,46 +5,15 @@ use crate::page::Page;
 use bz_items::Memory;
 use std::alloc::{AllocError, Global};
 
-/// What a line of a sheet is, and what is after its mark.
-#[derive(Clone, Copy)]
-enum Line<'a> {
-    Remark,
-    Question(&'a str),
-    Case(&'a str),
-    Further(&'a str),
-    Next(&'a str),
-}
-
 /// What is after a mark and a space.
 fn following(line: &str, mark: char) -> Option<&str> {
     let text = line.strip_prefix(mark)?;
     Some(text.strip_prefix(' ').unwrap_or(text))
 }
 
-impl<'a> Line<'a> {
-    fn read(line: &'a str) -> Line<'a> {
-        if let Some(text) = following(line, '>') {
-            return Line::Case(text);
-        }
-        if let Some(text) = following(line, '&') {
-            return Line::Further(text);
-        }
-        if let Some(text) = following(line, '|') {
-            return Line::Next(text);
-        }
-        if line.is_empty() || line.starts_with('#') {
-            return Line::Remark;
-        }
-        Line::Question(line)
-    }
-}
-
-/// A question that a sheet can have for its cases.
-pub trait Question: Copy {
-    /// The question of this name.
-    fn named(name: &str) -> Option<Self>;
-
-    /// Writes the answer at a case.
+/// The questions that a sheet can have for its cases.
+pub trait Questions: Copy {
+    /// Writes the answer to the question of a case.
     fn answer(self, case: &Case, page: &mut Page) -> Result<(), CaseFault>;
 }
 
@@ -58,10 +27,11 @@ enum Owner {
 
 /// A sheet that is read line by line: the question that is answered, the case that is read, and the answers so far.
 #[derive(Drop)]
-struct Reader<Q: Question> {
+struct Reader<Q: Questions> {
     alloc: Global,
-    question: Option<Q>,
-    argument: String,
+    questions: Q,
+    // The question as it is written, with its argument.
+    question: String,
     // Texts that go with each case.
     shared: Vec<String>,
     texts: Vec<String>,
@@ -70,11 +40,15 @@ struct Reader<Q: Question> {
 }
 
 /// The sheet with its answers put in. The error: a growth was refused.
-pub fn answer_sheet<Q: Question>(alloc: Global, sheet: &str) -> Result<Page, Memory> {
-    let mut reader = Reader::<Q> {
+pub fn answer_sheet<Q: Questions>(
+    alloc: Global,
+    sheet: &str,
+    questions: Q,
+) -> Result<Page, Memory> {
+    let mut reader = Reader {
         alloc,
-        question: None,
-        argument: String::new(alloc),
+        questions,
+        question: String::new(alloc),
         shared: Vec::new(alloc),
         texts: Vec::new(alloc),
         owner: Owner::Nothing,
@@ -96,29 +70,26 @@ fn append_line(texts: &mut Vec<String>, line: &str) -> Result<(), Memory> {
     Ok(())
 }
 
-impl<Q: Question> Reader<Q> {
+impl<Q: Questions> Reader<Q> {
     fn read(&mut self, line: &str) -> Result<(), Memory> {
-        let read = Line::read(line);
-        if !matches!(read, Line::Further(_) | Line::Next(_)) {
-            self.end_case()?;
+        if let Some(text) = following(line, '&') {
+            self.page.copy(line)?;
+            return self.begin_text(text);
         }
+        if let Some(text) = following(line, '|') {
+            self.page.copy(line)?;
+            return self.go_on(text);
+        }
+        self.end_case()?;
         self.page.copy(line)?;
-        match read {
-            Line::Remark => Ok(()),
-            Line::Question(question) => self.pose(question),
-            Line::Case(text) => {
-                self.owner = Owner::Case;
-                self.begin_text(text)
-            }
-            Line::Further(text) => self.begin_text(text),
-            Line::Next(text) => self.go_on(text),
+        if let Some(text) = following(line, '>') {
+            self.owner = Owner::Case;
+            return self.begin_text(text);
         }
-    }
-
-    fn pose(&mut self, question: &str) -> Result<(), Memory> {
-        let (name, argument) = question.split_once(' ').unwrap_or((question, ""));
-        self.question = Q::named(name);
-        self.argument = String::from_str(self.alloc, argument)?;
+        if line.is_empty() || line.starts_with('#') {
+            return Ok(());
+        }
+        self.question = String::from_str(self.alloc, line)?;
         self.shared.clear();
         self.owner = Owner::Question;
         Ok(())
@@ -154,24 +125,25 @@ impl<Q: Question> Reader<Q> {
         match answer {
             Ok(()) => Ok(()),
             Err(CaseFault::Memory) => Err(AllocError),
+            Err(CaseFault::Refused(why)) => self.page.answer(why.as_bytes()),
             Err(CaseFault::Sheet(why)) => self.page.line("?", why.as_bytes()),
         }
     }
 
     fn answer(&mut self) -> Result<(), CaseFault> {
-        let Some(question) = self.question else {
-            return Err(CaseFault::Sheet("no such question"));
-        };
         let mut texts = Vec::new(self.alloc);
         for text in self.texts.iter().chain(self.shared.iter()) {
             let text = unescaped(self.alloc, text.as_str())?;
             texts.push(text).map_err(Memory::from)?;
         }
+        let line = self.question.as_str();
+        let (question, argument) = line.split_once(' ').unwrap_or((line, ""));
         let case = Case {
             alloc: self.alloc,
-            argument: unescaped(self.alloc, self.argument.as_str())?,
+            question: String::from_str(self.alloc, question)?,
+            argument: unescaped(self.alloc, argument)?,
             texts,
         };
-        question.answer(&case, &mut self.page)
+        self.questions.answer(&case, &mut self.page)
     }
 }
