@@ -15,6 +15,7 @@ enum Failure {
 }
 
 /// A run over files, and what it leaves.
+#[derive(Clone, Copy)]
 struct Row {
     why: &'static str,
     program: Program,
@@ -34,138 +35,107 @@ const FORMATTED: &[u8] = b"x = 1\n";
 
 const RULE: &[u8] = b"f(name=\"x\")\n";
 
+/// A run of buildifier in which a call fails, and the second file is formatted nevertheless.
+const GOES_ON: Row = Row {
+    why: "",
+    program: Program::Buildifier,
+    words: &["f", "g"],
+    before: &[("f", ODD), ("g", ODD)],
+    failure: Failure::Nothing,
+    cut: Cut::Files,
+    status: 3,
+    after: &[("f", ODD), ("g", FORMATTED)],
+    written: 1,
+};
+
+/// A run of buildifier in which no call fails, and which leaves both files formatted.
+const FORMATS: Row = Row {
+    cut: Cut::Whole,
+    status: 0,
+    after: &[("f", FORMATTED), ("g", FORMATTED)],
+    ..GOES_ON
+};
+
+/// A run of buildozer in which a call fails, and the package stays.
+const STAYS: Row = Row {
+    program: Program::Buildozer,
+    words: &["delete", "//a:x"],
+    before: &[("a/BUILD", RULE)],
+    status: 2,
+    after: &[("a/BUILD", RULE)],
+    written: 0,
+    ..GOES_ON
+};
+
 static ROWS: [Row; 12] = [
     Row {
         why: "check writes none",
-        program: Program::Buildifier,
         words: &["--mode=check", "f", "g"],
         before: &[("f", ODD), ("g", FORMATTED)],
-        failure: Failure::Nothing,
-        cut: Cut::Whole,
         status: 4,
         after: &[("f", ODD), ("g", FORMATTED)],
         written: 0,
+        ..FORMATS
     },
     Row {
         why: "a file that differs is written once",
-        program: Program::Buildifier,
-        words: &["f", "g"],
         before: &[("f", ODD), ("g", FORMATTED)],
-        failure: Failure::Nothing,
-        cut: Cut::Whole,
-        status: 0,
-        after: &[("f", FORMATTED), ("g", FORMATTED)],
-        written: 1,
+        ..FORMATS
     },
     Row {
         why: "formatted files are left",
-        program: Program::Buildifier,
-        words: &["f", "g"],
         before: &[("f", FORMATTED), ("g", FORMATTED)],
-        failure: Failure::Nothing,
-        cut: Cut::Whole,
-        status: 0,
-        after: &[("f", FORMATTED), ("g", FORMATTED)],
         written: 0,
+        ..FORMATS
     },
     Row {
         why: "behind a read that fails the run goes on",
-        program: Program::Buildifier,
-        words: &["f", "g"],
-        before: &[("f", ODD), ("g", ODD)],
         failure: Failure::At(1),
-        cut: Cut::Files,
-        status: 3,
-        after: &[("f", ODD), ("g", FORMATTED)],
-        written: 1,
+        ..GOES_ON
     },
     Row {
         why: "behind a second read that fails the run goes on",
-        program: Program::Buildifier,
-        words: &["f", "g"],
-        before: &[("f", ODD), ("g", ODD)],
         failure: Failure::At(2),
-        cut: Cut::Files,
-        status: 3,
-        after: &[("f", ODD), ("g", FORMATTED)],
-        written: 1,
+        ..GOES_ON
     },
     Row {
         why: "behind a write that fails the run goes on",
-        program: Program::Buildifier,
-        words: &["f", "g"],
-        before: &[("f", ODD), ("g", ODD)],
         failure: Failure::At(5),
-        cut: Cut::Files,
-        status: 3,
-        after: &[("f", ODD), ("g", FORMATTED)],
-        written: 1,
+        ..GOES_ON
     },
     Row {
         why: "a run makes six calls where the first is refused",
-        program: Program::Buildifier,
-        words: &["f", "g"],
-        before: &[("f", ODD), ("g", ODD)],
         failure: Failure::RefusedAndFrom(7),
-        cut: Cut::Files,
-        status: 3,
-        after: &[("f", ODD), ("g", FORMATTED)],
-        written: 1,
+        ..GOES_ON
     },
     Row {
         why: "the sixth of them writes",
-        program: Program::Buildifier,
-        words: &["f", "g"],
-        before: &[("f", ODD), ("g", ODD)],
         failure: Failure::RefusedAndFrom(6),
-        cut: Cut::Files,
-        status: 3,
         after: &[("f", ODD), ("g", ODD)],
         written: 0,
+        ..GOES_ON
     },
     Row {
         why: "a package of which BUILD.bazel fails is edited in BUILD",
-        program: Program::Buildozer,
-        words: &["delete", "//a:x"],
-        before: &[("a/BUILD", RULE)],
         failure: Failure::At(1),
-        cut: Cut::Files,
-        status: 2,
         after: &[("a/BUILD", b"")],
         written: 1,
+        ..STAYS
     },
     Row {
         why: "a package that is not read stays",
-        program: Program::Buildozer,
-        words: &["delete", "//a:x"],
-        before: &[("a/BUILD", RULE)],
         failure: Failure::At(2),
-        cut: Cut::Files,
-        status: 2,
-        after: &[("a/BUILD", RULE)],
-        written: 0,
+        ..STAYS
     },
     Row {
         why: "a package that is not read again stays",
-        program: Program::Buildozer,
-        words: &["delete", "//a:x"],
-        before: &[("a/BUILD", RULE)],
         failure: Failure::At(3),
-        cut: Cut::Files,
-        status: 2,
-        after: &[("a/BUILD", RULE)],
-        written: 0,
+        ..STAYS
     },
     Row {
         why: "a package that is not written stays",
-        program: Program::Buildozer,
-        words: &["delete", "//a:x"],
-        before: &[("a/BUILD", RULE)],
         failure: Failure::At(6),
-        cut: Cut::Files,
-        status: 2,
-        after: &[("a/BUILD", RULE)],
-        written: 0,
+        ..STAYS
     },
 ];
 
@@ -185,12 +155,8 @@ impl Failure {
 
 /// Whether these files have these bytes, and there is no other one beside the package's.
 fn stand(files: &MemoryFiles, texts: &[(&str, &[u8])]) -> bool {
-    for &(name, bytes) in texts {
-        if files.bytes_at(name) != Some(bytes) {
-            return false;
-        }
-    }
-    files.bytes_at("a/BUILD.bazel").is_none()
+    let is_there = |&(name, bytes): &(&str, &[u8])| files.bytes_at(name) == Some(bytes);
+    texts.iter().all(is_there) && files.bytes_at("a/BUILD.bazel").is_none()
 }
 
 /// Whether a run over the row's files leaves what is in the row.
