@@ -6,12 +6,10 @@ use Rattle.std.proofs.lemmas.Bool.{cases_Bool}
 use Rattle.bz_grammar.specs.declared.kind.Kind.TheVariants as k
 use Rattle.bz_grammar.specs.Shapes.{is_kind}
 use Rattle.bz_value.specs.declared.value.Form.{Form}
-use Rattle.bz_value.specs.declared.value.Expr.{Expr}
+use Rattle.bz_attribute.specs.Words.{Expr, Bytes, has_kind, parts_of, with_parts, on_third}
 use Rattle.bz_value.specs.declared.value.Expr.TheVariants as e
-use Rattle.bz_items.specs.Characters.{Bytes}
 use Rattle.bz_token.specs.declared.class.Class.TheVariants as c
 use Rattle.bz_rule.specs.Rules.{is_text, text_in, value_after, value_named}
-use Rattle.bz_rule.specs.Values.{has_kind, parts_of, with_parts, on_third}
 use Rattle.bz_rule.proofs.ProperChanges.{by_test}
 use Rattle.bz_attribute.specs.Attributes.{is_attribute, on_first_that, without_first, on_value, with_value, without}
 use Rattle.bz_attribute.proofs.FormsAgain.{if_false, row_changed, row_twice, own_value, value_changed, three_parts}

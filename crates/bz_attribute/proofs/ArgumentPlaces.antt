@@ -11,8 +11,7 @@ use Rattle.std.proofs.lemmas.List.Edits.{insert_end}
 use Rattle.std.proofs.Math.Seq.{take-append_seam}
 use Rattle.std.proofs.lemmas.Option.{get_or_from_slice_get}
 use Rattle.bz_grammar.specs.declared.kind.Kind.TheVariants as k
-use Rattle.bz_value.specs.declared.value.Expr.{Expr}
-use Rattle.bz_rule.specs.Values.{has_kind}
+use Rattle.bz_attribute.specs.Words.{Expr, has_kind}
 use Rattle.bz_attribute.specs.Attributes.{on_first_that, without_first, inserted}
 
 -- i is the index of the first element that passes

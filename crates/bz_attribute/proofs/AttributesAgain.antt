@@ -5,12 +5,10 @@ use Rattle.std.specs.Option.{option_or}
 use Rattle.std.proofs.lemmas.Bool.{or_parts}
 use Rattle.std.proofs.lemmas.Slice.Eq.{bytes_eq-Decides}
 use Rattle.bz_token.specs.declared.class.Class.TheVariants as c
-use Rattle.bz_grammar.specs.declared.kind.Kind.{Kind}
+use Rattle.bz_attribute.specs.Words.{Kind, Bytes, has_kind, parts_of, on_third}
 use Rattle.bz_grammar.specs.declared.kind.Kind.TheVariants as k
 use Rattle.bz_value.specs.declared.value.Expr.{Expr, items_hidden-the_row-Expr-0}
-use Rattle.bz_items.specs.Characters.{Bytes}
 use Rattle.bz_rule.specs.Rules.{text_in, is_text, value_after, value_named, attribute}
-use Rattle.bz_rule.specs.Values.{has_kind, parts_of, on_third}
 use Rattle.bz_rule.proofs.ProperChanges.{by_test}
 use Rattle.bz_attribute.specs.Attributes.{Arguments, by_value, is_attribute, has_attribute, on_value, with_value, without, inserted, with_new}
 use Rattle.bz_attribute.specs.Made.{node, mark, argument_of}

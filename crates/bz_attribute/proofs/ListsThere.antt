@@ -4,12 +4,10 @@ use Rattle.std.specs.Prelude.{if◌then◌else◌}
 use Rattle.std.specs.List.{list_any, filter, flat_map}
 use Rattle.std.proofs.lemmas.List.{append-nil}
 use Rattle.std.proofs.lemmas.List.Folds.{list_any-append}
-use Rattle.bz_grammar.specs.declared.kind.Kind.{Kind}
+use Rattle.bz_attribute.specs.Words.{Kind, has_kind, parts_of, items_of, is_empty}
 use Rattle.bz_grammar.specs.declared.kind.Kind.TheVariants as k
 use Rattle.bz_grammar.specs.Shapes.{is_kind}
 use Rattle.bz_value.specs.declared.value.Expr.{Expr, Token, Form'}
-use Rattle.bz_rule.specs.Values.{has_kind, parts_of, items_of}
-use Rattle.bz_value.specs.Empty.{is_empty}
 use Rattle.bz_attribute.specs.Lists.{has_lists, items_in, listed}
 
 some_step : {X : Type 0} (b c : Bool) (x : X) (xs : List X) → not (is_empty xs) ≡ c → not (is_empty (if b then x ∷ xs else xs)) ≡ (b || c)

@@ -4,12 +4,9 @@ use Rattle.std.specs.Prelude.{IfSome, IfOk, Option, Some, None}
 use Rattle.std.specs.List.{AllByRecursion}
 use Rattle.bz_grammar.specs.declared.kind.Kind.TheVariants as k
 use Rattle.bz_grammar.specs.Shapes as s
-use Rattle.bz_value.specs.declared.value.Expr.{Expr}
+use Rattle.bz_attribute.specs.Words.{Expr, Bytes, has_kind, on_third, attribute}
 use Rattle.bz_value.specs.LineShapes.{Grammar}
-use Rattle.bz_items.specs.Characters.{Bytes}
 use Rattle.bz_command_syntax.specs.Proper.{IsAttribute}
-use Rattle.bz_rule.specs.Values.{has_kind, on_third}
-use Rattle.bz_rule.specs.Rules.{attribute}
 use Rattle.bz_rule.proofs.ProperArguments.{argument_changed, attribute_value, value_kept}
 use Rattle.bz_rule.proofs.ProperChanges.{by_test, Stays, EachStays}
 use Rattle.bz_rule.proofs.ProperForms.{EachInPlace, itself, none, both, all_itself}

@@ -3,21 +3,16 @@ use Rattle.std.proofs.Common.{◌≡◌, ◌<◌, ℕ, Bool, true, false, ◌&&�
 use Rattle.std.specs.Prelude.{IsUtf8, codes, nat_lt, nat_eq}
 use Rattle.std.specs.List.{AllByRecursion, slice_split}
 use Rattle.std.proofs.lemmas.List.Elements.{All-nil}
-use Rattle.bz_token.specs.declared.class.Class.{Class}
+use Rattle.bz_attribute.specs.Words.{Class, Kind, is_label_attribute, shortened, no_comments, Bytes, full_stop, quoted_of, has_kind, on_row}
 use Rattle.bz_token.specs.declared.class.Class.TheVariants as c
 use Rattle.bz_token.specs.Lexemes.{IsLexeme, is_mark}
-use Rattle.bz_grammar.specs.declared.kind.Kind.{Kind}
 use Rattle.bz_grammar.specs.declared.kind.Kind.TheVariants as k
 use Rattle.bz_grammar.specs.Shapes as s
 use Rattle.bz_grammar.specs.Shapes.{Fits, Listed, rank, is_kind}
 use Rattle.bz_grammar.specs.Legal.{IsNonterminal}
 use Rattle.bz_grammar.specs.Spots.{Spot, Begins, Within}
-use Rattle.bz_label.specs.Tables.{is_label_attribute}
-use Rattle.bz_label.specs.Read.{shortened}
 use Rattle.bz_value.specs.declared.value.Form.{Form}
 use Rattle.bz_value.specs.declared.value.Expr.{Expr, Token, Form'}
-use Rattle.bz_value.specs.Comments.{no_comments}
-use Rattle.bz_items.specs.Characters.{Bytes, full_stop}
 use Rattle.bz_value.specs.Frames.{Frame, row, frame, is_binary}
 use Rattle.bz_value.specs.Proper.{IsComment, AreComments, comments_of, has_break, in_frame, is_operator_class, is_operator, after_expr, ProperExpr, IsProperItemIn}
 use Rattle.bz_value.specs.LineShapes.{Grammar, value_shape}
@@ -25,11 +20,9 @@ use Rattle.bz_value.specs.Roots.{root, row_in}
 use Rattle.bz_value.specs.Roots as r
 use Rattle.bz_value.proofs.FormParts.{ArePartsBy, AsRowBy, AsSequenceBy, AsCompoundBy, form_proper_by}
 use Rattle.bz_command_syntax.specs.Proper.{AreUtf8, IsAttribute, IsKind}
-use Rattle.bz_command_syntax.specs.Quoted.{quoted_of}
 use Rattle.bz_command_syntax.proofs.NameTests.{identifiers_are_names}
 use Rattle.bz_command_syntax.proofs.Strings.{quoted_lexeme}
 use Rattle.bz_command_syntax.proofs.Utf8Texts.{quoted_utf8}
-use Rattle.bz_rule.specs.Values.{has_kind, on_row}
 use Rattle.bz_rule.proofs.ProperChanges.{by_test, by_case, Strung}
 use Rattle.bz_rule.proofs.Opened.{made}
 use Rattle.bz_rule.proofs.ProperItems.{IsValue, KeepsRow, row_within, value_within}

@@ -1,11 +1,7 @@
 -- The arguments of a rule, changed. An attribute is a named argument; of several with one name the first is meant.
 use Rattle.std.specs.Prelude.{Bool, not, ◌&&◌, List, [], ◌∷◌, Option, Some, None, Result, codes, if◌then◌else◌, is_some}
 use Rattle.bz_grammar.specs.declared.kind.Kind.TheVariants as k
-use Rattle.bz_value.specs.declared.value.Expr.{Expr}
-use Rattle.bz_items.specs.Characters.{Bytes}
-use Rattle.bz_rule.specs.Rules.{value_named, attribute}
-use Rattle.bz_rule.specs.Values.{has_kind, on_row, on_third}
-use Rattle.bz_value.specs.declared.refusal.Refusal.{Refusal}
+use Rattle.bz_attribute.specs.Words.{Expr, Bytes, value_named, attribute, has_kind, on_row, on_third, Refusal}
 use Rattle.bz_attribute.specs.Made.{argument_of}
 
 abbrev pub is_attribute : Bytes → Expr → Bool

@@ -4,14 +4,7 @@ use Rattle.std.specs.List.{filter, flat_map, list_any}
 use Rattle.std.specs.Option.{option_and_then, option_map_or}
 use Rattle.bz_token.specs.declared.class.Class.TheVariants as c
 use Rattle.bz_grammar.specs.declared.kind.Kind.TheVariants as k
-use Rattle.bz_label.specs.Tables.{is_label_attribute}
-use Rattle.bz_label.specs.Read.{is_same, shortened}
-use Rattle.bz_value.specs.declared.value.Expr.{Expr}
-use Rattle.bz_items.specs.Characters.{Bytes}
-use Rattle.bz_rule.specs.Rules.{body, text_in}
-use Rattle.bz_rule.specs.Values.{has_kind, has_class, parts_of, items_of, with_text, on_row, on_items}
-use Rattle.bz_command_syntax.specs.Quoted.{quoted_of}
-use Rattle.bz_value.specs.Empty.{is_empty}
+use Rattle.bz_attribute.specs.Words.{is_label_attribute, is_same, shortened, Expr, Bytes, body, text_in, has_kind, has_class, parts_of, items_of, with_text, on_row, on_items, quoted_of, is_empty}
 use Rattle.bz_attribute.specs.Attributes.{on_first_that}
 
 abbrev pub lists_of : Expr → List Expr

@@ -1,21 +1,11 @@
 -- New parts of a file value: no comments, no sequence split, no break.
 use Rattle.std.specs.Prelude.{Bool, false, List, [], ◌∷◌, ◌++◌, codes, if◌then◌else◌, nat_eq, nat_lt}
 use Rattle.std.specs.List.{slice_split}
-use Rattle.bz_token.specs.declared.class.Class.{Class}
+use Rattle.bz_attribute.specs.Words.{Class, Kind, rank, is_label_attribute, shortened, Expr, Form', Item, no_comments, Bytes, full_stop, quoted_of, has_kind, on_row}
 use Rattle.bz_token.specs.declared.class.Class.TheVariants as c
-use Rattle.bz_grammar.specs.declared.kind.Kind.{Kind}
 use Rattle.bz_grammar.specs.declared.kind.Kind.TheVariants as k
-use Rattle.bz_grammar.specs.Shapes.{rank}
-use Rattle.bz_label.specs.Tables.{is_label_attribute}
-use Rattle.bz_label.specs.Read.{shortened}
-use Rattle.bz_value.specs.declared.value.Expr.{Expr, Form'}
 use Rattle.bz_value.specs.declared.value.Expr.TheVariants as e
-use Rattle.bz_value.specs.declared.value.Item.{Item}
 use Rattle.bz_value.specs.declared.value.Item.TheVariants as i
-use Rattle.bz_value.specs.Comments.{no_comments}
-use Rattle.bz_items.specs.Characters.{Bytes, full_stop}
-use Rattle.bz_command_syntax.specs.Quoted.{quoted_of}
-use Rattle.bz_rule.specs.Values.{has_kind, on_row}
 
 abbrev pub token : Class → Bytes → Expr
 token class text = e.Token (record { class = class; text = text; line_break = false; comments = no_comments })

@@ -2,10 +2,7 @@
 ghost use Rattle.std.specs.Prelude.{◌≡◌, OnOk, None, Some, true};
 ghost use Rattle.std.specs.List.{position};
 ghost use Rattle.bz_grammar.specs.declared.kind.Kind.TheVariants as kinds;
-ghost use Rattle.bz_value.specs.declared.value.Expr.{Expr};
-ghost use Rattle.bz_items.specs.Characters.{Bytes};
-ghost use Rattle.bz_rule.specs.Rules.{attribute, value_named};
-ghost use Rattle.bz_rule.specs.Values.{on_row, on_third};
+ghost use Rattle.bz_attribute.specs.Words.{Expr, Bytes, attribute, value_named, on_row, on_third};
 ghost use Rattle.bz_attribute.specs.Attributes.{is_attribute, has_attribute, is_other_attribute, with_value, with_new, without, put};
 
 use crate::making::{argument_of, token};

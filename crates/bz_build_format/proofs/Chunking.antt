@@ -2,26 +2,16 @@
 use Rattle.std.proofs.Common.{◌≡◌, ◌≤◌, ◌<◌, ◌+◌, ◌-◌, ℕ, Bool, false, true, not, List, [], ◌∷◌, ◌++◌, ◌⊎◌, inl, inr, Option, None, Some, Err, Ok, length, length-drop, length-take, take, drop, refl, sym, ap, ap₂, ◌∙◌, subst, append_assoc, arith}
 use Rattle.std.specs.Option.{is_some}
 use Rattle.std.proofs.Math.Seq.{take-add, take-length}
-use Rattle.bz_items.specs.Characters.{Bytes}
+use Rattle.bz_build_format.specs.Words.{Bytes, Node, NoBzlTree, depth_limit, depth_of, limit, Item, ReadFault, view_of, flags, laid_out, layout, tidied}
 use Rattle.bz_token.proofs.Tokens.{whole_rest}
-use Rattle.bz_grammar.specs.declared.tree.Node.{Node}
-use Rattle.bz_grammar.specs.Legal.{NoBzlTree}
-use Rattle.bz_grammar.specs.Spell.{depth_limit, depth_of, limit}
-use Rattle.bz_value.specs.declared.value.Item.{Item}
-use Rattle.bz_lex.specs.declared.fault.ReadFault.{ReadFault}
 use Rattle.bz_lex.specs.declared.fault.ReadFault.TheVariants as r
 use Rattle.bz_value.specs.Proper.{IsProper}
 use Rattle.bz_hosts.specs.Joined.{ViewsJoin}
 use Rattle.bz_hosts.specs.Laws.{BuildViews, ViewsAreProper}
 use Rattle.bz_hosts.specs.SuitesJoined.{SuitesJoin}
-use Rattle.bz_hosts.specs.View.{view_of}
 use Rattle.bz_layout.specs.Appended.{LayoutsJoin, DepthsJoin, gap_below}
 use Rattle.bz_layout.specs.Laws.{FlagsKeepLayout, LayoutIsAccepted, LayoutIsTooDeep, LayoutReadsBack}
-use Rattle.bz_layout.specs.Flags.{flags}
-use Rattle.bz_layout.specs.LaidOut.{laid_out}
-use Rattle.bz_layout.specs.Written.{layout}
 use Rattle.bz_passes.specs.Joined.{TidiedApart}
-use Rattle.bz_passes.specs.Passes.{tidied}
 use Rattle.bz_build_format.specs.declared.chunks.FileKind.{FileKind}
 use Rattle.bz_build_format.specs.declared.chunks.FileKind.TheVariants.{Build, Suites}
 use Rattle.bz_build_format.specs.private.Chunks.{IsAppended, IsFormattedAs, ReadsAs, of_kind}

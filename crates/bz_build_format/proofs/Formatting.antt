@@ -1,27 +1,16 @@
 -- A formatted text is formatted to itself, and says what the text says that it was made of.
 use Rattle.std.proofs.Common.{◌≡◌, ◌∙◌, List, refl, sym, ap, subst, None, ◌≤◌, length, Err, Ok, Option, Result}
 use Rattle.std.specs.Prelude.{IfOk}
-use Rattle.bz_items.specs.Characters.{Bytes}
-use Rattle.bz_grammar.specs.declared.tree.Node.{Node}
-use Rattle.bz_grammar.specs.Legal.{Reads, ReadsBzl}
-use Rattle.bz_grammar.specs.Spell.{depth_of, depth_limit, limit}
+use Rattle.bz_build_format.specs.Words.{Bytes, Node, Reads, ReadsBzl, depth_of, depth_limit, limit, Item, IsProperBuild, view_of, flags, laid_out, layout, tidied, program, token_times}
 use Rattle.bz_grammar.specs.Laws.{OneReading, OneBzlReading}
 use Rattle.bz_value.specs.Counted.{times}
-use Rattle.bz_value.specs.declared.value.Item.{Item}
-use Rattle.bz_value.specs.BuildValues.{IsProperBuild}
 use Rattle.bz_value.specs.LineShapes.{whole_grammar}
 use Rattle.bz_value.specs.Proper.{IsProper}
 use Rattle.bz_hosts.specs.Kept.{CommentsKept}
 use Rattle.bz_hosts.specs.Laws.{BuildViews, ViewsAreProper}
-use Rattle.bz_hosts.specs.View.{view_of}
-use Rattle.bz_layout.specs.Flags.{flags}
-use Rattle.bz_layout.specs.LaidOut.{laid_out}
 use Rattle.bz_layout.specs.Laws.{BuildLayoutIsBuild, FlagsKeepLayout, LayoutIsAccepted, LayoutReadsBack}
-use Rattle.bz_layout.specs.Written.{layout}
 use Rattle.bz_passes.specs.Laws.{BuildStays, LevelKeepsComments, LevelKeepsProgram, LevelStays, ProperStays, TidySettles, TidyStays, TidyingKeepsComments}
-use Rattle.bz_passes.specs.Passes.{tidied}
 use Rattle.bz_passes.specs.Programs.{KeepsProgram, KeptProgramsKeepTokens, TidyingKeepsProgram}
-use Rattle.bz_passes.specs.Syntax.{program, token_times}
 use Rattle.bz_build_format.specs.Meaning.{written, gives}
 use Rattle.bz_build_format.specs.Fixed.{FixedPoint, BzlFixedPoint, WritingKeepsProgram}
 use Rattle.bz_build_format.specs.TreePrograms.{ViewsKeepPrograms}

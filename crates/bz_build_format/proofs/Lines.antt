@@ -4,16 +4,12 @@ use Rattle.std.specs.Prelude.{Option, None, Some, MatchOption}
 use Rattle.std.proofs.lemmas.Grind.{flat_map-append}
 use Rattle.std.proofs.lemmas.List.{length-drop, same_from_push, take-append-drop}
 use Rattle.bz_items.specs.Characters.{Bytes, line_feed}
-use Rattle.bz_lex.specs.declared.leaf.Leaf.{Leaf}
-use Rattle.bz_grammar.specs.declared.tree.Node.{Node}
-use Rattle.bz_grammar.specs.declared.tree.Part.{Part}
+use Rattle.bz_build_format.specs.Words.{Leaf, Node, Part, LegalBuild, Reads, EndsWithLine}
 use Rattle.bz_grammar.specs.declared.tree.Part.TheVariants as p
 use Rattle.bz_grammar.specs.Joined.{last_token, AreWholeLines, file_with, LinesJoin}
-use Rattle.bz_grammar.specs.Legal.{LegalBuild, Reads}
 use Rattle.bz_grammar.specs.Spell.{leaves_part, limit, spell_node, spell_part}
 use Rattle.bz_grammar.specs.Split.{LinesSplit, bare_end}
 use Rattle.bz_grammar.proofs.Spells.{leaves_Node}
-use Rattle.bz_hosts.specs.Joined.{EndsWithLine}
 use Rattle.bz_hosts.proofs.JoinedLines.{last_after, whole_both}
 use Rattle.bz_build_format.specs.private.Lines.{ReadAsLines, spelled_parts}
 

@@ -1,11 +1,8 @@
 -- What leaves and nodes spell.
 use Rattle.std.proofs.Common.{ℕ, ◌≡◌, ◌≤◌, ◌-◌, ◌∙◌, ◌++◌, List, length, drop, ap, sym, append_assoc, arith}
 use Rattle.std.proofs.lemmas.List.{take_all}
-use Rattle.bz_items.specs.Characters.{Bytes}
-use Rattle.bz_grammar.specs.declared.tree.Node.{Node}
-use Rattle.bz_grammar.specs.declared.tree.Part.{Part}
+use Rattle.bz_build_format.specs.Words.{Bytes, Node, Part, spell_part}
 use Rattle.bz_grammar.specs.declared.tree.Part.TheVariants as p
-use Rattle.bz_grammar.specs.Spell.{spell_part}
 use Rattle.bz_grammar.proofs.Spells.{spell_Node}
 use Rattle.bz_build_format.specs.declared.ends.Side.{Side}
 use Rattle.bz_build_format.specs.declared.ends.Side.TheVariants.{Front, Back}

@@ -1,13 +1,9 @@
 -- The fault that is reported where a text is not formatted.
 use Rattle.std.proofs.Common.{◌≡◌, ◌↔◌, ◌≤◌, ◌<◌, ℕ, true, length, Result, Err, refl, ap}
 use Rattle.std.specs.Str.{IsValidUpTo}
-use Rattle.bz_lex.specs.declared.fault.ReadFault.{ReadFault}
+use Rattle.bz_build_format.specs.Words.{ReadFault, is_of_leaves, IsFaultAt, limit, Bytes}
 use Rattle.bz_lex.specs.declared.fault.ReadFault.TheVariants as f
-use Rattle.bz_lex.specs.Faults.{is_of_leaves}
-use Rattle.bz_lex.specs.Stops.{IsFaultAt}
-use Rattle.bz_grammar.specs.Spell.{limit}
 use Rattle.bz_grammar.specs.Faults.{IsOfText, IsFaultOf}
-use Rattle.bz_items.specs.Characters.{Bytes}
 use Rattle.bz_build_format.specs.Faults.{IsReported}
 
 -- a fault of the text says that it is refused

@@ -3,19 +3,14 @@ use Rattle.std.proofs.Common.{zero, suc, Bool, true, false, ◌&&◌, if◌then�
 use Rattle.std.specs.Prelude.{ℕ}
 use Rattle.std.proofs.lemmas.Bool.{cases_Bool}
 use Rattle.std.proofs.lemmas.List.{map-append}
-use Rattle.bz_grammar.specs.declared.kind.Kind.{Kind}
+use Rattle.bz_build_format.specs.Words.{Kind, Part, Row_of-Part, end_of-Part, more_of-Part, Node', is_kind, Expr, Item, Bytes}
 use Rattle.bz_grammar.specs.declared.kind.Kind.TheVariants as k
-use Rattle.bz_grammar.specs.declared.tree.Part.{Part, Row_of-Part, end_of-Part, more_of-Part, Node'}
 use Rattle.bz_grammar.specs.declared.tree.Part.TheVariants as p
-use Rattle.bz_grammar.specs.Shapes.{is_kind}
-use Rattle.bz_value.specs.declared.value.Expr.{Expr}
 use Rattle.bz_value.specs.declared.value.Expr.TheVariants as e
-use Rattle.bz_value.specs.declared.value.Item.{Item}
 use Rattle.bz_value.specs.declared.value.Item.TheVariants as i
 use Rattle.bz_value.specs.Comments.{HostComments, no_comments}
 use Rattle.bz_value.specs.Frames.{Frame, sequence, frame, lead, is_binary, is_comprehension, is_header}
 use Rattle.bz_value.specs.Gaps.{GapLine, has_newline, groups_of, all_but_last, last_group, all_in, others_in, comments_in}
-use Rattle.bz_items.specs.Characters.{Bytes}
 use Rattle.bz_value.specs.Proper.{is_operator}
 use Rattle.bz_hosts.specs.View.{items_from}
 use Rattle.bz_hosts.specs.Suites.{branches, exprs_in, indented_lines_before, put_header, statement_read, stated, stated_row, suite_form, suite_in, walked, with_suite, Stated}

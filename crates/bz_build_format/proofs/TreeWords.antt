@@ -5,11 +5,8 @@ use Rattle.std.specs.List.{flat_map, AllByRecursion}
 use Rattle.std.proofs.lemmas.Bool.{cases_Bool, and_parts, or_left, or_right, cond-true, cond-false}
 use Rattle.std.proofs.lemmas.Grind.{flat_map-append}
 use Rattle.std.proofs.lemmas.Slice.Eq.{bytes_eq-Decides}
-use Rattle.bz_token.specs.declared.class.Class.{Class}
-use Rattle.bz_lex.specs.declared.leaf.Leaf.{Leaf}
-use Rattle.bz_grammar.specs.declared.kind.Kind.{Kind}
+use Rattle.bz_build_format.specs.Words.{Class, Leaf, Kind, Node, Bytes, Form, total}
 use Rattle.bz_grammar.specs.declared.kind.Kind.TheVariants as k
-use Rattle.bz_grammar.specs.declared.tree.Node.{Node}
 use Rattle.bz_grammar.specs.declared.tree.Part.{Part, Row_of-Part, end_of-Part, more_of-Part, Node', items-the_row-Part}
 use Rattle.bz_grammar.specs.declared.tree.Part.TheVariants as p
 use Rattle.bz_grammar.specs.Kinds.{kind_number}
@@ -19,11 +16,8 @@ use Rattle.bz_grammar.specs.Shapes.{Nonterminal, Terminal, Shape, Fits, Several,
 use Rattle.bz_grammar.specs.Spell.{leaves_of, leaves_part, leaves_row}
 use Rattle.bz_grammar.proofs.Balance.{inner_nonterminal, leaves_rows, no_such, same_class}
 use Rattle.bz_grammar.proofs.Terminals.{subset, subset-one_of}
-use Rattle.bz_items.specs.Characters.{Bytes}
-use Rattle.bz_value.specs.declared.value.Form.{Form}
 use Rattle.bz_value.specs.declared.value.Expr.{Expr, Token, Form', Row_of-Expr, end_of-Expr, more_of-Expr, items-the_row-Expr}
 use Rattle.bz_value.specs.declared.value.Expr.TheVariants as e
-use Rattle.bz_value.specs.Counted.{total}
 use Rattle.bz_value.specs.Frames.{Frame, row, sequence, compound, frame, is_inner_frame, lead}
 use Rattle.bz_value.specs.LineShapes.{line_shape}
 use Rattle.bz_value.proofs.LegalBy.{LegalBy, LegalRowBy}

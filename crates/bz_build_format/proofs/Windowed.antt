@@ -7,18 +7,11 @@ use Rattle.std.proofs.Math.Seq.{take-add, take-append_seam}
 use Rattle.std.proofs.lemmas.Bool.Decides.{nat_tests}
 use Rattle.std.proofs.lemmas.Grind.{flat_map-append}
 use Rattle.std.proofs.lemmas.List.{length-drop, nil_from_length, take-append-drop, take-take, take_all, drop-drop, drop-take, drop_all}
-use Rattle.bz_items.specs.Characters.{Bytes}
-use Rattle.bz_grammar.specs.declared.tree.Node.{Node}
-use Rattle.bz_grammar.specs.declared.tree.Part.{Part}
+use Rattle.bz_build_format.specs.Words.{Bytes, Node, Part, limit, spell_node, spell_part, PartWindow, AreThere, window_parts, with_windows, TextWindow, AreTextsOf}
 use Rattle.bz_grammar.specs.Joined.{AreWholeLines, file_with, LinesJoin}
 use Rattle.bz_grammar.specs.Legal.{Accepted, IsBuild, Legal, LegalBuild, Reads}
-use Rattle.bz_grammar.specs.Spell.{limit, spell_node, spell_part}
 use Rattle.bz_grammar.specs.Split.{LinesSplit, bare_end}
 use Rattle.bz_grammar.specs.Laws.{OneReading}
-use Rattle.bz_edit.specs.declared.part_windows.PartWindow.{PartWindow}
-use Rattle.bz_edit.specs.Windows.{AreThere, window_parts, with_windows}
-use Rattle.bz_layout.specs.declared.writer.TextWindow.{TextWindow}
-use Rattle.bz_layout.specs.Windows.{AreTextsOf}
 use Rattle.bz_build_format.specs.private.Lines.{AreAmong, ReadAsLines, AreRead, IsPushed, IsPutAmong, put_in, spelled_parts, text_with}
 use Rattle.bz_build_format.proofs.Lines.{bare_legal, first_lines, legal_after, lines_after, lines_text, next_lines, no_lines, read_after}
 

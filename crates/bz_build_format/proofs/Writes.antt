@@ -2,12 +2,7 @@
 use Rattle.std.proofs.Common.{◌∙◌, ◌≡◌, ◌≤◌, ◌<◌, ℕ, List, length, true, false, Bool, refl, Option, nat_lt, subst, sym, ap, arith, if◌then◌else◌}
 use Rattle.std.proofs.lemmas.Bool.Decides.{nat_tests}
 use Rattle.std.proofs.lemmas.Bool.{ltb-false}
-use Rattle.bz_grammar.specs.Spell.{depth_of, depth_limit, limit}
-use Rattle.bz_value.specs.declared.value.Item.{Item}
-use Rattle.bz_items.specs.Characters.{Bytes}
-use Rattle.bz_layout.specs.Written.{layout}
-use Rattle.bz_layout.specs.LaidOut.{laid_out}
-use Rattle.bz_passes.specs.Passes.{tidied}
+use Rattle.bz_build_format.specs.Words.{depth_of, depth_limit, limit, Item, Bytes, layout, laid_out, tidied}
 use Rattle.bz_value.specs.declared.refusal.Refusal.TheVariants.{TooLarge, TooDeep}
 use Rattle.bz_build_format.specs.Meaning.{Meaning, gives, refuses, written}
 

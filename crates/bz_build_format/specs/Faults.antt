@@ -1,18 +1,7 @@
 -- What formatting a text answers.
 use Rattle.std.specs.Prelude.{◌≡◌, ◌≢◌, ◌≤◌, ◌<◌, true, [], Result, Ok, Err, None, length}
-use Rattle.bz_lex.specs.declared.fault.ReadFault.{ReadFault}
-use Rattle.bz_lex.specs.Faults.{is_of_leaves}
-use Rattle.bz_lex.specs.Stops.{IsFaultAt}
-use Rattle.bz_grammar.specs.declared.tree.Node.{Node}
-use Rattle.bz_grammar.specs.Faults.{IsFaultOf}
-use Rattle.bz_grammar.specs.Legal.{Accepted, NoBzlTree, ReadsBzl}
-use Rattle.bz_grammar.specs.Spell.{depth_of, depth_limit, limit}
-use Rattle.bz_items.specs.Characters.{Bytes}
+use Rattle.bz_build_format.specs.Words.{ReadFault, is_of_leaves, IsFaultAt, Node, IsFaultOf, Accepted, NoBzlTree, ReadsBzl, depth_of, depth_limit, limit, Bytes, view_of, laid_out, layout, flags}
 use Rattle.bz_value.specs.declared.refusal.Refusal.TheVariants as r
-use Rattle.bz_hosts.specs.View.{view_of}
-use Rattle.bz_layout.specs.LaidOut.{laid_out}
-use Rattle.bz_layout.specs.Written.{layout}
-use Rattle.bz_layout.specs.Flags.{flags}
 use Rattle.bz_build_format.specs.Meaning.{gives, refuses, Formats}
 use Rattle.bz_build_format.specs.declared.formatter.FormatFault.{FormatFault}
 use Rattle.bz_build_format.specs.declared.formatter.FormatFault.TheVariants.{Unread, TooLarge, TooDeep, Memory}

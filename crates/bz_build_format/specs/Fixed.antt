@@ -1,23 +1,8 @@
 -- Formatting is a fixed point, and says what was said: of values, comments, programs and tokens.
 use Rattle.std.specs.Prelude.{◌≡◌, ℕ, Bool, false, [], ◌∷◌, ◌++◌, ◌||◌, List, Option, Ok, None, if◌then◌else◌}
 use Rattle.std.specs.List.{flat_map}
-use Rattle.bz_token.specs.declared.class.Class.{Class}
+use Rattle.bz_build_format.specs.Words.{Class, Leaf, Node, LegalBuild, Reads, ReadsBzl, Terminal, is_class, is_one_of, close_curly, close_round, close_square, colon_mark, comma_mark, end, newline, open_curly, open_round, open_square, semicolon, leaves_of, Item, total, IsProperBuild, Bytes, occurrences, view_of, tidied, KeepsProgram, one_if_token, token_times, flags}
 use Rattle.bz_token.specs.declared.class.Class.TheVariants as c
-use Rattle.bz_lex.specs.declared.leaf.Leaf.{Leaf}
-use Rattle.bz_grammar.specs.declared.tree.Node.{Node}
-use Rattle.bz_grammar.specs.Legal.{LegalBuild, Reads, ReadsBzl}
-use Rattle.bz_grammar.specs.Shapes.{Terminal, is_class, is_one_of, close_curly, close_round, close_square, colon_mark, comma_mark, end, newline, open_curly, open_round, open_square, semicolon}
-use Rattle.bz_grammar.specs.Spell.{leaves_of}
-use Rattle.bz_value.specs.declared.value.Item.{Item}
-use Rattle.bz_value.specs.Counted.{total}
-use Rattle.bz_value.specs.BuildValues.{IsProperBuild}
-use Rattle.bz_items.specs.Characters.{Bytes}
-use Rattle.bz_hosts.specs.Kept.{occurrences}
-use Rattle.bz_hosts.specs.View.{view_of}
-use Rattle.bz_passes.specs.Passes.{tidied}
-use Rattle.bz_passes.specs.Programs.{KeepsProgram}
-use Rattle.bz_passes.specs.Syntax.{one_if_token, token_times}
-use Rattle.bz_layout.specs.Flags.{flags}
 use Rattle.bz_build_format.specs.Faults.{FormatsBzlTo}
 use Rattle.bz_build_format.specs.Meaning.{gives, written, Formats}
 use Rattle.bz_build_format.specs.TreePrograms.{tree_program}

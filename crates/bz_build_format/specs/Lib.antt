@@ -2,4 +2,5 @@ pub mod Meaning
 pub mod Faults
 pub mod Fixed
 pub mod TreePrograms
+pub mod Words
 pub mod private

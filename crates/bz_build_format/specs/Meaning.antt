@@ -1,16 +1,6 @@
 -- What a meaning is, and what formatting a text means.
 use Rattle.std.specs.Prelude.{◌≡◌, List, Option, None, nat_lt, length, if◌then◌else◌}
-use Rattle.bz_grammar.specs.declared.tree.Node.{Node}
-use Rattle.bz_grammar.specs.Spell.{depth_of, depth_limit, limit}
-use Rattle.bz_grammar.specs.Legal.{Reads}
-use Rattle.bz_value.specs.declared.value.Item.{Item}
-use Rattle.bz_value.specs.BuildValues.{IsProperBuild}
-use Rattle.bz_items.specs.Characters.{Bytes}
-use Rattle.bz_hosts.specs.View.{view_of}
-use Rattle.bz_layout.specs.Written.{layout}
-use Rattle.bz_layout.specs.LaidOut.{laid_out}
-use Rattle.bz_passes.specs.Passes.{tidied}
-use Rattle.bz_value.specs.declared.refusal.Refusal.{Refusal}
+use Rattle.bz_build_format.specs.Words.{Node, depth_of, depth_limit, limit, Reads, Item, IsProperBuild, Bytes, view_of, layout, laid_out, tidied, Refusal}
 use Rattle.bz_value.specs.declared.refusal.Refusal.TheVariants.{TooLarge, TooDeep}
 
 -- The tree is the layout of these items, which are tidy.

@@ -1,20 +1,10 @@
 -- What a compiler reads of the tree of a text: its statements with their headers and suites, and no gaps, no brackets, and no commas,
 -- semicolons and newlines between the parts that they separate.
 use Rattle.std.specs.Prelude.{◌≡◌, suc, Bool, true, false, List, [], ◌∷◌, ◌++◌, drop, if◌then◌else◌, map, take}
-use Rattle.bz_grammar.specs.declared.kind.Kind.{Kind}
+use Rattle.bz_build_format.specs.Words.{Kind, Node, Part, Row_of-Part, end_of-Part, more_of-Part, Node', colon_mark, is_kind, is_one_of, Expr, Form, no_comments, Frame, sequence, frame, is_header, lead, view_of, put_header, program}
 use Rattle.bz_grammar.specs.declared.kind.Kind.TheVariants as k
-use Rattle.bz_grammar.specs.declared.tree.Node.{Node}
-use Rattle.bz_grammar.specs.declared.tree.Part.{Part, Row_of-Part, end_of-Part, more_of-Part, Node'}
 use Rattle.bz_grammar.specs.declared.tree.Part.TheVariants as p
-use Rattle.bz_grammar.specs.Shapes.{colon_mark, is_kind, is_one_of}
-use Rattle.bz_value.specs.declared.value.Expr.{Expr}
 use Rattle.bz_value.specs.declared.value.Expr.TheVariants as e
-use Rattle.bz_value.specs.declared.value.Form.{Form}
-use Rattle.bz_value.specs.Comments.{no_comments}
-use Rattle.bz_value.specs.Frames.{Frame, sequence, frame, is_header, lead}
-use Rattle.bz_hosts.specs.View.{view_of}
-use Rattle.bz_hosts.specs.Suites.{put_header}
-use Rattle.bz_passes.specs.Syntax.{program}
 
 -- the parts in front of each comma, semicolon or newline, and of the closing bracket: every other one
 abbrev pub before_marks : {X : Type 0} → List X → List X

@@ -1,7 +1,6 @@
 //! How much of a text is what parts spell, at its beginning and at its end.
 ghost use Rattle.std.specs.Prelude.{◌≡◌, ◌≢◌, ◌<◌, ◌≤◌, IfSome, MatchOption, length};
-ghost use Rattle.bz_items.specs.Characters.{Bytes};
-ghost use Rattle.bz_grammar.specs.Spell.{spell_leaf, spell_part};
+ghost use Rattle.bz_build_format.specs.Words.{Bytes, spell_leaf, spell_part};
 ghost use Rattle.bz_build_format.specs.private.Lines.{at_side, joined_at, spelled_parts};
 
 use bz_grammar::{Part, length_with};

@@ -1,12 +1,6 @@
 //! Windows of parts, read of windows of texts.
 ghost use Rattle.std.specs.Prelude.{◌≡◌, ◌⊎◌, ◌<◌, ◌≤◌, ◌+◌, ◌-◌, ◌^◌, ◌++◌, [], ◌∷◌, IfOk, IfErr, IfSome, IsTrue, List, OnOk, drop, length, take};
-ghost use Rattle.bz_grammar.specs.Joined.{AreWholeLines, file_with};
-ghost use Rattle.bz_grammar.specs.Legal.{Accepted, IsBuild, LegalBuild, Reads};
-ghost use Rattle.bz_grammar.specs.Spell.{limit, spell_node};
-ghost use Rattle.bz_grammar.specs.Split.{bare_end};
-ghost use Rattle.bz_edit.specs.Windows.{AreThere, with_windows};
-ghost use Rattle.bz_edit.specs.declared.part_windows.PartWindow.{PartWindow};
-ghost use Rattle.bz_layout.specs.Windows.{AreTextsOf};
+ghost use Rattle.bz_build_format.specs.Words.{AreWholeLines, file_with, Accepted, IsBuild, LegalBuild, Reads, limit, spell_node, bare_end, AreThere, with_windows, PartWindow, AreTextsOf};
 ghost use Rattle.bz_build_format.specs.private.Lines.{AreAmong, AreRead, IsPushed, IsPutAmong, ReadAsLines, spelled_parts, text_with};
 
 use crate::ends::{Side, rest_of_part, same, shared};

@@ -1,13 +1,6 @@
 //! Texts of new values, and trees of them.
 ghost use Rattle.std.specs.Prelude.{◌≡◌, ◌⊎◌, ◌<◌, ◌≤◌, Option, IfOk, IfErr, length};
-ghost use Rattle.bz_items.specs.Characters.{Bytes};
-ghost use Rattle.bz_value.specs.BuildValues.{AreBuild};
-ghost use Rattle.bz_grammar.specs.Legal.{IsBuild, Reads};
-ghost use Rattle.bz_grammar.specs.Spell.{depth_limit, depth_of, limit, spell_node};
-ghost use Rattle.bz_hosts.specs.View.{view_of};
-ghost use Rattle.bz_layout.specs.Flags.{flags};
-ghost use Rattle.bz_layout.specs.LaidOut.{laid_out};
-ghost use Rattle.bz_layout.specs.Written.{layout};
+ghost use Rattle.bz_build_format.specs.Words.{Bytes, AreBuild, IsBuild, Reads, depth_limit, depth_of, limit, spell_node, view_of, flags, laid_out, layout};
 ghost use Rattle.bz_build_format.specs.Meaning.{gives, refuses, written};
 
 use bz_grammar::laws::one_bzl_reading;

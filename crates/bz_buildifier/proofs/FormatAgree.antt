@@ -3,20 +3,16 @@ use Rattle.std.proofs.Common.{◌≡◌, ◌≤◌, ◌<◌, ◌∙◌, ◌∷�
 use Rattle.std.specs.Prelude.{IfOk, if◌then◌else◌}
 use Rattle.std.specs.List.{All}
 use Rattle.std.specs.FinMap.{get}
-use Rattle.bz_items.specs.Characters.{Bytes}
-use Rattle.bz_lex.specs.declared.fault.ReadFault.{ReadFault}
+use Rattle.bz_buildifier.specs.Words.{Bytes, ReadFault, Folder, IsAside, SameFolders, with_file, FormatFault, stdin}
 use Rattle.bz_grammar.specs.declared.tree.Node.{Node}
 use Rattle.bz_grammar.specs.Laws.{OneReading, OneBzlReading}
 use Rattle.bz_grammar.specs.Spell.{limit}
-use Rattle.bz_files.specs.Folder.{Folder, IsAside, SameFolders, with_file}
 use Rattle.bz_hosts.specs.View.{view_of}
 use Rattle.bz_build_format.specs.Meaning.{Meaning, gives, refuses, written, Formats}
-use Rattle.bz_build_format.specs.declared.formatter.FormatFault.{FormatFault}
 use Rattle.bz_build_format.specs.declared.formatter.FormatFault.TheVariants as f
 use Rattle.bz_value.specs.declared.refusal.Refusal.TheVariants as r
 use Rattle.bz_build_format.specs.Faults.{bzl_formatted, formatted_tree}
 use Rattle.bz_grammar.specs.Legal.{ReadsBzl}
-use Rattle.bz_streams.specs.Reported.{stdin}
 use Rattle.bz_streams.specs.declared.exit.Cut.TheVariants as c
 use Rattle.bz_buildifier.specs.Modes as m
 use Rattle.bz_buildifier.specs.FormatRun.{FormatsAs, Effect, FilesFormatted, InputStep, input_unread, input_without_memory, input_unformatted, input_printed, FormatOutcomeOf, RunOf, IsFormatUsageLine, begun, grown, output_effect, unopened, input_out, file_out, is_rewritten, text_status, refused}

@@ -3,11 +3,8 @@ use Rattle.std.proofs.Common.{◌≡◌, ◌∙◌, ◌∷◌, ◌++◌, ◌==�
 use Rattle.std.specs.Prelude.{if◌then◌else◌}
 use Rattle.std.proofs.lemmas.List.{nil_from_length}
 use Rattle.std.proofs.lemmas.Bool.{eqb-true}
-use Rattle.bz_files.specs.Folder.{Folder}
+use Rattle.bz_buildifier.specs.Words.{Folder, Counts, Writes, WritesUnlessClosed, first_cut, Cut}
 use Rattle.bz_streams.specs.Faults.{Rises, AppendsSome}
-use Rattle.bz_streams.specs.Outputs.{Counts, Writes, WritesUnlessClosed}
-use Rattle.bz_streams.specs.Exits.{first_cut}
-use Rattle.bz_streams.specs.declared.exit.Cut.{Cut}
 use Rattle.bz_streams.specs.declared.exit.Cut.TheVariants as c
 use Rattle.bz_streams.proofs.Outputs.{rises_more, writes_more}
 use Rattle.bz_buildifier.specs.Modes as m

@@ -4,21 +4,16 @@ use Rattle.std.specs.Prelude.{◌≢◌, IfSome}
 use Rattle.std.proofs.lemmas.List.{take_all}
 use Rattle.std.proofs.lemmas.Bool.{cases_lt}
 use Rattle.std.specs.FinMap.{get}
-use Rattle.bz_lex.specs.declared.fault.ReadFault.{ReadFault}
+use Rattle.bz_buildifier.specs.Words.{ReadFault, Folder, FileFault, FormatFault, WritesUnlessClosed, IsInput}
 use Rattle.bz_lex.specs.declared.fault.ReadFault.TheVariants as read
 use Rattle.bz_lex.specs.Faults.{is_of_leaves}
 use Rattle.bz_lex.specs.Stops.{IsFaultAt}
 use Rattle.bz_grammar.specs.Spell.{limit}
 use Rattle.bz_grammar.specs.Legal.{Accepted}
 use Rattle.bz_grammar.specs.Faults.{IsFaultOf}
-use Rattle.bz_files.specs.Folder.{Folder}
-use Rattle.bz_files.specs.declared.files.FileFault.{FileFault}
 use Rattle.bz_files.specs.declared.files.FileFault.TheVariants as file
-use Rattle.bz_build_format.specs.declared.formatter.FormatFault.{FormatFault}
 use Rattle.bz_build_format.specs.declared.formatter.FormatFault.TheVariants as f
 use Rattle.bz_streams.specs.declared.exit.Cut.TheVariants as c
-use Rattle.bz_streams.specs.Outputs.{WritesUnlessClosed}
-use Rattle.bz_streams.specs.Ports.{IsInput}
 use Rattle.bz_streams.proofs.Outputs.{appends_nothing}
 use Rattle.bz_buildifier.specs.FormatRun.{FormatsAs, Effect, refused, unread_file, Rewrites}
 

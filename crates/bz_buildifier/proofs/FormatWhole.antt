@@ -7,15 +7,11 @@ use Rattle.std.specs.Ordering.{nat_cmp, eq_by_cmp}
 use Rattle.std.specs.Cmp.Lexicographic.{slice_cmp}
 use Rattle.std.proofs.lemmas.Cmp.{nat_list_cmp_total}
 use Rattle.std.proofs.lemmas.List.Elements.{All-head, All-tail}
-use Rattle.bz_items.specs.Characters.{Bytes}
-use Rattle.bz_files.specs.Folder.{Folder, IsAside, SameFolders, SameBut, with_file, new_name}
-use Rattle.bz_files.specs.declared.files.FileFault.{FileFault}
+use Rattle.bz_buildifier.specs.Words.{Bytes, Folder, IsAside, SameFolders, SameBut, with_file, new_name, FileFault, first_cut, Cut}
 use Rattle.bz_files.specs.declared.files.FileFault.TheVariants as file
 use Rattle.bz_buildifier.specs.FormatRun.{Effect, FilesFormatted, FileStep, unread, without_memory, unformatted, kept, rewritten, grown, output_effect, file_out, text_status, is_rewritten, unread_file}
 use Rattle.bz_buildifier.specs.Laws.{ExactStep, exact_absent, exact_unformatted, exact_formatted, Exact}
 use Rattle.bz_buildifier.proofs.FormatSteps.{unread_quiet, refused_quiet}
-use Rattle.bz_streams.specs.Exits.{first_cut}
-use Rattle.bz_streams.specs.declared.exit.Cut.{Cut}
 use Rattle.bz_streams.specs.declared.exit.Cut.TheVariants as c
 use Rattle.bz_buildifier.specs.declared.file_type.FileType.{FileType}
 use Rattle.bz_buildifier.specs.declared.mode.Mode.{Mode}

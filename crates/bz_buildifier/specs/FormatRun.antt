@@ -3,27 +3,13 @@ use Rattle.std.specs.Prelude.{◌≡◌, ◌⊎◌, ◌==◌, ◌||◌, ℕ, Lis
 use Rattle.std.specs.FinMap.{get}
 use Rattle.std.specs.List.{ends_with, list_any}
 use Rattle.std.specs.Option.{option_map_or}
-use Rattle.clap.specs.Words.{IsAmong, fault_of}
-use Rattle.clap.specs.declared.error.kind.ErrorKind.{ErrorKind}
-use Rattle.bz_items.specs.Characters.{Bytes, full_stop}
-use Rattle.bz_files.specs.Folder.{Folder, SameBut, new_name, with_file, IsReplacing}
-use Rattle.bz_files.specs.declared.files.FileFault.{FileFault}
+use Rattle.bz_buildifier.specs.Words.{IsAmong, fault_of, ErrorKind, Bytes, full_stop, Folder, SameBut, new_name, with_file, IsReplacing, FileFault, FormatFault, Cut, escaped_text, fault_excerpt, first_cut, Rises, nearest, IsInput, stdin, named_line, fault_line, FormatsTo, FormatsBzlTo}
 use Rattle.bz_files.specs.declared.files.FileFault.TheVariants as file
-use Rattle.bz_build_format.specs.declared.formatter.FormatFault.{FormatFault}
 use Rattle.bz_build_format.specs.declared.formatter.FormatFault.TheVariants as f
-use Rattle.bz_streams.specs.declared.exit.Cut.{Cut}
 use Rattle.bz_streams.specs.declared.exit.Cut.TheVariants as c
-use Rattle.bz_streams.specs.Controls.{escaped_text}
-use Rattle.bz_streams.specs.Excerpts.{fault_excerpt}
-use Rattle.bz_streams.specs.Exits.{first_cut}
-use Rattle.bz_streams.specs.Faults.{Rises}
-use Rattle.bz_streams.specs.Near.{nearest}
-use Rattle.bz_streams.specs.Ports.{IsInput}
-use Rattle.bz_streams.specs.Reported.{stdin, named_line, fault_line}
 use Rattle.bz_buildifier.specs.declared.file_type.FileType.{FileType}
 use Rattle.bz_buildifier.specs.declared.mode.Mode.{Mode}
 use Rattle.bz_buildifier.specs.declared.mode.Mode.TheVariants.{Fix, Check, PrintIfChanged}
-use Rattle.bz_build_format.specs.Faults.{FormatsTo, FormatsBzlTo}
 use Rattle.bz_buildifier.specs.Modes.{FormatLine, FormatUsage, buildifier_app, clap_fault, clap_hint, no_mode, no_type, format_line, is_bzl, mode_names, type_names}
 
 -- what formatting a text as one of a .bzl file, or as one of a BUILD file, answers

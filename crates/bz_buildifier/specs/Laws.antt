@@ -3,12 +3,7 @@
 use Rattle.std.specs.Prelude.{◌≡◌, ◌⊎◌, List, [], ◌∷◌, ◌++◌, if◌then◌else◌, true, Some, None, Ok, Err, IfOk}
 use Rattle.std.specs.List.{All}
 use Rattle.std.specs.FinMap.{get}
-use Rattle.bz_items.specs.Characters.{Bytes}
-use Rattle.bz_files.specs.Folder.{Folder, IsAside, SameFolders, with_file}
-use Rattle.bz_build_format.specs.declared.formatter.FormatFault.{FormatFault}
-use Rattle.bz_lex.specs.declared.fault.ReadFault.{ReadFault}
-use Rattle.bz_streams.specs.Excerpts.{fault_excerpt}
-use Rattle.bz_streams.specs.Reported.{fault_line}
+use Rattle.bz_buildifier.specs.Words.{Bytes, Folder, IsAside, SameFolders, with_file, FormatFault, ReadFault, fault_excerpt, fault_line}
 use Rattle.bz_buildifier.specs.FormatRun.{Effect, FilesFormatted, FormatOutcome, FormatsAs, begun, grown, output_effect, refused, unopened, file_out, text_status, is_rewritten}
 use Rattle.bz_buildifier.specs.Modes.{clap_fault, format_line, is_bzl}
 use Rattle.bz_streams.specs.declared.exit.Cut.TheVariants as c

@@ -1,12 +1,9 @@
 -- The command line of buildifier: what its words say.
 use Rattle.std.specs.Prelude.{◌==◌, Bool, false, List, [], ◌∷◌, length, codes, bytes_eq, eqb, if◌then◌else◌, unwrap_or, Option, Some, None, Result, Ok, Err, true}
 use Rattle.std.specs.List.{ends_with}
-use Rattle.clap.specs.Words.{App, Rule, Row, all_of, first_of, fault_of, matches_of, new_app, new_rule, with_rule}
+use Rattle.bz_buildifier.specs.Words.{App, Rule, Row, all_of, first_of, fault_of, matches_of, new_app, new_rule, with_rule, ErrorKind, Bytes, OptionTable, option_hint}
 use Rattle.clap.specs.declared.builder.action.ArgAction.TheVariants.{Append}
-use Rattle.clap.specs.declared.error.kind.ErrorKind.{ErrorKind}
 use Rattle.clap.specs.declared.error.kind.ErrorKind.TheVariants as kind
-use Rattle.bz_items.specs.Characters.{Bytes}
-use Rattle.bz_streams.specs.Options.{OptionTable, option_hint}
 use Rattle.bz_buildifier.specs.declared.file_type.FileType.{FileType}
 use Rattle.bz_buildifier.specs.declared.file_type.FileType.TheVariants.{Auto, Build, Bzl}
 use Rattle.bz_buildifier.specs.declared.mode.Mode.{Mode}

@@ -1,11 +1,10 @@
 -- Worked rows: what buildifier's words, modes and faults mean.
 use Rattle.std.specs.Prelude.{◌≡◌, [], ◌∷◌, codes, Ok, Err, true, false}
-use Rattle.clap.specs.Words.{fault_of}
+use Rattle.bz_buildifier.specs.Words.{fault_of, stdin}
 use Rattle.clap.specs.declared.error.kind.ErrorKind.TheVariants as kind
 use Rattle.bz_lex.specs.declared.fault.ReadFault.TheVariants.{NotUtf8, Unexpected}
 use Rattle.bz_files.specs.declared.files.FileFault.TheVariants.{Absent, Open}
 use Rattle.bz_build_format.specs.declared.formatter.FormatFault.TheVariants.{Unread, TooLarge}
-use Rattle.bz_streams.specs.Reported.{stdin}
 use Rattle.bz_buildifier.specs.FormatRun.{file_out, input_out, is_rewritten, text_status, worse, refused, unread_file, unwritten, unprinted}
 use Rattle.bz_buildifier.specs.Modes.{is_bzl, buildifier_app, clap_hint, format_line, no_mode, no_type, clap_fault}
 use Rattle.bz_buildifier.specs.declared.file_type.FileType.TheVariants.{Auto, Build, Bzl}

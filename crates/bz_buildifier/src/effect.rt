@@ -1,10 +1,7 @@
 //! What becomes of a text that buildifier reads, and of a run over several.
 ghost use Rattle.std.specs.Prelude.{◌≡◌, ◌||◌, ◌∷◌, ◌++◌, ◌==◌, [], false, codes, option_map, IfOk};
 ghost use Rattle.std.specs.List.{list_any};
-ghost use Rattle.bz_items.specs.Characters.{full_stop};
-ghost use Rattle.bz_streams.specs.Exits.{first_cut};
-ghost use Rattle.bz_streams.specs.Outputs.{Reports, Counts, WritesUnlessClosed};
-ghost use Rattle.bz_streams.specs.Reported.{named_line};
+ghost use Rattle.bz_buildifier.specs.Words.{full_stop, first_cut, Reports, Counts, WritesUnlessClosed, named_line};
 ghost use Rattle.bz_buildifier.specs.FormatRun.{Prints, IsCutBy, is_directory_name, last_part, may_be_directory, directory_words, unopened_there, unread_file, refused, file_out, input_out, is_rewritten, text_status, worse};
 ghost use Rattle.bz_buildifier.specs.FormatRun as r;
 ghost use Rattle.bz_buildifier.specs.private.FormatShown.{effect_seen};

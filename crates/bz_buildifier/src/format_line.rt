@@ -1,8 +1,6 @@
 //! The words of buildifier's line.
 ghost use Rattle.std.specs.Prelude.{◌≡◌, [], false, Ok, IfOk, IfErr, codes, map};
-ghost use Rattle.clap.specs.Values.{kind_of};
-ghost use Rattle.clap.specs.Words.{app_of, rule_of, found_of, fault_of, matches_of, rows_of};
-ghost use Rattle.bz_streams.specs.Options.{option_hint_text};
+ghost use Rattle.bz_buildifier.specs.Words.{kind_of, app_of, rule_of, found_of, fault_of, matches_of, rows_of, option_hint_text};
 ghost use Rattle.bz_buildifier.specs.Modes.{buildifier_app, option_rule, files_rule, format_line, is_request, clap_hint};
 ghost use Rattle.bz_buildifier.specs.private.FormatShown.{seen_line, IsUsageOf};
 

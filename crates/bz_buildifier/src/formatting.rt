@@ -1,8 +1,6 @@
 //! The program buildifier over any reader, writers and files.
 ghost use Rattle.std.specs.Prelude.{◌≡◌, ◌≢◌, ◌⊎◌, [], ◌∷◌, List, ℕ, true, false, IfOk, OnOk, OnErr, IsErr, Err, codes, map, option_map};
-ghost use Rattle.bz_streams.specs.Faults.{Rises, AppendsUnlessFailed};
-ghost use Rattle.bz_streams.specs.Outputs.{Reports, Counts, Writes, WritesUnlessClosed};
-ghost use Rattle.bz_streams.specs.Reported.{named_line};
+ghost use Rattle.bz_buildifier.specs.Words.{Rises, AppendsUnlessFailed, Reports, Counts, Writes, WritesUnlessClosed, named_line};
 ghost use Rattle.bz_buildifier.specs.Modes as m;
 ghost use Rattle.bz_buildifier.specs.Modes.{format_line, is_bzl};
 ghost use Rattle.bz_buildifier.specs.FormatRun.{FormatsAs, IsCutBy, FileStep, InputStep, FormatOutcome, IsFormatUsageLine, no_word_line};

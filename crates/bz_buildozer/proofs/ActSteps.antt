@@ -1,28 +1,20 @@
 -- What an action leaves, and what a step does in the open file of its package, without journals and with them.
 use Rattle.std.proofs.Common.{◌≡◌, ◌≢◌, ◌⊎◌, ◌∙◌, ◌+◌, ◌-◌, arith, ℕ, Bool, true, false, true≢false, eq-eqb, refl, sym, ap, inl, inr, Option, Ok, Err, nat_lt, if◌then◌else◌, zero, suc, List, [], ◌∷◌, Some, None, subst, ◌||◌, not, ◌++◌, ◌&&◌}
 use Rattle.std.specs.Prelude.{◌==◌, bytes_eq, length, is_some, unwrap_or, IsSome}
-use Rattle.bz_items.specs.Characters.{Bytes}
+use Rattle.bz_buildozer.specs.Words.{Bytes, Reads, Node, Target, Refusal, PairFault, Folder, Verb, Cut}
 use Rattle.bz_value.specs.declared.refusal.Refusal.TheVariants.{TooFar, Full, NoteTooLong, Memory}
 use Rattle.bz_buildozer.specs.Sessions.{Action, Do, Format, Undo, Redo, Reply, Changed, Moved, Meaning, gives, History, Answer, Acts, Makes, after_meaning, changed, present, Leads, Means, Printed, listing}
 use Rattle.bz_journal.specs.Meaning.{refuses}
 use Rattle.bz_journal.specs.History.{most_steps, moved, unchanged}
 use Rattle.bz_buildozer.specs.Keeps.{StillIsSame, FolderAfter, file_after, is_left_at, left_out}
-use Rattle.bz_grammar.specs.Legal.{Reads}
-use Rattle.bz_grammar.specs.declared.tree.Node.{Node}
-use Rattle.bz_label.specs.declared.target.Target.{Target}
 use Rattle.bz_command_syntax.specs.declared.command.Operation.{Operation}
-use Rattle.bz_value.specs.declared.refusal.Refusal.{Refusal}
 use Rattle.bz_streams.specs.declared.sink.Sink.{Ghosts as SinkOf}
 use Rattle.bz_buildozer.specs.Calls.{ReportsLine, ReportsLines}
 use Rattle.bz_buildozer.specs.Found.{Opened, Used, file_at, with_opened}
 use Rattle.bz_buildozer.specs.Run.{reported_of, Answers, AnswersIn, AreHints, FailsAt, IsKeptAt, LeadsBy, Progress, reply_notes, printed_in, state_after}
 use Rattle.bz_buildozer.specs.Reported.{refusal_line, unkept_line}
-use Rattle.bz_resume.specs.declared.pair_fault.PairFault.{PairFault}
 use Rattle.std.proofs.Math.Bool.{or-false, or-true}
 use Rattle.std.proofs.lemmas.List.{append-nil}
-use Rattle.bz_files.specs.Folder.{Folder}
-use Rattle.bz_command_line.specs.declared.verb.Verb.{Verb}
-use Rattle.bz_streams.specs.declared.exit.Cut.{Cut}
 use Rattle.bz_streams.specs.declared.exit.Cut.TheVariants as c
 use Rattle.bz_buildozer.specs.Steps.{RunStep, action_of}
 

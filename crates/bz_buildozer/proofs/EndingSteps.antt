@@ -5,14 +5,7 @@ use Rattle.std.specs.FinMap.{get}
 use Rattle.std.specs.List.{All}
 use Rattle.std.proofs.Math.Seq.{take-nil}
 use Rattle.std.proofs.lemmas.List.{append-nil, get_or-map, length-map}
-use Rattle.bz_items.specs.Characters.{Bytes}
-use Rattle.bz_files.specs.Folder.{Folder, IsReplacing}
-use Rattle.bz_files.specs.declared.files.Files.{Ghosts as FilesOf}
-use Rattle.bz_command_line.specs.declared.line.Options.{Options}
-use Rattle.bz_streams.specs.Exits.{first_cut}
-use Rattle.bz_streams.specs.Faults.{Rises}
-use Rattle.bz_streams.specs.Reported.{named_line}
-use Rattle.bz_streams.specs.declared.exit.Cut.{Cut}
+use Rattle.bz_buildozer.specs.Words.{Bytes, Folder, IsReplacing, Ghosts as FilesOf, Options, first_cut, Rises, named_line, Cut}
 use Rattle.bz_streams.specs.declared.exit.Cut.TheVariants as c
 use Rattle.bz_streams.proofs.Outputs.{appends_nothing}
 use Rattle.bz_streams.specs.declared.sink.Sink.{Ghosts as SinkOf}

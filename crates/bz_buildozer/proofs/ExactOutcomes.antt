@@ -1,8 +1,7 @@
 -- Words, standard input and a folder have at most one outcome.
 use Rattle.std.proofs.Common.{◌≡◌, ◌⊎◌, ◌+◌, inl, inr, ℕ, List, [], ◌∷◌, ◌++◌, length, Bool, true, if◌then◌else◌, Option, None, Result, Ok, Err, suc, arith, refl, sym, ap, ◌∙◌, cond, Some, false, ◌||◌, subst, map, ◌≢◌, ◌&&◌, bytes_eq, true≢false}
-use Rattle.bz_items.specs.Characters.{Bytes}
+use Rattle.bz_buildozer.specs.Words.{Bytes, IsPatternFault, IsFirstRefused, IsFirstFault, IsGroupFault, IsScriptFault, Folder, SameBut, Target, journal_name, Options, first_cut, Cut, ReadFault, fault_line}
 use Rattle.bz_command_line.specs.Requested.{Requested, Refused, Usage, of_operand, no_command, no_target, no_line, nul, in_line, joined_operands, accepted, requested_by, requested_of, operand_group, Request}
-use Rattle.bz_command_line.specs.Refused.{IsPatternFault, IsFirstRefused, IsFirstFault, IsGroupFault, IsScriptFault}
 use Rattle.bz_command_line.specs.Script.{line_with_nul, script_lines, is_read, operands_in, in_front, group_in_line, line_group, operand_groups, some_groups, without_nul, script_of}
 use Rattle.std.specs.FinMap.{get, get-insert}
 use Rattle.std.specs.List.{flat_map, list_any}
@@ -13,12 +12,6 @@ use Rattle.std.proofs.lemmas.Cmp.{nat_list_cmp_total}
 use Rattle.std.proofs.lemmas.List.{append-nil}
 use Rattle.std.proofs.lemmas.List.Folds.{list_any-append}
 use Rattle.bz_grammar.specs.Laws.{OneReading}
-use Rattle.bz_files.specs.Folder.{Folder, SameBut}
-use Rattle.bz_label.specs.declared.target.Target.{Target}
-use Rattle.bz_resume.specs.Pair.{journal_name}
-use Rattle.bz_command_line.specs.declared.line.Options.{Options}
-use Rattle.bz_streams.specs.Exits.{first_cut}
-use Rattle.bz_streams.specs.declared.exit.Cut.{Cut}
 use Rattle.bz_streams.specs.declared.exit.Cut.TheVariants as c
 use Rattle.bz_buildozer.specs.Found.{Used}
 use Rattle.bz_buildozer.specs.Ending.{Ended, Performs, TriesFile, TriesFiles, WritesFile, Writing, status_of, texts_out, writing_of}
@@ -30,10 +23,8 @@ use Rattle.bz_buildozer.proofs.CutSteps.{both_whole}
 use Rattle.bz_buildozer.proofs.ExactSteps.{same_lines, same_parts, AreSeen, Stays, reads_input, same_folder, same_run, stays_run, one_input}
 use Rattle.std.specs.Str.{IsUtf8, IsValidUpTo}
 use Rattle.std.proofs.Math.Seq.{take-length}
-use Rattle.bz_lex.specs.declared.fault.ReadFault.{ReadFault}
 use Rattle.bz_lex.specs.declared.fault.ReadFault.TheVariants.{NotUtf8}
 use Rattle.bz_command_line.specs.Line.{Given, operands, script, LineUsage, of_clap, beside_script, beside_stdout, CommandLine, command_line_of}
-use Rattle.bz_streams.specs.Reported.{fault_line}
 use Rattle.bz_buildozer.specs.Outcome.{unused, unread, LinesEnd, IsScript, IsText, IsTextFault, reported_name, OperandsOutcome, LinesOutcome, TextOutcome, ScriptOutcome, GivenOutcome, LineOutcome, WordsOutcome}
 
 -- ---- why operands and lines are refused, as their functions say it, but for patterns

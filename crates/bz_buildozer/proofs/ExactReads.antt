@@ -2,11 +2,7 @@
 use Rattle.std.proofs.Common.{◌≡◌, inl, inr, ℕ, zero, suc, List, [], ◌∷◌, ◌++◌, map, Option, Some, None, Bool, false, true≢false, subst, sym, arith, ◌≢◌, ◌⊎◌, ◌∙◌, Result, Ok, Err, IfOk, refl, ap}
 use Rattle.std.specs.List.{All, flat_map}
 use Rattle.std.proofs.lemmas.List.Elements.{All-head, All-tail}
-use Rattle.bz_items.specs.Characters.{Bytes}
-use Rattle.bz_files.specs.Folder.{Folder}
-use Rattle.bz_label.specs.declared.target.Target.{Target}
-use Rattle.bz_command_line.specs.Requested.{Requested, Request, Usage}
-use Rattle.bz_streams.specs.declared.exit.Cut.{Cut}
+use Rattle.bz_buildozer.specs.Words.{Bytes, Folder, Target, Requested, Request, Usage, Cut, Given, operands, script, CommandLine, LineUsage, command_line_of, Options, first_cut}
 use Rattle.bz_streams.specs.declared.exit.Cut.TheVariants as c
 use Rattle.bz_buildozer.specs.Found.{Opened, Used, with_opened, file_at, package_number}
 use Rattle.bz_buildozer.specs.Outcome.{AreOfInput, GivenOutcome, IsOfInput, LineOutcome, NamesNoFile, WordsOutcome}
@@ -15,9 +11,6 @@ use Rattle.bz_buildozer.specs.Steps.{RunStep, step_of, steps_requested, all_step
 use Rattle.bz_buildozer.proofs.FailSteps.{answers_stay, stay_used}
 use Rattle.std.specs.Option.{option_map}
 use Rattle.std.proofs.lemmas.List.{append-nil}
-use Rattle.bz_command_line.specs.Line.{Given, operands, script, CommandLine, LineUsage, command_line_of}
-use Rattle.bz_command_line.specs.declared.line.Options.{Options}
-use Rattle.bz_streams.specs.Exits.{first_cut}
 use Rattle.bz_buildozer.specs.Ending.{Ended, Left, Performs, TriesFile, TriesFiles, ended_whole, opened_out, is_input, status_of, texts_out}
 use Rattle.bz_buildozer.specs.Exact.{OutputCutsNothingElse}
 use Rattle.bz_buildozer.proofs.CutSteps.{both_whole}

@@ -1,11 +1,10 @@
 -- Whole runs of steps do one thing, without journals and with them, and print the same lines but for what is left open.
 use Rattle.std.proofs.Common.{◌≡◌, inl, List, [], ◌∷◌, ◌++◌, refl, sym, subst, inr, Option, Some, None, Result, Ok, Err, ap, ◌∙◌, arith, ◌≢◌, ◌⊎◌, ℕ, zero, suc, Bool, true, false, true≢false, bytes_eq, codes}
-use Rattle.bz_items.specs.Characters.{Bytes}
+use Rattle.bz_buildozer.specs.Words.{Bytes, Refusal, lines_of, Node, view_of, refusal_hint, Folder, IsAside, journal_name, Holds, OthersStay, first_cut, fault_excerpt, IsInput, stdin, fault_line, named_line, Cut}
 use Rattle.bz_buildozer.specs.Exact.{SameLines}
 use Rattle.bz_buildozer.specs.Run.{World, LeadsBy, Answers, AnswersIn, AreHints, Does, Finds, Progress, RunsSteps, Uses, UsesWhole, reported_of, state_after}
 use Rattle.bz_grammar.specs.Laws.{OneReading}
 use Rattle.bz_value.specs.declared.value.Item.{Item}
-use Rattle.bz_value.specs.declared.refusal.Refusal.{Refusal}
 use Rattle.bz_buildozer.specs.Sessions.{Action, Do, Format, Undo, Redo, Meaning, EffectMeans, Formats, History, Answer, Makes, Leads, after_meaning, present}
 use Rattle.std.specs.Prelude.{◌||◌, IfSome, if◌then◌else◌, unwrap_or}
 use Rattle.std.specs.Option.{option_map, option_map_or}
@@ -13,18 +12,6 @@ use Rattle.std.specs.FinMap.{get}
 use Rattle.std.specs.List.{list_any}
 use Rattle.std.proofs.lemmas.Bool.{or_parts}
 use Rattle.std.proofs.lemmas.Slice.Eq.{bytes_eq-Decides}
-use Rattle.bz_grammar.specs.Statements.{lines_of}
-use Rattle.bz_grammar.specs.declared.tree.Node.{Node}
-use Rattle.bz_hosts.specs.View.{view_of}
-use Rattle.bz_hint.specs.Hints.{refusal_hint}
-use Rattle.bz_files.specs.Folder.{Folder, IsAside}
-use Rattle.bz_resume.specs.Pair.{journal_name}
-use Rattle.bz_resume.specs.Resuming.{Holds, OthersStay}
-use Rattle.bz_streams.specs.Exits.{first_cut}
-use Rattle.bz_streams.specs.Excerpts.{fault_excerpt}
-use Rattle.bz_streams.specs.Ports.{IsInput}
-use Rattle.bz_streams.specs.Reported.{stdin, fault_line, named_line}
-use Rattle.bz_streams.specs.declared.exit.Cut.{Cut}
 use Rattle.bz_streams.specs.declared.exit.Cut.TheVariants as c
 use Rattle.bz_buildozer.specs.Found.{PackagesFound, IsNameOf, first_name, found_in, root_above, second_name, Opened, Used, file_at, package_number, with_opened}
 use Rattle.bz_buildozer.specs.Journals.{OpensBeside, TakesBeside, file_of_journal, journal_beside, lines_of_journal}

@@ -4,11 +4,8 @@ use Rattle.std.specs.Prelude.{IfSome, unwrap_or}
 use Rattle.std.specs.Option.{option_map}
 use Rattle.std.specs.FinMap.{get}
 use Rattle.std.proofs.lemmas.List.{length-append, append-nil}
-use Rattle.bz_items.specs.Characters.{Bytes}
-use Rattle.bz_files.specs.Folder.{Folder}
+use Rattle.bz_buildozer.specs.Words.{Bytes, Folder, journal_name, Cut, limit, first_cut, stdin, named_line}
 use Rattle.bz_buildozer.specs.Sessions.{History, Pair}
-use Rattle.bz_resume.specs.Pair.{journal_name}
-use Rattle.bz_streams.specs.declared.exit.Cut.{Cut}
 use Rattle.bz_streams.specs.declared.exit.Cut.TheVariants as c
 use Rattle.bz_streams.specs.declared.sink.Sink.{Ghosts as SinkOf}
 use Rattle.bz_buildozer.specs.Found.{IsNameOf, PackagesFound, found_in, found_second, second_name, Opened, Used, file_at, opened_with, first_name, in_package, package_number, with_opened}
@@ -17,9 +14,6 @@ use Rattle.bz_buildozer.specs.Keeps.{after_keeping, file_after, left_out}
 use Rattle.bz_buildozer.specs.Run.{OpensUntil, SecondUntil, Answers, AnswersIn, Does, Finds, Progress, RunsSteps, TakesUntil, Uses, UsesWhole, World, ends_run, unreadable}
 use Rattle.bz_buildozer.proofs.PlaceSteps.{last_place, left_after_input, left_after_use, place_stays}
 use Rattle.bz_buildozer.proofs.StandSteps.{found_holds, second_holds}
-use Rattle.bz_grammar.specs.Spell.{limit}
-use Rattle.bz_streams.specs.Exits.{first_cut}
-use Rattle.bz_streams.specs.Reported.{stdin, named_line}
 use Rattle.bz_streams.proofs.Outputs.{reports_more}
 use Rattle.bz_buildozer.specs.Calls.{ReportsLine, ReportsLines, IsLeft}
 use Rattle.bz_buildozer.specs.Reported.{unread_status}

@@ -3,21 +3,13 @@ use Rattle.std.proofs.Common.{◌≡◌, ◌≢◌, ◌⊎◌, ◌&&◌, Bool, �
 use Rattle.std.specs.Option.{option_map_or}
 use Rattle.std.specs.Prelude.{IsSome}
 use Rattle.std.proofs.lemmas.Bool.Decides.{eqb_tells}
-use Rattle.bz_items.specs.Characters.{Bytes}
-use Rattle.bz_label.specs.declared.target.Target.{Target}
-use Rattle.bz_command_line.specs.declared.verb.Verb.{Verb}
+use Rattle.bz_buildozer.specs.Words.{Bytes, Target, Verb, Refusal, Holds, PairFault, Cut, Ghosts as FilesOf, first_cut}
 use Rattle.bz_buildozer.specs.Sessions.{KeepFault, Pair, Refused, KeepsFile, Action, Reply, History, Leads, present}
-use Rattle.bz_value.specs.declared.refusal.Refusal.{Refusal}
 use Rattle.bz_value.specs.declared.refusal.Refusal.TheVariants.{Memory}
-use Rattle.bz_resume.specs.Resuming.{Holds}
 use Rattle.bz_buildozer.specs.Keeps.{KeepsAt, after_keeping, file_left, FolderAfter, is_left_at}
 use Rattle.bz_buildozer.specs.Found.{Opened, Used, file_at}
-use Rattle.bz_resume.specs.declared.pair_fault.PairFault.{PairFault}
 use Rattle.bz_resume.specs.declared.pair_fault.PairFault.TheVariants as f
-use Rattle.bz_streams.specs.declared.exit.Cut.{Cut}
 use Rattle.bz_streams.specs.declared.exit.Cut.TheVariants as c
-use Rattle.bz_files.specs.declared.files.Files.{Ghosts as FilesOf}
-use Rattle.bz_streams.specs.Exits.{first_cut}
 use Rattle.bz_streams.proofs.Outputs.{counts_more}
 use Rattle.bz_buildozer.specs.Calls.{WorksOn}
 use Rattle.bz_buildozer.specs.Moments.{AllAreSafe}

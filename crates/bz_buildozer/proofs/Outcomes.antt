@@ -1,25 +1,17 @@
 -- What words and lines come to, by what was read of them.
 use Rattle.std.proofs.Common.{◌≡◌, ◌≢◌, inl, ℕ, List, Ok, IfOk, Result, arith, sym, subst, inr, [], ◌∷◌, Option, Some, Err, true, refl, append_assoc, ◌⊎◌, ◌&&◌, ◌++◌, Bool, false, ◌∙◌, ◌||◌, None, IfSome, IsSome, true≢false, ap, bytes_eq}
-use Rattle.bz_items.specs.Characters.{Bytes}
-use Rattle.bz_files.specs.Folder.{Folder, Elapses, with_file}
-use Rattle.bz_command_line.specs.Line.{script, CommandLine, LineUsage, command_line_of, Given, operands}
+use Rattle.bz_buildozer.specs.Words.{Bytes, Folder, Elapses, with_file, script, CommandLine, LineUsage, command_line_of, Given, operands, Ghosts as FilesOf, script_of, Options, first_cut, Cut, Exit, Target, IsScriptFault}
 use Rattle.bz_buildozer.specs.Outcome.{OfScript, IsScript, IsText, AreOfInput, LinesEnd, unused, IsUnused, IsScriptFront, out_of_memory, OrOutOfMemory, AreOfInputAndSome, IsOfInput, NamesNoFile, KeepsJournals, reported_name, OperandsOutcome, LinesOutcome, TextOutcome, ScriptOutcome, GivenOutcome, LineOutcome, WordsOutcome}
 use Rattle.bz_buildozer.specs.Steps.{input_package, all_steps, names_input, shows_input, is_of_input}
-use Rattle.bz_files.specs.declared.files.Files.{Ghosts as FilesOf}
 use Rattle.bz_files.proofs.Elapsing.{each_since, elapsed_on, stays, weakened}
 use Rattle.bz_command_line.specs.Requested.{Requested, operand_group, Request, Refused, Usage, accepted, requested_of, complete}
-use Rattle.bz_command_line.specs.Script.{script_of}
 use Rattle.bz_buildozer.specs.Keeps.{KeepsFolder}
 use Rattle.bz_buildozer.specs.Calls.{PassesBy, EndsIn, MayRun, PrintsUntil, ReportsLines, PrintsAll, ReportsLine}
 use Rattle.bz_buildozer.specs.Moments.{IsMeanwhile, IsMomentOfRun, IsMomentOfSteps, AllAreSafe}
 use Rattle.bz_buildozer.specs.Run.{World, Progress, RunsSteps, nothing_done}
 use Rattle.bz_buildozer.proofs.ReadSteps.{IsReadOf, whole_requests, script_read, whole_outcome}
 use Rattle.std.specs.List.{All, list_any}
-use Rattle.bz_command_line.specs.declared.line.Options.{Options}
-use Rattle.bz_streams.specs.Exits.{first_cut}
-use Rattle.bz_streams.specs.declared.exit.Cut.{Cut}
 use Rattle.bz_streams.specs.declared.exit.Cut.TheVariants as c
-use Rattle.bz_streams.specs.declared.exit.Exit.{Exit}
 use Rattle.bz_streams.specs.declared.sink.Sink.{Ghosts as SinkOf}
 use Rattle.bz_buildozer.specs.Ending.{Ended, TriesFiles, status_of, texts_out}
 use Rattle.bz_buildozer.specs.Found.{Used}
@@ -33,8 +25,6 @@ use Rattle.std.specs.Ordering.{nat_cmp}
 use Rattle.std.proofs.lemmas.List.Elements.{All-head}
 use Rattle.std.proofs.lemmas.Slice.Eq.{bytes_eq-Decides}
 use Rattle.bz_files.proofs.Folders.{reads_back}
-use Rattle.bz_label.specs.declared.target.Target.{Target}
-use Rattle.bz_command_line.specs.Refused.{IsScriptFault}
 use Rattle.bz_streams.proofs.Outputs.{appends_nothing}
 use Rattle.bz_buildozer.proofs.EndingSteps.{prints_none}
 use Rattle.bz_buildozer.proofs.StandSteps.{not_input}

@@ -9,16 +9,14 @@ use Rattle.std.proofs.lemmas.Slice.Eq.{bytes_eq-Decides}
 use Rattle.std.proofs.lemmas.Iterator.Adapters.{position_from-zero}
 use Rattle.std.proofs.lemmas.List.{map-append, length-map}
 use Rattle.indexmap.specs.IndexSet.{insert_key}
-use Rattle.bz_items.specs.Characters.{Bytes}
+use Rattle.bz_buildozer.specs.Words.{Bytes, limit, IsInput}
 use Rattle.bz_buildozer.specs.Found.{Used, package_number, Opened, file_at, with_opened}
 use Rattle.bz_buildozer.specs.private.ShownFiles.{texts_of_keys, packages_of, opened_in, used_in}
 use Rattle.bz_buildozer.specs.declared.used.Opened as o
 use Rattle.bz_buildozer.specs.declared.used.Used as d
-use Rattle.bz_grammar.specs.Spell.{limit}
 use Rattle.bz_buildozer.specs.Opens.{Takes}
 use Rattle.bz_buildozer.proofs.ReadSteps.{front_takes}
 use Rattle.bz_buildozer.specs.Calls.{IsLeft}
-use Rattle.bz_streams.specs.Ports.{IsInput}
 use Rattle.bz_buildozer.specs.Steps.{input_package}
 
 -- ---- the number of a package, by its key

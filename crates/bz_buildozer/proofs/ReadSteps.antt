@@ -1,25 +1,15 @@
 -- What comes of the texts and the journals that are read.
 use Rattle.std.proofs.Common.{◌≡◌, ◌⊎◌, inl, inr, ℕ, List, Err, refl, ap, subst, [], ◌∷◌, ◌++◌, None, ◌↔◌, ◌≤◌, ◌<◌, ◌+◌, ◌∙◌, true, length, take, Option, arith, sym, length-take, Some, IfSome, Ok, ◌≢◌, zero, suc, Bool, false, ◌-◌, ◌^◌, Result, ap₂, codes}
-use Rattle.bz_lex.specs.declared.fault.ReadFault.{ReadFault}
+use Rattle.bz_buildozer.specs.Words.{ReadFault, fault_excerpt, fault_line, named_line, is_of_leaves, limit, Accepted, Bytes, Requested, script_of, Options, IsInput, Edit, IsOtherVersion, ResumeFault, IsStale, Folder, journal_name}
 use Rattle.bz_lex.specs.declared.fault.ReadFault.TheVariants as rf
 use Rattle.bz_grammar.specs.Faults.{IsOfText}
 use Rattle.bz_journal.specs.Forms.{OpensPast, past_history}
 use Rattle.bz_journal.specs.declared.past.Form.{Form}
 use Rattle.bz_journal.specs.Shown.{OpensText, session_history}
-use Rattle.bz_streams.specs.Excerpts.{fault_excerpt}
-use Rattle.bz_streams.specs.Reported.{fault_line, named_line}
 use Rattle.bz_buildozer.specs.Opens.{IsRefusedFor, Takes, FrontsAreReportedAlike, opened_fresh}
 use Rattle.std.proofs.lemmas.List.{take_all}
 use Rattle.std.proofs.lemmas.Bool.{cases_lt}
-use Rattle.bz_lex.specs.Faults.{is_of_leaves}
-use Rattle.bz_grammar.specs.Spell.{limit}
-use Rattle.bz_grammar.specs.Legal.{Accepted}
-use Rattle.bz_items.specs.Characters.{Bytes}
 use Rattle.bz_buildozer.specs.Found.{Opened, opened_with, PackagesFound, first_name, found_at, found_in, found_second, root_above, second_name}
-use Rattle.bz_command_line.specs.Requested.{Requested}
-use Rattle.bz_command_line.specs.Script.{script_of}
-use Rattle.bz_command_line.specs.declared.line.Options.{Options}
-use Rattle.bz_streams.specs.Ports.{IsInput}
 use Rattle.bz_buildozer.specs.Ending.{Ended}
 use Rattle.bz_buildozer.specs.Outcome.{IsScript, IsScriptFront, IsText, IsTextFault, TextOutcome}
 use Rattle.bz_buildozer.specs.Run.{World}
@@ -29,17 +19,11 @@ use Rattle.std.specs.FinMap.{get}
 use Rattle.std.specs.List.{All}
 use Rattle.std.proofs.lemmas.List.Elements.{All-get_or}
 use Rattle.std.proofs.lemmas.Slice.Eq.{bytes_eq-Decides}
-use Rattle.bz_edit.specs.declared.edit.Edit.{Edit}
 use Rattle.bz_edit.specs.Trails.{trail_at}
 use Rattle.bz_edit.proofs.Keeps.{trail_kept}
-use Rattle.bz_journal_format.specs.Texts.{IsOtherVersion}
-use Rattle.bz_resume.specs.declared.fault.ResumeFault.{ResumeFault}
 use Rattle.bz_resume.specs.declared.fault.ResumeFault.TheVariants as f
 use Rattle.bz_resume.specs.Journals.{Journal, NoJournal, stands, text_at}
-use Rattle.bz_resume.specs.Resumed.{IsStale}
 use Rattle.bz_resume.proofs.Outcomes.{not_other, one_journal}
-use Rattle.bz_files.specs.Folder.{Folder}
-use Rattle.bz_resume.specs.Pair.{journal_name}
 use Rattle.bz_buildozer.specs.Sessions.{History, opened as begun_with, present}
 use Rattle.bz_journal.specs.Lasting.{IsResumedSession}
 use Rattle.bz_journal.specs.State.{SessionState}

@@ -1,7 +1,6 @@
 -- How a root is sought, from one folder to the one above it.
 use Rattle.std.proofs.Common.{arith, ◌≡◌, ◌≤◌, ◌<◌, ◌-◌, ◌+◌, ◌++◌, ℕ, suc, true, false, Some, None, codes, refl, subst}
-use Rattle.bz_items.specs.Characters.{Bytes}
-use Rattle.bz_files.specs.Folder.{Folder}
+use Rattle.bz_buildozer.specs.Words.{Bytes, Folder}
 use Rattle.bz_buildozer.specs.Found.{is_root, root_from}
 
 module _ (folder : Folder) (count at : ℕ) (path : Bytes) where

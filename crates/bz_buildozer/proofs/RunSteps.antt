@@ -4,21 +4,16 @@ use Rattle.std.specs.List.{All, flat_map}
 use Rattle.std.proofs.lemmas.Grind.{flat_map-append}
 use Rattle.std.proofs.lemmas.List.{append-nil, map-append, take_all, take_more, take-append-drop}
 use Rattle.std.proofs.lemmas.List.Elements.{All-get_or}
-use Rattle.bz_files.specs.Folder.{Folder}
+use Rattle.bz_buildozer.specs.Words.{Folder, Counts, Cut, first_cut, Target, requested_in, request_in}
 use Rattle.bz_files.proofs.Elapsing.{elapsed_on, stays, weakened}
-use Rattle.bz_streams.specs.Outputs.{Counts}
-use Rattle.bz_streams.specs.declared.exit.Cut.{Cut}
 use Rattle.bz_streams.specs.declared.exit.Cut.TheVariants as c
 use Rattle.bz_streams.proofs.Outputs.{counts_more, reports_more}
-use Rattle.bz_streams.specs.Exits.{first_cut}
 use Rattle.bz_buildozer.specs.Calls.{RunSpot, MayRun, Proceeds}
 use Rattle.bz_buildozer.proofs.CutSteps.{cut_more, neither_read}
 use Rattle.bz_buildozer.proofs.FailSteps.{cut_alone, ended_runs, runs_more}
 use Rattle.bz_buildozer.proofs.SafeSteps.{began_safely}
 use Rattle.bz_buildozer.specs.Moments.{IsMeanwhile, IsMomentOfSteps}
 use Rattle.bz_buildozer.specs.Run.{World, RunsSteps, ends_run}
-use Rattle.bz_label.specs.declared.target.Target.{Target}
-use Rattle.bz_command_line.specs.Shown.{requested_in, request_in}
 use Rattle.bz_command_line.specs.declared.requested.Request.{Request}
 use Rattle.bz_command_line.specs.declared.requested.Requested.{Requested}
 use Rattle.bz_buildozer.specs.Steps.{RunStep, all_steps, step_of, steps_requested}

@@ -5,12 +5,9 @@ use Rattle.std.specs.FinMap.{get}
 use Rattle.std.specs.Option.{option_map, option_map_or}
 use Rattle.std.proofs.lemmas.Bool.Decides.{eqb_tells}
 use Rattle.std.proofs.lemmas.Slice.Eq.{bytes_eq-Decides}
-use Rattle.bz_items.specs.Characters.{Bytes}
-use Rattle.bz_files.specs.Folder.{Elapses, Folder, IsAside}
-use Rattle.bz_files.specs.declared.files.Files.{Ghosts as FilesOf}
+use Rattle.bz_buildozer.specs.Words.{Bytes, Elapses, Folder, IsAside, Ghosts as FilesOf, journal_name}
 use Rattle.bz_files.proofs.Elapsing.{elapsed_on, stays, weakened}
 use Rattle.bz_buildozer.specs.Sessions.{KeepFault, Refused, Pair, Keeps, KeepsFile, Action, History, Reply, present}
-use Rattle.bz_resume.specs.Pair.{journal_name}
 use Rattle.bz_resume.specs.Resuming.{Holds, OthersStay, Resumes, Survives}
 use Rattle.bz_buildozer.specs.Found.{IsNameOf, Opened, Used, file_at, package_number, with_opened}
 use Rattle.bz_buildozer.specs.Journals.{IsOpenedIn, TakesBeside}

@@ -1,9 +1,7 @@
 -- The names of the files of different packages, what is held under them, and what stays as it was when the run began.
 use Rattle.std.proofs.Common.{arith, ◌≡◌, ◌≢◌, ◌⊎◌, inl, inr, ◌∙◌, ◌+◌, ◌++◌, ◌∷◌, ℕ, [], codes, refl, sym, ap, subst, append_assoc, zero, suc, List, Option, Some, None, Bool, true, false, true≢false, Result, Ok, Err, bytes_eq, ◌||◌, is_some}
 use Rattle.std.proofs.lemmas.List.{append_cancel_right}
-use Rattle.bz_items.specs.Characters.{Bytes}
-use Rattle.bz_files.specs.Folder.{new_name, Folder, IsAside}
-use Rattle.bz_resume.specs.Pair.{journal_name}
+use Rattle.bz_buildozer.specs.Words.{Bytes, new_name, Folder, IsAside, journal_name}
 use Rattle.bz_buildozer.specs.Found.{in_package, first_name, second_name, IsNameOf, PackagesAreApart, PackagesFound, IsApartFrom, found_at, found_in, found_second, Opened, Used, file_at, package_number, with_opened, is_root, root_above, root_from}
 use Rattle.std.specs.Prelude.{IfSome, if◌then◌else◌, unwrap_or}
 use Rattle.std.specs.FinMap.{get}

@@ -3,9 +3,7 @@ use Rattle.std.proofs.Common.{ap, ◌∙◌, ◌≡◌, refl, List, [], ◌∷�
 use Rattle.std.specs.List.{flat_map, list_any}
 use Rattle.std.proofs.Math.Bool.{and-false}
 use Rattle.std.proofs.lemmas.List.Folds.{list_any-append}
-use Rattle.bz_command_line.specs.Requested.{Requested, Request}
-use Rattle.bz_command_line.specs.Verbs.{prints}
-use Rattle.bz_command_line.specs.Shown.{requested_in, request_in}
+use Rattle.bz_buildozer.specs.Words.{Requested, Request, prints, requested_in, request_in}
 use Rattle.bz_command_line.specs.declared.requested.Requested.{Requested as Held}
 use Rattle.bz_buildozer.specs.private.Shown.{targets_input_in, shown_in}
 use Rattle.bz_buildozer.specs.Steps.{step_of, steps_requested, all_steps, is_of_input, is_shown_by, shows_input, names_input}

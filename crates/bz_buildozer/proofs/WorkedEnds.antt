@@ -9,24 +9,16 @@ use Rattle.std.specs.Fmt.{digits}
 use Rattle.std.specs.Option.{option_map}
 use Rattle.clap.proofs.OnLiterals.{clap_on_literals}
 use Rattle.bz_lex.specs.declared.fault.ReadFault.TheVariants.{TooLarge}
-use Rattle.bz_grammar.specs.Spell.{limit}
+use Rattle.bz_buildozer.specs.Words.{limit, Folder, with_file, Target, CommandLine, LineUsage, operands, script, command_line_of, IsGroupFault, Options, stdin, Cut, Bytes}
 use Rattle.bz_value.specs.declared.refusal.Refusal.TheVariants.{TooFar}
-use Rattle.bz_files.specs.Folder.{Folder, with_file}
 use Rattle.bz_buildozer.specs.Sessions.{History, Answer, Undo, changed, undone, opened, note_limit, gives, Changed, Moved}
-use Rattle.bz_label.specs.declared.target.Target.{Target}
 use Rattle.bz_label.specs.declared.target.Which.TheVariants.{Name}
 use Rattle.bz_command_line.specs.Requested.{Requested, Request, Usage, nothing_requested, operand_group, no_command, no_target, no_line, in_line, of_operand}
-use Rattle.bz_command_line.specs.Line.{CommandLine, LineUsage, operands, script, command_line_of}
-use Rattle.bz_command_line.specs.Refused.{IsGroupFault}
-use Rattle.bz_command_line.specs.declared.line.Options.{Options}
 use Rattle.bz_command_line.specs.declared.verb.OperandFault.{OperandFault}
 use Rattle.bz_command_line.specs.declared.verb.OperandFault.TheVariants.{BadTarget, Command}
 use Rattle.bz_command_line.specs.declared.verb.Verb.TheVariants.{Do, Undo, Redo}
 use Rattle.bz_streams.specs.Options.{option_line}
-use Rattle.bz_streams.specs.Reported.{stdin}
-use Rattle.bz_streams.specs.declared.exit.Cut.{Cut}
 use Rattle.bz_streams.specs.declared.exit.Cut.TheVariants as c
-use Rattle.bz_items.specs.Characters.{Bytes}
 use Rattle.bz_command_syntax.specs.declared.command.AttributeOperation.TheVariants as wa
 use Rattle.bz_command_syntax.specs.declared.command.Operation.TheVariants as w
 use Rattle.bz_command_syntax.specs.declared.command.RuleOperation.TheVariants as wr

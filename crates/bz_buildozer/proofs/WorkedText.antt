@@ -15,14 +15,13 @@ use Rattle.bz_lex.specs.Gaps.{nothing}
 use Rattle.bz_grammar.specs.declared.kind.Kind.{Kind}
 use Rattle.bz_grammar.specs.declared.kind.Kind.TheVariants as k
 use Rattle.bz_grammar.specs.Kinds.{kind_number}
-use Rattle.bz_grammar.specs.declared.tree.Node.{Node}
+use Rattle.bz_buildozer.specs.Words.{Node, Bytes}
 use Rattle.bz_grammar.specs.declared.tree.Part.{Part}
 use Rattle.bz_grammar.specs.declared.tree.Part.TheVariants as p
 use Rattle.bz_grammar.specs.Legal.{Accepted, LegalPart, LegalShapes, Reads}
 use Rattle.bz_grammar.specs.Spell.{leaves_of, depth_of, depth_limit, limit}
 use Rattle.bz_grammar.specs.Spots.{Begins, Within, AtLeaves, AtParts, Stands, AreTokens}
 use Rattle.bz_value.specs.declared.value.Item.{Item}
-use Rattle.bz_items.specs.Characters.{Bytes}
 use Rattle.bz_journal.specs.Meaning.{Meaning, gives, refuses, written}
 use Rattle.bz_buildozer.specs.WorkedParts.{text_read, text_made}
 use Rattle.bz_buildozer.specs.WorkedRuns.{IsMade}

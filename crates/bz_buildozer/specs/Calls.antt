@@ -3,14 +3,8 @@
 use Rattle.std.specs.Prelude.{◌≡◌, ◌≢◌, ◌⊎◌, ◌++◌, ℕ, List, Option, Some, None, Result, Bool, true, false}
 use Rattle.std.specs.Option.{option_map}
 use Rattle.std.specs.Io.KnownBytes.{Appends}
-use Rattle.bz_items.specs.Characters.{Bytes}
-use Rattle.bz_files.specs.Folder.{Folder, Elapses}
-use Rattle.bz_files.specs.declared.files.Files.{Ghosts as FilesOf}
-use Rattle.bz_streams.specs.Faults.{AppendsSome, Rises}
-use Rattle.bz_streams.specs.Outputs.{Reports, Counts}
-use Rattle.bz_streams.specs.declared.exit.Cut.{Cut}
+use Rattle.bz_buildozer.specs.Words.{Bytes, Folder, Elapses, Ghosts as FilesOf, AppendsSome, Rises, Reports, Counts, Cut, Exit}
 use Rattle.bz_streams.specs.declared.exit.Cut.TheVariants as c
-use Rattle.bz_streams.specs.declared.exit.Exit.{Exit}
 use Rattle.bz_streams.specs.declared.sink.Sink.{Ghosts as SinkOf}
 use Rattle.bz_streams.specs.declared.source.Source.{Ghosts as SourceOf}
 use Rattle.bz_buildozer.specs.Sessions.{KeepFault, Action, Reply}

@@ -3,12 +3,7 @@ use Rattle.std.specs.Prelude.{◌≡◌, ◌≢◌, ◌&&◌, not, Bool, false, 
 use Rattle.std.specs.FinMap.{get}
 use Rattle.std.specs.List.{flat_map, list_any}
 use Rattle.std.specs.Option.{option_map, option_map_or}
-use Rattle.bz_items.specs.Characters.{Bytes}
-use Rattle.bz_files.specs.Folder.{Folder, IsReplacing, SameBut, new_name, with_file}
-use Rattle.bz_command_line.specs.declared.line.Options.{Options}
-use Rattle.bz_streams.specs.Exits.{first_cut}
-use Rattle.bz_streams.specs.Reported.{named_line}
-use Rattle.bz_streams.specs.declared.exit.Cut.{Cut}
+use Rattle.bz_buildozer.specs.Words.{Bytes, Folder, IsReplacing, SameBut, new_name, with_file, Options, first_cut, named_line, Cut}
 use Rattle.bz_streams.specs.declared.exit.Cut.TheVariants as c
 use Rattle.bz_buildozer.specs.Sessions.{present}
 use Rattle.bz_buildozer.specs.Found.{Opened, Used}

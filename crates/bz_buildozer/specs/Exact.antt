@@ -1,16 +1,7 @@
 -- Words, standard input and a folder have at most one outcome, but for what is left open: clap's text, which fault of a text that
 -- can't be read is reported, names that end in `.bznew`, the bytes of journals, and whether `regex` takes a pattern.
 use Rattle.std.specs.Prelude.{◌≡◌, ◌⊎◌, ℕ, Bool, true, List, [], ◌∷◌, ◌++◌, Some, Ok, Err}
-use Rattle.bz_lex.specs.declared.fault.ReadFault.{ReadFault}
-use Rattle.bz_items.specs.Characters.{Bytes}
-use Rattle.bz_files.specs.Folder.{IsAside, SameBut}
-use Rattle.bz_resume.specs.Pair.{journal_name}
-use Rattle.bz_command_line.specs.Requested.{Refused, Usage, of_operand, in_line}
-use Rattle.bz_command_line.specs.Line.{Given, operands, script, CommandLine, of_clap, command_line_of}
-use Rattle.bz_command_line.specs.Refused.{IsPatternFault, IsFirstRefused, IsFirstFault}
-use Rattle.bz_command_line.specs.Script.{script_lines}
-use Rattle.bz_streams.specs.Excerpts.{fault_excerpt}
-use Rattle.bz_streams.specs.Reported.{fault_line}
+use Rattle.bz_buildozer.specs.Words.{ReadFault, Bytes, IsAside, SameBut, journal_name, Refused, Usage, of_operand, in_line, Given, operands, script, CommandLine, of_clap, command_line_of, IsPatternFault, IsFirstRefused, IsFirstFault, script_lines, fault_excerpt, fault_line}
 use Rattle.bz_streams.specs.declared.exit.Cut.TheVariants as c
 use Rattle.bz_buildozer.specs.Ending.{Left, Ended, ended_whole}
 use Rattle.bz_buildozer.specs.Opens.{IsRefusedFor}

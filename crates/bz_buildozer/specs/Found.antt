@@ -1,11 +1,8 @@
 -- Which file of a package is read.
 use Rattle.std.specs.Prelude.{◌≡◌, ◌≢◌, ◌⊎◌, [], ◌∷◌, ◌++◌, ◌||◌, codes, Option, Some, None, ℕ, ◌+◌, zero, suc, Bool, false, is_some, List, bytes_eq, if◌then◌else◌}
 use Rattle.std.specs.FinMap.{get}
-use Rattle.bz_items.specs.Characters.{Bytes}
-use Rattle.bz_files.specs.Folder.{Folder, new_name}
-use Rattle.bz_resume.specs.Pair.{journal_name}
+use Rattle.bz_buildozer.specs.Words.{Bytes, Folder, new_name, journal_name, History}
 use Rattle.std.specs.Option.{option_map}
-use Rattle.bz_journal.specs.History.{History}
 
 -- a file of a package, by its path below the current folder; the root package has the empty path
 abbrev pub in_package : Bytes → Bytes → Bytes

@@ -4,20 +4,8 @@ use Rattle.std.specs.List.{concat}
 use Rattle.std.specs.Option.{option_map}
 use Rattle.std.specs.FinMap.{get}
 use Rattle.std.specs.Fmt.Cut.{floor_char_boundary}
-use Rattle.bz_edit.specs.declared.edit.Edit.{Edit}
-use Rattle.bz_journal_format.specs.Texts.{IsOtherVersion}
-use Rattle.bz_resume.specs.declared.fault.ResumeFault.{ResumeFault}
+use Rattle.bz_buildozer.specs.Words.{Edit, IsOtherVersion, ResumeFault, Journal, NoJournal, stands, IsStale, Bytes, Accepted, Folder, journal_name, Holds, escaped_text, named_line, History, present}
 use Rattle.bz_resume.specs.declared.fault.ResumeFault.TheVariants as f
-use Rattle.bz_resume.specs.Journals.{Journal, NoJournal, stands}
-use Rattle.bz_resume.specs.Resumed.{IsStale}
-use Rattle.bz_items.specs.Characters.{Bytes}
-use Rattle.bz_grammar.specs.Legal.{Accepted}
-use Rattle.bz_files.specs.Folder.{Folder}
-use Rattle.bz_resume.specs.Pair.{journal_name}
-use Rattle.bz_resume.specs.Resuming.{Holds}
-use Rattle.bz_streams.specs.Controls.{escaped_text}
-use Rattle.bz_streams.specs.Reported.{named_line}
-use Rattle.bz_journal.specs.History.{History, present}
 use Rattle.bz_buildozer.specs.Found.{IsNameOf, PackagesFound, Opened, Used, opened_with}
 use Rattle.bz_buildozer.specs.Opens.{Opens, Takes}
 

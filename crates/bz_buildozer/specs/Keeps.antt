@@ -1,21 +1,12 @@
 -- What keeping an action does to the packages of a run and to the files.
 use Rattle.std.specs.Prelude.{◌≡◌, ◌⊎◌, ◌==◌, ◌||◌, not, ℕ, true, List, Some, Result, Ok, Err, ◌≢◌, ◌&&◌, Bool, false, if◌then◌else◌, Option, None, IfErr}
-use Rattle.bz_files.specs.declared.files.Files.{Ghosts as FilesOf}
+use Rattle.bz_buildozer.specs.Words.{Ghosts as FilesOf, Elapses, Folder, Bytes, IsRefused, Counts, Cut, Edit, journal_text, journal_name, Holds, OthersStay}
 use Rattle.bz_files.specs.Faults.{Rises}
-use Rattle.bz_files.specs.Folder.{Elapses, Folder}
-use Rattle.bz_items.specs.Characters.{Bytes}
 use Rattle.bz_buildozer.specs.Sessions.{Action, Reply, Acts, Answer, History, present, KeepFault, Refused, Pair, Keeps, KeepsFile}
-use Rattle.bz_journal.specs.Keeping.{IsRefused}
-use Rattle.bz_streams.specs.Outputs.{Counts}
-use Rattle.bz_streams.specs.declared.exit.Cut.{Cut}
 use Rattle.bz_streams.specs.declared.exit.Cut.TheVariants as c
 use Rattle.bz_buildozer.specs.Found.{Opened, Used, file_at, with_opened}
 use Rattle.std.specs.FinMap.{get}
 use Rattle.std.specs.Option.{option_map_or}
-use Rattle.bz_edit.specs.declared.edit.Edit.{Edit}
-use Rattle.bz_resume.specs.Journals.{journal_text}
-use Rattle.bz_resume.specs.Pair.{journal_name}
-use Rattle.bz_resume.specs.Resuming.{Holds, OthersStay}
 
 -- A folder of honest files was the same at each moment of the call.
 abbrev pub KeepsFolder : {F : Type 0} → FilesOf F → F → F → Type 0

@@ -1,15 +1,8 @@
 -- The folder at each moment of a run with journals, whatever cuts the run or stops it.
 use Rattle.std.specs.Prelude.{◌≡◌, ◌≢◌, ◌⊎◌, true, false, ℕ, List, [], ◌∷◌, ◌++◌, Option, Some, None, Result, Ok, Err, IfSome}
 use Rattle.std.specs.FinMap.{get}
-use Rattle.bz_items.specs.Characters.{Bytes}
-use Rattle.bz_files.specs.Folder.{Folder, IsAside}
+use Rattle.bz_buildozer.specs.Words.{Bytes, Folder, IsAside, PairFault, journal_name, Holds, Requested, operand_group, Given, operands, script, script_of}
 use Rattle.bz_buildozer.specs.Sessions.{KeepFault, Pair, Keeps, Action, History, Reply, present}
-use Rattle.bz_resume.specs.declared.pair_fault.PairFault.{PairFault}
-use Rattle.bz_resume.specs.Pair.{journal_name}
-use Rattle.bz_resume.specs.Resuming.{Holds}
-use Rattle.bz_command_line.specs.Requested.{Requested, operand_group}
-use Rattle.bz_command_line.specs.Line.{Given, operands, script}
-use Rattle.bz_command_line.specs.Script.{script_of}
 use Rattle.bz_buildozer.specs.Found.{IsNameOf, Opened, Used, package_number, file_at, with_opened}
 use Rattle.bz_buildozer.specs.Journals.{IsOpenedIn}
 use Rattle.bz_buildozer.specs.Keeps.{after_keeping}

@@ -1,16 +1,7 @@
 -- How a package is opened, and what an action does in one.
 use Rattle.std.specs.Prelude.{◌≡◌, ◌≢◌, ◌⊎◌, ◌↔◌, ◌+◌, ◌++◌, true, List, [], ◌∷◌, take, codes, Option, Some, None}
-use Rattle.bz_lex.specs.declared.fault.ReadFault.{ReadFault}
-use Rattle.bz_lex.specs.Faults.{is_of_leaves}
-use Rattle.bz_lex.specs.Stops.{IsFaultAt}
-use Rattle.bz_grammar.specs.Legal.{Accepted}
-use Rattle.bz_grammar.specs.Spell.{limit}
-use Rattle.bz_files.specs.Folder.{Folder}
-use Rattle.bz_items.specs.Characters.{Bytes}
+use Rattle.bz_buildozer.specs.Words.{ReadFault, is_of_leaves, IsFaultAt, Accepted, limit, Folder, Bytes, IsFaultOf, fault_excerpt, named_line, fault_line}
 use Rattle.bz_buildozer.specs.Sessions.{opened}
-use Rattle.bz_grammar.specs.Faults.{IsFaultOf}
-use Rattle.bz_streams.specs.Excerpts.{fault_excerpt}
-use Rattle.bz_streams.specs.Reported.{named_line, fault_line}
 use Rattle.bz_buildozer.specs.Found.{Opened, opened_with, PackagesFound, root_above, second_name}
 use Rattle.bz_buildozer.specs.Reported.{absent_hint}
 

@@ -3,22 +3,11 @@ use Rattle.std.specs.Prelude.{◌≡◌, ◌≢◌, ◌⊎◌, ◌&&◌, ◌≤�
 use Rattle.std.specs.List.{All}
 use Rattle.std.specs.FinMap.{get}
 use Rattle.std.specs.Str.{IsUtf8, IsValidUpTo}
-use Rattle.bz_lex.specs.declared.fault.ReadFault.{ReadFault}
+use Rattle.bz_buildozer.specs.Words.{ReadFault, limit, Bytes, Folder, Requested, Usage, operand_group, Given, operands, script, LineUsage, CommandLine, command_line_of, IsGroupFault, IsScriptFault, script_of, Options, stdin, fault_line, Cut, IsInput}
 use Rattle.bz_lex.specs.declared.fault.ReadFault.TheVariants.{NotUtf8, TooLarge}
-use Rattle.bz_grammar.specs.Spell.{limit}
-use Rattle.bz_items.specs.Characters.{Bytes}
-use Rattle.bz_files.specs.Folder.{Folder}
-use Rattle.bz_command_line.specs.Requested.{Requested, Usage, operand_group}
-use Rattle.bz_command_line.specs.Line.{Given, operands, script, LineUsage, CommandLine, command_line_of}
-use Rattle.bz_command_line.specs.Refused.{IsGroupFault, IsScriptFault}
-use Rattle.bz_command_line.specs.Script.{script_of}
-use Rattle.bz_command_line.specs.declared.line.Options.{Options}
-use Rattle.bz_streams.specs.Reported.{stdin, fault_line}
-use Rattle.bz_streams.specs.declared.exit.Cut.{Cut}
 use Rattle.bz_streams.specs.declared.exit.Cut.TheVariants as c
 use Rattle.bz_buildozer.specs.Ending.{Ended, Performs, ended_whole}
 use Rattle.bz_buildozer.specs.Run.{World}
-use Rattle.bz_streams.specs.Ports.{IsInput}
 use Rattle.bz_buildozer.specs.Steps.{input_package, all_steps, names_input}
 use Rattle.bz_buildozer.specs.Reported.{usage_line, unread_line, unread_status, IsLineUsageLine, input_line, memory_line, no_journal_line}
 

@@ -1,16 +1,10 @@
 -- The lines of buildozer on standard error, of which those on usage are bz_command_line's.
 use Rattle.std.specs.Prelude.{◌==◌, ◌&&◌, ◌||◌, ℕ, Bool, not, List, [], ◌∷◌, ◌++◌, Option, Some, None, bytes_eq, eqb, codes, decimal, if◌then◌else◌}
 use Rattle.std.specs.List.{concat, ends_with}
-use Rattle.bz_items.specs.Characters.{Bytes}
-use Rattle.bz_value.specs.Refusals.{refusal_name, refusal_number}
-use Rattle.bz_value.specs.declared.refusal.Refusal.{Refusal}
+use Rattle.bz_buildozer.specs.Words.{Bytes, refusal_name, refusal_number, Refusal, PairFault, escaped_text, stdin, named_line, Cut}
 use Rattle.bz_value.specs.declared.refusal.Refusal.TheVariants.{TooFar}
 pub use Rattle.bz_command_line.specs.Reported.{numbered, operand_line, nul_line, refused_place, usage_line, IsLineUsageLine}
-use Rattle.bz_resume.specs.declared.pair_fault.PairFault.{PairFault}
 use Rattle.bz_resume.specs.declared.pair_fault.PairFault.TheVariants as f
-use Rattle.bz_streams.specs.Controls.{escaped_text}
-use Rattle.bz_streams.specs.Reported.{stdin, named_line}
-use Rattle.bz_streams.specs.declared.exit.Cut.{Cut}
 use Rattle.bz_streams.specs.declared.exit.Cut.TheVariants as c
 
 -- Without journals the steps that earlier runs did in a file can't be undone or redone. (The flag: journals are kept.)

@@ -2,23 +2,10 @@
 use Rattle.std.specs.Prelude.{◌≡◌, ◌≢◌, ◌⊎◌, ◌&&◌, ◌||◌, not, Bool, true, false, ℕ, List, [], ◌∷◌, ◌++◌, codes, length, is_err, Option, Some, None, Ok, Err}
 use Rattle.std.specs.FinMap.{get}
 use Rattle.std.specs.Option.{option_map}
-use Rattle.bz_grammar.specs.Legal.{Reads}
-use Rattle.bz_grammar.specs.Statements.{lines_of}
-use Rattle.bz_grammar.specs.declared.tree.Node.{Node}
-use Rattle.bz_hosts.specs.View.{view_of}
-use Rattle.bz_hint.specs.Hints.{change_notes, refusal_hint}
+use Rattle.bz_buildozer.specs.Words.{Reads, lines_of, Node, view_of, change_notes, refusal_hint, Bytes, Folder, journal_name, Survives, PairFault, first_cut, IsInput, stdin, named_line, Cut}
 use Rattle.bz_value.specs.declared.refusal.Refusal.TheVariants.{NoteTooLong}
-use Rattle.bz_items.specs.Characters.{Bytes}
-use Rattle.bz_files.specs.Folder.{Folder}
 use Rattle.bz_buildozer.specs.Sessions.{Pair, Keeps, Action, Do, present, Reply, Changed, Same, Printed, Moved, History, Answer, Leads, listing}
-use Rattle.bz_resume.specs.Pair.{journal_name}
-use Rattle.bz_resume.specs.Resuming.{Survives}
-use Rattle.bz_resume.specs.declared.pair_fault.PairFault.{PairFault}
 use Rattle.bz_resume.specs.declared.pair_fault.PairFault.TheVariants as f
-use Rattle.bz_streams.specs.Exits.{first_cut}
-use Rattle.bz_streams.specs.Ports.{IsInput}
-use Rattle.bz_streams.specs.Reported.{stdin, named_line}
-use Rattle.bz_streams.specs.declared.exit.Cut.{Cut}
 use Rattle.bz_streams.specs.declared.exit.Cut.TheVariants as c
 use Rattle.bz_buildozer.specs.Found.{PackagesFound, first_name, found_in, found_second, second_name, Opened, Used, package_number, file_at, with_opened}
 use Rattle.bz_buildozer.specs.Journals.{OpensBeside, TakesBeside, journal_beside}

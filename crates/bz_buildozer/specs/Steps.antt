@@ -1,13 +1,9 @@
 -- What a line requests, step by step.
 use Rattle.std.specs.Prelude.{List, map, codes, Bool, not, ◌&&◌, bytes_eq, Option, Some, None}
 use Rattle.std.specs.List.{flat_map, list_any}
-use Rattle.bz_items.specs.Characters.{Bytes}
-use Rattle.bz_label.specs.declared.target.Target.{Target}
+use Rattle.bz_buildozer.specs.Words.{Bytes, Target, Requested, Request, prints, Verb}
 use Rattle.bz_buildozer.specs.Sessions.{Action}
 use Rattle.bz_buildozer.specs.Sessions as a
-use Rattle.bz_command_line.specs.Requested.{Requested, Request}
-use Rattle.bz_command_line.specs.Verbs.{prints}
-use Rattle.bz_command_line.specs.declared.verb.Verb.{Verb}
 use Rattle.bz_command_line.specs.declared.verb.Verb.TheVariants.{Do, Undo, Redo, Journal}
 
 -- a command on one target

@@ -2,11 +2,8 @@
 use Rattle.std.specs.Prelude.{◌≡◌, ℕ, true, false, List, [], ◌∷◌, map, codes, Some, None, Result, Ok, Err}
 use Rattle.std.specs.FinMap.{get}
 use Rattle.bz_value.specs.declared.refusal.Refusal.TheVariants.{NotAList, TooFar, NoTarget}
-use Rattle.bz_files.specs.Folder.{Folder}
+use Rattle.bz_buildozer.specs.Words.{Folder, Requested, Usage, operand_group, stdin, fault_line, Bytes}
 use Rattle.bz_buildozer.specs.Sessions.{changed, undone, redone, Same, Printed}
-use Rattle.bz_command_line.specs.Requested.{Requested, Usage, operand_group}
-use Rattle.bz_streams.specs.Reported.{stdin, fault_line}
-use Rattle.bz_items.specs.Characters.{Bytes}
 use Rattle.bz_streams.specs.declared.exit.Cut.TheVariants as c
 use Rattle.bz_buildozer.specs.Found.{found_in, first_name, second_name, Opened, Used, package_number}
 use Rattle.bz_buildozer.specs.Opens.{opened_fresh}

@@ -1,11 +1,9 @@
 -- Worked rows: how whole runs of buildozer end. Above a row is what is typed (in a shell).
 use Rattle.std.specs.Prelude.{◌≡◌, ◌<◌, ℕ, List, [], ◌∷◌, ◌++◌, length, codes, Some, None}
 use Rattle.std.specs.FinMap.{get}
-use Rattle.bz_files.specs.Folder.{Folder, with_file}
+use Rattle.bz_buildozer.specs.Words.{Folder, with_file, limit, Bytes}
 use Rattle.bz_buildozer.specs.Sessions.{gives, Means}
 use Rattle.bz_label.specs.declared.target.Which.TheVariants.{Name}
-use Rattle.bz_grammar.specs.Spell.{limit}
-use Rattle.bz_items.specs.Characters.{Bytes}
 use Rattle.bz_streams.specs.declared.exit.Cut.TheVariants as c
 use Rattle.bz_command_syntax.specs.declared.command.AttributeOperation.TheVariants as wa
 use Rattle.bz_command_syntax.specs.declared.command.Operation.TheVariants as w

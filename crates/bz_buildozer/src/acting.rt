@@ -1,10 +1,7 @@
 //! One step.
 ghost use Rattle.std.specs.Prelude.{◌≡◌, ◌≢◌, ◌⊎◌, ◌&&◌, ◌++◌, [], ◌∷◌, ℕ, List, Bool, Some, None, Err, true, false, IsSome, IfSome, OnOk, OnErr};
-ghost use Rattle.bz_files.specs.Folder.{Folder};
-ghost use Rattle.bz_grammar.specs.Legal.{Reads};
-ghost use Rattle.bz_grammar.specs.declared.tree.Node.{Node};
+ghost use Rattle.bz_buildozer.specs.Words.{Folder, Reads, Node, HasPath};
 ghost use Rattle.bz_buildozer.specs.Sessions.{Do, History, action_in, present};
-ghost use Rattle.bz_command_line.specs.Paths.{HasPath};
 ghost use Rattle.bz_buildozer.specs.Found as p;
 ghost use Rattle.bz_buildozer.specs.Found.{file_at};
 ghost use Rattle.bz_buildozer.specs.private.ShownFiles.{opened_in, used_in};

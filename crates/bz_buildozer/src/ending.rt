@@ -2,11 +2,8 @@
 ghost use Rattle.std.specs.Prelude.{◌≡◌, ◌≢◌, ◌⊎◌, ◌++◌, [], ◌∷◌, ℕ, List, Some, codes, true, false, map, if◌then◌else◌, IfOk, IfErr};
 ghost use Rattle.std.specs.List.{All, list_any};
 ghost use Rattle.bz_buildozer.specs.Sessions.{present};
-ghost use Rattle.bz_streams.specs.Faults.{Rises};
-ghost use Rattle.bz_streams.specs.Outputs.{Counts};
+ghost use Rattle.bz_buildozer.specs.Words.{Rises, Counts, first_cut, named_line};
 ghost use Rattle.bz_buildozer.specs.private.ShownFiles.{opened_in, used_in};
-ghost use Rattle.bz_streams.specs.Exits.{first_cut};
-ghost use Rattle.bz_streams.specs.Reported.{named_line};
 ghost use Rattle.bz_buildozer.specs.Calls.{ReportsLine, ReportsLines, PrintsAll, PrintsSome, PrintsUntil, WorksOn};
 ghost use Rattle.bz_buildozer.specs.Found as p;
 ghost use Rattle.bz_buildozer.specs.Ending.{differs, has_changed, is_input, goes_out, text_out, texts_out, Writing, writing_of, name_fixed, fixed_lines, LeavesUnwritten, WritesFile, TriesFiles, status_of};

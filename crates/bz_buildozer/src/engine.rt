@@ -1,13 +1,8 @@
 //! The program buildozer over any reader, writers and files.
 ghost use Rattle.std.specs.Prelude.{bytes_eq, ◌≡◌, ◌≢◌, ◌⊎◌, ◌&&◌, ◌∷◌, [], List, ℕ, Option, true, map, Some, Ok, IfOk};
 ghost use Rattle.std.specs.List.{All};
-ghost use Rattle.bz_files.specs.Folder.{Folder};
+ghost use Rattle.bz_buildozer.specs.Words.{Folder, command_line_of, script, HasPath, script_of, requested_in};
 ghost use Rattle.bz_command_line.specs.Requested as a;
-ghost use Rattle.bz_command_line.specs.Line.{command_line_of};
-ghost use Rattle.bz_command_line.specs.Line.{script};
-ghost use Rattle.bz_command_line.specs.Paths.{HasPath};
-ghost use Rattle.bz_command_line.specs.Script.{script_of};
-ghost use Rattle.bz_command_line.specs.Shown.{requested_in};
 ghost use Rattle.bz_buildozer.specs.Keeps.{KeepsFolder};
 ghost use Rattle.bz_buildozer.specs.Calls.{ReportsLines, PrintsAll, IsStill, ReadsNothing, world_with, world_of, EndsIn, PassesBy, IsEndedOver};
 ghost use Rattle.bz_buildozer.specs.Moments.{IsMomentOfRun, IsMomentOfSteps};

@@ -1,8 +1,6 @@
 //! The file of a package, which is read and opened.
 ghost use Rattle.std.specs.Prelude.{◌≡◌, ◌≢◌, ◌⊎◌, ◌≤◌, ℕ, None, Some, true, codes, length};
-ghost use Rattle.bz_resume.specs.Pair.{journal_name};
-ghost use Rattle.bz_streams.specs.Outputs.{Counts};
-ghost use Rattle.bz_streams.specs.Reported.{named_line};
+ghost use Rattle.bz_buildozer.specs.Words.{journal_name, Counts, named_line};
 ghost use Rattle.bz_buildozer.specs.Calls.{ReportsLine, AreCutBy};
 ghost use Rattle.bz_buildozer.specs.Journals.{TakesBeside};
 ghost use Rattle.bz_buildozer.specs.Keeps.{ReadsFiles};

@@ -2,11 +2,7 @@
 ghost use Rattle.std.specs.Prelude.{◌≡◌, ◌≢◌, ◌⊎◌, ◌≤◌, ◌++◌, [], ◌∷◌, codes, eqb, flat_map, option_map, take, true, Some, None, IfOk, IfErr, IsErrOf, string_bytes};
 ghost use Rattle.std.specs.List.{ends_with};
 ghost use Rattle.std.specs.FinMap.{get};
-ghost use Rattle.bz_items.specs.Characters.{Bytes};
-ghost use Rattle.bz_streams.specs.Faults.{Rises, AppendsUnlessFailed};
-ghost use Rattle.bz_streams.specs.Outputs.{Reports};
-ghost use Rattle.bz_streams.specs.Pieces.{line_piece_text};
-ghost use Rattle.bz_streams.specs.Reported.{named_line};
+ghost use Rattle.bz_buildozer.specs.Words.{Bytes, Rises, AppendsUnlessFailed, Reports, line_piece_text, named_line};
 ghost use Rattle.bz_buildozer.specs.Found.{in_package};
 ghost use Rattle.bz_buildozer.specs.Journals.{fault_lines, of_package, of_resuming, shown_package};
 ghost use Rattle.bz_buildozer.specs.Keeps.{KeepsFolder};

@@ -1,8 +1,7 @@
 //! The lines on standard error that speak of commands and of usage. Its faults are passed over.
 ghost use Rattle.std.specs.Prelude.{◌≡◌, ◌++◌, ◌∷◌, [], codes, OnOk, OnErr};
 ghost use Rattle.std.specs.List.{concat};
-ghost use Rattle.bz_streams.specs.Controls.{escaped_text};
-ghost use Rattle.bz_streams.specs.Reported.{named_line};
+ghost use Rattle.bz_buildozer.specs.Words.{escaped_text, named_line};
 ghost use Rattle.bz_buildozer.specs.Calls.{ReportsLine};
 ghost use Rattle.bz_buildozer.specs.Reported.{numbered, history_hint, refusal_line, unread_line, unread_status, memory_line};
 

@@ -1,8 +1,7 @@
 //! The steps of lines, one after the other.
 ghost use Rattle.std.specs.Prelude.{map};
 ghost use Rattle.std.specs.List.{All};
-ghost use Rattle.bz_command_line.specs.Paths.{HasPath};
-ghost use Rattle.bz_command_line.specs.Shown.{requested_in};
+ghost use Rattle.bz_buildozer.specs.Words.{HasPath, requested_in};
 ghost use Rattle.bz_buildozer.specs.Calls.{spot, Proceeds};
 ghost use Rattle.bz_buildozer.specs.Outcome.{AreOfInput};
 ghost use Rattle.bz_buildozer.specs.Run.{RunsSteps};

@@ -1,9 +1,8 @@
 //! The packages that a run has used, and their files.
 ghost use Rattle.std.specs.Prelude.{◌≡◌, ◌≤◌, ◌<◌, map, length, string_bytes, true, false, IfErr};
 ghost use Rattle.std.specs.Option.{option_map};
-ghost use Rattle.bz_journal.specs.Forms.{past_history};
+ghost use Rattle.bz_buildozer.specs.Words.{past_history, IsRefused, IsWriteOrOpen};
 ghost use Rattle.bz_files.specs.Faults.{Rises};
-ghost use Rattle.bz_journal.specs.Keeping.{IsRefused, IsWriteOrOpen};
 ghost use Rattle.bz_buildozer.specs.Keeps.{file_left};
 ghost use Rattle.bz_buildozer.specs.Sessions.{History, Keeps, KeepsFile, action_in};
 ghost use Rattle.bz_buildozer.specs.Found.{opened_with, with_opened};

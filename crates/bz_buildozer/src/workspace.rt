@@ -1,14 +1,11 @@
 //! The packages of a run, each found by its path in one step.
 ghost use Rattle.std.specs.Prelude.{◌≡◌, ◌≢◌, ◌≤◌, ◌<◌, ℕ, [], ◌∷◌, ◌++◌, List, Option, map, length, true, false, Some, None, IsSome, IfSome, OnOk, OnErr, IfOk};
 ghost use Rattle.std.specs.Option.{option_map};
-ghost use Rattle.bz_streams.specs.Faults.{Rises};
-ghost use Rattle.bz_streams.specs.Outputs.{Counts};
+ghost use Rattle.bz_buildozer.specs.Words.{Rises, Counts, action_in, IsWriteOrOpen};
 ghost use Rattle.bz_buildozer.specs.Calls.{AreCutOver, IsLeft, MayRun, ReadsNothing, ReportsLines, UsesSome, world_with};
 ghost use Rattle.bz_buildozer.specs.Run.{Uses};
 ghost use Rattle.bz_buildozer.specs.Steps.{input_package};
 ghost use Rattle.bz_buildozer.specs.private.ShownFiles.{opened_in, used_in};
-ghost use Rattle.bz_journal.specs.Actions.{action_in};
-ghost use Rattle.bz_journal.specs.Keeping.{IsWriteOrOpen};
 ghost use Rattle.bz_buildozer.specs.Keeps.{KeepsAt, KeepsFolder};
 ghost use Rattle.bz_buildozer.specs.Found as p;
 ghost use Rattle.bz_buildozer.specs.Found.{file_at, package_number, with_opened};

@@ -2,12 +2,9 @@
 use Rattle.std.proofs.Common.{◌≡◌, true, List, [], ◌∷◌, refl, sym, ap, ◌∙◌, ℕ, false, subst, ◌<◌, ◌≤◌, ◌+◌, ◌||◌, take, drop, zero, suc, Bool, ◌++◌, length, get_or, set, cond, arith, true≢false}
 use Rattle.std.specs.Prelude.{None, Vec, Option, Some, bytes_eq, is_some, slice_get}
 use Rattle.bz_grammar.specs.declared.kind.Kind.TheVariants as k
-use Rattle.bz_value.specs.declared.value.Expr.{Expr}
-use Rattle.bz_items.specs.Characters.{Bytes}
-use Rattle.bz_command_syntax.specs.declared.command.Entry.{Entry}
+use Rattle.bz_change.specs.Words.{Expr, Bytes, Entry, string_of, mark, is_text, on_first_that}
 use Rattle.bz_rule.specs.Values.{has_kind, parts_of, with_parts, on_third}
 use Rattle.bz_rule.proofs.ProperChanges.{by_case}
-use Rattle.bz_attribute.specs.Made.{string_of, mark}
 use Rattle.bz_attribute.proofs.FormsAgain.{both, if_true, parts_kind, parts_filled, if_false, if_either}
 use Rattle.bz_change.specs.Dicts.{key_in, key_of, has_some_key, has_key, entry_made, entry_changed, entry_put, entries_put}
 use Rattle.std.specs.List.{list_any, position, position_from}
@@ -29,8 +26,6 @@ use Rattle.bz_attribute.proofs.KeySets.{equal_texts, text_cmp, or_none as or_fal
 use Rattle.bz_attribute.specs.Sets.{texts_of}
 use Rattle.bz_change.specs.private.Outcomes.{place_at, AreIndexed}
 use Rattle.std.proofs.lemmas.Iterator.Adapters.{position_from-zero}
-use Rattle.bz_rule.specs.Rules.{is_text}
-use Rattle.bz_attribute.specs.Attributes.{on_first_that}
 use Rattle.bz_attribute.proofs.ArgumentPlaces.{IsFirst, is_first, none_passes, changed_there}
 use Rattle.bz_change.specs.declared.dicts.Change.{Change}
 use Rattle.bz_change.specs.declared.dicts.Change.TheVariants.{Add, Set}

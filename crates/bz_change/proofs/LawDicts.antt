@@ -8,17 +8,10 @@ use Rattle.std.proofs.lemmas.List.Folds.{list_any-append}
 use Rattle.bz_token.specs.declared.class.Class.TheVariants as c
 use Rattle.bz_grammar.specs.declared.kind.Kind.TheVariants as k
 use Rattle.bz_value.specs.declared.value.Expr.{Expr, items_hidden-the_row-Expr-0}
-use Rattle.bz_items.specs.Characters.{Bytes}
-use Rattle.bz_command_syntax.specs.declared.command.Entry.{Entry}
-use Rattle.bz_command_syntax.specs.Quoted.{is_escaped, quoted_of}
-use Rattle.bz_command_syntax.specs.Words.{is_nonempty}
-use Rattle.bz_rule.specs.Rules.{attribute, is_text}
+use Rattle.bz_change.specs.Words.{Bytes, Entry, is_escaped, quoted_of, is_nonempty, attribute, is_text, is_empty, Arguments, by_value, on_first_that, with_value, with_new, without, token, mark, string_of}
 use Rattle.bz_rule.specs.Values.{has_kind, items_of, on_items, with_items}
 use Rattle.bz_rule.proofs.ProperChanges.{by_test, by_case}
-use Rattle.bz_value.specs.Empty.{is_empty}
 use Rattle.bz_value.specs.declared.refusal.Refusal.TheVariants.{NotADict}
-use Rattle.bz_attribute.specs.Attributes.{Arguments, by_value, on_first_that, with_value, with_new, without}
-use Rattle.bz_attribute.specs.Made.{token, mark, string_of}
 use Rattle.bz_change.specs.declared.dicts.Change.{Change}
 use Rattle.bz_change.specs.declared.dicts.Change.TheVariants.{Add, Set}
 use Rattle.bz_change.specs.Dicts.{key_in, key_of, has_key, has_some_key, entry_made, entry_changed, entry_put, entries_put, without_entries, dict_of, on_dict, with_dict_left, dict_remove}

@@ -7,12 +7,9 @@ use Rattle.std.proofs.lemmas.Slice.Eq.{bytes_eq-Decides}
 use Rattle.bz_token.specs.declared.class.Class.TheVariants as c
 use Rattle.bz_grammar.specs.declared.kind.Kind.TheVariants as k
 use Rattle.bz_grammar.specs.Shapes.{is_class}
-use Rattle.bz_value.specs.declared.value.Expr.{Expr, Token, Form'}
+use Rattle.bz_change.specs.Words.{Expr, Token, Form', Bytes, parts_of, with_text, on_row, on_first, Arguments, is_attribute, has_attribute, on_first_that}
 use Rattle.bz_value.specs.declared.value.Expr.TheVariants as e
-use Rattle.bz_items.specs.Characters.{Bytes}
 use Rattle.bz_rule.specs.Rules.{text_in, is_text, value_after}
-use Rattle.bz_rule.specs.Values.{parts_of, with_text, on_row, on_first}
-use Rattle.bz_attribute.specs.Attributes.{Arguments, is_attribute, has_attribute, on_first_that}
 use Rattle.bz_attribute.proofs.FormsAgain.{both, some_if, row_back, attribute_parts, value_changed, attribute_any}
 use Rattle.bz_attribute.proofs.PlainWords.{equal_self}
 use Rattle.bz_change.specs.Changes.{RenamedBack}

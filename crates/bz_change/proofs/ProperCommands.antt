@@ -9,12 +9,10 @@ use Rattle.bz_attribute.proofs.KeySets.{equal_texts}
 use Rattle.bz_token.specs.declared.class.Class.TheVariants as c
 use Rattle.bz_token.specs.Bytes.{is_digit}
 use Rattle.bz_token.specs.Lexemes.{IsLexeme, IsDigits, Each, whole}
-use Rattle.bz_label.specs.Tables.{is_list_attribute}
+use Rattle.bz_change.specs.Words.{is_list_attribute, Bytes, attribute, Expr, Attributes, with_text, on_row, on_first, is_attribute, has_attribute, is_other_attribute, on_first_that, put}
 use Rattle.bz_value.specs.LineShapes.{Grammar}
-use Rattle.bz_items.specs.Characters.{Bytes}
 use Rattle.bz_command_syntax.specs.Proper.{AreUtf8, IsAttribute}
 use Rattle.bz_command_syntax.proofs.NameTests.{identifiers_are_names}
-use Rattle.bz_rule.specs.Rules.{attribute}
 use Rattle.bz_rule.proofs.ProperChanges.{by_test, by_case}
 use Rattle.bz_rule.proofs.ProperItems.{IsValue, all_kept}
 use Rattle.bz_attribute.specs.Made.{token, string_text, string_of, list_of}
@@ -22,13 +20,9 @@ use Rattle.bz_change.specs.Changes.{is_constant, is_decimal, single_setting, set
 use Rattle.bz_attribute.proofs.ProperMade.{token_new, new_value, list_value, string_value, string_strung, words_are_items}
 use Rattle.bz_grammar.specs.declared.kind.Kind.TheVariants as k
 use Rattle.bz_grammar.specs.Shapes as s
-use Rattle.bz_value.specs.declared.value.Expr.{Expr}
-use Rattle.bz_command_syntax.specs.declared.command.Attributes.{Attributes}
 use Rattle.bz_command_syntax.specs.declared.command.Attributes.TheVariants as t
-use Rattle.bz_rule.specs.Values.{with_text, on_row, on_first}
 use Rattle.bz_rule.proofs.ProperArguments.{argument_changed, name_kept}
 use Rattle.bz_rule.proofs.ProperSequences.{IsItem}
-use Rattle.bz_attribute.specs.Attributes.{is_attribute, has_attribute, is_other_attribute, on_first_that, put}
 use Rattle.bz_value.specs.declared.refusal.Refusal.TheVariants.{NoAttribute, AttributeExists, NoSource}
 use Rattle.bz_attribute.proofs.ProperAttributes.{AreArguments, Made, Keeps, of_value, first_that_kept, without_kept, put_kept}
 

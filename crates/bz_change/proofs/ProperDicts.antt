@@ -3,16 +3,11 @@ use Rattle.std.proofs.Common.{ℕ, ◌≤◌, List, [], ◌∷◌, ◌++◌, Ok,
 use Rattle.std.specs.Prelude.{if◌then◌else◌}
 use Rattle.std.specs.List.{list_any}
 use Rattle.bz_grammar.specs.declared.kind.Kind.TheVariants as k
-use Rattle.bz_value.specs.declared.value.Expr.{Expr}
+use Rattle.bz_change.specs.Words.{Expr, Bytes, Entry, attribute, has_kind, on_items, items_of, on_row, on_third, with_value, with_new, on_first_that, without, quoted_of, is_empty}
 use Rattle.bz_value.specs.Counted.{total}
 use Rattle.bz_value.specs.LineShapes.{Grammar, value_shape}
-use Rattle.bz_items.specs.Characters.{Bytes}
-use Rattle.bz_command_syntax.specs.declared.command.Entry.{Entry}
-use Rattle.bz_rule.specs.Rules.{attribute}
-use Rattle.bz_rule.specs.Values.{has_kind, on_items, items_of, on_row, on_third}
 use Rattle.bz_rule.proofs.ProperChanges.{by_test}
 use Rattle.bz_value.specs.declared.refusal.Refusal.TheVariants.{NotADict}
-use Rattle.bz_attribute.specs.Attributes.{with_value, with_new, on_first_that, without}
 use Rattle.bz_attribute.specs.Made.{argument_of, token, mark, string_text, string_of}
 use Rattle.bz_attribute.proofs.AttributesAgain.{of_found}
 use Rattle.bz_attribute.proofs.Grown.{itself as grown_itself, in_turn, EachGrows, append_grows, first_that_grows}
@@ -31,8 +26,6 @@ use Rattle.bz_value.specs.Roots.{root}
 use Rattle.bz_value.specs.Roots as r
 use Rattle.bz_value.proofs.FormParts.{ArePartsBy, form_proper_by}
 use Rattle.bz_command_syntax.specs.Proper.{IsAttribute, IsEntry, EachIs, AreSome}
-use Rattle.bz_command_syntax.specs.Quoted.{quoted_of}
-use Rattle.bz_value.specs.Empty.{is_empty}
 use Rattle.bz_value.proofs.LeadParts.{lead_before}
 use Rattle.bz_rule.proofs.ProperForms.{InPlace}
 use Rattle.bz_rule.proofs.ProperItems.{IsValue, KeepsRow, row_within, item_within, value_in_place, all_joined, all_kept}

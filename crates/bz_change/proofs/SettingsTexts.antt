@@ -3,14 +3,10 @@ use Rattle.std.proofs.Common.{◌≡◌, ◌&&◌, ℕ, Bool, true, false, List,
 use Rattle.std.specs.Prelude.{Some, None, Ok, Err, not, if◌then◌else◌, slice_get, slice_set}
 use Rattle.bz_grammar.specs.declared.kind.Kind.TheVariants as k
 use Rattle.bz_value.specs.declared.refusal.Refusal.TheVariants.{NoAttribute, AttributeExists}
-use Rattle.bz_rule.specs.Values.{with_text, on_row, on_first}
+use Rattle.bz_change.specs.Words.{with_text, on_row, on_first, Expr, Bytes, Arguments, is_attribute, has_attribute, on_first_that, mark}
 use Rattle.std.specs.List.{list_all, position, zip}
 use Rattle.std.proofs.lemmas.Bool.{eq-eqb}
 use Rattle.std.proofs.lemmas.List.Folds.{list_any_at, list_any_none}
-use Rattle.bz_value.specs.declared.value.Expr.{Expr}
-use Rattle.bz_items.specs.Characters.{Bytes}
-use Rattle.bz_attribute.specs.Attributes.{Arguments, is_attribute, has_attribute, on_first_that}
-use Rattle.bz_attribute.specs.Made.{mark}
 use Rattle.bz_attribute.proofs.ArgumentPlaces as places
 use Rattle.bz_attribute.proofs.FormsAgain.{attribute_any, if_false}
 use Rattle.bz_change.specs.Changes.{is_token, are_tokens, rename}

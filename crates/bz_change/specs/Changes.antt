@@ -5,18 +5,10 @@ use Rattle.std.specs.Char.{is_ascii_digit}
 use Rattle.std.specs.Option.{option_map_or}
 use Rattle.bz_token.specs.declared.class.Class.TheVariants as c
 use Rattle.bz_grammar.specs.declared.kind.Kind.TheVariants as k
-use Rattle.bz_label.specs.Tables.{is_list_attribute}
-use Rattle.bz_value.specs.declared.value.Expr.{Expr, Token, Form'}
-use Rattle.bz_items.specs.Characters.{Bytes}
-use Rattle.bz_command_syntax.specs.declared.command.AttributeOperation.{AttributeOperation}
+use Rattle.bz_change.specs.Words.{is_list_attribute, Expr, Token, Form', Bytes, AttributeOperation, Attributes, attribute, has_kind, has_class, text_of, items_of, with_text, on_row, on_first, token, string_of, list_of, is_attribute, has_attribute, is_other_attribute, on_first_that, without, put, Arguments, by_value}
 use Rattle.bz_command_syntax.specs.declared.command.AttributeOperation.TheVariants as wa
-use Rattle.bz_command_syntax.specs.declared.command.Attributes.{Attributes}
 use Rattle.bz_command_syntax.specs.declared.command.Attributes.TheVariants as a
-use Rattle.bz_rule.specs.Rules.{attribute}
-use Rattle.bz_rule.specs.Values.{has_kind, has_class, text_of, items_of, with_text, on_row, on_first}
 use Rattle.bz_value.specs.declared.refusal.Refusal.TheVariants.{NoAttribute, AttributeExists, NoSource}
-use Rattle.bz_attribute.specs.Made.{token, string_of, list_of}
-use Rattle.bz_attribute.specs.Attributes.{is_attribute, has_attribute, is_other_attribute, on_first_that, without, put, Arguments, by_value}
 
 -- ---- set
 

@@ -3,21 +3,11 @@ use Rattle.std.specs.Prelude.{Bool, not, ◌&&◌, List, [], ◌∷◌, ◌++◌
 use Rattle.std.specs.List.{list_any, filter}
 use Rattle.bz_token.specs.declared.class.Class.TheVariants as c
 use Rattle.bz_grammar.specs.declared.kind.Kind.TheVariants as k
-use Rattle.bz_value.specs.declared.value.Expr.{Expr}
-use Rattle.bz_items.specs.Characters.{Bytes}
-use Rattle.bz_value.specs.Empty.{is_empty}
-use Rattle.bz_command_syntax.specs.declared.command.DictOperation.{DictOperation}
+use Rattle.bz_change.specs.Words.{Expr, Bytes, is_empty, DictOperation, Entry, quoted_of, attribute, is_text, has_kind, parts_of, items_of, on_row, on_items, on_third, token, node, mark, sequence, string_of, on_first_that, with_value, with_new, without, Arguments, by_value, body_of}
 use Rattle.bz_command_syntax.specs.declared.command.DictOperation.TheVariants as wd
-use Rattle.bz_command_syntax.specs.declared.command.Entry.{Entry}
 use Rattle.bz_change.specs.declared.dicts.Change.{Change}
 use Rattle.bz_change.specs.declared.dicts.Change.TheVariants.{Add, Set}
-use Rattle.bz_command_syntax.specs.Quoted.{quoted_of}
-use Rattle.bz_rule.specs.Rules.{attribute, is_text}
-use Rattle.bz_rule.specs.Values.{has_kind, parts_of, items_of, on_row, on_items, on_third}
 use Rattle.bz_value.specs.declared.refusal.Refusal.TheVariants.{NotADict}
-use Rattle.bz_attribute.specs.Made.{token, node, mark, sequence, string_of}
-use Rattle.bz_attribute.specs.Attributes.{on_first_that, with_value, with_new, without, Arguments, by_value}
-use Rattle.bz_attribute.specs.Lists.{body_of}
 
 -- ---- entries
 

@@ -3,14 +3,7 @@ use Rattle.std.specs.Prelude.{◌≡◌, Bool, true, false, not, ◌&&◌, List,
 use Rattle.std.specs.List.{list_any, list_all}
 use Rattle.std.specs.Option.{option_map_or}
 use Rattle.bz_grammar.specs.declared.kind.Kind.TheVariants as k
-use Rattle.bz_items.specs.Characters.{Bytes}
-use Rattle.bz_value.specs.declared.value.Expr.{Expr}
-use Rattle.bz_command_syntax.specs.declared.command.Entry.{Entry}
-use Rattle.bz_command_syntax.specs.Quoted.{is_escaped}
-use Rattle.bz_command_syntax.specs.Words.{is_nonempty}
-use Rattle.bz_rule.specs.Rules.{attribute}
-use Rattle.bz_rule.specs.Values.{has_kind, items_of}
-use Rattle.bz_attribute.specs.Attributes.{has_attribute}
+use Rattle.bz_change.specs.Words.{Bytes, Expr, Entry, is_escaped, is_nonempty, attribute, has_kind, items_of, has_attribute}
 use Rattle.bz_change.specs.Dicts.{has_key, dict_add, dict_set, dict_remove}
 
 -- an entry has the key of each of these

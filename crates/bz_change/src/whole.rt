@@ -4,9 +4,7 @@ ghost use Rattle.std.specs.List.{filter, list_all, zip};
 ghost use Rattle.std.specs.Option.{option_copied, option_map_or};
 ghost use Rattle.std.specs.Char.{is_ascii_digit};
 ghost use Rattle.bz_grammar.specs.declared.kind.Kind.TheVariants as kinds;
-ghost use Rattle.bz_rule.specs.Rules.{attribute};
-ghost use Rattle.bz_rule.specs.Values.{on_first, on_row, with_text};
-ghost use Rattle.bz_attribute.specs.Attributes.{is_other_attribute};
+ghost use Rattle.bz_change.specs.Words.{attribute, on_first, on_row, with_text, is_other_attribute};
 ghost use Rattle.bz_change.specs.Changes.{attributes_changed, setting, is_token, are_tokens, is_set, set, remove, rename};
 ghost use Rattle.bz_change.specs.private.Outcomes.{IsOutcome};
 

@@ -2,11 +2,10 @@
 use Rattle.std.proofs.Common.{◌≡◌, ℕ, false, List, [], ◌∷◌, get_or, Option, Some, None, refl}
 use Rattle.std.specs.Prelude.{IfOk}
 use Rattle.std.specs.Option.{option_and_then}
-use Rattle.bz_items.specs.Characters.{Bytes}
+use Rattle.bz_command.specs.Words.{Bytes, Operation}
 use Rattle.bz_command_syntax.specs.Words.{is_nonempty}
 use Rattle.bz_command_syntax.specs.Identifiers.{is_identifier}
 use Rattle.bz_command_syntax.specs.Commands as c
-use Rattle.bz_command_syntax.specs.declared.command.Operation.{Operation}
 use Rattle.bz_command_syntax.specs.declared.command.Operation.TheVariants as w
 use Rattle.bz_command_syntax.specs.declared.command.RuleOperation.TheVariants as wr
 use Rattle.bz_command_syntax.specs.declared.command.AttributeOperation.TheVariants as wa

@@ -5,13 +5,11 @@ use Rattle.std.specs.List.{insert, list_any}
 use Rattle.std.specs.Option.{option_map_or}
 use Rattle.bz_grammar.specs.declared.kind.Kind.TheVariants as k
 use Rattle.bz_value.specs.declared.value.Expr.{Expr, Token, Form', items-the_row-Expr}
-use Rattle.bz_value.specs.declared.value.Item.{Item}
+use Rattle.bz_command.specs.Words.{Item, Bytes, Operation, RulePlace, Rule as RuleRead, rule_of, attribute, has_name, Refusal, Arguments, with_comment, comment}
 use Rattle.bz_value.specs.declared.value.Item.TheVariants as i
 use Rattle.bz_value.specs.Counted.{total, amount, item_amount, one_if}
 use Rattle.bz_value.proofs.Totals.{form_amount}
-use Rattle.bz_items.specs.Characters.{Bytes}
 use Rattle.bz_command_syntax.specs.Patterns.{substituted}
-use Rattle.bz_command_syntax.specs.declared.command.Operation.{Operation}
 use Rattle.bz_command_syntax.specs.declared.command.Operation.TheVariants as w
 use Rattle.bz_command_syntax.specs.declared.command.RuleOperation.TheVariants as wr
 use Rattle.bz_command_syntax.specs.declared.command.AttributeOperation.TheVariants as wa
@@ -19,16 +17,12 @@ use Rattle.bz_command_syntax.specs.declared.command.ValueOperation.TheVariants a
 use Rattle.bz_command_syntax.specs.declared.command.DictOperation.TheVariants as wd
 use Rattle.bz_command_syntax.specs.declared.command.LoadOperation.TheVariants as wl
 use Rattle.bz_command_syntax.specs.declared.command.CommentOperation.TheVariants as wc
-use Rattle.bz_command_syntax.specs.declared.command.RulePlace.{RulePlace}
 use Rattle.bz_command_syntax.specs.declared.command.Attributes.{Attributes}
 use Rattle.bz_command_syntax.specs.declared.command.Attributes.TheVariants as t
-use Rattle.bz_rule.specs.Rules.{Rule as RuleRead, rule_of, attribute, has_name}
 use Rattle.bz_rule.specs.Values.{parts_of, with_items, with_text, on_row, on_first, first_text}
 use Rattle.bz_rule.proofs.ProperChanges.{by_test, by_case}
-use Rattle.bz_value.specs.declared.refusal.Refusal.{Refusal}
 use Rattle.bz_value.specs.declared.refusal.Refusal.TheVariants.{NoTarget, NoAttribute, AttributeExists, NotAList, NoSource, NameTaken}
 use Rattle.bz_attribute.specs.Attributes.{is_attribute, has_attribute, is_other_attribute, on_first_that, on_value, with_value, with_new, put}
-use Rattle.bz_attribute.specs.Attributes.{Arguments}
 use Rattle.bz_change.specs.Changes.{setting, is_set, set, set_if_absent, rename, copy, copy_no_overwrite}
 use Rattle.bz_list.specs.Changes.{with_items_added, add, in_value, in_attributes, replaced_item, replace, with_body, substituted_item, substitute}
 use Rattle.bz_command.specs.Effect.{NewItem, with_arguments, made_of, on_rule, on_arguments, with_item_first, on_meant, new_rule_place, with_rule, source, on_rules, on_statement, meant}
@@ -36,7 +30,6 @@ use Rattle.bz_command_syntax.specs.declared.command.Host.TheVariants.{Rule, Attr
 use Rattle.bz_change.specs.Dicts.{dict_add}
 use Rattle.bz_change.proofs.ProperDicts.{dict_add_grows}
 use Rattle.bz_load.proofs.LawComments.{amount_answered, new_load_same, put_total}
-use Rattle.bz_comment.specs.Hosts.{with_comment, comment}
 use Rattle.bz_comment.proofs.LawBack.{own_grows, comment_grows}
 use Rattle.bz_command.specs.Laws.{keeps_comments, CommentsStay}
 use Rattle.bz_command.proofs.ProperEffects.{effect_by}

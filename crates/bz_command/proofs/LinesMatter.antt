@@ -4,20 +4,12 @@ use Rattle.std.specs.Prelude.{decimal, option_map}
 use Rattle.std.proofs.lemmas.Bool.{or_parts}
 use Rattle.std.specs.List.{list_any}
 use Rattle.std.specs.Option.{option_map_or}
-use Rattle.bz_label.specs.declared.target.Target.{Target}
-use Rattle.bz_label.specs.declared.target.Which.{Which}
+use Rattle.bz_command.specs.Words.{Target, Which, Bytes, line_feed, Item, Operation, Field, prints, Rule, rule_of, Refusal}
 use Rattle.bz_label.specs.declared.target.Which.TheVariants.{Line}
-use Rattle.bz_items.specs.Characters.{Bytes, line_feed}
-use Rattle.bz_value.specs.declared.value.Item.{Item}
-use Rattle.bz_command_syntax.specs.declared.command.Operation.{Operation}
 use Rattle.bz_command_syntax.specs.declared.command.Operation.TheVariants as w
 use Rattle.bz_command_syntax.specs.declared.command.CommentOperation.TheVariants as wc
-use Rattle.bz_command_syntax.specs.declared.command.Field.{Field}
 use Rattle.bz_command_syntax.specs.declared.command.Field.TheVariants as f
-use Rattle.bz_command_syntax.specs.Printing.{prints}
-use Rattle.bz_rule.specs.Rules.{Rule, rule_of}
 use Rattle.bz_command.specs.Prints.{printed_field, printed_rule, spaced}
-use Rattle.bz_value.specs.declared.refusal.Refusal.{Refusal}
 use Rattle.bz_value.specs.declared.refusal.Refusal.TheVariants.{NoTarget}
 use Rattle.bz_command.specs.Effect.{kept, lacks_rules, on_rules, before_rest, item_line, lines_after_item, printed_one, printed_rules, meant, may_mean_none}
 use Rattle.bz_command.specs.Laws.{is_by_line, prints_line, prints_lines, LinesMatter}

@@ -5,17 +5,11 @@ use Rattle.std.specs.Option.{option_map}
 use Rattle.std.specs.List.{list_any}
 use Rattle.std.proofs.Math.Dec.{eqb-suc-zero}
 use Rattle.std.proofs.lemmas.List.{append_assoc, drop-drop, drop_at, drop_more, get_or_default, length-append}
-use Rattle.bz_label.specs.declared.target.Which.{Which}
+use Rattle.bz_command.specs.Words.{Which, Item, Refusal, Bytes, Ascend, is_rule_of_kind, Operation}
 use Rattle.bz_label.specs.declared.target.Which.TheVariants as t
-use Rattle.bz_value.specs.declared.value.Item.{Item}
 use Rattle.bz_value.specs.declared.value.Item.TheVariants as i
-use Rattle.bz_value.specs.declared.refusal.Refusal.{Refusal}
-use Rattle.bz_items.specs.Characters.{Bytes}
-use Rattle.bz_grammar.specs.Places.{Ascend}
-use Rattle.bz_rule.specs.Rules.{is_rule_of_kind}
 use Rattle.bz_rule.specs.Index.{marked_places, places_from}
 use Rattle.bz_command.specs.Effect.{NewItem, before_rest, first_mark, item_line, lines_after_item, meant, on_meant, printed_one, printed_rules, unmarked, with_item_first}
-use Rattle.bz_command_syntax.specs.declared.command.Operation.{Operation}
 use Rattle.bz_command.specs.declared.ruling.Work.{Work}
 use Rattle.bz_command.specs.private.Looks.{made_by, marks_by, one_made, one_made_by, places_by}
 use Rattle.bz_command.specs.private.Steps.{each_meant, lines_after_items}

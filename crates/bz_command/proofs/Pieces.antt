@@ -5,18 +5,12 @@ use Rattle.std.specs.Option.{option_map_or}
 use Rattle.std.proofs.lemmas.List.{drop_more}
 use Rattle.bz_grammar.specs.declared.kind.Kind.TheVariants as k
 use Rattle.bz_grammar.specs.Kinds.{kind_number}
-use Rattle.bz_value.specs.declared.value.Expr.{Expr}
+use Rattle.bz_command.specs.Words.{Expr, Item, Bytes, Field, has_kind, items_of, each_named, body_of}
 use Rattle.bz_value.specs.declared.value.Expr.TheVariants as e
 use Rattle.bz_value.specs.declared.value.Form.{Form}
-use Rattle.bz_value.specs.declared.value.Item.{Item}
-use Rattle.bz_items.specs.Characters.{Bytes}
 use Rattle.bz_layout.specs.Written as written
-use Rattle.bz_command_syntax.specs.declared.command.Field.{Field}
 use Rattle.bz_rule.specs.Rules.{Rule, joined, dotted_name}
-use Rattle.bz_rule.specs.Values.{has_kind, items_of}
-use Rattle.bz_rule.specs.private.Named.{each_named}
 use Rattle.bz_rule.proofs.Forms.{dotted_name_Form}
-use Rattle.bz_attribute.specs.Lists.{body_of}
 use Rattle.bz_command.specs.Prints.{spaced, is_string, printed_body, in_brackets, printed_value, printed_field}
 use Rattle.bz_command.specs.private.Steps.{space_between}
 

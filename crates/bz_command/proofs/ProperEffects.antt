@@ -4,15 +4,10 @@ use Rattle.std.specs.Prelude.{IfSome, IfOk, Option, Some, None, Result, Ok, Err,
 use Rattle.std.specs.List.{AllByRecursion, insert, list_any}
 use Rattle.std.specs.Option.{option_map_or}
 use Rattle.std.proofs.lemmas.List.Elements.{All-from_recursion, recursion_from_All}
-use Rattle.bz_label.specs.declared.target.Target.{Target}
-use Rattle.bz_value.specs.declared.value.Expr.{Expr}
-use Rattle.bz_value.specs.declared.value.Item.{Item}
+use Rattle.bz_command.specs.Words.{Target, Expr, Item, Bytes, Grammar, Operation, RulePlace, Rule, rule_of, attribute, has_name, with_parts, with_items, function_of, rule_made, Arguments, prints, with_comment, without_comments, comment, remove_comment, Refusal}
 use Rattle.bz_value.specs.declared.value.Item.TheVariants as i
-use Rattle.bz_items.specs.Characters.{Bytes}
 use Rattle.bz_value.specs.Proper.{IsProperItemIn}
-use Rattle.bz_value.specs.LineShapes.{Grammar}
 use Rattle.bz_command_syntax.specs.Proper.{IsKind, IsProperCommand}
-use Rattle.bz_command_syntax.specs.declared.command.Operation.{Operation}
 use Rattle.bz_command_syntax.specs.declared.command.Operation.TheVariants as w
 use Rattle.bz_command_syntax.specs.declared.command.RuleOperation.TheVariants as wr
 use Rattle.bz_command_syntax.specs.declared.command.AttributeOperation.TheVariants as wa
@@ -20,27 +15,19 @@ use Rattle.bz_command_syntax.specs.declared.command.ValueOperation.TheVariants a
 use Rattle.bz_command_syntax.specs.declared.command.DictOperation.TheVariants as wd
 use Rattle.bz_command_syntax.specs.declared.command.LoadOperation.TheVariants as wl
 use Rattle.bz_command_syntax.specs.declared.command.CommentOperation.TheVariants as wc
-use Rattle.bz_command_syntax.specs.declared.command.RulePlace.{RulePlace}
-use Rattle.bz_rule.specs.Rules.{Rule, rule_of, attribute, has_name}
-use Rattle.bz_rule.specs.Values.{with_parts, with_items}
 use Rattle.bz_rule.proofs.ProperChanges.{by_test, by_case}
 use Rattle.bz_rule.proofs.ProperArguments.{attribute_value}
 use Rattle.bz_rule.proofs.ProperItems.{IsValue}
 use Rattle.bz_rule.proofs.ProperRules.{RuleItem, rule_item, on_statement}
-use Rattle.bz_attribute.specs.Made.{function_of, rule_made}
 use Rattle.bz_command.specs.Effect.{is_rule, meant, may_mean_none, printed_rules, kept, lacks_rules, on_statement as statement_with, NewItem, with_arguments, with_function, made_of, on_rule, on_arguments, with_item_first, on_meant, unmarked, new_rule_place, rule_arguments, with_rule, on_one, on_each, on_rules, effect, source, source_of}
-use Rattle.bz_attribute.specs.Attributes.{Arguments}
 use Rattle.bz_change.specs.Changes.{set, set_if_absent, remove, rename, copy, copy_no_overwrite}
 use Rattle.bz_list.specs.Changes.{add, remove_values, replace, substitute, move}
 use Rattle.bz_command_syntax.specs.declared.command.Host.TheVariants as r
-use Rattle.bz_command_syntax.specs.Printing.{prints}
 use Rattle.bz_change.specs.Dicts.{dict_add, dict_set, dict_remove}
 use Rattle.bz_change.proofs.ProperDicts.{dict_add_keeps, dict_set_keeps, dict_remove_keeps}
 use Rattle.bz_load.proofs.ProperLoads.{new_load_keeps, fix_keeps}
 use Rattle.bz_load.proofs.PlaceSteps.{all_put}
-use Rattle.bz_comment.specs.Hosts.{with_comment, without_comments, comment, remove_comment}
 use Rattle.bz_comment.proofs.ProperComments.{comment_keeps, remove_comment_keeps, statement_keeps, remove_statement_keeps}
-use Rattle.bz_value.specs.declared.refusal.Refusal.{Refusal}
 use Rattle.bz_value.specs.declared.refusal.Refusal.TheVariants.{NoTarget, NameTaken}
 use Rattle.bz_command.specs.Laws.{EffectsStayProper}
 use Rattle.bz_attribute.proofs.ProperAttributes.{Made, Keeps}

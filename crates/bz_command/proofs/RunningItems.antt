@@ -3,9 +3,8 @@ use Rattle.std.proofs.Common.{◌≡◌, ◌≤◌, Bool, List, [], ◌∷◌, �
 use Rattle.std.specs.Prelude.{◌↔◌, IfOk, IfSome, IsTrue, None, OnOk, Option, Result, Some}
 use Rattle.std.specs.List.{position}
 use Rattle.std.proofs.lemmas.List.{append_assoc}
-use Rattle.bz_value.specs.declared.value.Item.{Item}
+use Rattle.bz_command.specs.Words.{Item, Refusal}
 use Rattle.bz_value.specs.declared.value.Item.TheVariants as i
-use Rattle.bz_value.specs.declared.refusal.Refusal.{Refusal}
 use Rattle.bz_attribute.proofs.ArgumentPlaces.{is_first}
 use Rattle.bz_command.specs.Effect.{with_item_first}
 

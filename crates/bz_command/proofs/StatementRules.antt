@@ -6,15 +6,11 @@ use Rattle.bz_grammar.specs.declared.kind.Kind.TheVariants as k
 use Rattle.bz_value.specs.declared.value.Expr.{Expr, Token, Form', items-the_row-Expr, items_hidden-the_row-Expr-0}
 use Rattle.bz_value.specs.declared.value.Expr.TheVariants as e
 use Rattle.bz_value.specs.declared.value.Form.{Form}
-use Rattle.bz_value.specs.declared.refusal.Refusal.{Refusal}
-use Rattle.bz_value.specs.declared.value.Item.{Item}
+use Rattle.bz_command.specs.Words.{Refusal, Item, HostComments, Bytes, Arguments}
 use Rattle.bz_value.specs.declared.value.Item.TheVariants as i
-use Rattle.bz_value.specs.Comments.{HostComments}
-use Rattle.bz_items.specs.Characters.{Bytes}
 use Rattle.bz_rule.specs.Rules.{Rule, only, form_in, called, named, rule_of, dotted_name}
 use Rattle.bz_rule.specs.Values.{has_kind, on_first, parts_of, with_items, with_parts}
 use Rattle.bz_attribute.proofs.FormsAgain.{if_true, made, own_items, own_parts, parts_filled}
-use Rattle.bz_attribute.specs.Attributes.{Arguments}
 use Rattle.bz_attribute.proofs.ArgumentForms.{parts_Form}
 use Rattle.bz_command.specs.Effect.{NewItem, is_rule, made_of, on_arguments, on_rule, with_arguments}
 

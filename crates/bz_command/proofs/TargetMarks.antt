@@ -2,11 +2,8 @@
 use Rattle.std.proofs.Common.{◌≡◌, ℕ, Bool, true, false, List, [], ◌∷◌, suc, length, map, refl, ap, ◌∙◌, Option, Some, None, option_map, is_some}
 use Rattle.std.proofs.lemmas.List.{length-map}
 use Rattle.std.specs.Option.{option_and_then, option_map_or}
-use Rattle.bz_label.specs.declared.target.Which.{Which}
+use Rattle.bz_command.specs.Words.{Which, Expr, Item, Bytes}
 use Rattle.bz_label.specs.declared.target.Which.TheVariants as t
-use Rattle.bz_value.specs.declared.value.Expr.{Expr}
-use Rattle.bz_value.specs.declared.value.Item.{Item}
-use Rattle.bz_items.specs.Characters.{Bytes}
 use Rattle.bz_rule.specs.Rules.{Call, Rule, dotted_name, named, is_rule_of_kind, has_name}
 use Rattle.bz_command.specs.Effect.{is_rule, item_line, lines_after_item, on_line, first_mark, meant}
 use Rattle.bz_command.specs.private.Steps.{each_meant, is_meant_at}

@@ -1,40 +1,19 @@
 -- Which rules a target means, and what a command prints of them and makes of a file value.
 use Rattle.std.specs.Prelude.{ℕ, ◌+◌, Bool, true, false, ◌&&◌, List, [], ◌∷◌, codes, length, map, is_some, nat_eq, ◌++◌, Option, Some, None, Result, Ok, Err, decimal, option_map, if◌then◌else◌, not}
-use Rattle.bz_label.specs.declared.target.Which.{Which}
+use Rattle.bz_command.specs.Words.{Which, Item, rule_of, is_rule_of_kind, has_name, Rule as RuleRead, attribute, Bytes, comments_of, Operation, Host, Refusal, print_comment, with_comment, without_comments, comment, remove_comment, Target, Expr, LoadOperation, RulePlace, with_items, with_parts, on_row, on_first, function_of, rule_made, Arguments, attributes_changed, values_changed, dicts_changed, fix, new_load, prints}
 use Rattle.bz_label.specs.declared.target.Which.TheVariants.{All, Kind, Line, Package, Name}
-use Rattle.bz_value.specs.declared.value.Item.{Item}
 use Rattle.bz_value.specs.declared.value.Item.TheVariants as i
-use Rattle.bz_rule.specs.Rules.{rule_of, is_rule_of_kind, has_name, Rule as RuleRead, attribute}
 use Rattle.std.specs.Option.{option_map_or}
-use Rattle.bz_items.specs.Characters.{Bytes}
-use Rattle.bz_value.specs.Proper.{comments_of}
-use Rattle.bz_command_syntax.specs.declared.command.Operation.{Operation}
 use Rattle.bz_command_syntax.specs.declared.command.Operation.TheVariants as w
 use Rattle.bz_command_syntax.specs.declared.command.CommentOperation.TheVariants as wc
-use Rattle.bz_command_syntax.specs.declared.command.Host.{Host}
-use Rattle.bz_value.specs.declared.refusal.Refusal.{Refusal}
-use Rattle.bz_comment.specs.Hosts.{print_comment, with_comment, without_comments, comment, remove_comment}
 use Rattle.bz_command.specs.Prints.{printed_item}
 use Rattle.std.specs.List.{insert, list_any, position}
 use Rattle.bz_grammar.specs.declared.kind.Kind.TheVariants as k
-use Rattle.bz_label.specs.declared.target.Target.{Target}
-use Rattle.bz_value.specs.declared.value.Expr.{Expr}
 use Rattle.bz_command_syntax.specs.declared.command.RuleOperation.TheVariants as wr
 use Rattle.bz_command_syntax.specs.declared.command.AttributeOperation.TheVariants as wa
 use Rattle.bz_command_syntax.specs.declared.command.LoadOperation.TheVariants as wl
-use Rattle.bz_command_syntax.specs.declared.command.LoadOperation.{LoadOperation}
-use Rattle.bz_command_syntax.specs.declared.command.RulePlace.{RulePlace}
 use Rattle.bz_command_syntax.specs.declared.command.RulePlace.TheVariants.{End, Before, After}
-use Rattle.bz_rule.specs.Values.{with_items, with_parts, on_row, on_first}
 use Rattle.bz_value.specs.declared.refusal.Refusal.TheVariants.{NoTarget, NameTaken}
-use Rattle.bz_attribute.specs.Made.{function_of, rule_made}
-use Rattle.bz_attribute.specs.Attributes.{Arguments}
-use Rattle.bz_change.specs.Changes.{attributes_changed}
-use Rattle.bz_list.specs.Changes.{values_changed}
-use Rattle.bz_change.specs.Dicts.{dicts_changed}
-use Rattle.bz_load.specs.Fixes.{fix}
-use Rattle.bz_load.specs.NewLoad.{new_load}
-use Rattle.bz_command_syntax.specs.Printing.{prints}
 use Rattle.bz_command_syntax.specs.declared.command.Host.TheVariants.{Rule}
 
 -- ---- the rules that a target means, as a mark for each item of the file

@@ -1,8 +1,6 @@
 -- What was looked up in a file before a command.
 use Rattle.std.specs.Prelude.{List, IfSome}
-use Rattle.bz_value.specs.declared.value.Item.{Item}
-use Rattle.bz_rule.specs.Index.{IsIndexOf}
-use Rattle.bz_load.specs.Paths.{AreListed}
+use Rattle.bz_command.specs.Words.{Item, IsIndexOf, AreListed}
 use Rattle.bz_command.specs.declared.running.Known.{Known}
 
 -- what there is of it is that of these items

@@ -1,12 +1,6 @@
 -- Laws of the effects of commands.
 use Rattle.std.specs.Prelude.{◌≡◌, ◌≤◌, ℕ, Bool, true, false, List, Ok, ◌||◌}
-use Rattle.bz_label.specs.declared.target.Target.{Target}
-use Rattle.bz_value.specs.declared.value.Item.{Item}
-use Rattle.bz_items.specs.Characters.{Bytes}
-use Rattle.bz_value.specs.Counted.{times}
-use Rattle.bz_value.specs.Proper.{IsProperIn}
-use Rattle.bz_value.specs.LineShapes.{Grammar}
-use Rattle.bz_command_syntax.specs.declared.command.Operation.{Operation}
+use Rattle.bz_command.specs.Words.{Target, Item, Bytes, times, IsProperIn, Grammar, Operation, IsProperCommand, Which, Field}
 use Rattle.bz_command_syntax.specs.declared.command.Operation.TheVariants as w
 use Rattle.bz_command_syntax.specs.declared.command.RuleOperation.TheVariants as wr
 use Rattle.bz_command_syntax.specs.declared.command.AttributeOperation.TheVariants as wa
@@ -14,12 +8,9 @@ use Rattle.bz_command_syntax.specs.declared.command.ValueOperation.TheVariants a
 use Rattle.bz_command_syntax.specs.declared.command.DictOperation.TheVariants as wd
 use Rattle.bz_command_syntax.specs.declared.command.LoadOperation.TheVariants as wl
 use Rattle.bz_command_syntax.specs.declared.command.CommentOperation.TheVariants as wc
-use Rattle.bz_command_syntax.specs.Proper.{IsProperCommand}
 use Rattle.bz_command.specs.Effect.{effect, printed}
 use Rattle.std.specs.List.{list_any}
-use Rattle.bz_label.specs.declared.target.Which.{Which}
 use Rattle.bz_label.specs.declared.target.Which.TheVariants.{Line}
-use Rattle.bz_command_syntax.specs.declared.command.Field.{Field}
 use Rattle.bz_command_syntax.specs.declared.command.Field.TheVariants as f
 
 -- What a command that was read makes of a proper file value is proper; by any grammar, so that a BUILD file's value stays one.

@@ -3,5 +3,6 @@ pub mod Known
 pub mod Laws
 pub mod Prints
 pub mod Table
+pub mod Words
 pub mod Worked
 pub mod private

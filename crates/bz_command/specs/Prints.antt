@@ -3,15 +3,9 @@ use Rattle.std.specs.Prelude.{Bool, List, [], ◌∷◌, ◌++◌, Option, codes
 use Rattle.std.specs.List.{list_all}
 use Rattle.std.specs.Option.{option_map_or}
 use Rattle.bz_grammar.specs.declared.kind.Kind.TheVariants as k
-use Rattle.bz_value.specs.declared.value.Expr.{Expr}
-use Rattle.bz_value.specs.declared.value.Item.{Item}
-use Rattle.bz_items.specs.Characters.{Bytes, line_feed, space}
+use Rattle.bz_command.specs.Words.{Expr, Item, Bytes, line_feed, space, Field, Rule, rule_of, attribute, has_kind, items_of, body_of}
 use Rattle.bz_layout.specs.Written as written
-use Rattle.bz_command_syntax.specs.declared.command.Field.{Field}
 use Rattle.bz_command_syntax.specs.declared.command.Field.TheVariants as f
-use Rattle.bz_rule.specs.Rules.{Rule, rule_of, attribute}
-use Rattle.bz_rule.specs.Values.{has_kind, items_of}
-use Rattle.bz_attribute.specs.Lists.{body_of}
 
 -- texts with one space between two of them
 abbrev pub spaced : List Bytes → Bytes

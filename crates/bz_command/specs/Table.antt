@@ -2,10 +2,7 @@
 -- whether it leaves each comment at least as often as it occurred there.
 use Rattle.std.specs.Prelude.{◌≡◌, Bool, true, false, List, [], ◌∷◌, IfOk, bytes_eq, codes}
 use Rattle.std.specs.List.{AllZip, list_any}
-use Rattle.bz_items.specs.Characters.{Bytes}
-use Rattle.bz_command_syntax.specs.Commands.{ReadCommand, commands}
-use Rattle.bz_command_syntax.specs.Printing.{prints}
-use Rattle.bz_command_syntax.specs.declared.command.Operation.{Operation}
+use Rattle.bz_command.specs.Words.{Bytes, ReadCommand, commands, prints, Operation}
 use Rattle.bz_command_syntax.specs.declared.command.Operation.TheVariants as w
 use Rattle.bz_command.specs.Effect.{looks_at_rules}
 use Rattle.bz_command.specs.Laws.{keeps_comments}

@@ -2,22 +2,12 @@
 use Rattle.std.specs.Prelude.{◌≡◌, List, [], ◌∷◌, ◌++◌, Option, Some, None, Result, Ok, Err, codes, map, option_map}
 use Rattle.std.specs.Result.{result_ok}
 use Rattle.bz_token.specs.declared.class.Class.TheVariants as c
-use Rattle.bz_grammar.specs.declared.kind.Kind.{Kind}
+use Rattle.bz_command.specs.Words.{Kind, Target, Which, Expr, Item, Refusal, HostComments, with_comments, Bytes, command_of, token, node, sequence, name, mark, list_of, argument_of}
 use Rattle.bz_grammar.specs.declared.kind.Kind.TheVariants as k
-use Rattle.bz_label.specs.declared.target.Target.{Target}
-use Rattle.bz_label.specs.declared.target.Which.{Which}
 use Rattle.bz_label.specs.declared.target.Which.TheVariants.{All, Kind as OfKind, Line, Name, Package}
-use Rattle.bz_value.specs.declared.value.Expr.{Expr}
-use Rattle.bz_value.specs.declared.value.Item.{Item}
 use Rattle.bz_value.specs.declared.value.Item.TheVariants as i
-use Rattle.bz_value.specs.declared.refusal.Refusal.{Refusal}
 use Rattle.bz_value.specs.declared.refusal.Refusal.TheVariants.{AttributeExists, NameTaken, NoSource, NoTarget, NotADict, NotAList}
-use Rattle.bz_value.specs.Comments.{HostComments}
-use Rattle.bz_value.specs.Commented.{with_comments}
-use Rattle.bz_items.specs.Characters.{Bytes}
-use Rattle.bz_command_syntax.specs.Commands.{command_of}
 use Rattle.bz_command_syntax.specs.Patterns.{substituted}
-use Rattle.bz_attribute.specs.Made.{token, node, sequence, name, mark, list_of, argument_of}
 use Rattle.bz_command.specs.Effect.{effect, printed}
 
 -- ---- small values

@@ -3,9 +3,8 @@
 ghost use Rattle.std.specs.Prelude.{◌≡◌, ◌⊎◌, ◌++◌, Ok, Err, OnOk, IfOk, IfErr, decimal, is_some, length, map, option_map};
 ghost use Rattle.std.specs.List.{list_all, list_any};
 ghost use Rattle.bz_token.specs.declared.class.Class.TheVariants as c;
-ghost use Rattle.bz_layout.specs.Written.{item_text};
+ghost use Rattle.bz_command.specs.Words.{item_text, each_named};
 ghost use Rattle.bz_rule.specs.Rules as r;
-ghost use Rattle.bz_rule.specs.private.Named.{each_named};
 ghost use Rattle.bz_command.specs.Effect.{before_rest, printed_one, printed_rules};
 ghost use Rattle.bz_command.specs.Laws.{looks_at_lines, prints_line, prints_lines};
 ghost use Rattle.bz_command.specs.Prints.{in_brackets, is_string, printed_body, printed_field, printed_item, printed_value, spaced, without_last};

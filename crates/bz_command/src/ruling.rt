@@ -3,16 +3,7 @@
 ghost use Rattle.std.specs.Prelude.{◌≡◌, ◌⊎◌, ◌↔◌, ◌≤◌, ◌<◌, ◌+◌, ◌∷◌, ◌++◌, [], ℕ, Bool, List, drop, false, length, slice_get, slice_set, None, Ok, Err, OnOk, IsTrue, IfOk, IfErr, IfSome, if◌then◌else◌};
 ghost use Rattle.std.specs.List.{insert, list_any, position};
 ghost use Rattle.std.specs.Option.{option_copied};
-ghost use Rattle.bz_value.specs.declared.value.Item.{Item};
-ghost use Rattle.bz_value.specs.Windows.{AreOver, IsSpliced};
-ghost use Rattle.bz_rule.specs.Rules.{has_name};
-ghost use Rattle.bz_rule.specs.Held.{held_name};
-ghost use Rattle.bz_rule.specs.Index.{HaveSameNames};
-ghost use Rattle.bz_items.specs.Characters.{Bytes};
-ghost use Rattle.bz_load.specs.Paths.{AreListed};
-ghost use Rattle.bz_grammar.specs.Places.{Ascend};
-ghost use Rattle.bz_attribute.specs.Made.{function_of};
-ghost use Rattle.bz_comment.specs.Changes.{changed_by};
+ghost use Rattle.bz_command.specs.Words.{Item, AreOver, IsSpliced, has_name, held_name, HaveSameNames, Bytes, AreListed, Ascend, function_of, changed_by};
 ghost use Rattle.bz_command.specs.Effect.{is_rule, loads_changed, looks_at_rules, on_arguments, on_meant, on_rules, on_statement, new_rule_place, source, source_of, unmarked, with_function};
 ghost use Rattle.bz_command.specs.private.Looks.{arguments_by, made_by, marks_by, one_made_by, places_by, says_itself};
 ghost use Rattle.bz_command.specs.private.Growing.{IsCompared, IsGrown};

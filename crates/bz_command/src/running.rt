@@ -1,11 +1,9 @@
 //! The effect of a command on a file value.
 ghost use Rattle.std.specs.Prelude.{◌≡◌, ◌⊎◌, ◌↔◌, [], false, None, Ok, Err, IfOk, IfErr, IfSome, IsTrue, OnOk};
 ghost use Rattle.std.specs.Option.{unwrap_or};
-ghost use Rattle.bz_rule.specs.Index.{HaveSameNames, IsIndexOf};
-ghost use Rattle.bz_value.specs.Windows.{AreOver};
+ghost use Rattle.bz_command.specs.Words.{HaveSameNames, IsIndexOf, AreOver, AreListed};
 ghost use Rattle.bz_command.specs.Effect.{effect, looks_at_rules, printed};
 ghost use Rattle.bz_command.specs.Known.{IsKnownOf};
-ghost use Rattle.bz_load.specs.Paths.{AreListed};
 ghost use Rattle.bz_command.specs.private.Looks.{IsChange, IsLook, effect_by, printed_for};
 
 use crate::laws::effects_stay_proper;

@@ -3,22 +3,15 @@ use Rattle.std.proofs.Common.{◌≡◌, Bool, true, false, not, List, [], ◌�
 use Rattle.std.specs.Prelude.{Ok, Err, Result, is_some, if◌then◌else◌, IfSome, slice_get, slice_set}
 use Rattle.std.specs.List.{find, list_any, flat_map, position}
 use Rattle.bz_value.specs.declared.value.Expr.{Expr, Token, Form'}
-use Rattle.bz_value.specs.declared.refusal.Refusal.{Refusal}
+use Rattle.bz_comment.specs.Words.{Refusal, has_lists, items_in, is_item, listed, Host, with_comments, comments_of, is_attribute, on_first_that, with_value, Arguments, HostComments, no_comments, Bytes}
 use Rattle.bz_value.specs.declared.refusal.Refusal.TheVariants.{NoAttribute, NotAList}
-use Rattle.bz_attribute.specs.Lists.{has_lists, items_in, is_item, listed}
 use Rattle.bz_comment.specs.Changes.{changed_by, changed_comments, comments_made, is_host}
 use Rattle.bz_comment.specs.Hosts.{print_comment, found_comments, item_comments, put_value, on_named_item, on_first_item, on_host}
-use Rattle.bz_command_syntax.specs.declared.command.Host.{Host}
 use Rattle.bz_command_syntax.specs.declared.command.Host.TheVariants as h
-use Rattle.bz_value.specs.Commented.{with_comments}
-use Rattle.bz_value.specs.Proper.{comments_of}
 use Rattle.bz_comment.specs.declared.changing.Change.{Change}
 use Rattle.bz_comment.specs.declared.changing.Change.TheVariants.{Add, Remove}
 use Rattle.std.specs.Option.{option_or}
 use Rattle.std.proofs.lemmas.Bool.{cases_Bool}
-use Rattle.bz_attribute.specs.Attributes.{is_attribute, on_first_that, with_value, Arguments}
-use Rattle.bz_value.specs.Comments.{HostComments, no_comments}
-use Rattle.bz_items.specs.Characters.{Bytes}
 use Rattle.bz_rule.specs.Rules.{value_named, attribute}
 use Rattle.bz_attribute.proofs.FormsAgain.{value_answered, attribute_any}
 use Rattle.std.proofs.lemmas.List.{drop_more}

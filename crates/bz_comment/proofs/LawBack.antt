@@ -10,17 +10,12 @@ use Rattle.std.proofs.lemmas.List.Folds.{find-append}
 use Rattle.bz_grammar.specs.declared.kind.Kind.{Kind}
 use Rattle.bz_grammar.specs.declared.kind.Kind.TheVariants as k
 use Rattle.bz_value.specs.declared.value.Expr.{Expr, Token, Form'}
-use Rattle.bz_value.specs.Comments.{HostComments, no_comments}
-use Rattle.bz_items.specs.Characters.{Bytes, line_feed}
-use Rattle.bz_value.specs.Proper.{comments_of}
-use Rattle.bz_command_syntax.specs.declared.command.Host.{Host}
+use Rattle.bz_comment.specs.Words.{HostComments, no_comments, Bytes, line_feed, comments_of, Host, is_attribute, has_attribute, on_first_that, with_value, Arguments, has_lists, items_in, is_item, listed}
 use Rattle.bz_command_syntax.specs.declared.command.Host.TheVariants as h
 use Rattle.bz_rule.specs.Rules.{attribute, value_named}
 use Rattle.bz_rule.specs.Values.{has_kind, parts_of, items_of, with_parts, with_items, on_row, on_items}
 use Rattle.bz_rule.proofs.ProperChanges.{by_test, by_case}
 use Rattle.bz_value.specs.declared.refusal.Refusal.TheVariants.{NoAttribute, NotAList}
-use Rattle.bz_attribute.specs.Attributes.{is_attribute, has_attribute, on_first_that, with_value, Arguments}
-use Rattle.bz_attribute.specs.Lists.{has_lists, items_in, is_item, listed}
 use Rattle.bz_attribute.proofs.ArgumentForms.{any_same, with_value_twice}
 use Rattle.bz_attribute.proofs.AttributesAgain.{attribute_changed, none_found, with_value_same}
 use Rattle.bz_attribute.proofs.FormsAgain.{if_true, if_false, both, parts_kind, items_kind, parts_filled, items_filled, items_beside, row_back, items_back}

@@ -10,28 +10,20 @@ use Rattle.bz_grammar.specs.Shapes as s
 use Rattle.bz_grammar.specs.Shapes.{Nonterminal}
 use Rattle.bz_value.specs.declared.value.Expr.{Expr, Token, Form'}
 use Rattle.bz_value.specs.declared.value.Item.TheVariants as i
-use Rattle.bz_items.specs.Characters.{Bytes, line_feed, number_sign, space}
-use Rattle.bz_value.specs.Comments.{HostComments, no_comments}
-use Rattle.bz_value.specs.Commented.{with_comments}
-use Rattle.bz_value.specs.Gaps.{trimmed}
+use Rattle.bz_comment.specs.Words.{Bytes, line_feed, number_sign, space, HostComments, no_comments, with_comments, trimmed, Host, attribute, has_kind, on_row, on_items, is_attribute, has_attribute, on_first_that, has_lists, items_in, is_item}
 use Rattle.bz_value.specs.Proper.{IsComment, AreComments, comments_of, IsProperItemIn}
 use Rattle.bz_value.specs.LineShapes.{Grammar}
 use Rattle.bz_value.proofs.GapComments.{suffix_fine}
 use Rattle.bz_value.proofs.Lines.{NoneBefore, line_stops}
 use Rattle.bz_command_syntax.specs.Commands.{is_one_line}
 use Rattle.bz_command_syntax.specs.Proper.{IsHost}
-use Rattle.bz_command_syntax.specs.declared.command.Host.{Host}
 use Rattle.bz_command_syntax.specs.declared.command.Host.TheVariants as h
-use Rattle.bz_rule.specs.Rules.{attribute}
-use Rattle.bz_rule.specs.Values.{has_kind, on_row, on_items}
 use Rattle.bz_rule.proofs.ProperArguments.{attribute_value}
 use Rattle.bz_rule.proofs.ProperChanges.{by_test, Stays, row_stays}
 use Rattle.bz_rule.proofs.ProperForms.{InPlace}
 use Rattle.bz_rule.proofs.ProperItems.{IsValue, value_in_place}
 use Rattle.bz_rule.proofs.ProperSequences.{IsItem, list_in_place}
 use Rattle.bz_value.specs.declared.refusal.Refusal.TheVariants.{NoAttribute}
-use Rattle.bz_attribute.specs.Attributes.{is_attribute, has_attribute, on_first_that}
-use Rattle.bz_attribute.specs.Lists.{has_lists, items_in, is_item}
 use Rattle.bz_attribute.proofs.ProperAttributes.{AreArguments, Made, Keeps, with_value_kept, first_that_kept, first_that_stays}
 use Rattle.bz_attribute.proofs.ProperTexts.{one_ascii}
 use Rattle.bz_comment.specs.Hosts.{comment_made, with_comment, without_comments, has_item, on_first_item, on_named_item, on_host, comment, remove_comment}

@@ -1,14 +1,8 @@
 -- What is done to comments, in the steps in which it is.
 use denote.Ref.{Bor}
 use Rattle.std.specs.Prelude.{Bool, false, List, [], ◌∷◌, ◌++◌, Result, Ok, Err}
-use Rattle.bz_value.specs.declared.value.Expr.{Expr}
-use Rattle.bz_value.specs.Comments.{HostComments, no_comments}
-use Rattle.bz_items.specs.Characters.{Bytes}
-use Rattle.bz_command_syntax.specs.declared.command.Host.{Host}
+use Rattle.bz_comment.specs.Words.{Expr, HostComments, no_comments, Bytes, Host, Refusal, Arguments, is_attribute, is_item}
 use Rattle.bz_command_syntax.specs.declared.command.Host.TheVariants as h
-use Rattle.bz_value.specs.declared.refusal.Refusal.{Refusal}
-use Rattle.bz_attribute.specs.Attributes.{Arguments, is_attribute}
-use Rattle.bz_attribute.specs.Lists.{is_item}
 use Rattle.bz_comment.specs.declared.changing.Change.{Change}
 use Rattle.bz_comment.specs.declared.changing.Change.TheVariants.{Add, Remove}
 use Rattle.bz_comment.specs.declared.hosts.Sought.{Sought}

@@ -3,20 +3,9 @@
 use Rattle.std.specs.Prelude.{Bool, not, ◌&&◌, List, [], ◌∷◌, ◌++◌, Option, Some, None, Result, Ok, Err, nat_eq, if◌then◌else◌}
 use Rattle.std.specs.List.{find, list_any, flat_map}
 use Rattle.bz_grammar.specs.declared.kind.Kind.TheVariants as k
-use Rattle.bz_value.specs.declared.value.Expr.{Expr}
-use Rattle.bz_items.specs.Characters.{Bytes, line_feed, number_sign, space}
-use Rattle.bz_value.specs.Comments.{HostComments, no_comments}
-use Rattle.bz_value.specs.Commented.{with_comments}
-use Rattle.bz_value.specs.Gaps.{trimmed}
-use Rattle.bz_value.specs.Proper.{comments_of}
-use Rattle.bz_command_syntax.specs.declared.command.Host.{Host}
+use Rattle.bz_comment.specs.Words.{Expr, Bytes, line_feed, number_sign, space, HostComments, no_comments, with_comments, trimmed, comments_of, Host, attribute, has_kind, items_of, on_row, on_items, above, with_above, Refusal, is_attribute, has_attribute, on_first_that, with_value, Arguments, has_lists, items_in, is_item}
 use Rattle.bz_command_syntax.specs.declared.command.Host.TheVariants as h
-use Rattle.bz_rule.specs.Rules.{attribute}
-use Rattle.bz_rule.specs.Values.{has_kind, items_of, on_row, on_items, above, with_above}
-use Rattle.bz_value.specs.declared.refusal.Refusal.{Refusal}
 use Rattle.bz_value.specs.declared.refusal.Refusal.TheVariants.{NoAttribute, NotAList}
-use Rattle.bz_attribute.specs.Attributes.{is_attribute, has_attribute, on_first_that, with_value, Arguments}
-use Rattle.bz_attribute.specs.Lists.{has_lists, items_in, is_item}
 
 -- ---- comments of an expression
 

@@ -1,11 +1,6 @@
 -- Laws of the commands on comments.
 use Rattle.std.specs.Prelude.{◌≡◌, ◌≤◌, List, [], Ok, codes}
-use Rattle.bz_value.specs.declared.value.Expr.{Expr}
-use Rattle.bz_value.specs.Comments.{HostComments, no_comments}
-use Rattle.bz_value.specs.Counted.{total, amount, one_if}
-use Rattle.bz_items.specs.Characters.{Bytes}
-use Rattle.bz_value.specs.Proper.{comments_of}
-use Rattle.bz_command_syntax.specs.declared.command.Host.{Host}
+use Rattle.bz_comment.specs.Words.{Expr, HostComments, no_comments, total, amount, one_if, Bytes, comments_of, Host}
 use Rattle.bz_comment.specs.Hosts.{with_comment, without_comments, comment, remove_comment, print_comment, comment_made, comment_line}
 
 -- A comment that was put where nothing is printed, and is taken away again, leaves the arguments as they were.

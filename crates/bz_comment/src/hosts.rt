@@ -3,9 +3,7 @@ ghost use Rattle.std.specs.Prelude.{◌≡◌, ◌⊎◌, ◌++◌, Ok, Err, IfO
 ghost use Rattle.std.specs.List.{find, list_any, position};
 ghost use Rattle.std.specs.Option.{option_copied};
 ghost use Rattle.bz_grammar.specs.declared.kind.Kind.TheVariants as kinds;
-ghost use Rattle.bz_rule.specs.Values.{on_items};
-ghost use Rattle.bz_attribute.specs.Attributes.{on_first_that};
-ghost use Rattle.bz_attribute.specs.Lists.{items_in, listed};
+ghost use Rattle.bz_comment.specs.Words.{on_items, on_first_that, items_in, listed};
 ghost use Rattle.bz_comment.specs.Changes.{changed_by, changed_comments, is_sought, printed_as};
 ghost use Rattle.bz_comment.specs.Hosts.{comment_line, comment_text as text_of, found_comments, has_item, on_first_item, print_comment, printed_comments};
 

@@ -1,10 +1,8 @@
 -- Items with separators between them and a closing token after them: their hosts.
 use Rattle.std.proofs.Common.{◌≡◌, ℕ, suc, ◌+◌, ◌<◌, Bool, true, false, List, [], ◌∷◌, ◌++◌, refl, sym, ap, ◌∙◌, subst, map, arith}
 use Rattle.std.specs.List.{AllByRecursion}
-use Rattle.bz_lex.specs.declared.leaf.Leaf.{Leaf}
-use Rattle.bz_grammar.specs.declared.tree.Part.{Part, Node'}
+use Rattle.bz_hosts.specs.Words.{Leaf, Part, Node', Terminal, is_one_of}
 use Rattle.bz_grammar.specs.declared.tree.Part.TheVariants as p
-use Rattle.bz_grammar.specs.Shapes.{Terminal, is_one_of}
 use Rattle.bz_hosts.specs.Hosts.{Region, host, sizes, measured, is_word_class, is_item_part, hosts_from}
 use Rattle.bz_hosts.proofs.Around.{AllInside, all_wider}
 use Rattle.bz_hosts.proofs.InnerParts.{inner_kind}

@@ -3,14 +3,9 @@ use Rattle.std.proofs.Common.{◌≡◌, ℕ, Bool, true, false, List, [], ◌�
 use Rattle.std.specs.List.{AllByRecursion}
 use Rattle.std.proofs.lemmas.Bool.{cond-true}
 use Rattle.std.proofs.lemmas.List.{append-nil}
-use Rattle.bz_items.specs.Characters.{Bytes}
-use Rattle.bz_grammar.specs.declared.kind.Kind.{Kind}
+use Rattle.bz_hosts.specs.Words.{Bytes, Kind, Part, Row_of-Part, end_of-Part, more_of-Part, Node', is_kind, is_header, as_list, comments_in, GapLine, lines_of, after_first_line}
 use Rattle.bz_grammar.specs.declared.kind.Kind.TheVariants as k
-use Rattle.bz_grammar.specs.declared.tree.Part.{Part, Row_of-Part, end_of-Part, more_of-Part, Node'}
 use Rattle.bz_grammar.specs.declared.tree.Part.TheVariants as p
-use Rattle.bz_grammar.specs.Shapes.{is_kind}
-use Rattle.bz_value.specs.Frames.{is_header}
-use Rattle.bz_value.specs.Gaps.{as_list, comments_in, GapLine, lines_of, after_first_line}
 use Rattle.bz_hosts.specs.Seen.{Seen, last_gap}
 use Rattle.bz_hosts.specs.Suites.{ReadStatements, Stated, stated, stated_row, indented_lines_before, end_comments, after_end, is_taken_line, line_read, walked, margin_of, suite_read, suite_form, put_header, branches, with_suite, statement_read, suite_in}
 use Rattle.bz_hosts.proofs.SuiteLines.{Lines}

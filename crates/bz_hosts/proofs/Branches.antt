@@ -1,16 +1,11 @@
 -- The suites of a statement, each with its header: one more, and all of them as one.
 use Rattle.std.proofs.Common.{◌≡◌, Bool, true, false, List, [], ◌∷◌, ◌++◌, Option, if◌then◌else◌, refl, sym, ap, ◌∙◌, map, append_assoc}
 use Rattle.std.proofs.lemmas.List.{append-nil, map-append}
-use Rattle.bz_grammar.specs.declared.kind.Kind.{Kind}
+use Rattle.bz_hosts.specs.Words.{Kind, Part, Form, frame, Bytes, comments_in}
 use Rattle.bz_grammar.specs.declared.kind.Kind.TheVariants as k
-use Rattle.bz_grammar.specs.declared.tree.Part.{Part}
 use Rattle.bz_value.specs.declared.value.Expr.{Expr, items-the_row-Expr, items_hidden-the_row-Expr-0}
 use Rattle.bz_value.specs.declared.value.Expr.TheVariants as e
-use Rattle.bz_value.specs.declared.value.Form.{Form}
-use Rattle.bz_value.specs.Frames.{frame}
 use Rattle.bz_value.proofs.FormParts.{items_in}
-use Rattle.bz_items.specs.Characters.{Bytes}
-use Rattle.bz_value.specs.Gaps.{comments_in}
 use Rattle.bz_hosts.specs.Seen.{Seen, plain, seen_node}
 use Rattle.bz_hosts.specs.Suites.{ReadStatements, Stated, SuiteRead, stated, branches, with_suite, indented_lines_before}
 use Rattle.bz_hosts.specs.private.Gathered.{gathered, with_others}

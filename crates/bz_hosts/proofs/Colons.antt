@@ -2,18 +2,13 @@
 use Rattle.std.proofs.Common.{◌≡◌, ℕ, Bool, true, false, not, ◌&&◌, ◌||◌, List, refl, ap, codes, bytes_eq, suc, ◌≤◌, ◌<◌, ◌+◌, ◌-◌, [], ◌∷◌, ◌++◌, sym, ◌∙◌, subst, map, take, drop, length, get_or, length-drop, append-nil, append_assoc, arith}
 use Rattle.std.specs.List.{list_all, AllByRecursion}
 use Rattle.std.proofs.lemmas.Bool.{not-true, cond-true, cond-false}
-use Rattle.bz_token.specs.declared.class.Class.{Class}
-use Rattle.bz_lex.specs.declared.leaf.Leaf.{Leaf}
-use Rattle.bz_grammar.specs.declared.tree.Part.{Part, Node'}
+use Rattle.bz_hosts.specs.Words.{Class, Leaf, Part, Node', Bytes, Kind, GapLine}
 use Rattle.bz_grammar.specs.Shapes.{Nonterminal, Terminal, has_token, is_one_of, leaves_at}
 use Rattle.bz_grammar.specs.Legal.{IsNonterminal}
-use Rattle.bz_items.specs.Characters.{Bytes}
 use Rattle.bz_hosts.proofs.InnerParts.{of_terminals, is_inner}
 use Rattle.bz_hosts.specs.Suites.{stated, Stated, branches, with_suite}
 use Rattle.std.proofs.Math.Seq.{take-suc}
 use Rattle.std.proofs.lemmas.List.{drop_more, get_or-drop, map-append}
-use Rattle.bz_grammar.specs.declared.kind.Kind.{Kind}
-use Rattle.bz_value.specs.Gaps.{GapLine}
 use Rattle.bz_hosts.specs.Seen.{Seen, seen}
 use Rattle.bz_hosts.proofs.Stated.{stated_part}
 use Rattle.bz_token.specs.declared.class.Class.TheVariants as c

@@ -1,16 +1,13 @@
 -- A statement with suites as its headers one after the other: what each header has from those after it, they all have.
 use Rattle.std.proofs.Common.{◌≡◌, true, List, [], ◌∷◌, inl, inr, sym, subst, append-nil, codes}
 use Rattle.std.specs.List.{AllByRecursion}
-use Rattle.bz_grammar.specs.declared.kind.Kind.{Kind}
+use Rattle.bz_hosts.specs.Words.{Kind, Part, Bytes, is_header}
 use Rattle.bz_grammar.specs.declared.kind.Kind.TheVariants as k
-use Rattle.bz_grammar.specs.declared.tree.Part.{Part}
 use Rattle.bz_grammar.specs.Shapes as s
 use Rattle.bz_grammar.specs.Shapes.{Fits, no_more, once_more}
 use Rattle.bz_grammar.specs.Legal.{IsNonterminal}
 use Rattle.bz_grammar.specs.Spots.{Begins, Stands, AtParts}
 use Rattle.bz_grammar.proofs.Balance.{no_such}
-use Rattle.bz_items.specs.Characters.{Bytes}
-use Rattle.bz_value.specs.Frames.{is_header}
 use Rattle.bz_hosts.proofs.SeenParts.{all_parted}
 use Rattle.bz_hosts.proofs.HeadParts.{Headed, fits_cut, tested, def_headed, for_headed, if_headed, elif_headed, else_headed}
 

@@ -3,12 +3,9 @@
 use Rattle.std.proofs.Common.{◌≡◌, ℕ, zero, suc, Bool, true, false, not, List, [], ◌∷◌, ◌++◌, inl, inr, refl, ap, subst, take, drop}
 use Rattle.std.specs.List.{AllByRecursion, list_all}
 use Rattle.std.proofs.lemmas.Bool.{not-true}
-use Rattle.bz_token.specs.declared.class.Class.{Class}
+use Rattle.bz_hosts.specs.Words.{Class, Leaf, Kind, Part, Node', Frame, sequence, frame, lead}
 use Rattle.bz_token.specs.declared.class.Class.TheVariants as c
-use Rattle.bz_lex.specs.declared.leaf.Leaf.{Leaf}
-use Rattle.bz_grammar.specs.declared.kind.Kind.{Kind}
 use Rattle.bz_grammar.specs.declared.kind.Kind.TheVariants as k
-use Rattle.bz_grammar.specs.declared.tree.Part.{Part, Node'}
 use Rattle.bz_grammar.specs.declared.tree.Part.TheVariants as p
 use Rattle.bz_grammar.specs.Shapes as s
 use Rattle.bz_grammar.specs.Shapes.{Nonterminal, Terminal, Shape, Fits, Listed, items, tok, done, has_token, is_one_of, leaves_at}
@@ -16,7 +13,6 @@ use Rattle.bz_grammar.specs.Legal.{IsNonterminal}
 use Rattle.bz_grammar.specs.Spots.{Spot, Within, opens, plain, role, after_part}
 use Rattle.bz_grammar.proofs.Balance.{no_such, inner_nonterminal}
 use Rattle.bz_grammar.proofs.Terminals.{disjoint, disjoint-one_of}
-use Rattle.bz_value.specs.Frames.{Frame, sequence, frame, lead}
 use Rattle.bz_value.specs.LineShapes.{whole_shape}
 use Rattle.bz_hosts.specs.Hosts.{is_word_class}
 use Rattle.bz_hosts.proofs.Alternating.{IsItem, IsMark, Alternating}

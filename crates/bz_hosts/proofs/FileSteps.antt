@@ -1,16 +1,10 @@
 -- Steps of the walks over the parts of a file.
 use Rattle.std.proofs.Common.{ℕ, zero, suc, ◌≡◌, ◌<◌, ◌≤◌, ◌+◌, true, Bool, List, [], ◌∷◌, ◌++◌, refl, sym, ap, ap₂, ◌∙◌, map, drop, length, get_or, set, length-drop, append_assoc, append-nil, arith}
 use Rattle.std.proofs.lemmas.List.{drop-set-lt}
-use Rattle.bz_items.specs.Characters.{Bytes}
-use Rattle.bz_lex.specs.declared.leaf.Leaf.{Leaf}
+use Rattle.bz_hosts.specs.Words.{Bytes, Leaf, Node, Part, Node', is_kind, Item, GapLine, lines_of, after_first_line, groups_of, all_but_last, last_group}
 use Rattle.bz_grammar.specs.declared.kind.Kind.TheVariants as k
-use Rattle.bz_grammar.specs.declared.tree.Node.{Node}
-use Rattle.bz_grammar.specs.declared.tree.Part.{Part, Node'}
 use Rattle.bz_grammar.specs.declared.tree.Part.TheVariants as p
-use Rattle.bz_grammar.specs.Shapes.{is_kind}
-use Rattle.bz_value.specs.declared.value.Item.{Item}
 use Rattle.bz_value.specs.declared.value.Item.TheVariants as i
-use Rattle.bz_value.specs.Gaps.{GapLine, lines_of, after_first_line, groups_of, all_but_last, last_group}
 use Rattle.bz_hosts.specs.Seen.{seen, blocks, first_seen_gap, last_gap, statements_in}
 use Rattle.bz_hosts.specs.Suites.{ReadStatements, stated, indented_lines_before}
 use Rattle.bz_hosts.specs.SuitesJoined.{lines_at_end}

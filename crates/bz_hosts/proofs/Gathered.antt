@@ -1,8 +1,7 @@
 -- The texts that a place gathers from the comments of a gap, and places that differ.
 use Rattle.std.proofs.Common.{◌≡◌, ℕ, suc, ◌+◌, Bool, true, false, List, [], ◌∷◌, ◌++◌, inl, inr, refl, sym, ap, ◌∙◌, map, if◌then◌else◌, append_assoc, append-nil}
 use Rattle.std.proofs.lemmas.Bool.{cases_Bool, eq-eqb, ne_eqb}
-use Rattle.bz_items.specs.Characters.{Bytes}
-use Rattle.bz_value.specs.Gaps.{GapLine, lines_of, as_list, after_first_line, comments_in, first_comment, suffix_in, others_in, all_in}
+use Rattle.bz_hosts.specs.Words.{Bytes, GapLine, lines_of, as_list, after_first_line, comments_in, first_comment, suffix_in, others_in, all_in}
 use Rattle.bz_hosts.specs.Hosts.{Region, Comment, comments_at, CommentPlace, suffix_of, above, end_of, outside, same_place, comment_place, texts_at}
 
 -- ---- places

@@ -1,10 +1,8 @@
 -- Groups of comment lines, read from the left.
 use Rattle.std.proofs.Common.{Bor, Bool, ℕ, ◌≡◌, List, [], ◌∷◌, ◌++◌, Option, Some, None, refl, sym, ap, ◌∙◌, subst, append_assoc, append-nil}
 use Rattle.std.specs.Option.{option_copied}
-use Rattle.bz_value.specs.declared.value.Item.{Item}
+use Rattle.bz_hosts.specs.Words.{Item, Bytes, GapLine, lines_of, groups_of, all_but_last, last_group}
 use Rattle.bz_value.specs.declared.value.Item.TheVariants as i
-use Rattle.bz_items.specs.Characters.{Bytes}
-use Rattle.bz_value.specs.Gaps.{GapLine, lines_of, groups_of, all_but_last, last_group}
 use Rattle.bz_hosts.specs.Seen.{blocks}
 use Rattle.bz_hosts.specs.private.Walks.{prepend}
 use Rattle.bz_hosts.proofs.Numbered.{has_group}

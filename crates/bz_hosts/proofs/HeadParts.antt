@@ -2,13 +2,11 @@
 use Rattle.std.proofs.Common.{◌≡◌, Bool, true, false, ◌&&◌, List, [], ◌∷◌, ◌++◌, inl, inr, refl, sym, ap, ◌∙◌, subst, append_assoc, codes}
 use Rattle.std.specs.List.{AllByRecursion}
 use Rattle.std.proofs.lemmas.Bool.{and_parts}
-use Rattle.bz_grammar.specs.declared.kind.Kind.{Kind}
-use Rattle.bz_grammar.specs.declared.tree.Part.{Part, Node'}
+use Rattle.bz_hosts.specs.Words.{Kind, Part, Node', Bytes}
 use Rattle.bz_grammar.specs.Shapes.{Terminal, Shape, Fits, Listed, After, Several, Times, no_more, once_more, nonterminal_has_kind, has_token}
 use Rattle.bz_grammar.specs.Legal.{IsNonterminal}
 use Rattle.bz_grammar.specs.Spots.{Spot, Begins, Along, after_node, after_part, Stands, AtLeaves, AtParts}
 use Rattle.bz_grammar.proofs.Balance.{no_such, inner_nonterminal, spot_after, parts_split}
-use Rattle.bz_items.specs.Characters.{Bytes}
 use Rattle.bz_value.specs.LineShapes.{whole_shape}
 use Rattle.bz_hosts.proofs.InnerParts.{inner_tokens, plain_tokens, every, every_part, GoesOn, token_inner, nonterminal_inner, token_goes, token_closes, nonterminal_goes}
 use Rattle.bz_hosts.proofs.Colons.{no_colons, token_plain, nonterminal_plain, InHeader}

@@ -2,18 +2,12 @@
 use Rattle.std.proofs.Common.{◌≡◌, ℕ, suc, ◌+◌, Bool, true, false, List, [], ◌∷◌, ◌++◌, Option, refl, sym, ap, ◌∙◌, subst, map, append-nil, append_assoc, arith}
 use Rattle.std.specs.List.{AllByRecursion, flat_map}
 use Rattle.std.proofs.lemmas.Grind.{flat_map-append}
-use Rattle.bz_lex.specs.declared.leaf.Leaf.{Leaf}
-use Rattle.bz_grammar.specs.declared.kind.Kind.{Kind}
-use Rattle.bz_grammar.specs.declared.tree.Part.{Part, Node'}
+use Rattle.bz_hosts.specs.Words.{Leaf, Kind, Part, Node', leaves_part, Expr, Bytes, comments_in, lines_of}
 use Rattle.bz_grammar.specs.Shapes.{Fits, has_token}
-use Rattle.bz_grammar.specs.Spell.{leaves_part}
 use Rattle.bz_grammar.specs.Legal.{IsNonterminal, LegalPart}
 use Rattle.bz_grammar.specs.Spots.{Along, Stands, AtLeaves}
 use Rattle.bz_grammar.proofs.Balance.{no_such}
-use Rattle.bz_value.specs.declared.value.Expr.{Expr}
-use Rattle.bz_items.specs.Characters.{Bytes}
 use Rattle.bz_value.specs.Frames.{frame, is_inner_frame}
-use Rattle.bz_value.specs.Gaps.{comments_in, lines_of}
 use Rattle.bz_value.specs.LineShapes.{whole_shape}
 use Rattle.bz_value.proofs.LegalBy.{as_bzl}
 use Rattle.bz_hosts.specs.Seen.{seen}

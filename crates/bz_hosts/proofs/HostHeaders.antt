@@ -2,17 +2,10 @@
 use Rattle.std.proofs.Common.{◌≡◌, ℕ, suc, ◌+◌, ◌<◌, Bool, true, false, List, [], ◌∷◌, ◌++◌, Option, Some, None, length, refl, sym, ap, ◌∙◌, map, append-nil, append_assoc, length-append, arith}
 use Rattle.std.specs.List.{flat_map}
 use Rattle.std.proofs.lemmas.Grind.{flat_map-append}
-use Rattle.bz_lex.specs.declared.leaf.Leaf.{Leaf}
-use Rattle.bz_grammar.specs.declared.kind.Kind.{Kind}
-use Rattle.bz_grammar.specs.declared.tree.Part.{Part}
+use Rattle.bz_hosts.specs.Words.{Leaf, Kind, Part, leaves_part, Expr, Bytes, no_comments, all_in, as_list, lines_of, suffix_in}
 use Rattle.bz_grammar.specs.Legal.{IsNonterminal}
 use Rattle.bz_grammar.specs.Shapes.{Fits}
-use Rattle.bz_grammar.specs.Spell.{leaves_part}
-use Rattle.bz_value.specs.declared.value.Expr.{Expr}
-use Rattle.bz_items.specs.Characters.{Bytes}
-use Rattle.bz_value.specs.Comments.{no_comments}
 use Rattle.bz_value.specs.Frames.{frame, is_inner_frame}
-use Rattle.bz_value.specs.Gaps.{all_in, as_list, lines_of, suffix_in}
 use Rattle.bz_value.specs.LineShapes.{whole_shape}
 use Rattle.bz_hosts.specs.Seen.{Seen, seen, seen_node, plain}
 use Rattle.bz_hosts.specs.Hosts.{Region, host, CommentPlace, suffix_of, above, outside, comments_at, comments_from, texts_at, Hosted, block, hosted, hosted_at, sizes, measured, in_node, leaf_gap, inside_expr, Suite, Stretch, header, Page, suite_end}

@@ -3,23 +3,13 @@
 use Rattle.std.proofs.Common.{◌≡◌, ℕ, suc, ◌+◌, true, false, List, [], ◌∷◌, ◌++◌, inl, inr, length, refl, sym, ap, ◌∙◌, subst, map, drop, append-nil, append_assoc, arith}
 use Rattle.std.specs.List.{AllByRecursion, flat_map}
 use Rattle.std.proofs.lemmas.Grind.{flat_map-append}
-use Rattle.bz_lex.specs.declared.leaf.Leaf.{Leaf}
-use Rattle.bz_lex.specs.Gaps.{indent}
-use Rattle.bz_grammar.specs.declared.kind.Kind.{Kind}
+use Rattle.bz_hosts.specs.Words.{Leaf, indent, Kind, first_indent, leaves_part, leaves_row, leaves_of, Expr, Item, Bytes, is_header, GapLine, all_but_last, comments_in, groups_of, last_group, lines_of, comments_of}
 use Rattle.bz_grammar.specs.declared.tree.Part.{Part, Row_of-Part, end_of-Part, more_of-Part, Node', items-the_row-Part}
-use Rattle.bz_grammar.specs.Indents.{first_indent}
 use Rattle.bz_grammar.specs.Shapes.{Fits, Several, bzl_shape, tok, done, nonterminal_has_kind}
-use Rattle.bz_grammar.specs.Spell.{leaves_part, leaves_row, leaves_of}
 use Rattle.bz_grammar.specs.Legal.{IsNonterminal, LegalPart, LegalRow}
 use Rattle.bz_grammar.specs.Spots.{Begins, Along, Stands, AtLeaves, AtParts}
 use Rattle.bz_grammar.proofs.Balance.{no_such, parts_of_row}
-use Rattle.bz_value.specs.declared.value.Expr.{Expr}
-use Rattle.bz_value.specs.declared.value.Item.{Item}
-use Rattle.bz_items.specs.Characters.{Bytes}
-use Rattle.bz_value.specs.Frames.{is_header}
-use Rattle.bz_value.specs.Gaps.{GapLine, all_but_last, comments_in, groups_of, last_group, lines_of}
 use Rattle.bz_value.specs.LineShapes.{line_shape}
-use Rattle.bz_value.specs.Proper.{comments_of}
 use Rattle.bz_value.proofs.LegalBy.{LegalBy, each_legal, as_bzl}
 use Rattle.bz_hosts.specs.Seen.{blocks}
 use Rattle.bz_hosts.specs.Hosts.{comments_at, texts_at, Measured, Hosted, hosts_alone, sizes, measured, measured_row, right_above, bare_lines, lines_before, hosted_by, inside_expr, inside_item, Suite, Stretch, in_statement, in_compound, one_by_one, regions_in, Page, suite_there, left_by, left_above, statement_hosts, hosted_from}

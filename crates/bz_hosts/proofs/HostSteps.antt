@@ -1,15 +1,9 @@
 -- An item of a sequence becomes a host.
 use Rattle.std.proofs.Common.{◌≡◌, ℕ, Bool, true, false, List, [], ◌∷◌, ◌++◌, ◌+◌, ◌<◌, ◌≤◌, Option, None, refl, sym, ap, ◌∙◌, map, drop, length, get_or, append_assoc, append-nil, length-drop, arith}
 use Rattle.std.proofs.lemmas.List.{length-map}
-use Rattle.bz_grammar.specs.declared.tree.Part.{Part}
-use Rattle.bz_value.specs.declared.value.Expr.{Expr}
-use Rattle.bz_value.specs.declared.value.Seq.{Seq}
-use Rattle.bz_value.specs.declared.value.Item.{Item}
+use Rattle.bz_hosts.specs.Words.{Part, Expr, Seq, Item, HostComments, suffix_in, all_in, Bytes}
 use Rattle.bz_value.specs.declared.value.Item.TheVariants as i
 use Rattle.bz_value.specs.Commented.{with_comments}
-use Rattle.bz_value.specs.Comments.{HostComments}
-use Rattle.bz_value.specs.Gaps.{suffix_in, all_in}
-use Rattle.bz_items.specs.Characters.{Bytes}
 use Rattle.bz_hosts.specs.Seen.{Seen, seen, plain, first_seen_gap, items_in, is_split, seq_in}
 use Rattle.bz_hosts.specs.private.Walks.{above_after, is_unsigned, item_gap}
 use Rattle.bz_hosts.proofs.NodeViews.{seen_comments}

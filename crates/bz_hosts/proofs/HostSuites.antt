@@ -2,12 +2,7 @@
 use Rattle.std.proofs.Common.{◌≡◌, ℕ, suc, ◌+◌, ◌<◌, ◌≤◌, true, false, ◌||◌, List, [], ◌∷◌, ◌++◌, Option, None, length, refl, sym, ap, ◌∙◌, subst, map, append-nil, append_assoc, length-append, nat_eq, nat_lt, arith}
 use Rattle.std.specs.List.{AllByRecursion, flat_map}
 use Rattle.std.proofs.lemmas.Bool.{and_right, eq-eqb, ne_eqb, lt-ltb, le-ltb}
-use Rattle.bz_lex.specs.declared.leaf.Leaf.{Leaf}
-use Rattle.bz_grammar.specs.declared.tree.Part.{Part}
-use Rattle.bz_grammar.specs.Spell.{leaves_part}
-use Rattle.bz_value.specs.declared.value.Expr.{Expr}
-use Rattle.bz_items.specs.Characters.{Bytes}
-use Rattle.bz_value.specs.Gaps.{all_in, as_list, comments_in, lines_of, after_first_line}
+use Rattle.bz_hosts.specs.Words.{Leaf, Part, leaves_part, Expr, Bytes, all_in, as_list, comments_in, lines_of, after_first_line}
 use Rattle.bz_hosts.specs.Suites.{ReadStatements, SuiteRead, end_comments, stated, line_read, walked, suite_read, margin_of, only_comment, indented_lines_before}
 use Rattle.bz_hosts.specs.Seen.{seen, statements_in}
 use Rattle.bz_hosts.specs.Hosts.{Region, CommentPlace, texts_at, Hosted, hosted_at, sizes, measured, hosts_from, leaf_gap, inside_item, lines_before, Suite, Stretch, simple_line, header, one_by_one, Page, left_by, lines_of_leaf, statement_hosts, suite_end}

@@ -3,16 +3,10 @@ use Rattle.std.proofs.Common.{◌≡◌, List, [], ◌∷◌, ◌++◌, refl, sy
 use Rattle.std.specs.List.{AllByRecursion, flat_map}
 use Rattle.std.proofs.lemmas.Grind.{flat_map-append}
 use Rattle.std.proofs.lemmas.List.{append-nil}
-use Rattle.bz_items.specs.Characters.{Bytes}
-use Rattle.bz_lex.specs.declared.leaf.Leaf.{Leaf}
-use Rattle.bz_grammar.specs.declared.tree.Node.{Node}
-use Rattle.bz_grammar.specs.declared.tree.Part.{Part, Node'}
+use Rattle.bz_hosts.specs.Words.{Bytes, Leaf, Node, Part, Node', leaves_part, Expr, Item}
 use Rattle.bz_grammar.specs.declared.tree.Part.TheVariants as p
-use Rattle.bz_grammar.specs.Spell.{leaves_part}
 use Rattle.bz_grammar.proofs.Spells.{leaves_Node}
 use Rattle.bz_grammar.specs.Joined.{last_token, AreWholeLines, file_with, BzlLinesJoin}
-use Rattle.bz_value.specs.declared.value.Expr.{Expr}
-use Rattle.bz_value.specs.declared.value.Item.{Item}
 use Rattle.bz_value.specs.declared.value.Item.TheVariants as item
 use Rattle.bz_value.specs.Gaps.{before_groups, comments_in, all_in, groups_of, all_but_last, last_group, lines_of}
 use Rattle.bz_hosts.specs.Seen.{blocks, seen, first_seen_gap}

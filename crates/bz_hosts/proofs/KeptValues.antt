@@ -1,13 +1,10 @@
 -- Sums of a number of each comment: of statements, and of lines.
 use Rattle.std.proofs.Common.{◌≡◌, ℕ, ◌+◌, List, [], ◌∷◌, refl, sym, ap, ◌∙◌, map, true, false, None, arith}
-use Rattle.bz_value.specs.declared.value.Expr.{Expr}
+use Rattle.bz_hosts.specs.Words.{Expr, Bytes, GapLine, comments_in, lines_of, after_first_line, suffix_in, Part}
 use Rattle.bz_value.specs.Counted.{total, amount, item_amount}
-use Rattle.bz_items.specs.Characters.{Bytes}
-use Rattle.bz_value.specs.Gaps.{GapLine, comments_in, lines_of, after_first_line, suffix_in}
 use Rattle.bz_hosts.specs.Suites.{exprs_in}
 use Rattle.bz_hosts.specs.Seen.{Seen, statements_in, seen, last_gap}
 use Rattle.bz_hosts.proofs.Stated.{all_simple}
-use Rattle.bz_grammar.specs.declared.tree.Part.{Part}
 use Rattle.bz_hosts.proofs.Alternating.{Alternating}
 use Rattle.bz_hosts.proofs.Cuts.{mark_token}
 use Rattle.bz_hosts.proofs.KeptParts.{AllKept, host_kept, token_part}

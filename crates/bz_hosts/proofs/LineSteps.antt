@@ -1,12 +1,8 @@
 -- Steps of the loops over the statements of a line.
 use Rattle.std.proofs.Common.{ℕ, zero, suc, false, ◌≡◌, List, [], ◌∷◌, ◌++◌, ◌<◌, ◌≤◌, ◌+◌, ◌-◌, refl, sym, ap, ◌∙◌, map, drop, length, get_or, append_assoc, append-nil, length-drop, arith}
 use Rattle.std.proofs.lemmas.List.{length-map}
-use Rattle.bz_grammar.specs.declared.tree.Part.{Part}
-use Rattle.bz_value.specs.declared.value.Expr.{Expr}
-use Rattle.bz_value.specs.declared.value.Item.{Item}
+use Rattle.bz_hosts.specs.Words.{Part, Expr, Item, Bytes, suffix_in}
 use Rattle.bz_value.specs.declared.value.Item.TheVariants as i
-use Rattle.bz_items.specs.Characters.{Bytes}
-use Rattle.bz_value.specs.Gaps.{suffix_in}
 use Rattle.bz_hosts.specs.Seen.{Seen, seen, plain, last_gap, statement, statements_in}
 use Rattle.bz_hosts.specs.private.Walks.{line_gap}
 use Rattle.bz_hosts.proofs.HostSteps.{host_comments}

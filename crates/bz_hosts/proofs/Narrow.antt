@@ -1,12 +1,11 @@
 -- What is proper by the grammar of values, and is in a line, is proper by the grammar of lines: it holds no suite.
 use Rattle.std.proofs.Common.{◌≡◌, Bool, true, List, [], ◌∷◌, ◌++◌}
 use Rattle.std.specs.List.{AllByRecursion}
-use Rattle.bz_grammar.specs.declared.tree.Part.{Part}
+use Rattle.bz_hosts.specs.Words.{Part, Expr, Token, Form', Row_of-Expr, end_of-Expr, more_of-Expr}
 use Rattle.bz_grammar.specs.Shapes.{Fits, bzl_shape}
 use Rattle.bz_grammar.specs.Legal.{IsNonterminal}
 use Rattle.bz_grammar.specs.Spots.{Spot, Within}
 use Rattle.bz_grammar.proofs.Balance.{no_such}
-use Rattle.bz_value.specs.declared.value.Expr.{Expr, Token, Form', Row_of-Expr, end_of-Expr, more_of-Expr}
 use Rattle.bz_value.specs.Frames.{Frame, row, sequence, compound, frame, is_binary, is_inner_frame}
 use Rattle.bz_value.specs.LineShapes.{line_shape, whole_shape}
 use Rattle.bz_value.specs.Proper.{after_expr, in_frame, roots, ProperBy, ProperRowBy, ProperHeadBy, ProperItemsBy}

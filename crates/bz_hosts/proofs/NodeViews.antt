@@ -1,20 +1,12 @@
 -- What is seen of a node, by the list of its parts.
 use Rattle.std.proofs.Common.{ℕ, zero, suc, Bool, true, false, ◌≡◌, List, [], ◌∷◌, ◌++◌, refl, sym, ap, ◌∙◌, map, take, drop, ◌+◌, add-one, true≢false}
 use Rattle.std.proofs.lemmas.List.{drop-map}
-use Rattle.bz_grammar.specs.declared.kind.Kind.{Kind}
-use Rattle.bz_grammar.specs.declared.tree.Node.{Node}
-use Rattle.bz_grammar.specs.declared.tree.Part.{Part, Node'}
+use Rattle.bz_hosts.specs.Words.{Kind, Node, Part, Node', Expr, Form, Seq, HostComments, no_comments, Bytes, has_newline}
 use Rattle.bz_grammar.specs.declared.tree.Part.TheVariants as p
 use Rattle.bz_grammar.proofs.Nested.{row_of, items_of_row}
-use Rattle.bz_value.specs.declared.value.Expr.{Expr}
 use Rattle.bz_value.specs.declared.value.Expr.TheVariants as e
-use Rattle.bz_value.specs.declared.value.Form.{Form}
-use Rattle.bz_value.specs.declared.value.Seq.{Seq}
 use Rattle.bz_value.specs.Commented.{with_comments}
-use Rattle.bz_value.specs.Comments.{HostComments, no_comments}
 use Rattle.bz_value.specs.Frames.{Frame, sequence, frame, has_brackets, lead}
-use Rattle.bz_items.specs.Characters.{Bytes}
-use Rattle.bz_value.specs.Gaps.{has_newline}
 use Rattle.bz_hosts.specs.Seen.{seen, seen_row, seen_node, plain, first_seen_gap, is_split, form_of_frame, loose_of, seq_in}
 use Rattle.bz_hosts.proofs.SeenParts.{seen_rows}
 

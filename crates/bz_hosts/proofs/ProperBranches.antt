@@ -4,19 +4,13 @@ use Rattle.std.specs.List.{AllByRecursion}
 use Rattle.std.proofs.lemmas.Bool.{and_parts, or_cases}
 use Rattle.std.proofs.lemmas.Slice.Eq.{bytes_eq-Decides}
 use Rattle.std.proofs.lemmas.List.Elements.{All-from_recursion}
-use Rattle.bz_items.specs.Characters.{Bytes}
-use Rattle.bz_lex.specs.declared.leaf.Leaf.{Leaf}
-use Rattle.bz_grammar.specs.declared.kind.Kind.{Kind}
-use Rattle.bz_grammar.specs.declared.tree.Part.{Part, Node'}
+use Rattle.bz_hosts.specs.Words.{Bytes, Leaf, Kind, Part, Node', Expr, HostComments, no_comments, lines_of, comments_in}
 use Rattle.bz_grammar.specs.Shapes.{Fits, has_token}
 use Rattle.bz_grammar.specs.Legal.{IsNonterminal}
 use Rattle.bz_grammar.specs.Spots.{Begins, Along, Stands, AtLeaves, AtParts}
 use Rattle.bz_grammar.proofs.Balance.{no_such}
-use Rattle.bz_value.specs.declared.value.Expr.{Expr}
-use Rattle.bz_value.specs.Comments.{HostComments, no_comments}
 use Rattle.bz_value.specs.Counted.{total, suffix_amount, amount}
 use Rattle.bz_value.specs.Frames.{frame, is_header, is_inner_frame}
-use Rattle.bz_value.specs.Gaps.{lines_of, comments_in}
 use Rattle.bz_value.specs.LineShapes.{whole_shape}
 use Rattle.bz_value.specs.Proper.{IsComment, MaybeComment, AreComments, ProperBy}
 use Rattle.bz_value.specs.Statements.{first_token_text, header_word, is_alternative, else_last, alternatives_fit}

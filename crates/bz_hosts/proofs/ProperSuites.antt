@@ -3,21 +3,15 @@ use Rattle.std.proofs.Common.{◌≡◌, ℕ, ◌+◌, Bool, true, false, List, 
 use Rattle.std.specs.List.{AllByRecursion}
 use Rattle.std.proofs.lemmas.Bool.{or_left}
 use Rattle.std.proofs.lemmas.List.Elements.{All-from_recursion}
-use Rattle.bz_items.specs.Characters.{Bytes}
+use Rattle.bz_hosts.specs.Words.{Bytes, Kind, leaves_part, leaves_row, Expr, HostComments, is_empty, GapLine, as_list, suffix_in, all_in, lines_of, comments_in, after_first_line}
 use Rattle.bz_lex.specs.Leaves.{IsCodedLeaf}
-use Rattle.bz_grammar.specs.declared.kind.Kind.{Kind}
 use Rattle.bz_grammar.specs.declared.tree.Part.{Part, Row_of-Part, end_of-Part, more_of-Part, Node', items-the_row-Part}
 use Rattle.bz_grammar.specs.Shapes.{Fits, Several, done, bzl_shape, nonterminal_has_kind}
 use Rattle.bz_grammar.specs.Legal.{IsNonterminal, LegalPart, LegalRow}
-use Rattle.bz_grammar.specs.Spell.{leaves_part, leaves_row}
 use Rattle.bz_grammar.specs.Spots.{Spot, Begins, Along, onward, after_part, Stands, AtLeaves, AtParts}
 use Rattle.bz_grammar.proofs.Balance.{no_such, parts_of_row}
-use Rattle.bz_value.specs.declared.value.Expr.{Expr}
-use Rattle.bz_value.specs.Comments.{HostComments}
 use Rattle.bz_value.specs.Counted.{total, suffix_amount, amount}
-use Rattle.bz_value.specs.Empty.{is_empty}
 use Rattle.bz_value.specs.Frames.{is_simple}
-use Rattle.bz_value.specs.Gaps.{GapLine, as_list, suffix_in, all_in, lines_of, comments_in, after_first_line}
 use Rattle.bz_value.specs.LineShapes.{whole_shape}
 use Rattle.bz_value.specs.Proper.{IsComment, MaybeComment, AreComments, ProperBy, comments_of}
 use Rattle.bz_value.specs.Statements.{has_simple_kind, is_whole_statement}

@@ -3,17 +3,11 @@
 use Rattle.std.proofs.Common.{◌≡◌, Bool, true, false, not, ◌&&◌, ◌||◌, List, [], ◌∷◌, ◌++◌, refl, ap, ◌∙◌, codes, bytes_eq, if◌then◌else◌}
 use Rattle.std.specs.List.{All}
 use Rattle.std.proofs.lemmas.Bool.{or_right}
-use Rattle.bz_grammar.specs.declared.kind.Kind.{Kind}
+use Rattle.bz_hosts.specs.Words.{Kind, Part, is_kind, Bytes, Form, HostComments, is_empty}
 use Rattle.bz_grammar.specs.declared.kind.Kind.TheVariants as k
-use Rattle.bz_grammar.specs.declared.tree.Part.{Part}
-use Rattle.bz_grammar.specs.Shapes.{is_kind}
 use Rattle.bz_grammar.specs.Spots.{Begins}
-use Rattle.bz_items.specs.Characters.{Bytes}
 use Rattle.bz_value.specs.declared.value.Expr.{Expr, items-the_row-Expr, items_hidden-the_row-Expr-0}
 use Rattle.bz_value.specs.declared.value.Expr.TheVariants as e
-use Rattle.bz_value.specs.declared.value.Form.{Form}
-use Rattle.bz_value.specs.Comments.{HostComments}
-use Rattle.bz_value.specs.Empty.{is_empty}
 use Rattle.bz_value.specs.LineShapes.{whole_shape}
 use Rattle.bz_value.specs.Proper.{IsComment, ProperBy}
 use Rattle.bz_value.specs.Statements.{header_word, headed_by, is_headed_by, is_branch, is_alternative, is_whole_statement, else_last, alternatives_fit}

@@ -2,19 +2,13 @@
 use Rattle.std.proofs.Common.{◌≡◌, ℕ, ◌+◌, List, [], ◌∷◌, ◌++◌, inl, inr, subst, map, arith, true, not}
 use Rattle.std.specs.List.{AllByRecursion, flat_map}
 use Rattle.std.proofs.lemmas.List.Elements.{All-from_recursion}
-use Rattle.bz_items.specs.Characters.{Bytes}
+use Rattle.bz_hosts.specs.Words.{Bytes, Node, Part, Node', leaves_part, leaves_of, Expr, Item, groups_of, all_but_last, last_group, Class, Leaf}
 use Rattle.bz_lex.specs.Leaves.{IsCodedLeaf}
-use Rattle.bz_grammar.specs.declared.tree.Node.{Node}
-use Rattle.bz_grammar.specs.declared.tree.Part.{Part, Node'}
 use Rattle.bz_grammar.specs.Shapes.{Fits, Several, bzl_shape, tok, done}
 use Rattle.bz_grammar.specs.Legal.{IsNonterminal, Legal, LegalPart}
-use Rattle.bz_grammar.specs.Spell.{leaves_part, leaves_of}
 use Rattle.bz_grammar.specs.Spots.{Begins, Stands, AtParts, TokenStands, AreTokens}
 use Rattle.bz_grammar.proofs.Balance.{no_such}
-use Rattle.bz_value.specs.declared.value.Expr.{Expr}
-use Rattle.bz_value.specs.declared.value.Item.{Item}
 use Rattle.bz_value.specs.Counted.{total, item_amount, one_if}
-use Rattle.bz_value.specs.Gaps.{groups_of, all_but_last, last_group}
 use Rattle.bz_value.specs.LineShapes.{whole_shape}
 use Rattle.bz_value.specs.Statements.{is_whole_statement}
 use Rattle.bz_value.proofs.FormParts.{AreLinesBy}
@@ -34,9 +28,7 @@ use Rattle.bz_hosts.proofs.KeptValues.{lines_amount, statements_as_items}
 use Rattle.bz_hosts.proofs.ProperBranches.{AllKnown, before_lines, before_amount}
 use Rattle.bz_hosts.proofs.ProperSuites.{part_known}
 use Rattle.bz_hosts.proofs.SuiteLines.{Lines}
-use Rattle.bz_token.specs.declared.class.Class.{Class}
 use Rattle.bz_token.specs.Lexemes.{IsLexeme}
-use Rattle.bz_lex.specs.declared.leaf.Leaf.{Leaf}
 use Rattle.bz_hosts.proofs.InnerParts.{ends_line}
 use Rattle.bz_grammar.specs.declared.kind.Kind.TheVariants as k
 use Rattle.bz_grammar.specs.declared.tree.Part.TheVariants as p

@@ -1,7 +1,7 @@
 -- There are no comments between the statements of a line.
 use Rattle.std.proofs.Common.{◌≡◌, true, false, not, List, [], ◌∷◌, inl, inr, refl, ap, ◌∙◌, subst}
 use Rattle.std.specs.List.{AllByRecursion}
-use Rattle.bz_token.specs.declared.class.Class.{Class}
+use Rattle.bz_hosts.specs.Words.{Class, Bytes, as_list, all_in}
 use Rattle.bz_token.specs.declared.class.Class.TheVariants as c
 use Rattle.bz_lex.specs.Gaps.{IsGap}
 use Rattle.bz_grammar.specs.declared.tree.Part.{Part, Row_of-Part, end_of-Part, more_of-Part, Node', items-the_row-Part}
@@ -10,9 +10,7 @@ use Rattle.bz_grammar.specs.Shapes as s
 use Rattle.bz_grammar.specs.Shapes.{Terminal, Fits, Listed, has_token, list, tok, done}
 use Rattle.bz_grammar.specs.Legal.{IsNonterminal, LegalPart, LegalRow}
 use Rattle.bz_grammar.specs.Spots.{Spot, Begins, Along, onward, after_part, GapStands, Stands, AtLeaves, AtRow, AtParts}
-use Rattle.bz_items.specs.Characters.{Bytes}
 use Rattle.bz_grammar.proofs.Balance.{inner_nonterminal, no_such}
-use Rattle.bz_value.specs.Gaps.{as_list, all_in}
 use Rattle.bz_value.specs.LineShapes.{line_shape}
 use Rattle.bz_value.proofs.AlongGaps.{along}
 use Rattle.bz_value.proofs.LegalBy.{LegalRowBy}

@@ -2,16 +2,12 @@
 use Rattle.std.proofs.Common.{◌≡◌, Bool, true, false, not, ◌&&◌, ◌||◌, List, [], ◌∷◌, inl, inr, refl, sym, ap, ◌∙◌, subst, map, if◌then◌else◌}
 use Rattle.std.specs.List.{AllByRecursion}
 use Rattle.std.proofs.lemmas.Bool.{and_parts, or_cases}
-use Rattle.bz_grammar.specs.declared.kind.Kind.{Kind}
-use Rattle.bz_grammar.specs.declared.tree.Part.{Part, Node'}
+use Rattle.bz_hosts.specs.Words.{Kind, Part, Node', HostComments, no_comments, is_binary, has_newline}
 use Rattle.bz_grammar.specs.declared.tree.Part.TheVariants as p
 use Rattle.bz_grammar.specs.Shapes.{Shape, Nonterminal, Fits}
 use Rattle.bz_grammar.specs.Legal.{IsNonterminal}
 use Rattle.bz_grammar.specs.Spots.{Spot, Begins, Within, Along, onward, after_part, Stands, AtLeaves, AtParts}
 use Rattle.bz_grammar.proofs.Balance.{no_such}
-use Rattle.bz_value.specs.Comments.{HostComments, no_comments}
-use Rattle.bz_value.specs.Frames.{is_binary}
-use Rattle.bz_value.specs.Gaps.{has_newline}
 use Rattle.bz_value.specs.LineShapes.{whole_shape}
 use Rattle.bz_value.specs.Proper.{is_operator, after_expr, ProperBy}
 use Rattle.bz_value.proofs.FormParts.{operator_first, ArePartsBy}

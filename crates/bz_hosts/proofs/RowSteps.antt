@@ -2,12 +2,7 @@
 use Rattle.std.proofs.Common.{ℕ, zero, suc, Bool, true, false, not, ◌&&◌, ◌||◌, if◌then◌else◌, ◌≡◌, List, [], ◌∷◌, ◌++◌, ◌<◌, ◌≤◌, ◌+◌, refl, sym, ap, ◌∙◌, map, take, drop, length, get_or, append_assoc, append-nil, add-one, arith}
 use denote.Param.Weighed.{most}
 use Rattle.std.proofs.lemmas.List.{drop_all, drop-drop, drop_more, drop-map, take-map}
-use Rattle.bz_grammar.specs.declared.tree.Part.{Part}
-use Rattle.bz_value.specs.declared.value.Expr.{Expr}
-use Rattle.bz_value.specs.Comments.{no_comments}
-use Rattle.bz_items.specs.Characters.{Bytes}
-use Rattle.bz_value.specs.Gaps.{others_in, all_in, has_newline}
-use Rattle.bz_value.specs.Proper.{is_operator}
+use Rattle.bz_hosts.specs.Words.{Part, Expr, no_comments, Bytes, others_in, all_in, has_newline, is_operator}
 use Rattle.bz_hosts.specs.Seen.{Seen, seen, plain, begins_seen_operator, row_exprs, first_seen_gap, last_gap, loose_in, loose_after}
 use Rattle.bz_hosts.specs.private.Walks.{above_after, item_gap}
 

@@ -4,20 +4,14 @@ use Rattle.std.proofs.Common.{◌≡◌, ℕ, zero, suc, Bool, true, false, List
 use Rattle.std.specs.List.{AllByRecursion}
 use Rattle.std.specs.Str.{IsUtf8}
 use Rattle.std.proofs.lemmas.Str.{IsUtf8-nil}
-use Rattle.bz_token.specs.declared.class.Class.{Class}
+use Rattle.bz_hosts.specs.Words.{Class, Kind, leaves_part, leaves_row, HostComments, Frame, sequence, frame, lead, Bytes, all_in, has_newline}
 use Rattle.bz_token.specs.declared.class.Class.TheVariants as c
 use Rattle.bz_lex.specs.Leaves.{IsCodedLeaf}
-use Rattle.bz_grammar.specs.declared.kind.Kind.{Kind}
 use Rattle.bz_grammar.specs.declared.tree.Part.{Part, Row_of-Part, end_of-Part, more_of-Part, Node', items-the_row-Part}
 use Rattle.bz_grammar.specs.declared.tree.Part.TheVariants as p
 use Rattle.bz_grammar.specs.Shapes.{leaves_at}
-use Rattle.bz_grammar.specs.Spell.{leaves_part, leaves_row}
 use Rattle.bz_grammar.specs.Spots.{Spot, Along, after_part, GapStands, Stands, AtLeaves, AtRow}
 use Rattle.bz_grammar.proofs.Balance.{no_such}
-use Rattle.bz_value.specs.Comments.{HostComments}
-use Rattle.bz_value.specs.Frames.{Frame, sequence, frame, lead}
-use Rattle.bz_items.specs.Characters.{Bytes}
-use Rattle.bz_value.specs.Gaps.{all_in, has_newline}
 use Rattle.bz_value.specs.Roots.{root}
 use Rattle.bz_value.specs.Proper.{IsComment, comments_of, has_break, is_operator, after_expr}
 use Rattle.bz_value.proofs.AlongGaps.{along}

@@ -2,17 +2,11 @@
 use Rattle.std.proofs.Common.{◌≡◌, ℕ, zero, suc, Bool, true, false, List, [], ◌∷◌, ◌++◌, sym, ap, ◌∙◌, subst, map, take, drop, true≢false}
 use Rattle.std.specs.List.{AllByRecursion}
 use Rattle.std.proofs.lemmas.List.Elements.{All-from_recursion}
-use Rattle.bz_grammar.specs.declared.kind.Kind.{Kind}
-use Rattle.bz_grammar.specs.declared.tree.Part.{Part, Node'}
+use Rattle.bz_hosts.specs.Words.{Kind, Part, Node', Expr, HostComments, no_comments, lead, Bytes, suffix_in, others_in, all_in}
 use Rattle.bz_grammar.specs.declared.tree.Part.TheVariants as p
 use Rattle.bz_grammar.specs.Shapes as s
 use Rattle.bz_grammar.specs.Shapes.{Shape}
 use Rattle.bz_grammar.specs.Spots.{Spot, Within, after_part, Stands, AtLeaves, AtParts}
-use Rattle.bz_value.specs.declared.value.Expr.{Expr}
-use Rattle.bz_value.specs.Comments.{HostComments, no_comments}
-use Rattle.bz_value.specs.Frames.{lead}
-use Rattle.bz_items.specs.Characters.{Bytes}
-use Rattle.bz_value.specs.Gaps.{suffix_in, others_in, all_in}
 use Rattle.bz_value.specs.Roots.{root}
 use Rattle.bz_value.specs.Proper.{IsComment, MaybeComment, AreComments, ProperBy, comments_of}
 use Rattle.bz_value.proofs.FormParts.{AreHeadBy, AreItemsBy}

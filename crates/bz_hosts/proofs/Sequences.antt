@@ -5,13 +5,7 @@ use Rattle.std.specs.Option.{option_map_or}
 use Rattle.std.proofs.lemmas.Bool.{lt-ltb}
 use Rattle.std.proofs.lemmas.Bool.Decides.{nat_tests}
 use Rattle.std.proofs.lemmas.List.{map-append}
-use Rattle.bz_lex.specs.declared.leaf.Leaf.{Leaf}
-use Rattle.bz_grammar.specs.declared.tree.Part.{Part, Node'}
-use Rattle.bz_value.specs.declared.value.Expr.{Expr}
-use Rattle.bz_value.specs.Comments.{HostComments}
-use Rattle.bz_items.specs.Characters.{Bytes}
-use Rattle.bz_value.specs.Gaps.{as_list, suffix_in, others_in, all_in}
-use Rattle.bz_value.specs.Proper.{comments_of}
+use Rattle.bz_hosts.specs.Words.{Leaf, Part, Node', Expr, HostComments, Bytes, as_list, suffix_in, others_in, all_in, comments_of}
 use Rattle.bz_hosts.specs.Seen.{seen, plain, items_in}
 use Rattle.bz_hosts.proofs.SeenParts.{comments_made}
 use Rattle.bz_hosts.specs.Hosts.{Region, host, between, beginning_in, Comment, comments_at, sizes, measured, hosts_from, CommentPlace, suffix_of, above, end_of, texts_at, Hosted, hosted, hosted_at, hosted_by, inside_expr}

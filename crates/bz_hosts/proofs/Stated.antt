@@ -1,16 +1,11 @@
 -- What is read of a part that is a node, by the list of its parts; and of headers.
 use Rattle.std.proofs.Common.{true, false, ◌≡◌, List, [], ◌∷◌, refl, sym, ap, ◌∙◌, map, None, ℕ, zero, suc, ◌<◌, drop, length, get_or, arith}
 use Rattle.std.proofs.lemmas.Bool.{cond-true, cond-false}
-use Rattle.bz_grammar.specs.declared.tree.Node.{Node}
+use Rattle.bz_hosts.specs.Words.{Node, is_kind, Bytes, is_header, GapLine, lines_of, all_in, indent}
 use Rattle.bz_grammar.specs.declared.tree.Part.{Part, Row_of-Part, end_of-Part, more_of-Part, Node', items-the_row-Part}
-use Rattle.bz_grammar.specs.Shapes.{is_kind}
 use Rattle.bz_grammar.proofs.Nested.{row_of, items_of_row}
-use Rattle.bz_items.specs.Characters.{Bytes}
-use Rattle.bz_value.specs.Frames.{is_header}
-use Rattle.bz_value.specs.Gaps.{GapLine, lines_of, all_in}
 use Rattle.bz_hosts.specs.Seen.{Seen, seen, seen_row, first_seen_gap, statement, statements_in}
 use Rattle.bz_hosts.specs.Suites.{stated, stated_row, indented_lines_before, exprs_in, statement_read, suite_in, suffix_before, line_read, branches, only_comment, margin_of, suite_read, SuiteRead}
-use Rattle.bz_lex.specs.Gaps.{indent}
 use Rattle.std.proofs.lemmas.List.{drop-map}
 use Rattle.bz_hosts.proofs.NodeViews.{seen_parts}
 use Rattle.bz_grammar.specs.declared.tree.Part.TheVariants as p

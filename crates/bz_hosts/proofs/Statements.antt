@@ -1,11 +1,7 @@
 -- The texts of a line, after the gap of its first leaf.
 use Rattle.std.proofs.Common.{◌≡◌, ℕ, suc, ◌+◌, ◌<◌, ◌≤◌, true, false, List, [], ◌∷◌, ◌++◌, Option, Some, None, refl, sym, ap, ◌∙◌, subst, map, append-nil, arith}
 use Rattle.std.specs.List.{AllByRecursion, flat_map}
-use Rattle.bz_lex.specs.declared.leaf.Leaf.{Leaf}
-use Rattle.bz_grammar.specs.declared.tree.Part.{Part, Node'}
-use Rattle.bz_value.specs.declared.value.Item.{Item}
-use Rattle.bz_items.specs.Characters.{Bytes}
-use Rattle.bz_value.specs.Gaps.{as_list, suffix_in, others_in, all_in}
+use Rattle.bz_hosts.specs.Words.{Leaf, Part, Node', Item, Bytes, as_list, suffix_in, others_in, all_in}
 use Rattle.bz_hosts.specs.Seen.{seen, plain, statement, statements_in}
 use Rattle.bz_hosts.proofs.QuietGaps.{Quiet}
 use Rattle.bz_hosts.specs.Hosts.{Region, host, Comment, comments_at, sizes, measured, hosts_from, CommentPlace, suffix_of, above, outside, texts_at, hosted_at, inside_expr, inside_item}

@@ -3,11 +3,7 @@ use Rattle.std.proofs.Common.{◌≡◌, ℕ, suc, ◌+◌, true, false, List, [
 use Rattle.std.specs.List.{AllByRecursion, flat_map}
 use Rattle.std.proofs.lemmas.Bool.{cond-false}
 use Rattle.std.proofs.lemmas.List.{map-append}
-use Rattle.bz_grammar.specs.declared.kind.Kind.{Kind}
-use Rattle.bz_grammar.specs.declared.tree.Part.{Part, Node'}
-use Rattle.bz_grammar.specs.Shapes.{has_token}
-use Rattle.bz_grammar.specs.Spell.{leaves_part}
-use Rattle.bz_value.specs.Frames.{frame}
+use Rattle.bz_hosts.specs.Words.{Kind, Part, Node', has_token, leaves_part, frame}
 use Rattle.bz_hosts.specs.Hosts.{Measured, sizes, measured, in_node, header, in_compound, suite_there}
 use Rattle.bz_hosts.specs.Suites.{stated}
 use Rattle.bz_hosts.proofs.Parts.{size, size_leaves, measured_part}

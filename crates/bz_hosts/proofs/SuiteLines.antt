@@ -2,9 +2,7 @@
 use Rattle.std.proofs.Common.{◌≡◌, ◌≢◌, ℕ, zero, ◌<◌, ◌≤◌, ◌&&◌, List, [], ◌∷◌, ◌++◌, length, refl, sym, ap, ◌∙◌, nat_eq, nat_lt, if◌then◌else◌, arith, ◌+◌, append_assoc, length-append}
 use Rattle.std.specs.List.{AllByRecursion}
 use Rattle.std.proofs.lemmas.Bool.{and_right, cond-false, ne_eqb}
-use Rattle.bz_lex.specs.declared.leaf.Leaf.{Leaf}
-use Rattle.bz_items.specs.Characters.{Bytes}
-use Rattle.bz_value.specs.Gaps.{GapLine, lines_of, after_first_line}
+use Rattle.bz_hosts.specs.Words.{Leaf, Bytes, GapLine, lines_of, after_first_line}
 use Rattle.bz_hosts.specs.Hosts.{leaf_gap, lines_before, Hosted, Suite, left_by, Page}
 use Rattle.bz_hosts.specs.Suites.{after_end}
 use Rattle.bz_hosts.proofs.SeenParts.{all_mapped}

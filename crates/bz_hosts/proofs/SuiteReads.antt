@@ -1,18 +1,13 @@
 -- What is read of parts and of lines of statements, by their leaves: gaps, groups of comment lines, and what a line leaves.
 use Rattle.std.proofs.Common.{◌<◌, ◌≡◌, List, ◌∷◌, ◌++◌, length, refl, sym, ap, ◌∙◌, map, length-append, arith, ℕ, false, [], Option, None}
 use Rattle.std.specs.List.{AllByRecursion, flat_map}
-use Rattle.bz_lex.specs.declared.leaf.Leaf.{Leaf}
-use Rattle.bz_grammar.specs.declared.tree.Part.{Part, Node'}
-use Rattle.bz_grammar.specs.Spell.{leaves_part}
-use Rattle.bz_items.specs.Characters.{Bytes}
-use Rattle.bz_value.specs.Gaps.{after_first_line, lines_of}
+use Rattle.bz_hosts.specs.Words.{Leaf, Part, Node', leaves_part, Bytes, after_first_line, lines_of, HostComments}
 use Rattle.bz_hosts.specs.Hosts.{Region, comments_at, CommentPlace, outside, texts_at, Hosted, block, hosted_by, hosts_alone, with_group, inside_expr, inside_item}
 use Rattle.bz_hosts.proofs.Parts.{Solid}
 use Rattle.bz_hosts.proofs.QuietGaps.{Statements, line_alternating}
 use Rattle.bz_hosts.proofs.SuiteLines.{gap_of, last_leaf_gap, Lines, last_leaf_after}
 use Rattle.bz_hosts.specs.Suites.{stated, line_read}
 use Rattle.bz_hosts.proofs.Stated.{stated_part, parts_seen}
-use Rattle.bz_value.specs.Comments.{HostComments}
 use Rattle.bz_hosts.specs.Seen.{seen, blocks, statement, statements_in}
 use Rattle.bz_hosts.proofs.SeenParts.{comments_made}
 use Rattle.bz_hosts.proofs.Around.{Sees}

@@ -2,16 +2,11 @@
 use Rattle.std.proofs.Common.{◌≡◌, ℕ, ◌+◌, Bool, false, List, [], ◌∷◌, ◌++◌, Option, Some, None, refl, ap, ◌∙◌, arith}
 use Rattle.std.specs.List.{flat_map}
 use Rattle.std.proofs.lemmas.Grind.{flat_map-append}
-use Rattle.bz_lex.specs.declared.leaf.Leaf.{Leaf}
-use Rattle.bz_grammar.specs.declared.kind.Kind.{Kind}
+use Rattle.bz_hosts.specs.Words.{Leaf, Kind, leaves_part, leaves_row, HostComments, no_comments, Frame, frame, Bytes}
 use Rattle.bz_grammar.specs.declared.tree.Part.{Part, Row_of-Part, end_of-Part, more_of-Part, Node', items-the_row-Part}
 use Rattle.bz_grammar.specs.declared.tree.Part.TheVariants as p
-use Rattle.bz_grammar.specs.Spell.{leaves_part, leaves_row}
 use Rattle.bz_value.proofs.Totals.{append_total, form_amount, inner_amount}
-use Rattle.bz_value.specs.Comments.{HostComments, no_comments}
 use Rattle.bz_value.specs.Counted.{total, suffix_amount, host_amount, amount, item_amount}
-use Rattle.bz_value.specs.Frames.{Frame, frame}
-use Rattle.bz_items.specs.Characters.{Bytes}
 use Rattle.bz_value.specs.Gaps.{GapLine, lines_of, as_list, comments_in, first_comment, after_first_line, put_on_first, before_groups, groups_of, all_but_last, last_group, suffix_in, others_in, all_in}
 use Rattle.bz_hosts.specs.Seen.{Seen, seen, seen_row, seen_node, plain, blocks, form_of_frame}
 

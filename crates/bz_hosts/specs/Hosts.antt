@@ -5,27 +5,12 @@
 use Rattle.std.specs.Prelude.{ℕ, zero, suc, ◌+◌, Bool, true, false, not, ◌&&◌, List, [], ◌∷◌, ◌++◌, Option, Some, None, length, map, take, drop, get_or, nat_eq, nat_lt, nat_le, if◌then◌else◌}
 use Rattle.std.specs.List.{filter, flat_map, list_any}
 use Rattle.std.specs.Option.{option_map_or}
-use Rattle.bz_token.specs.declared.class.Class.{Class}
+use Rattle.bz_hosts.specs.Words.{Class, Leaf, Kind, Node, Part, Row_of-Part, end_of-Part, more_of-Part, Node', first_indent, leaves_row, leaves_of, Terminal, has_token, Expr, Token, Form', Row_of-Expr, end_of-Expr, more_of-Expr, Item, HostComments, is_empty, Frame, row, sequence, compound, frame, lead, Bytes, GapLine, lines_of, as_list, after_first_line, all_in, comments_in, first_comment, comments_of}
 use Rattle.bz_token.specs.declared.class.Class.TheVariants as c
-use Rattle.bz_lex.specs.declared.leaf.Leaf.{Leaf}
-use Rattle.bz_grammar.specs.declared.kind.Kind.{Kind}
 use Rattle.bz_grammar.specs.declared.kind.Kind.TheVariants as k
-use Rattle.bz_grammar.specs.declared.tree.Node.{Node}
-use Rattle.bz_grammar.specs.declared.tree.Part.{Part, Row_of-Part, end_of-Part, more_of-Part, Node'}
 use Rattle.bz_grammar.specs.declared.tree.Part.TheVariants as p
-use Rattle.bz_grammar.specs.Indents.{first_indent}
-use Rattle.bz_grammar.specs.Spell.{leaves_row, leaves_of}
 use Rattle.bz_grammar.specs.Shapes as s
-use Rattle.bz_grammar.specs.Shapes.{Terminal, has_token}
-use Rattle.bz_value.specs.declared.value.Expr.{Expr, Token, Form', Row_of-Expr, end_of-Expr, more_of-Expr}
-use Rattle.bz_value.specs.declared.value.Item.{Item}
 use Rattle.bz_value.specs.declared.value.Item.TheVariants as i
-use Rattle.bz_value.specs.Comments.{HostComments}
-use Rattle.bz_value.specs.Empty.{is_empty}
-use Rattle.bz_value.specs.Frames.{Frame, row, sequence, compound, frame, lead}
-use Rattle.bz_items.specs.Characters.{Bytes}
-use Rattle.bz_value.specs.Gaps.{GapLine, lines_of, as_list, after_first_line, all_in, comments_in, first_comment}
-use Rattle.bz_value.specs.Proper.{comments_of}
 use Rattle.bz_hosts.specs.Suites.{end_comments, after_end}
 
 -- ---- comments

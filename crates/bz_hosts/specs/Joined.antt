@@ -1,14 +1,7 @@
 -- The view of a text after another one.
 use Rattle.std.specs.Prelude.{◌≡◌, ◌≤◌, List, [], ◌∷◌, ◌++◌, length}
-use Rattle.bz_items.specs.Characters.{Bytes}
-use Rattle.bz_lex.specs.declared.leaf.Leaf.{Leaf}
-use Rattle.bz_grammar.specs.declared.tree.Node.{Node}
-use Rattle.bz_grammar.specs.declared.tree.Part.{Part, Node'}
+use Rattle.bz_hosts.specs.Words.{Bytes, Leaf, Node, Part, Node', limit, Reads, AreWholeLines, GapLine, lines_of, after_first_line}
 use Rattle.bz_grammar.specs.declared.tree.Part.TheVariants as p
-use Rattle.bz_grammar.specs.Spell.{limit}
-use Rattle.bz_grammar.specs.Legal.{Reads}
-use Rattle.bz_grammar.specs.Joined.{AreWholeLines}
-use Rattle.bz_value.specs.Gaps.{GapLine, lines_of, after_first_line}
 use Rattle.bz_hosts.specs.Seen.{last_gap, seen_row}
 use Rattle.bz_hosts.specs.View.{view_of}
 

@@ -1,12 +1,7 @@
 -- The law that the view loses no comment and doubles none.
 use Rattle.std.specs.Prelude.{◌≡◌, ℕ, List}
 use Rattle.std.specs.List.{flat_map}
-use Rattle.bz_grammar.specs.declared.tree.Node.{Node}
-use Rattle.bz_grammar.specs.Legal.{Legal}
-use Rattle.bz_grammar.specs.Spell.{leaves_of}
-use Rattle.bz_value.specs.Counted.{total, one_if, times}
-use Rattle.bz_items.specs.Characters.{Bytes}
-use Rattle.bz_value.specs.Gaps.{all_in}
+use Rattle.bz_hosts.specs.Words.{Node, Legal, leaves_of, total, one_if, times, Bytes, all_in}
 use Rattle.bz_hosts.specs.View.{view_of}
 
 -- the comments of a tree: those in the gaps of its leaves, in the order of the text

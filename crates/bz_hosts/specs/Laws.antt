@@ -1,10 +1,7 @@
 -- The laws that each view is a file value, with each comment at its host.
 use Rattle.std.specs.Prelude.{◌≡◌}
 use Rattle.std.specs.List.{flat_map}
-use Rattle.bz_grammar.specs.declared.tree.Node.{Node}
-use Rattle.bz_grammar.specs.Legal.{IsBuild, Legal}
-use Rattle.bz_value.specs.BuildValues.{AreBuild}
-use Rattle.bz_value.specs.Proper.{IsProper}
+use Rattle.bz_hosts.specs.Words.{Node, IsBuild, Legal, AreBuild, IsProper}
 use Rattle.bz_hosts.specs.Hosts.{inside_item, hosted_in}
 use Rattle.bz_hosts.specs.View.{view_of}
 

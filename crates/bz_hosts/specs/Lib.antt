@@ -6,5 +6,6 @@ pub mod Seen
 pub mod Suites
 pub mod SuitesJoined
 pub mod View
+pub mod Words
 pub mod private
 pub mod Worked

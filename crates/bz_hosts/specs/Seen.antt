@@ -1,20 +1,9 @@
 -- What the parts of lines are seen as: expressions and statements without gaps, each comment at its host.
 use Rattle.std.specs.Prelude.{suc, Bool, false, not, ◌&&◌, ◌||◌, List, [], ◌∷◌, ◌++◌, Option, None, map, take, drop, if◌then◌else◌}
-use Rattle.bz_lex.specs.declared.leaf.Leaf.{Leaf}
-use Rattle.bz_grammar.specs.declared.kind.Kind.{Kind}
-use Rattle.bz_grammar.specs.declared.tree.Part.{Part, Row_of-Part, end_of-Part, more_of-Part, Node'}
+use Rattle.bz_hosts.specs.Words.{Leaf, Kind, Part, Row_of-Part, end_of-Part, more_of-Part, Node', Expr, Form, Seq, Item, HostComments, no_comments, Frame, sequence, frame, lead, is_binary, is_comprehension, Bytes, suffix_in, others_in, all_in, has_newline, is_operator}
 use Rattle.bz_grammar.specs.declared.tree.Part.TheVariants as p
-use Rattle.bz_value.specs.declared.value.Expr.{Expr}
 use Rattle.bz_value.specs.declared.value.Expr.TheVariants as e
-use Rattle.bz_value.specs.declared.value.Form.{Form}
-use Rattle.bz_value.specs.declared.value.Seq.{Seq}
-use Rattle.bz_value.specs.declared.value.Item.{Item}
 use Rattle.bz_value.specs.declared.value.Item.TheVariants as i
-use Rattle.bz_value.specs.Comments.{HostComments, no_comments}
-use Rattle.bz_value.specs.Frames.{Frame, sequence, frame, lead, is_binary, is_comprehension}
-use Rattle.bz_items.specs.Characters.{Bytes}
-use Rattle.bz_value.specs.Gaps.{suffix_in, others_in, all_in, has_newline}
-use Rattle.bz_value.specs.Proper.{is_operator}
 
 -- A part that was read: the expression that it is for given comments and break, which only what is around it knows;
 -- the gap before its first token; and the comments inside it that are in no host or sequence inside it.

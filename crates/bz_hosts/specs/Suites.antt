@@ -1,18 +1,10 @@
 -- What statements are read as, those with suites too, each comment at its host.
 use Rattle.std.specs.Prelude.{ℕ, Bool, true, false, List, [], ◌∷◌, ◌++◌, Option, Some, None, map, drop, length, if◌then◌else◌, nat_le}
-use Rattle.bz_lex.specs.Gaps.{indent}
-use Rattle.bz_grammar.specs.declared.kind.Kind.{Kind}
+use Rattle.bz_hosts.specs.Words.{indent, Kind, Part, Row_of-Part, end_of-Part, more_of-Part, Node', is_kind, is_one_of, colon_mark, Expr, Item, frame, is_header, GapLine, lines_of, comments_in, after_first_line, all_in, Bytes}
 use Rattle.bz_grammar.specs.declared.kind.Kind.TheVariants as k
-use Rattle.bz_grammar.specs.declared.tree.Part.{Part, Row_of-Part, end_of-Part, more_of-Part, Node'}
 use Rattle.bz_grammar.specs.declared.tree.Part.TheVariants as p
-use Rattle.bz_grammar.specs.Shapes.{is_kind, is_one_of, colon_mark}
-use Rattle.bz_value.specs.declared.value.Expr.{Expr}
 use Rattle.bz_value.specs.declared.value.Expr.TheVariants as e
-use Rattle.bz_value.specs.declared.value.Item.{Item}
 use Rattle.bz_value.specs.declared.value.Item.TheVariants as i
-use Rattle.bz_value.specs.Frames.{frame, is_header}
-use Rattle.bz_value.specs.Gaps.{GapLine, lines_of, comments_in, after_first_line, all_in}
-use Rattle.bz_items.specs.Characters.{Bytes}
 use Rattle.bz_hosts.specs.Seen.{Seen, seen, seen_node, plain, first_seen_gap, last_gap, statements_in}
 
 -- ---- lines

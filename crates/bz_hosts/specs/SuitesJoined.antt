@@ -1,14 +1,7 @@
 -- What a file says after another one, where either may have suites.
 use Rattle.std.specs.Prelude.{◌≡◌, ◌≤◌, List, [], ◌∷◌, ◌++◌, length, map}
-use Rattle.bz_items.specs.Characters.{Bytes, line_feed}
-use Rattle.bz_lex.specs.declared.leaf.Leaf.{Leaf}
-use Rattle.bz_grammar.specs.declared.tree.Node.{Node}
-use Rattle.bz_grammar.specs.declared.tree.Part.{Part, Node'}
+use Rattle.bz_hosts.specs.Words.{Bytes, line_feed, Leaf, Node, Part, Node', leaves_part, limit, ReadsBzl, AreWholeLines, groups_of, last_group, GapLine, comments_in}
 use Rattle.bz_grammar.specs.declared.tree.Part.TheVariants as p
-use Rattle.bz_grammar.specs.Spell.{leaves_part, limit}
-use Rattle.bz_grammar.specs.Legal.{ReadsBzl}
-use Rattle.bz_grammar.specs.Joined.{AreWholeLines}
-use Rattle.bz_value.specs.Gaps.{groups_of, last_group, GapLine, comments_in}
 use Rattle.bz_hosts.specs.Suites.{stated, indented_lines_before}
 use Rattle.bz_hosts.specs.View.{view_of}
 

@@ -1,13 +1,8 @@
 -- What the tree of a file says: its statements without gaps, each comment at its host.
 use Rattle.std.specs.Prelude.{List, [], ◌∷◌, ◌++◌, map}
-use Rattle.bz_grammar.specs.declared.tree.Node.{Node}
-use Rattle.bz_grammar.specs.declared.tree.Part.{Part, Node'}
+use Rattle.bz_hosts.specs.Words.{Node, Part, Node', Expr, Item, GapLine, groups_of, all_but_last, last_group, Bytes}
 use Rattle.bz_grammar.specs.declared.tree.Part.TheVariants as p
-use Rattle.bz_value.specs.declared.value.Expr.{Expr}
-use Rattle.bz_value.specs.declared.value.Item.{Item}
 use Rattle.bz_value.specs.declared.value.Item.TheVariants as i
-use Rattle.bz_value.specs.Gaps.{GapLine, groups_of, all_but_last, last_group}
-use Rattle.bz_items.specs.Characters.{Bytes}
 use Rattle.bz_hosts.specs.Seen.{blocks}
 use Rattle.bz_hosts.specs.Suites.{ReadStatements, stated, indented_lines_before}
 

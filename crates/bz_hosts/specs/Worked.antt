@@ -3,20 +3,12 @@ use Prim.Native.String.{String}
 use Rattle.std.specs.Prelude.{◌≡◌, Bool, true, false, List, [], ◌∷◌, ◌++◌, Option, Some, None, map, codes}
 use Rattle.std.specs.List.{flat_map}
 use Rattle.std.specs.Option.{option_map}
-use Rattle.bz_token.specs.declared.class.Class.{Class}
+use Rattle.bz_hosts.specs.Words.{Class, Kind, Node, Part, spell_node, Expr, Item, HostComments, no_comments, times}
 use Rattle.bz_token.specs.declared.class.Class.TheVariants as c
-use Rattle.bz_grammar.specs.declared.kind.Kind.{Kind}
 use Rattle.bz_grammar.specs.declared.kind.Kind.TheVariants as k
-use Rattle.bz_grammar.specs.declared.tree.Node.{Node}
-use Rattle.bz_grammar.specs.declared.tree.Part.{Part}
 use Rattle.bz_grammar.specs.declared.tree.Part.TheVariants as p
-use Rattle.bz_grammar.specs.Spell.{spell_node}
-use Rattle.bz_value.specs.declared.value.Expr.{Expr}
 use Rattle.bz_value.specs.declared.value.Expr.TheVariants as e
-use Rattle.bz_value.specs.declared.value.Item.{Item}
 use Rattle.bz_value.specs.declared.value.Item.TheVariants as i
-use Rattle.bz_value.specs.Comments.{HostComments, no_comments}
-use Rattle.bz_value.specs.Counted.{times}
 use Rattle.bz_hosts.specs.Hosts.{Hosted, block, hosted, ended, inside_item, hosted_in}
 use Rattle.bz_hosts.specs.Kept.{comments_of_tree, occurrences}
 use Rattle.bz_hosts.specs.View.{view_of}

@@ -1,7 +1,6 @@
 //! What is before a part of a tree.
 ghost use Rattle.std.specs.Prelude.{◌≡◌, ◌&&◌, ◌+◌, ◌<◌, ◌≤◌, [], map, drop, length, false, IsTrue, MatchOption};
-ghost use Rattle.bz_value.specs.Gaps.{has_newline};
-ghost use Rattle.bz_value.specs.Proper.{is_operator};
+ghost use Rattle.bz_hosts.specs.Words.{has_newline, is_operator};
 ghost use Rattle.bz_hosts.specs.Seen.{begins_seen_operator, first_seen_gap, is_split, last_gap, plain, seen};
 ghost use Rattle.bz_hosts.specs.private.Walks.{is_unsigned};
 

@@ -1,8 +1,6 @@
 //! An expression that becomes a host.
 ghost use Rattle.std.specs.Prelude.{◌≡◌, [], ◌∷◌, ◌++◌, ◌<◌, false, List, length, map, drop, OnOk};
-ghost use Rattle.bz_grammar.specs.declared.tree.Part.{Part};
-ghost use Rattle.bz_value.specs.declared.value.Expr.{Expr};
-ghost use Rattle.bz_value.specs.Gaps.{suffix_in as suffix_decoded};
+ghost use Rattle.bz_hosts.specs.Words.{Part, Expr, suffix_in as suffix_decoded};
 ghost use Rattle.bz_hosts.specs.Seen.{plain, seen};
 ghost use Rattle.bz_hosts.specs.private.Walks.{above_after, item_gap, line_gap};
 

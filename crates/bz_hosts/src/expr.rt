@@ -1,7 +1,6 @@
 //! The expression of a part, and the comments inside it that are in no host or sequence of its own.
 ghost use Rattle.std.specs.Prelude.{◌≡◌, [], ◌∷◌, ◌++◌, ◌≤◌, map, take, drop, suc, false, IfOk, OnOk};
-ghost use Rattle.bz_value.specs.Comments.{no_comments};
-ghost use Rattle.bz_value.specs.Frames.{frame};
+ghost use Rattle.bz_hosts.specs.Words.{no_comments, frame};
 ghost use Rattle.bz_hosts.specs.Seen.{form_of_frame, loose_in, loose_of, plain, row_exprs, seen, seq_in};
 
 use crate::before::{breaks_from, is_followed, is_operator_in};

@@ -1,11 +1,7 @@
 //! Headers: what is before a suite, up to the colon.
 ghost use Rattle.std.specs.Prelude.{◌≡◌, ◌≤◌, ◌<◌, ◌-◌, ◌+◌, ◌++◌, ◌∷◌, [], List, map, take, drop, length, MatchOption, IfOk, Bool, false};
-ghost use Rattle.bz_grammar.specs.Shapes.{is_kind};
-ghost use Rattle.bz_items.specs.Characters.{Bytes};
-ghost use Rattle.bz_value.specs.Gaps.{GapLine};
-ghost use Rattle.bz_value.specs.Frames.{frame};
+ghost use Rattle.bz_hosts.specs.Words.{is_kind, Bytes, GapLine, frame, Kind};
 ghost use Rattle.bz_hosts.specs.Seen.{plain, seen, seen_node};
-ghost use Rattle.bz_grammar.specs.declared.kind.Kind.{Kind};
 ghost use Rattle.bz_hosts.specs.Suites.{branches, with_suite, stated};
 
 use crate::before::gap_before;

@@ -1,7 +1,6 @@
 //! What the gaps between the parts of a row say.
 ghost use Rattle.std.specs.Prelude.{◌≡◌, ◌++◌, ◌<◌, ◌&&◌, ◌||◌, not, map, drop, length, if◌then◌else◌, OnOk};
-ghost use Rattle.bz_value.specs.Frames.{is_comprehension};
-ghost use Rattle.bz_value.specs.Gaps.{all_in, has_newline, others_in};
+ghost use Rattle.bz_hosts.specs.Words.{is_comprehension, all_in, has_newline, others_in};
 ghost use Rattle.bz_hosts.specs.Seen.{begins_seen_operator, first_seen_gap, is_open, seen};
 ghost use Rattle.bz_hosts.specs.private.Walks.{above_after, item_gap, line_gap};
 

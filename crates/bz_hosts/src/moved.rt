@@ -1,8 +1,7 @@
 //! The expression of a part that is given up: its tokens are moved into it, and what was walked over of a long row is given back
 //! on the way, so that a row and what is made of it are not held at once as wholes.
 ghost use Rattle.std.specs.Prelude.{◌≡◌, ◌∷◌, [], ◌++◌, ◌-◌, ◌<◌, ◌≤◌, length, map, drop, false, IfOk, OnOk};
-ghost use Rattle.bz_value.specs.Comments.{no_comments};
-ghost use Rattle.bz_value.specs.Frames.{frame};
+ghost use Rattle.bz_hosts.specs.Words.{no_comments, frame};
 ghost use Rattle.bz_hosts.specs.Seen.{form_of_frame, loose_in, loose_of, row_exprs, seen, seq_in};
 
 use crate::before::{breaks_from, is_followed, is_operator_in};

@@ -1,13 +1,11 @@
 //! What statements are read as, those with suites too, and the items of a file.
 ghost use Rattle.std.specs.Prelude.{◌≡◌, ◌++◌, ◌<◌, [], ◌∷◌, List, map, drop, length, IfOk, OnOk, false};
-ghost use Rattle.bz_lex.specs.Gaps.{indent};
-ghost use Rattle.bz_grammar.specs.declared.tree.Part.{Part};
+ghost use Rattle.bz_hosts.specs.Words.{indent, Part, lines_of};
 ghost use Rattle.bz_hosts.specs.Seen.{seen, statements_in};
 ghost use Rattle.bz_hosts.specs.private.FileParts.{part_read};
 ghost use Rattle.bz_hosts.specs.private.Gathered.{gathered};
 ghost use Rattle.bz_hosts.specs.View.{items_from};
 ghost use Rattle.bz_hosts.specs.Suites.{branches, exprs_in, line_read, indented_lines_before, stated, walked};
-ghost use Rattle.bz_value.specs.Gaps.{lines_of};
 
 use crate::before::{gap_at, gap_before, gap_of_last};
 use crate::groups::{push_block, push_groups};

@@ -1,11 +1,7 @@
 //! The view of a tree as a file value, of one that stays and of one that is given up.
 ghost use Rattle.std.specs.Prelude.{◌≡◌, ◌<◌, ◌+◌, [], ◌++◌, map, drop, length, true, IfOk, IsTrue, OnOk};
-ghost use Rattle.bz_grammar.specs.Shapes.{is_kind as has_kind};
-ghost use Rattle.bz_grammar.specs.declared.tree.Node.{Node};
-ghost use Rattle.bz_value.specs.Counted.{times};
-ghost use Rattle.bz_items.specs.Characters.{Bytes};
+ghost use Rattle.bz_hosts.specs.Words.{is_kind as has_kind, Node, times, Bytes, all_but_last, groups_of, last_group, lines_of};
 ghost use Rattle.bz_hosts.specs.Kept.{occurrences};
-ghost use Rattle.bz_value.specs.Gaps.{all_but_last, groups_of, last_group, lines_of};
 ghost use Rattle.bz_hosts.specs.Seen.{blocks, seen, statements_in};
 ghost use Rattle.bz_hosts.specs.Suites.{indented_lines_before, stated};
 ghost use Rattle.bz_hosts.specs.SuitesJoined.{EndsWithStatement, lines_at_end};

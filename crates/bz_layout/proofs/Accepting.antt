@@ -6,8 +6,7 @@ use Rattle.std.proofs.lemmas.Str.{IsUtf8-nil}
 use Rattle.bz_lex.proofs.Unique.{one_lexing}
 use Rattle.bz_lex.specs.Leaves.{AreLeaves, IsCodedLeaf}
 use Rattle.bz_grammar.specs.declared.kind.Kind.TheVariants as k
-use Rattle.bz_grammar.specs.declared.tree.Node.{Node}
-use Rattle.bz_grammar.specs.declared.tree.Part.{Part}
+use Rattle.bz_layout.specs.Words.{Node, Part, Bytes, line_feed, Item}
 use Rattle.bz_grammar.specs.Shapes.{Fits, bzl_shape}
 use Rattle.bz_grammar.specs.Indents.{AreIndented}
 use Rattle.bz_grammar.specs.Legal.{IsNonterminal, LegalPart, Legal, IsFile}
@@ -16,8 +15,6 @@ use Rattle.bz_grammar.proofs.Both.{gaps_by_nodes, leaves_bzl_legal}
 use Rattle.bz_grammar.proofs.Spells.{node_spelled}
 use Rattle.bz_grammar.proofs.Unique.{one_file}
 use Rattle.bz_grammar.specs.Spots.{Begins, AtParts, AreTokens, Stands}
-use Rattle.bz_items.specs.Characters.{Bytes, line_feed}
-use Rattle.bz_value.specs.declared.value.Item.{Item}
 use Rattle.bz_value.specs.declared.value.Item.TheVariants as i
 use Rattle.bz_value.specs.Proper.{IsComment, IsProperItem, IsProper}
 use Rattle.bz_layout.specs.LaidOut.{left_of, part_of, statement_part, lines_from, before_next, laid_out}

@@ -1,8 +1,6 @@
 -- Items after others.
 use Rattle.std.proofs.Common.{suc, ◌≡◌, List, [], ◌∷◌, ◌++◌, sym, ap, ◌∙◌, append_assoc, append-nil, arith}
-use Rattle.bz_items.specs.Characters.{Bytes}
-use Rattle.bz_grammar.specs.Spell.{depth_of}
-use Rattle.bz_value.specs.declared.value.Item.{Item}
+use Rattle.bz_layout.specs.Words.{Bytes, depth_of, Item}
 use Rattle.bz_layout.specs.Appended.{LayoutsJoin, DepthsJoin}
 use Rattle.bz_layout.specs.private.Depths.{depth_items}
 use Rattle.bz_layout.specs.LaidOut.{laid_out}

@@ -4,18 +4,12 @@ use Rattle.std.specs.Prelude.{Option, None, Some}
 use Rattle.std.specs.List.{AllByRecursion}
 use Rattle.std.proofs.lemmas.List.Elements.{recursion_from_All}
 use Rattle.bz_grammar.specs.declared.kind.Kind.TheVariants as k
-use Rattle.bz_grammar.specs.declared.tree.Node.{Node}
-use Rattle.bz_grammar.specs.declared.tree.Part.{Part}
+use Rattle.bz_layout.specs.Words.{Node, Part, Expr, Item, Bytes, line_feed, is_empty, has_suite}
 use Rattle.bz_grammar.specs.declared.tree.Part.TheVariants as p
 use Rattle.bz_grammar.specs.Spots.{Begins}
-use Rattle.bz_value.specs.declared.value.Expr.{Expr}
-use Rattle.bz_value.specs.declared.value.Item.{Item}
 use Rattle.bz_value.specs.declared.value.Item.TheVariants as i
-use Rattle.bz_items.specs.Characters.{Bytes, line_feed}
-use Rattle.bz_value.specs.Empty.{is_empty}
 use Rattle.bz_value.specs.Gaps.{GapLine, before_groups, groups_of, all_but_last, last_group, lines_of}
 use Rattle.bz_value.specs.Proper.{IsComment, comments_of, IsProperItem, IsProper}
-use Rattle.bz_value.specs.Statements.{has_suite}
 use Rattle.bz_hosts.specs.Seen.{blocks}
 use Rattle.bz_hosts.specs.Suites.{stated, indented_lines_before}
 use Rattle.bz_hosts.specs.View.{items_from, view_of}

@@ -3,21 +3,14 @@ use Rattle.std.proofs.Common.{◌≡◌, ◌≤◌, ◌<◌, ℕ, Bool, true, fa
 use Rattle.std.specs.Prelude.{Option, None, Some}
 use Rattle.std.specs.List.{AllByRecursion}
 use Rattle.bz_lex.specs.Gaps.{indent}
-use Rattle.bz_grammar.specs.declared.kind.Kind.{Kind}
+use Rattle.bz_layout.specs.Words.{Kind, Node, Part, Expr, Token, Form', Bytes, colon, is_empty, mark_leaf, has_suite}
 use Rattle.bz_grammar.specs.declared.kind.Kind.TheVariants as k
-use Rattle.bz_grammar.specs.declared.tree.Node.{Node}
-use Rattle.bz_grammar.specs.declared.tree.Part.{Part}
 use Rattle.bz_grammar.specs.declared.tree.Part.TheVariants as p
-use Rattle.bz_value.specs.declared.value.Expr.{Expr, Token, Form'}
 use Rattle.bz_value.specs.declared.value.Expr.TheVariants as e
-use Rattle.bz_items.specs.Characters.{Bytes, colon}
 use Rattle.bz_value.specs.Comments.{HostComments, no_comments}
-use Rattle.bz_value.specs.Empty.{is_empty}
 use Rattle.bz_value.specs.Frames.{frame, is_compound}
 use Rattle.bz_value.specs.Gaps.{comments_in, lines_of, first_comment, after_first_line}
 use Rattle.bz_value.specs.Proper.{IsComment, MaybeComment, comments_of, has_break}
-use Rattle.bz_value.specs.Roots.{mark_leaf}
-use Rattle.bz_value.specs.Statements.{has_suite}
 use Rattle.bz_hosts.specs.Seen.{Seen, seen, plain, first_seen_gap}
 use Rattle.bz_hosts.specs.Suites.{Stated, SuiteRead, stated, line_read, branches, with_suite, put_header, walked, suite_read, suite_form, only_comment, margin_of, indented_lines_before, end_comments, after_end}
 use Rattle.bz_hosts.proofs.NodeViews.{seen_Node}

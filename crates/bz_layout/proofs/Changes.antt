@@ -1,11 +1,7 @@
 -- What the windows that are made say of the layout.
 use Rattle.std.proofs.Common.{ℕ, suc, Bool, min, ◌^◌, ◌≡◌, ◌<◌, ◌≤◌, ◌-◌, List, [], ◌+◌, length, sym, ap, ◌∙◌, subst, arith, flat_map}
 use Rattle.std.specs.Prelude.{Option, None, Some, MatchOption, Result, Ok, Err, IfOk}
-use Rattle.bz_edit.specs.Windows.{AreThere, window_parts, with_windows}
-use Rattle.bz_edit.specs.declared.part_windows.PartWindow.{PartWindow}
-use Rattle.bz_grammar.specs.Spell.{spell_part, spell_node, limit}
-use Rattle.bz_grammar.specs.declared.tree.Node.{Node}
-use Rattle.bz_grammar.specs.declared.tree.Part.{Part}
+use Rattle.bz_layout.specs.Words.{AreThere, window_parts, with_windows, PartWindow, spell_part, spell_node, limit, Node, Part, IsProperBuild, IsProper, AreOver, Item, Window}
 use Rattle.bz_layout.specs.LaidOut.{laid_out, lines_from}
 use Rattle.bz_layout.specs.Windows.{AreTextsOf, IsLayoutOf}
 use Rattle.bz_layout.specs.Written.{layout}
@@ -16,11 +12,6 @@ use Rattle.bz_layout.specs.private.Windows.{line_count_in, AreCounted}
 use Rattle.bz_layout.proofs.Reaching.{size_put, gone_most}
 use Rattle.bz_layout.proofs.Spelled.{laid_out_spelled}
 use Rattle.bz_layout.proofs.Windows.{length_lines}
-use Rattle.bz_value.specs.BuildValues.{IsProperBuild}
-use Rattle.bz_value.specs.Proper.{IsProper}
-use Rattle.bz_value.specs.Windows.{AreOver}
-use Rattle.bz_value.specs.declared.value.Item.{Item}
-use Rattle.bz_value.specs.declared.windows.Window.{Window}
 
 pub parts_put : (tree : Node) (before items : List Item) (made : List TextWindow) (bytes done : ℕ) → IsLayoutOf before tree → IsPut tree.parts (lines_from [] items) made bytes done →
     (new : List PartWindow) × AreTextsOf made new × AreThere new tree.parts × (with_windows new tree ≡ laid_out items)

@@ -2,25 +2,17 @@
 use Rattle.std.proofs.Common.{ℕ, suc, max, Bool, true, false, not, ◌&&◌, ◌≡◌, ◌<◌, List, [], ◌∷◌, ◌++◌, ◌+◌, if◌then◌else◌, length, get_or, drop, map, refl, ap, ◌∙◌, arith, sym}
 use Rattle.std.specs.Prelude.{Option, None, nat_eq}
 use Rattle.std.proofs.lemmas.List.{drop_more}
-use Rattle.bz_grammar.specs.declared.kind.Kind.{Kind}
+use Rattle.bz_layout.specs.Words.{Kind, Form, Expr, Token, Form', Row_of-Expr, end_of-Expr, more_of-Expr, items-the_row-Expr, Item, Bytes, colon, comma, space, is_empty, comments_of, mark_leaf, has_suite}
 use Rattle.bz_grammar.specs.declared.kind.Kind.TheVariants as k
 use Rattle.bz_grammar.specs.declared.tree.Part.{Part, Node', Row_of-Part, end_of-Part, more_of-Part, items-the_row-Part}
 use Rattle.bz_grammar.specs.declared.tree.Part.TheVariants as p
 use Rattle.bz_grammar.proofs.Trees.{deepest_both}
 use Rattle.bz_grammar.specs.Spell.{depth_part, depth_row, deepest, depth_of}
 use Rattle.bz_grammar.proofs.Spells.{depth_Node}
-use Rattle.bz_value.specs.declared.value.Form.{Form}
 use Rattle.bz_value.specs.declared.value.Token.{Token as TokenValue}
-use Rattle.bz_value.specs.declared.value.Expr.{Expr, Token, Form', Row_of-Expr, end_of-Expr, more_of-Expr, items-the_row-Expr}
 use Rattle.bz_value.specs.declared.value.Expr.TheVariants as e
-use Rattle.bz_value.specs.declared.value.Item.{Item}
 use Rattle.bz_value.specs.declared.value.Item.TheVariants as i
-use Rattle.bz_items.specs.Characters.{Bytes, colon, comma, space}
-use Rattle.bz_value.specs.Empty.{is_empty}
 use Rattle.bz_value.specs.Frames.{Frame, row, sequence, compound, frame, has_brackets, is_compound}
-use Rattle.bz_value.specs.Proper.{comments_of}
-use Rattle.bz_value.specs.Roots.{mark_leaf}
-use Rattle.bz_value.specs.Statements.{has_suite}
 use Rattle.bz_layout.specs.Layout.{Piece, mark, rowed, headed, joined, stacked, body, is_broken, is_tuple, gap_after, margin_after, firsts}
 use Rattle.bz_layout.specs.LaidOut.{PartAt, part_of, parts_of, piece_part, gap_to_margin, newline_part, left_of, last_left, parts_in, with_more_parts, statement_part, statement_parts, alternative_parts, suite_part, suite_node, node_by_frame, before_next, lines_from, laid_out}
 use Rattle.bz_layout.specs.Written.{at_margin, indented_lines, comment_lines}

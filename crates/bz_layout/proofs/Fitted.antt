@@ -4,20 +4,14 @@ use Rattle.std.specs.Prelude.{nat_eq, Option, None}
 use Rattle.std.specs.List.{AllByRecursion}
 use Rattle.bz_token.specs.declared.class.Class.{Class}
 use Rattle.bz_token.specs.declared.class.Class.TheVariants as c
-use Rattle.bz_grammar.specs.declared.kind.Kind.{Kind}
-use Rattle.bz_grammar.specs.declared.tree.Part.{Part}
+use Rattle.bz_layout.specs.Words.{Kind, Part, Expr, Token, Form', Row_of-Expr, end_of-Expr, more_of-Expr, Bytes, comma, space, Frame, row, sequence, compound, frame, has_suite, is_empty}
 use Rattle.bz_grammar.specs.declared.tree.Part.TheVariants as p
 use Rattle.bz_grammar.specs.Shapes.{Terminal, Shape, Fits, is_one_of, leaves_at}
 use Rattle.bz_grammar.specs.Legal.{IsNonterminal}
-use Rattle.bz_value.specs.declared.value.Expr.{Expr, Token, Form', Row_of-Expr, end_of-Expr, more_of-Expr}
-use Rattle.bz_items.specs.Characters.{Bytes, comma, space}
-use Rattle.bz_value.specs.Frames.{Frame, row, sequence, compound, frame}
 use Rattle.bz_value.specs.LineShapes.{whole_shape}
 use Rattle.bz_value.specs.Proper.{comments_of, roots}
 use Rattle.bz_value.specs.Roots.{root, mark_leaf as bare_mark, each_with_comma, row_in}
-use Rattle.bz_value.specs.Statements.{has_suite}
 use Rattle.bz_layout.specs.Layout.{Piece, mark, is_broken, is_tuple, gap_after, margin_after, firsts, rowed, headed, joined, stacked, laid_in, laid}
-use Rattle.bz_value.specs.Empty.{is_empty}
 use Rattle.bz_layout.specs.LaidOut.{PartAt, piece_part, part_of, parts_of}
 use Rattle.bz_value.proofs.Rooted.{SameRoot, Same, over, more, fits_same, one_of_same}
 use Rattle.bz_layout.proofs.Joined.{row_joined, without_last, fits_joined}

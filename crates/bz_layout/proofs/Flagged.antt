@@ -3,24 +3,13 @@ use Rattle.std.proofs.Common.{ℕ, Bool, true, false, not, ◌&&◌, ◌||◌, �
 use Rattle.std.specs.Prelude.{Option, None, nat_eq, nat_le, length}
 use Rattle.std.specs.List.{flat_map}
 use mathlib.Core.Path.{fun_ext}
-use Rattle.bz_grammar.specs.declared.kind.Kind.{Kind}
+use Rattle.bz_layout.specs.Words.{Kind, Node, Form, Expr, Token, Form', Row_of-Expr, end_of-Expr, more_of-Expr, items-the_row-Expr, Item, Bytes, colon, comma, line_feed, space, has_kind, Frame, row, sequence, compound, frame, comments_of, has_break, root, mark_leaf, has_suite, is_empty}
 use Rattle.bz_grammar.specs.declared.kind.Kind.TheVariants as k
-use Rattle.bz_grammar.specs.declared.tree.Node.{Node}
 use Rattle.bz_grammar.specs.declared.tree.Part.TheVariants as p
-use Rattle.bz_value.specs.declared.value.Form.{Form}
-use Rattle.bz_value.specs.declared.value.Expr.{Expr, Token, Form', Row_of-Expr, end_of-Expr, more_of-Expr, items-the_row-Expr}
-use Rattle.bz_value.specs.declared.value.Item.{Item}
 use Rattle.bz_value.specs.declared.value.Item.TheVariants as i
-use Rattle.bz_items.specs.Characters.{Bytes, colon, comma, line_feed, space}
-use Rattle.bz_rule.specs.Values.{has_kind}
 use Rattle.bz_value.specs.Comments.{HostComments}
-use Rattle.bz_value.specs.Frames.{Frame, row, sequence, compound, frame}
-use Rattle.bz_value.specs.Proper.{comments_of, has_break}
-use Rattle.bz_value.specs.Roots.{root, mark_leaf}
-use Rattle.bz_value.specs.Statements.{has_suite}
 use Rattle.bz_value.specs.declared.value.Expr.TheVariants as e
 use Rattle.bz_layout.specs.Layout.{Piece, mark, part, laid_in, rowed, headed, joined, stacked, is_broken, is_tuple, gap_after, margin_after, suffix_text, has_comments, has_named, is_named_argument, is_listed, is_call, new_line_at, margin_lines, firsts}
-use Rattle.bz_value.specs.Empty.{is_empty}
 use Rattle.bz_layout.specs.Spaces.{is_spaced}
 use Rattle.bz_layout.specs.Written.{Indented, TextAt, at_margin, indented_lines, comment_lines, statement_text, statements_text, text_by_frame, text_of, texts_of, piece_text, gap_between, past_item, item_text, layout}
 use Rattle.bz_layout.specs.LaidOut.{PartAt, gap_to_margin, left_by_frame, left_of, left_others, left_last, last_left, newline_part, parts_in, with_more_parts, statement_part, statement_parts, alternative_parts, suite_part, piece_part, node_by_frame, part_of, parts_of, layouts, before_next, lines_from, laid_out}

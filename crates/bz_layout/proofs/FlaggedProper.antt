@@ -3,18 +3,13 @@ use Rattle.std.proofs.Common.{◌≡◌, Bool, false, not, ◌&&◌, ◌||◌, L
 use Rattle.std.specs.Prelude.{codes, bytes_eq}
 use Rattle.bz_grammar.specs.declared.kind.Kind.TheVariants as k
 use Rattle.std.proofs.lemmas.List.Elements.{All-map, All-weaker}
-use Rattle.bz_grammar.specs.declared.kind.Kind.{Kind}
+use Rattle.bz_layout.specs.Words.{Kind, Form, Expr, Token, Form', Row_of-Expr, end_of-Expr, more_of-Expr, items-the_row-Expr, Item, is_empty, Bytes}
 use Rattle.bz_grammar.specs.Legal.{IsNonterminal}
 use Rattle.bz_grammar.specs.Shapes.{Shape, Fits, is_kind}
 use Rattle.bz_grammar.specs.Spots.{Spot, Begins, Within}
-use Rattle.bz_value.specs.declared.value.Form.{Form}
-use Rattle.bz_value.specs.declared.value.Expr.{Expr, Token, Form', Row_of-Expr, end_of-Expr, more_of-Expr, items-the_row-Expr}
-use Rattle.bz_value.specs.declared.value.Item.{Item}
 use Rattle.bz_value.specs.declared.value.Item.TheVariants as i
 use Rattle.bz_value.specs.Frames.{Frame, row, sequence, compound, frame, is_binary}
-use Rattle.bz_value.specs.Empty.{is_empty}
 use Rattle.bz_value.specs.LineShapes.{Grammar, value_shape}
-use Rattle.bz_items.specs.Characters.{Bytes}
 use Rattle.bz_value.specs.Proper.{AreComments, is_operator, begins_operator, after_expr, roots, IsEmptyRow, IsSomeRow, IsBare, in_frame, ProperBy, ProperRowBy, ProperHeadBy, ProperItemsBy, ProperHeaderBy, ProperLinesBy, IsProperItemIn, IsProperIn}
 use Rattle.bz_value.specs.Statements.{has_simple_kind, has_header_kind, first_token_text, header_word, headed_by, is_alone, is_headed_by, is_branch, is_alternative, is_whole_statement, else_last, alternatives_fit}
 use Rattle.bz_value.specs.Roots.{root, row_in}

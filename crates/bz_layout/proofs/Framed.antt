@@ -2,9 +2,8 @@
 use Rattle.std.proofs.Common.{◌≡◌, Bool, true, false, not, ◌&&◌, List, [], ◌∷◌, inl, inr, None, refl, ap, ◌∙◌}
 use Rattle.std.proofs.Math.Bool.{and-false}
 use Rattle.std.proofs.lemmas.Bool.{cases_Bool, not-true}
-use Rattle.bz_grammar.specs.declared.kind.Kind.{Kind}
+use Rattle.bz_layout.specs.Words.{Kind, Part, Node', is_empty}
 use Rattle.bz_grammar.specs.declared.kind.Kind.TheVariants as k
-use Rattle.bz_grammar.specs.declared.tree.Part.{Part, Node'}
 use Rattle.bz_grammar.specs.declared.tree.Part.TheVariants as p
 use Rattle.bz_grammar.specs.Shapes.{Nonterminal, Fits}
 use Rattle.bz_grammar.specs.Legal.{IsNonterminal}
@@ -12,7 +11,6 @@ use Rattle.bz_grammar.proofs.Balance.{no_such}
 use Rattle.bz_value.specs.Frames.{frame, is_binary, is_comprehension, is_compound}
 use Rattle.bz_value.specs.LineShapes.{whole_shape}
 use Rattle.bz_value.specs.Proper.{is_operator_class}
-use Rattle.bz_value.specs.Empty.{is_empty}
 use Rattle.bz_hosts.proofs.InnerParts.{nonterminal_unsigned, binary_begins}
 use Rattle.bz_layout.proofs.Neighbours.{Element, T, S, passes, Links, links}
 use Rattle.bz_layout.proofs.Elements.{any_two, some_part}

@@ -4,9 +4,8 @@ use Rattle.std.specs.List.{AllByRecursion, flat_map}
 use Rattle.std.proofs.lemmas.Bool.{and_parts, or_cases}
 use Rattle.std.proofs.lemmas.Slice.Eq.{bytes_eq-Decides}
 use Rattle.bz_lex.specs.Gaps.{indent}
-use Rattle.bz_grammar.specs.declared.kind.Kind.{Kind}
+use Rattle.bz_layout.specs.Words.{Kind, Part, Node', Bytes, Expr, Token, Form', Row_of-Expr, end_of-Expr, more_of-Expr, items-the_row-Expr}
 use Rattle.bz_grammar.specs.declared.kind.Kind.TheVariants as k
-use Rattle.bz_grammar.specs.declared.tree.Part.{Part, Node'}
 use Rattle.bz_grammar.specs.declared.tree.Part.TheVariants as p
 use Rattle.bz_grammar.specs.Indents.{Owned}
 use Rattle.bz_grammar.specs.Legal.{IsNonterminal, LegalPart}
@@ -17,8 +16,6 @@ use Rattle.bz_grammar.specs.Spots.{Spot, Begins, Along, after_node, AtParts}
 use Rattle.bz_grammar.proofs.Balance.{no_such, inner_nonterminal, spot_after}
 use Rattle.bz_grammar.proofs.Suites.{owned_shape}
 use Rattle.bz_grammar.proofs.Trees.{At, join}
-use Rattle.bz_items.specs.Characters.{Bytes}
-use Rattle.bz_value.specs.declared.value.Expr.{Expr, Token, Form', Row_of-Expr, end_of-Expr, more_of-Expr, items-the_row-Expr}
 use Rattle.bz_value.specs.Frames.{frame, is_binary, is_compound, is_header, is_inner_frame}
 use Rattle.bz_value.specs.LineShapes.{line_shape, whole_shape}
 use Rattle.bz_value.specs.Proper.{ProperBy, ProperRowBy, roots}

@@ -4,14 +4,13 @@ use Rattle.std.specs.List.{AllByRecursion, flat_map}
 use Rattle.bz_token.specs.declared.class.Class.{Class}
 use Rattle.bz_token.specs.declared.class.Class.TheVariants as c
 use Rattle.bz_token.specs.Tokens.{IsToken}
-use Rattle.bz_lex.specs.declared.leaf.Leaf.{Leaf}
+use Rattle.bz_layout.specs.Words.{Leaf, Bytes, line_feed}
 use Rattle.bz_lex.specs.Leaves.{spell_leaves}
 use Rattle.bz_lex.proofs.Lists.{spell_leaves-append}
 use Rattle.bz_grammar.specs.declared.tree.Part.{Part, Row_of-Part, end_of-Part, more_of-Part, Node'}
 use Rattle.bz_grammar.specs.declared.tree.Part.TheVariants as p
 use Rattle.bz_grammar.specs.Spell.{leaves_part, leaves_row}
 use Rattle.bz_grammar.specs.Spots.{Spot, after_part, AtLeaves, AtRow, AtParts, TokenStands, AreTokens}
-use Rattle.bz_items.specs.Characters.{Bytes, line_feed}
 use Rattle.bz_value.proofs.GapComments.{all_joined}
 use Rattle.bz_layout.specs.Layout.{suffix_text}
 use Rattle.bz_layout.proofs.Touching.{Toks, FollowsAs}

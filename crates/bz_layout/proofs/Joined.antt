@@ -4,21 +4,18 @@ use Rattle.std.proofs.Common.{◌≡◌, ◌≤◌, ℕ, Bool, true, false, not,
 use Rattle.std.specs.Prelude.{nat_eq}
 use Rattle.std.specs.List.{AllByRecursion}
 use Rattle.std.proofs.lemmas.Bool.{both_ways}
-use Rattle.bz_grammar.specs.declared.kind.Kind.{Kind}
+use Rattle.bz_layout.specs.Words.{Kind, Part, Node', comma, is_empty}
 use Rattle.bz_grammar.specs.declared.kind.Kind.TheVariants as k
-use Rattle.bz_grammar.specs.declared.tree.Part.{Part, Node'}
 use Rattle.bz_grammar.specs.declared.tree.Part.TheVariants as p
 use Rattle.bz_grammar.specs.Shapes as s
 use Rattle.bz_grammar.specs.Shapes.{Nonterminal, Terminal, Shape, Fits, Listed, has_nonterminal, has_token, items}
 use Rattle.bz_grammar.specs.Legal.{IsNonterminal}
 use Rattle.bz_grammar.proofs.Balance.{no_such}
-use Rattle.bz_items.specs.Characters.{comma}
 use Rattle.bz_value.specs.Frames.{Frame, row, sequence, compound, frame, lead}
 use Rattle.bz_value.specs.LineShapes.{whole_shape}
 use Rattle.bz_value.specs.Proper.{in_frame}
 use Rattle.bz_value.specs.Roots.{mark_leaf, each_with_comma, row_in}
 use Rattle.bz_layout.specs.Layout.{is_tuple}
-use Rattle.bz_value.specs.Empty.{is_empty}
 use Rattle.bz_value.proofs.FormParts.{framed}
 use Rattle.bz_value.proofs.LeadParts.{lead_before}
 

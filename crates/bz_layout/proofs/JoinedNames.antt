@@ -3,15 +3,12 @@ use Rattle.std.proofs.Common.{ℕ, suc, Bool, true, ◌≡◌, ◌<◌, ◌≤�
 use Rattle.std.specs.List.{list_all}
 use Rattle.std.proofs.lemmas.Bool.{and_parts}
 use Rattle.std.proofs.lemmas.List.{drop_more, take_all, length-drop, map-append}
-use Rattle.bz_grammar.specs.declared.kind.Kind.{Kind}
+use Rattle.bz_layout.specs.Words.{Kind, Expr, Token, Form', Form, Bytes}
 use Rattle.bz_grammar.specs.declared.kind.Kind.TheVariants as k
 use Rattle.bz_grammar.specs.Kinds.{kind_number}
 use Rattle.bz_grammar.proofs.Numbers.{same_kind}
-use Rattle.bz_value.specs.declared.value.Expr.{Expr, Token, Form'}
 use Rattle.bz_value.specs.declared.value.Expr.TheVariants as e
-use Rattle.bz_value.specs.declared.value.Form.{Form}
 use Rattle.bz_value.specs.Frames.{frame, has_brackets, is_compound}
-use Rattle.bz_items.specs.Characters.{Bytes}
 use Rattle.bz_rule.specs.Values as v
 use Rattle.bz_rule.specs.private.Named.{fronts, fronts_among}
 use Rattle.bz_rule.proofs.Forms.{fronts_Form}

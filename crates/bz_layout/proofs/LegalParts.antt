@@ -4,20 +4,15 @@ use Rattle.std.proofs.Common.{◌≡◌, ℕ, Bool, true, false, not, ◌&&◌, 
 use Rattle.std.specs.Prelude.{nat_eq}
 use Rattle.std.specs.List.{AllByRecursion, flat_map}
 use Rattle.bz_token.specs.declared.class.Class.TheVariants as c
-use Rattle.bz_lex.specs.declared.leaf.Leaf.{Leaf}
-use Rattle.bz_grammar.specs.declared.kind.Kind.{Kind}
-use Rattle.bz_grammar.specs.declared.tree.Node.{Node}
+use Rattle.bz_layout.specs.Words.{Leaf, Kind, Node, leaves_part, Expr, Token, Form', Row_of-Expr, end_of-Expr, more_of-Expr, Bytes, comma, space, is_empty}
 use Rattle.bz_grammar.specs.declared.tree.Part.{Part, Row_of-Part, end_of-Part, more_of-Part, items-the_row-Part}
 use Rattle.bz_grammar.specs.declared.tree.Part.TheVariants as p
 use Rattle.bz_grammar.specs.Shapes.{Fits}
 use Rattle.bz_grammar.specs.Legal.{IsNonterminal}
-use Rattle.bz_grammar.specs.Spell.{leaves_part}
 use Rattle.bz_grammar.specs.Spots.{Spot}
 use Rattle.bz_grammar.proofs.Balance.{no_such}
 use Rattle.bz_grammar.proofs.Nested.{row_of, items_of_row}
 use Rattle.bz_grammar.proofs.Spells.{leaves_Node}
-use Rattle.bz_value.specs.declared.value.Expr.{Expr, Token, Form', Row_of-Expr, end_of-Expr, more_of-Expr}
-use Rattle.bz_items.specs.Characters.{Bytes, comma, space}
 use Rattle.bz_value.specs.Frames.{Frame, row, sequence, compound, frame, is_compound}
 use Rattle.bz_value.specs.LineShapes.{line_shape, whole_shape}
 use Rattle.bz_value.specs.Proper.{comments_of, roots, in_frame, ProperBy}
@@ -27,7 +22,6 @@ use Rattle.bz_value.proofs.Wider.{values_wider}
 use Rattle.bz_hosts.proofs.InnerParts.{inner_kind, inner_bzl, inner_line}
 use Rattle.bz_hosts.proofs.SeenParts.{all_mapped}
 use Rattle.bz_layout.specs.Layout.{mark, is_broken, is_tuple, gap_after, margin_after, firsts, rowed, headed, joined, stacked, laid_in, laid}
-use Rattle.bz_value.specs.Empty.{is_empty}
 use Rattle.bz_layout.specs.LaidOut.{piece_part, part_of, parts_of}
 use Rattle.bz_layout.proofs.Touching.{Apart, Airy, AiryRow}
 use Rattle.bz_layout.proofs.Elements.{items_values, some_part}

@@ -5,11 +5,8 @@ use Rattle.std.proofs.Math.Dec.{eqb}
 use Rattle.std.proofs.lemmas.Bool.{eqb-true}
 use Rattle.std.specs.Option.{option_eq}
 use Rattle.std.specs.Prelude.{◌↔◌, IfSome, IsTrue, Bool, None, Option, Some}
-use Rattle.bz_grammar.specs.Spell.{depth_of, depth_limit}
-use Rattle.bz_value.specs.declared.value.Item.{Item}
+use Rattle.bz_layout.specs.Words.{depth_of, depth_limit, Item, Window, AreOver, AreWithin}
 use Rattle.bz_value.specs.declared.value.Item.TheVariants as i
-use Rattle.bz_value.specs.declared.windows.Window.{Window}
-use Rattle.bz_value.specs.Windows.{AreOver, AreWithin}
 use Rattle.bz_layout.specs.private.Windows.{line_count_in, come_items, old_count, old_lines, come_end, AreCounted, AreLinesOver, HaveLines}
 use Rattle.bz_layout.proofs.Windows.{cut_window}
 use Rattle.bz_layout.specs.private.Depths.{depth_items}

@@ -2,24 +2,19 @@
 use Rattle.std.proofs.Common.{ℕ, Bool, false, Option, [], ◌∷◌, ◌++◌, ◌≡◌, if◌then◌else◌, refl, ap, ◌∙◌, map, List, true≢false}
 use mathlib.Core.Former.{Count}
 use mathlib.Core.Path.{fun_ext}
-use Rattle.bz_grammar.specs.declared.kind.Kind.{Kind}
+use Rattle.bz_layout.specs.Words.{Kind, Form, Bytes, is_empty, has_suite, Item}
 use Rattle.bz_grammar.specs.declared.kind.Kind.TheVariants as k
 use Rattle.bz_grammar.specs.declared.tree.Part.TheVariants as p
 use Rattle.bz_grammar.specs.Legal.{IsNonterminal}
 use Rattle.bz_grammar.specs.Shapes.{Fits}
 use Rattle.bz_grammar.specs.Spots.{Spot}
-use Rattle.bz_value.specs.declared.value.Form.{Form}
 use Rattle.bz_value.specs.declared.value.Expr.{Expr, Token, Form', Row_of-Expr, end_of-Expr, more_of-Expr, items-the_row-Expr, items_hidden-the_row-Expr-0}
 use Rattle.bz_value.specs.declared.value.Expr.TheVariants as e
-use Rattle.bz_items.specs.Characters.{Bytes}
-use Rattle.bz_value.specs.Empty.{is_empty}
 use Rattle.bz_value.specs.Frames.{Frame, row, sequence, compound, frame, is_compound}
 use Rattle.bz_value.specs.LineShapes.{line_shape}
 use Rattle.bz_value.specs.Proper.{comments_of, roots, ProperBy}
 use Rattle.bz_value.specs.Roots.{root, row_in}
-use Rattle.bz_value.specs.Statements.{has_suite}
 use Rattle.bz_value.proofs.FormParts.{items_in, parts_in}
-use Rattle.bz_value.specs.declared.value.Item.{Item}
 use Rattle.bz_value.specs.declared.value.Item.TheVariants as i
 use Rattle.bz_layout.specs.Layout.{laid, laid_in, firsts}
 use Rattle.bz_layout.specs.Written.{Indented, text_of, texts_of, text_by_frame, indented_lines, comment_lines}

@@ -7,16 +7,12 @@ use Rattle.std.proofs.lemmas.Str.{IsUtf8-nil, IsUtf8-append, IsUtf8-from_ascii}
 use Rattle.bz_token.specs.declared.class.Class.{Class}
 use Rattle.bz_token.specs.declared.class.Class.TheVariants as c
 use Rattle.bz_lex.specs.Gaps.{IsOneLine, IsGap, nothing, blank, escaped, escaped_return, unescaped, comment, last_comment, is_flush}
-use Rattle.bz_grammar.specs.declared.kind.Kind.{Kind}
+use Rattle.bz_layout.specs.Words.{Kind, Expr, Bytes, line_feed, space, root, is_empty}
 use Rattle.bz_grammar.specs.Spots.{Spot, Begins, Within, Along, GapStands}
 use Rattle.bz_grammar.proofs.Balance.{no_such}
-use Rattle.bz_value.specs.declared.value.Expr.{Expr}
-use Rattle.bz_items.specs.Characters.{Bytes, line_feed, space}
 use Rattle.bz_value.specs.Proper.{IsComment, MaybeComment, has_break}
-use Rattle.bz_value.specs.Roots.{root}
 use Rattle.bz_layout.specs.Spaces.{is_spaced}
 use Rattle.bz_layout.specs.Layout.{new_line_at, margin_lines, ended, suffix_text, gap_after}
-use Rattle.bz_value.specs.Empty.{is_empty}
 use Rattle.bz_layout.specs.Written.{comment_lines}
 use Rattle.bz_layout.proofs.Elements.{in_line_class}
 

@@ -5,11 +5,8 @@ use Rattle.std.proofs.lemmas.Bool.{le-leb}
 use Rattle.std.proofs.lemmas.List.{drop_more, take-append-drop, drop-drop, take_at, drop_at}
 use Rattle.std.proofs.Math.Seq.{take-add}
 use Rattle.std.proofs.lemmas.Grind.{flat_map-append}
-use Rattle.bz_edit.specs.Windows.{AreThere, window_parts}
-use Rattle.bz_edit.specs.declared.part_windows.PartWindow.{PartWindow}
+use Rattle.bz_layout.specs.Words.{AreThere, window_parts, PartWindow, Part, Bytes}
 use Rattle.bz_grammar.specs.Spell.{spell_part, limit, within_limit}
-use Rattle.bz_grammar.specs.declared.tree.Part.{Part}
-use Rattle.bz_items.specs.Characters.{Bytes}
 use Rattle.bz_layout.specs.Drafts.{Drafted, drafted, pushed}
 use Rattle.bz_layout.specs.Windows.{AreTextsOf}
 use Rattle.bz_layout.specs.declared.writer.TextWindow.{TextWindow}

@@ -1,25 +1,18 @@
 -- What is laid out of an expression reads back as the expression with its flags settled.
 use Rattle.std.proofs.Common.{◌≡◌, ℕ, suc, Bool, true, false, ◌&&◌, List, [], ◌∷◌, ◌++◌, ◌+◌, refl, sym, ap, ◌∙◌, subst, map, take, drop, length, append_assoc, true≢false}
 use Rattle.std.specs.Prelude.{Option, nat_eq}
-use Rattle.bz_grammar.specs.declared.kind.Kind.{Kind}
+use Rattle.bz_layout.specs.Words.{Kind, Node, Part, Expr, Token, Form', Row_of-Expr, end_of-Expr, more_of-Expr, items-the_row-Expr, is_empty, Bytes, colon, mark_leaf, has_suite}
 use Rattle.bz_grammar.specs.declared.kind.Kind.TheVariants as k
-use Rattle.bz_grammar.specs.declared.tree.Node.{Node}
-use Rattle.bz_grammar.specs.declared.tree.Part.{Part}
 use Rattle.bz_grammar.specs.declared.tree.Part.TheVariants as p
 use Rattle.bz_grammar.specs.Legal.{IsNonterminal}
 use Rattle.bz_grammar.specs.Shapes.{Fits, is_kind}
 use Rattle.bz_value.specs.LineShapes.{whole_shape}
 use Rattle.bz_grammar.proofs.Nested.{items_of_row}
-use Rattle.bz_value.specs.declared.value.Expr.{Expr, Token, Form', Row_of-Expr, end_of-Expr, more_of-Expr, items-the_row-Expr}
 use Rattle.bz_value.specs.declared.value.Expr.TheVariants as e
 use Rattle.bz_value.specs.Comments.{HostComments, no_comments}
-use Rattle.bz_value.specs.Empty.{is_empty}
 use Rattle.bz_value.specs.Frames.{Frame, row, sequence, compound, frame, is_binary, is_comprehension, is_header, is_compound}
-use Rattle.bz_items.specs.Characters.{Bytes, colon}
 use Rattle.bz_value.specs.Gaps.{all_in, comments_in, lines_of}
 use Rattle.bz_value.specs.Proper.{IsComment, MaybeComment, comments_of, has_break, is_operator}
-use Rattle.bz_value.specs.Roots.{mark_leaf}
-use Rattle.bz_value.specs.Statements.{has_suite}
 use Rattle.bz_value.proofs.GapComments.{all_joined}
 use Rattle.bz_hosts.specs.Seen.{Seen, seen, seen_node, plain, first_seen_gap, loose_in, loose_after, sequence_form, items_in, is_split, is_open}
 use Rattle.bz_hosts.specs.Suites.{stated, branches, indented_lines_before}

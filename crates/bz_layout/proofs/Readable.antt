@@ -5,9 +5,8 @@ use Rattle.std.specs.List.{AllByRecursion}
 use Rattle.std.proofs.lemmas.Bool.{and_parts, or_cases, eqb-true}
 use Rattle.std.proofs.lemmas.List.Elements.{recursion_from_All}
 use Rattle.std.proofs.lemmas.List.{length-map}
-use Rattle.bz_grammar.specs.declared.kind.Kind.{Kind}
+use Rattle.bz_layout.specs.Words.{Kind, Part, Expr, Token, Form', Row_of-Expr, end_of-Expr, more_of-Expr, items-the_row-Expr, no_comments, Bytes, is_empty}
 use Rattle.bz_grammar.specs.declared.kind.Kind.TheVariants as k
-use Rattle.bz_grammar.specs.declared.tree.Part.{Part}
 use Rattle.bz_grammar.specs.Legal.{IsNonterminal}
 use Rattle.bz_grammar.specs.Shapes.{Fits, is_kind}
 use Rattle.bz_grammar.specs.Spots.{Spot}
@@ -15,15 +14,11 @@ use Rattle.bz_grammar.proofs.Balance.{no_such, inner_nonterminal}
 use Rattle.bz_grammar.proofs.Numbers.{same_kind}
 use Rattle.bz_hosts.proofs.InnerParts.{inner_kind, inner_tokens, every, every_part, token_inner, nonterminal_inner, is_inner}
 use Rattle.bz_hosts.proofs.SeenParts.{all_parted}
-use Rattle.bz_value.specs.declared.value.Expr.{Expr, Token, Form', Row_of-Expr, end_of-Expr, more_of-Expr, items-the_row-Expr}
-use Rattle.bz_value.specs.Comments.{no_comments}
 use Rattle.bz_value.specs.Frames.{Frame, row, sequence, compound, frame, lead, is_binary, is_comprehension, has_brackets, is_header, is_compound, is_simple}
-use Rattle.bz_items.specs.Characters.{Bytes}
 use Rattle.bz_value.specs.LineShapes.{whole_shape}
 use Rattle.bz_value.specs.Proper.{IsComment, MaybeComment, comments_of, has_break, is_operator, begins_operator, roots, after_expr, IsEmptyRow, IsSomeRow, in_frame, ProperBy, ProperRowBy, ProperHeadBy, ProperItemsBy, ProperLinesBy}
 use Rattle.bz_value.specs.Roots.{root, mark_leaf, each_with_comma, row_in}
 use Rattle.bz_value.specs.Statements.{has_simple_kind, has_header_kind, has_suite, is_alternative, is_whole_statement, header_word, first_token_text, is_branch, alternatives_fit}
-use Rattle.bz_value.specs.Empty.{is_empty}
 use Rattle.bz_value.proofs.FormParts.{operator_first}
 use Rattle.bz_value.proofs.LeadParts.{lead_before}
 use Rattle.bz_layout.proofs.Elements.{InLine, within_line}

@@ -6,25 +6,16 @@ use Rattle.std.proofs.Math.Bool.{and-false}
 use Rattle.std.proofs.lemmas.Bool.{both_ways, or_parts}
 use Rattle.bz_token.specs.declared.class.Class.{Class}
 use Rattle.bz_token.specs.declared.class.Class.TheVariants as c
-use Rattle.bz_lex.specs.declared.leaf.Leaf.{Leaf}
-use Rattle.bz_grammar.specs.declared.kind.Kind.{Kind}
+use Rattle.bz_layout.specs.Words.{Leaf, Kind, Part, Node', leaves_part, has_token, Expr, Token, Form', Bytes, comma, space, Frame, row, sequence, compound, frame, root, is_empty}
 use Rattle.bz_grammar.specs.declared.kind.Kind.TheVariants as k
-use Rattle.bz_grammar.specs.declared.tree.Part.{Part, Node'}
 use Rattle.bz_grammar.specs.declared.tree.Part.TheVariants as p
-use Rattle.bz_grammar.specs.Spell.{leaves_part}
 use Rattle.bz_grammar.specs.Shapes as s
-use Rattle.bz_grammar.specs.Shapes.{has_token}
 use Rattle.bz_grammar.proofs.Balance.{no_such}
-use Rattle.bz_value.specs.declared.value.Expr.{Expr, Token, Form'}
-use Rattle.bz_items.specs.Characters.{Bytes, comma, space}
-use Rattle.bz_value.specs.Frames.{Frame, row, sequence, compound, frame}
 use Rattle.bz_value.specs.Proper.{comments_of, has_break, in_frame}
-use Rattle.bz_value.specs.Roots.{root}
 use Rattle.bz_value.proofs.Rooted.{SameRoot}
 use Rattle.bz_layout.specs.Spaces.{lone, space_after, space_before, is_value, is_spaced_after, is_spaced_before, is_lone, is_number_leaf, apart, number_dot, is_spaced}
 use Rattle.bz_layout.proofs.Neighbours.{is_word}
 use Rattle.bz_layout.specs.Layout.{mark, new_line_at, margin_lines, ended, suffix_text, is_broken, is_tuple, gap_after, margin_after, firsts, rowed, headed, joined, stacked, laid_in, laid}
-use Rattle.bz_value.specs.Empty.{is_empty}
 use Rattle.bz_layout.specs.LaidOut.{PartAt, piece_part}
 use Rattle.bz_layout.proofs.Fitted.{Child, rooted, IsRooted, Pieces}
 use Rattle.bz_layout.proofs.Made.{plain_part}

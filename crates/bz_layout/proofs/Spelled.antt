@@ -5,24 +5,14 @@ use Rattle.std.specs.List.{flat_map, AllByRecursion}
 use Rattle.std.proofs.lemmas.Grind.{flat_map-append}
 use Rattle.std.proofs.lemmas.List.{append-nil}
 use Rattle.std.proofs.lemmas.List.Elements.{recursion_from_All}
-use Rattle.bz_grammar.specs.declared.kind.Kind.{Kind}
+use Rattle.bz_layout.specs.Words.{Kind, Node, Part, spell_part, spell_node, Expr, Token, Form', Row_of-Expr, end_of-Expr, more_of-Expr, Item, Bytes, colon, comma, line_feed, space, is_empty, IsProperItem, IsProper, comments_of, mark_leaf, has_suite}
 use Rattle.bz_grammar.specs.declared.kind.Kind.TheVariants as k
-use Rattle.bz_grammar.specs.declared.tree.Node.{Node}
-use Rattle.bz_grammar.specs.declared.tree.Part.{Part}
 use Rattle.bz_grammar.specs.declared.tree.Part.TheVariants as p
-use Rattle.bz_grammar.specs.Spell.{spell_part, spell_node}
 use Rattle.bz_grammar.specs.Spots.{Begins}
 use Rattle.bz_grammar.proofs.Nested.{items_of_row}
 use Rattle.bz_grammar.proofs.Spells.{spell_Node}
-use Rattle.bz_value.specs.declared.value.Expr.{Expr, Token, Form', Row_of-Expr, end_of-Expr, more_of-Expr}
-use Rattle.bz_value.specs.declared.value.Item.{Item}
 use Rattle.bz_value.specs.declared.value.Item.TheVariants as i
-use Rattle.bz_items.specs.Characters.{Bytes, colon, comma, line_feed, space}
-use Rattle.bz_value.specs.Empty.{is_empty}
 use Rattle.bz_value.specs.Frames.{Frame, row, sequence, compound, frame, is_compound}
-use Rattle.bz_value.specs.Proper.{IsProperItem, IsProper, comments_of}
-use Rattle.bz_value.specs.Roots.{mark_leaf}
-use Rattle.bz_value.specs.Statements.{has_suite}
 use Rattle.bz_layout.specs.Layout.{Piece, mark, laid_in, rowed, headed, joined, stacked, is_broken, is_tuple, gap_after, margin_after, margin_lines, suffix_text, firsts}
 use Rattle.bz_layout.specs.Written.{Indented, TextAt, at_margin, indented_lines, comment_lines, statement_text, statements_text, suite_text, piece_text, text_by_frame, text_of, texts_of, past_item, item_text, layout}
 use Rattle.bz_layout.specs.LaidOut.{PartAt, gap_to_margin, left_by_frame, left_of, last_left, newline_part, statement_part, statement_parts, parts_in, alternative_parts, with_more_parts, suite_part, piece_part, node_by_frame, part_of, parts_of, line_part, before_next, lines_from, laid_out}

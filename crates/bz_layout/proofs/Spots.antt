@@ -4,16 +4,13 @@ use Rattle.std.specs.Prelude.{All}
 use Rattle.bz_token.specs.declared.class.Class.{Class}
 use Rattle.bz_token.specs.declared.class.Class.TheVariants as c
 use Rattle.bz_token.specs.Lexemes.{IsLexeme}
-use Rattle.bz_grammar.specs.declared.kind.Kind.{Kind}
+use Rattle.bz_layout.specs.Words.{Kind, Part, Expr, Token, Form', Row_of-Expr, end_of-Expr, more_of-Expr, Bytes, is_empty}
 use Rattle.bz_grammar.specs.declared.kind.Kind.TheVariants as k
-use Rattle.bz_grammar.specs.declared.tree.Part.{Part}
 use Rattle.bz_grammar.specs.Shapes.{Shape, Fits}
 use Rattle.bz_grammar.specs.Legal.{IsNonterminal}
 use Rattle.bz_grammar.specs.Spots.{Spot, Begins, Within, onward, opens, closes, plain, role, following_token, after_node}
 use Rattle.bz_grammar.proofs.Balance.{no_such}
-use Rattle.bz_value.specs.declared.value.Expr.{Expr, Token, Form', Row_of-Expr, end_of-Expr, more_of-Expr}
 use Rattle.bz_value.specs.Frames.{Frame, row, sequence, compound, frame, has_brackets, is_binary, is_comprehension, is_compound}
-use Rattle.bz_items.specs.Characters.{Bytes}
 use Rattle.bz_value.specs.LineShapes.{line_shape}
 use Rattle.bz_value.specs.Proper.{IsComment, has_break, after_expr, roots, IsEmptyRow, IsSomeRow, in_frame, ProperBy, ProperRowBy, ProperHeadBy, ProperItemsBy, ProperHeaderBy, ProperLinesBy}
 use Rattle.bz_value.specs.Statements.{is_alternative, is_whole_statement}
@@ -22,7 +19,6 @@ use Rattle.bz_hosts.proofs.InnerParts.{inner_kind, kind_goes}
 use Rattle.bz_layout.specs.Spaces.{is_value}
 use Rattle.bz_layout.proofs.Neighbours.{is_word}
 use Rattle.bz_layout.specs.Layout.{firsts}
-use Rattle.bz_value.specs.Empty.{is_empty}
 use Rattle.bz_layout.specs.LaidOut.{part_of, parts_of}
 use Rattle.bz_layout.proofs.Elements.{Inside, IsOpening, Opened, in_line_class, in_line_part, InLine, within_line}
 use Rattle.bz_layout.proofs.Fitted.{Child}

@@ -7,28 +7,21 @@ use Rattle.std.proofs.lemmas.List.Elements.{recursion_from_All}
 use Rattle.bz_token.specs.declared.class.Class.{Class}
 use Rattle.bz_token.specs.declared.class.Class.TheVariants as c
 use Rattle.bz_token.specs.Lexemes.{IsLexeme, is_mark}
-use Rattle.bz_lex.specs.declared.leaf.Leaf.{Leaf}
+use Rattle.bz_layout.specs.Words.{Leaf, Kind, Node, Part, Expr, Token, Form', Row_of-Expr, end_of-Expr, more_of-Expr, Bytes, comma, space, has_suite, is_empty}
 use Rattle.bz_lex.specs.Leaves.{IsCodedLeaf}
-use Rattle.bz_grammar.specs.declared.kind.Kind.{Kind}
 use Rattle.bz_grammar.specs.declared.kind.Kind.TheVariants as k
-use Rattle.bz_grammar.specs.declared.tree.Node.{Node}
-use Rattle.bz_grammar.specs.declared.tree.Part.{Part}
 use Rattle.bz_grammar.specs.declared.tree.Part.TheVariants as p
 use Rattle.bz_grammar.specs.Shapes.{Fits}
 use Rattle.bz_grammar.specs.Legal.{IsNonterminal}
 use Rattle.bz_grammar.specs.Spots.{Spot, Within, Role, opens, closes, role, following_token, after_part, AtLeaves, AtParts, Stands}
 use Rattle.bz_grammar.proofs.Nested.{row_of, items_of_row}
 use Rattle.bz_grammar.proofs.Balance.{no_such, row_of_parts}
-use Rattle.bz_value.specs.declared.value.Expr.{Expr, Token, Form', Row_of-Expr, end_of-Expr, more_of-Expr}
-use Rattle.bz_items.specs.Characters.{Bytes, comma, space}
 use Rattle.bz_value.specs.Frames.{Frame, row, sequence, compound, frame, is_binary, is_comprehension, is_compound}
 use Rattle.bz_value.specs.LineShapes.{line_shape, whole_shape}
 use Rattle.bz_value.specs.Proper.{IsComment, MaybeComment, AreComments, comments_of, after_expr, roots, in_frame, ProperBy, ProperRowBy, ProperHeadBy, ProperItemsBy}
 use Rattle.bz_value.specs.Roots.{row_in}
 use Rattle.bz_value.proofs.Wider.{values_wider}
-use Rattle.bz_value.specs.Statements.{has_suite}
 use Rattle.bz_layout.specs.Layout.{mark, new_line_at, margin_lines, ended, suffix_text, is_broken, is_tuple, gap_after, margin_after, firsts, rowed, headed, joined, stacked, laid_in, laid}
-use Rattle.bz_value.specs.Empty.{is_empty}
 use Rattle.bz_layout.specs.LaidOut.{piece_part, part_of, parts_of}
 use Rattle.bz_layout.proofs.Elements.{AreValues, items_values, Opened, comprehension}
 use Rattle.bz_layout.proofs.Joined.{AreFronts, AreLeaves, head_fits}

@@ -8,19 +8,15 @@ use Rattle.std.proofs.lemmas.Grind.{flat_map-append}
 use Rattle.std.proofs.lemmas.List.{replicate-append-replicate}
 use Rattle.std.proofs.lemmas.List.Elements.{recursion_from_All}
 use Rattle.bz_token.specs.declared.class.Class.TheVariants as c
-use Rattle.bz_lex.specs.declared.leaf.Leaf.{Leaf}
+use Rattle.bz_layout.specs.Words.{Leaf, Kind, Node, Part, leaves_part, Bytes, line_feed, space, Expr, Token, Form', Row_of-Expr, end_of-Expr, more_of-Expr, items-the_row-Expr, is_empty, mark_leaf}
 use Rattle.bz_lex.specs.Gaps.{indent}
 use Rattle.bz_lex.specs.Leaves.{IsCodedLeaf, spell_leaves}
-use Rattle.bz_grammar.specs.declared.kind.Kind.{Kind}
 use Rattle.bz_grammar.specs.declared.kind.Kind.TheVariants as k
-use Rattle.bz_grammar.specs.declared.tree.Node.{Node}
-use Rattle.bz_grammar.specs.declared.tree.Part.{Part}
 use Rattle.bz_grammar.specs.declared.tree.Part.TheVariants as p
 use Rattle.bz_grammar.specs.Shapes as s
 use Rattle.bz_grammar.specs.Shapes.{Shape, Fits, Several, no_more, once_more, bzl_shape, nonterminal_has_kind, one_keyword}
 use Rattle.bz_grammar.specs.Indents.{first_indent, Indented, Owned, AreIndented}
 use Rattle.bz_grammar.specs.Legal.{IsNonterminal, LegalPart}
-use Rattle.bz_grammar.specs.Spell.{leaves_part}
 use Rattle.bz_grammar.specs.Spots.{Spot, Begins, Along, after_part, AtLeaves, AtParts, AreTokens, Stands}
 use Rattle.bz_grammar.proofs.Balance.{no_such, parts_join, spot_after}
 use Rattle.bz_grammar.proofs.Nested.{row_of, items_of_row}
@@ -29,13 +25,9 @@ use Rattle.bz_grammar.proofs.Spells.{leaves_Node}
 use Rattle.bz_grammar.proofs.Suites.{indented_row, parts_indented}
 use Rattle.bz_grammar.proofs.Trees.{of_bzl_shapes}
 use Rattle.bz_hosts.proofs.Narrow.{narrow_expr}
-use Rattle.bz_items.specs.Characters.{Bytes, line_feed, space}
-use Rattle.bz_value.specs.declared.value.Expr.{Expr, Token, Form', Row_of-Expr, end_of-Expr, more_of-Expr, items-the_row-Expr}
-use Rattle.bz_value.specs.Empty.{is_empty}
 use Rattle.bz_value.specs.Frames.{Frame, row, sequence, compound, frame, is_compound, is_simple}
 use Rattle.bz_value.specs.LineShapes.{line_shape, whole_shape}
 use Rattle.bz_value.specs.Proper.{IsComment, MaybeComment, AreComments, IsSomeRow, ProperBy, ProperHeaderBy, ProperLinesBy, comments_of, in_frame}
-use Rattle.bz_value.specs.Roots.{mark_leaf}
 use Rattle.bz_value.specs.Statements.{has_simple_kind, has_suite, header_word, headed_by, is_branch, is_headed_by, is_alternative, is_whole_statement, else_last, alternatives_fit}
 use Rattle.bz_value.proofs.GapComments.{all_joined}
 use Rattle.bz_value.proofs.LegalBy.{as_bzl}

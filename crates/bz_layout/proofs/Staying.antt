@@ -4,22 +4,13 @@ use Rattle.std.proofs.lemmas.List.{drop_more, drop_all, drop-drop, drop-take, dr
 use Rattle.std.specs.Prelude.{slice_get}
 use Rattle.std.specs.List.{AllByRecursion}
 use Rattle.std.proofs.lemmas.List.Elements.{recursion_from_All}
-use Rattle.bz_grammar.specs.Spell.{leaves_part, limit}
+use Rattle.bz_layout.specs.Words.{leaves_part, limit, Node, Part, Bytes, line_feed, Leaf, IsBuildItem, IsProperBuild, IsProperItem, comments_of, Expr, Item, has_suite, Window}
 use Rattle.bz_grammar.specs.Spots.{Begins}
 use Rattle.bz_grammar.specs.declared.kind.Kind.TheVariants as k
-use Rattle.bz_grammar.specs.declared.tree.Node.{Node}
-use Rattle.bz_grammar.specs.declared.tree.Part.{Part}
 use Rattle.bz_grammar.specs.declared.tree.Part.TheVariants as p
 use Rattle.bz_token.specs.declared.class.Class.TheVariants as c
 use Rattle.bz_grammar.proofs.Spells.{leaves_Node}
-use Rattle.bz_items.specs.Characters.{Bytes, line_feed}
-use Rattle.bz_lex.specs.declared.leaf.Leaf.{Leaf}
-use Rattle.bz_value.specs.BuildValues.{IsBuildItem, IsProperBuild}
-use Rattle.bz_value.specs.Proper.{IsProperItem, comments_of}
-use Rattle.bz_value.specs.declared.value.Expr.{Expr}
-use Rattle.bz_value.specs.declared.value.Item.{Item}
 use Rattle.bz_value.specs.declared.value.Item.TheVariants as i
-use Rattle.bz_value.specs.Statements.{has_suite}
 use Rattle.bz_layout.specs.Drafts.{Drafted, drafted, pushed}
 use Rattle.bz_layout.specs.Layout.{suffix_text}
 use Rattle.bz_layout.specs.LaidOut.{part_of, line_part, left_gap, before_next, lines_from}
@@ -28,7 +19,6 @@ use Rattle.bz_layout.specs.declared.writer.OpenWindow.{OpenWindow}
 use Rattle.bz_layout.specs.declared.writer.Writer.{Writer}
 use Rattle.bz_layout.specs.private.Reached.{IsProperBuildItem, Reached, AreReached, IsAt, HasGap, HasNext, Passes, own_text}
 use Rattle.bz_layout.specs.private.Windows.{line_count_in, statement_gap, AreCounted, AreLinesOver}
-use Rattle.bz_value.specs.declared.windows.Window.{Window}
 use Rattle.bz_layout.proofs.LineWindows.{each_cut}
 use Rattle.bz_layout.proofs.LegalParts.{Begin, begin_with, laid_out_good}
 use Rattle.bz_layout.proofs.BuildLaid.{build_line, build_plain}

@@ -9,10 +9,9 @@ use Rattle.bz_token.specs.declared.class.Class.TheVariants as c
 use Rattle.bz_token.specs.Lexemes.{IsLexeme, in_table}
 use Rattle.bz_token.specs.Tokens.{IsToken}
 use Rattle.bz_token.proofs.Tables.{one_text}
-use Rattle.bz_lex.specs.declared.leaf.Leaf.{Leaf}
+use Rattle.bz_layout.specs.Words.{Leaf, Kind}
 use Rattle.bz_lex.specs.Leaves.{spell_leaves}
 use Rattle.bz_lex.proofs.Lists.{spell_leaves-append}
-use Rattle.bz_grammar.specs.declared.kind.Kind.{Kind}
 use Rattle.bz_grammar.specs.declared.tree.Part.{Part, Row_of-Part, end_of-Part, more_of-Part, Node', items-the_row-Part}
 use Rattle.bz_grammar.specs.declared.tree.Part.TheVariants as p
 use Rattle.bz_grammar.specs.Spell.{leaves_part, depth_part}

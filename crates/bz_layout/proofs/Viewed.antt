@@ -4,19 +4,14 @@ use Rattle.std.specs.Prelude.{None}
 use Rattle.std.specs.List.{AllByRecursion}
 use Rattle.std.proofs.Math.Bool.{and-false, and-true}
 use Rattle.std.proofs.lemmas.Bool.{and_parts}
-use Rattle.bz_grammar.specs.declared.kind.Kind.{Kind}
+use Rattle.bz_layout.specs.Words.{Kind, Expr, Bytes, space, no_comments, root, is_empty}
 use Rattle.bz_grammar.specs.declared.kind.Kind.TheVariants as k
-use Rattle.bz_value.specs.declared.value.Expr.{Expr}
-use Rattle.bz_items.specs.Characters.{Bytes, space}
-use Rattle.bz_value.specs.Comments.{no_comments}
 use Rattle.bz_value.specs.Frames.{is_binary, is_comprehension}
 use Rattle.bz_value.specs.Gaps.{GapLine, lines_of, comments_in, some_newline, all_in, has_newline}
 use Rattle.bz_value.specs.Proper.{comments_of, has_break, is_operator}
-use Rattle.bz_value.specs.Roots.{root}
 use Rattle.bz_value.proofs.FormParts.{operator_first}
 use Rattle.bz_hosts.specs.Seen.{Seen, seen, plain, first_seen_gap, begins_seen_operator, loose_after, row_exprs, is_open}
 use Rattle.bz_layout.specs.Layout.{Piece, rowed, gap_after, margin_after, new_line_at, firsts}
-use Rattle.bz_value.specs.Empty.{is_empty}
 use Rattle.bz_layout.specs.Spaces.{is_spaced}
 use Rattle.bz_layout.specs.LaidOut.{PartAt, piece_part}
 use Rattle.bz_layout.specs.Flags.{with_flags}

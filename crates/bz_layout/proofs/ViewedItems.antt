@@ -4,15 +4,12 @@ use Rattle.std.specs.Prelude.{Option, None, Some}
 use Rattle.std.specs.List.{AllByRecursion}
 use Rattle.std.proofs.lemmas.Bool.{and_parts, or_parts, not-false}
 use Rattle.bz_token.specs.declared.class.Class.TheVariants as c
-use Rattle.bz_grammar.specs.declared.kind.Kind.{Kind}
-use Rattle.bz_value.specs.declared.value.Expr.{Expr}
-use Rattle.bz_items.specs.Characters.{Bytes, comma, space}
+use Rattle.bz_layout.specs.Words.{Kind, Expr, Bytes, comma, space, is_empty, is_none}
 use Rattle.bz_value.specs.Comments.{HostComments, no_comments}
 use Rattle.bz_value.specs.Gaps.{lines_of, comments_in, first_comment, after_first_line, some_newline, suffix_in, others_in, all_in, has_newline}
 use Rattle.bz_value.specs.Proper.{IsComment, MaybeComment, comments_of, has_break}
 use Rattle.bz_hosts.specs.Seen.{Seen, seen, plain, first_seen_gap, loose_after, loose_in, items_in, item_in, is_split, leaf_seen}
 use Rattle.bz_layout.specs.Layout.{Piece, joined, stacked, headed, is_broken, has_comments, new_line_at, margin_lines, suffix_text, firsts}
-use Rattle.bz_value.specs.Empty.{is_empty, is_none}
 use Rattle.bz_layout.specs.Flags.{with_flags}
 use Rattle.bz_layout.proofs.Gapped.{ended_line, commented, commented_back, suffix_indent, lines_item, lines_end}
 use Rattle.bz_layout.proofs.Made.{two}

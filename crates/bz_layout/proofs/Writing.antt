@@ -6,18 +6,10 @@ use Rattle.std.proofs.lemmas.List.{drop_all, drop_more, take_all, length-drop, l
 use Rattle.std.proofs.lemmas.Bool.{both_ways, or_left, or_right}
 use Rattle.std.specs.Cmp.Derive.{both_true}
 use Rattle.bz_token.specs.declared.class.Class.TheVariants as c
-use Rattle.bz_grammar.specs.declared.kind.Kind.{Kind}
+use Rattle.bz_layout.specs.Words.{Kind, Bytes, comma, line_feed, space, Form, Expr, Token, Form', is_empty, comments_of, has_break, Item, root, has_suite}
 use Rattle.bz_grammar.specs.Shapes.{equals, has_token}
-use Rattle.bz_items.specs.Characters.{Bytes, comma, line_feed, space}
-use Rattle.bz_value.specs.declared.value.Form.{Form}
-use Rattle.bz_value.specs.declared.value.Expr.{Expr, Token, Form'}
 use Rattle.bz_value.specs.declared.value.Expr.TheVariants as e
-use Rattle.bz_value.specs.Empty.{is_empty}
 use Rattle.bz_value.specs.Frames.{Frame, row, sequence, compound, frame, has_brackets, is_compound}
-use Rattle.bz_value.specs.Proper.{comments_of, has_break}
-use Rattle.bz_value.specs.declared.value.Item.{Item}
-use Rattle.bz_value.specs.Roots.{root}
-use Rattle.bz_value.specs.Statements.{has_suite}
 use Rattle.bz_layout.specs.Layout.{Piece, new_line_at, margin_lines, ended, suffix_text, stacked, joined, rowed, headed, is_broken, is_tuple, gap_after, margin_after}
 use Rattle.bz_layout.specs.Written.{TextAt, piece_text, text_of, text_by_frame, suite_text, statements_text, line_end, at_margin, indented_lines, item_text, layout}
 use Rattle.bz_layout.specs.LaidOut.{before_next}

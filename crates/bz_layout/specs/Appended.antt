@@ -1,8 +1,6 @@
 -- The layout of items after others.
 use Rattle.std.specs.Prelude.{◌≡◌, ◌≤◌, ℕ, List, [], ◌∷◌, ◌++◌, Option, None, Some}
-use Rattle.bz_items.specs.Characters.{Bytes}
-use Rattle.bz_grammar.specs.Spell.{depth_of}
-use Rattle.bz_value.specs.declared.value.Item.{Item}
+use Rattle.bz_layout.specs.Words.{Bytes, depth_of, Item}
 use Rattle.bz_layout.specs.LaidOut.{before_next, laid_out}
 use Rattle.bz_layout.specs.Written.{layout}
 

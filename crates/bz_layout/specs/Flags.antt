@@ -1,12 +1,8 @@
 -- The pass over the flags: split becomes whether the sequence is broken.
 use Rattle.std.specs.Prelude.{◌≡◌, Bool, List, [], ◌∷◌, map}
-use Rattle.bz_grammar.specs.declared.kind.Kind.{Kind}
-use Rattle.bz_value.specs.declared.value.Expr.{Expr, Form', Row_of-Expr, end_of-Expr, more_of-Expr, items-the_row-Expr}
+use Rattle.bz_layout.specs.Words.{Kind, Expr, Form', Row_of-Expr, end_of-Expr, more_of-Expr, items-the_row-Expr, Item, Bytes, Frame, sequence, frame}
 use Rattle.bz_value.specs.declared.value.Expr.TheVariants as e
-use Rattle.bz_value.specs.declared.value.Item.{Item}
 use Rattle.bz_value.specs.declared.value.Item.TheVariants as i
-use Rattle.bz_items.specs.Characters.{Bytes}
-use Rattle.bz_value.specs.Frames.{Frame, sequence, frame}
 use Rattle.bz_layout.specs.Layout.{is_broken}
 
 abbrev pub settled_split : Frame → Kind → Bool → List Expr → List Bytes → Bool

@@ -1,19 +1,10 @@
 -- The layout as a tree: what the writer makes of a file value. The end comments of a suite are in the gap of what follows it.
 use Rattle.std.specs.Prelude.{ℕ, Bool, List, [], ◌∷◌, ◌++◌, ◌+◌, if◌then◌else◌, map, Option, replicate}
 use Rattle.bz_token.specs.declared.class.Class.TheVariants as c
-use Rattle.bz_grammar.specs.declared.kind.Kind.{Kind}
+use Rattle.bz_layout.specs.Words.{Kind, Node, Part, Node', items-the_row-Part, Expr, Token, Form', Row_of-Expr, end_of-Expr, more_of-Expr, Item, Bytes, colon, line_feed, space, Frame, compound, frame, comments_of, mark_leaf, has_suite}
 use Rattle.bz_grammar.specs.declared.kind.Kind.TheVariants as k
-use Rattle.bz_grammar.specs.declared.tree.Node.{Node}
-use Rattle.bz_grammar.specs.declared.tree.Part.{Part, Node', items-the_row-Part}
 use Rattle.bz_grammar.specs.declared.tree.Part.TheVariants as p
-use Rattle.bz_value.specs.declared.value.Expr.{Expr, Token, Form', Row_of-Expr, end_of-Expr, more_of-Expr}
-use Rattle.bz_value.specs.declared.value.Item.{Item}
 use Rattle.bz_value.specs.declared.value.Item.TheVariants as i
-use Rattle.bz_items.specs.Characters.{Bytes, colon, line_feed, space}
-use Rattle.bz_value.specs.Frames.{Frame, compound, frame}
-use Rattle.bz_value.specs.Proper.{comments_of}
-use Rattle.bz_value.specs.Roots.{mark_leaf}
-use Rattle.bz_value.specs.Statements.{has_suite}
 use Rattle.bz_layout.specs.Layout.{Piece, mark, part, laid_in, firsts, margin_lines, suffix_text}
 use Rattle.bz_layout.specs.Written.{Indented, at_margin, indented_lines, comment_lines, gap_between}
 

@@ -1,12 +1,6 @@
 -- Laws of the layout.
 use Rattle.std.specs.Prelude.{◌≡◌, ◌≤◌, ◌<◌, List, length}
-use Rattle.bz_grammar.specs.Spell.{depth_of, limit, depth_limit}
-use Rattle.bz_grammar.specs.Legal.{IsBuild, ReadsBzl, NoBzlTree}
-use Rattle.bz_value.specs.declared.value.Item.{Item}
-use Rattle.bz_value.specs.BuildValues.{AreBuild}
-use Rattle.bz_value.specs.LineShapes.{Grammar}
-use Rattle.bz_value.specs.Proper.{IsProper, IsProperIn}
-use Rattle.bz_hosts.specs.View.{view_of}
+use Rattle.bz_layout.specs.Words.{depth_of, limit, depth_limit, IsBuild, ReadsBzl, NoBzlTree, Item, AreBuild, Grammar, IsProper, IsProperIn, view_of}
 use Rattle.bz_layout.specs.Written.{layout}
 use Rattle.bz_layout.specs.LaidOut.{laid_out}
 use Rattle.bz_layout.specs.Flags.{flags}

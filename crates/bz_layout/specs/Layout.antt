@@ -1,16 +1,8 @@
 -- The layout: what is in a node, as pieces. One definition; the text and the tree are two readings of it.
 use Rattle.std.specs.Prelude.{ℕ, Bool, false, not, ◌&&◌, ◌||◌, List, [], ◌∷◌, ◌++◌, ◌+◌, length, nat_le, nat_eq, if◌then◌else◌, replicate, map, Option, Some, None}
 use Rattle.std.specs.List.{list_any}
-use Rattle.bz_grammar.specs.declared.kind.Kind.{Kind}
+use Rattle.bz_layout.specs.Words.{Kind, is_kind, has_kind, Expr, Bytes, comma, line_feed, space, is_empty, is_none, Frame, row, sequence, compound, frame, comments_of, has_break, root}
 use Rattle.bz_grammar.specs.declared.kind.Kind.TheVariants as k
-use Rattle.bz_grammar.specs.Shapes.{is_kind}
-use Rattle.bz_rule.specs.Values.{has_kind}
-use Rattle.bz_value.specs.declared.value.Expr.{Expr}
-use Rattle.bz_items.specs.Characters.{Bytes, comma, line_feed, space}
-use Rattle.bz_value.specs.Empty.{is_empty, is_none}
-use Rattle.bz_value.specs.Frames.{Frame, row, sequence, compound, frame}
-use Rattle.bz_value.specs.Proper.{comments_of, has_break}
-use Rattle.bz_value.specs.Roots.{root}
 use Rattle.bz_layout.specs.Spaces.{is_spaced}
 
 -- ---- gaps

@@ -7,5 +7,6 @@ pub mod Layout
 pub mod Rows
 pub mod Spaces
 pub mod Windows
+pub mod Words
 pub mod Written
 pub mod private

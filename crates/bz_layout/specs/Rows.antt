@@ -3,10 +3,8 @@ use Prim.Native.String.{String}
 use Rattle.std.specs.Prelude.{◌≡◌, Bool, true, false, List, [], ◌∷◌, codes, None, Some}
 use Rattle.bz_token.specs.declared.class.Class.TheVariants as c
 use Rattle.bz_grammar.specs.declared.kind.Kind.TheVariants as k
-use Rattle.bz_value.specs.declared.value.Expr.{Expr}
-use Rattle.bz_value.specs.declared.value.Item.{Item}
+use Rattle.bz_layout.specs.Words.{Expr, Item, no_comments}
 use Rattle.bz_value.specs.declared.value.Item.TheVariants as i
-use Rattle.bz_value.specs.Comments.{no_comments}
 use Rattle.bz_hosts.specs.Worked.{with, token, name, number, string, mark, keyword, form, row, sequence, paren, comprehension, pair, argument, assigned, bare, calling, described, suite, function, on, documented, alternatives, ends, one_line, tabbed, parameters, defined}
 use Rattle.bz_layout.specs.Flags.{flags}
 use Rattle.bz_layout.specs.Written.{layout}

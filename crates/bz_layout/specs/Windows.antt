@@ -1,13 +1,9 @@
 -- The texts of what changes in the tree of a layout.
 use Rattle.std.specs.Prelude.{◌≡◌, List, [], ◌∷◌}
 use Rattle.std.specs.List.{flat_map}
-use Rattle.bz_edit.specs.declared.part_windows.PartWindow.{PartWindow}
-use Rattle.bz_grammar.specs.Spell.{spell_part}
-use Rattle.bz_grammar.specs.declared.tree.Node.{Node}
+use Rattle.bz_layout.specs.Words.{PartWindow, spell_part, Node, IsProperBuild, Item}
 use Rattle.bz_layout.specs.LaidOut.{laid_out}
 use Rattle.bz_layout.specs.declared.writer.TextWindow.{TextWindow}
-use Rattle.bz_value.specs.BuildValues.{IsProperBuild}
-use Rattle.bz_value.specs.declared.value.Item.{Item}
 
 -- the texts are what the parts spell, window by window
 abbrev pub AreTextsOf : List TextWindow → List PartWindow → Type 0

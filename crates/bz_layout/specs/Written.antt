@@ -1,17 +1,9 @@
 -- The layout as text: of an expression at a margin, and of a file.
 use Rattle.std.specs.Prelude.{ℕ, Bool, ◌&&◌, ◌||◌, List, [], ◌∷◌, ◌++◌, ◌+◌, Option, if◌then◌else◌, map, replicate}
 use Rattle.std.specs.List.{flat_map}
-use Rattle.bz_grammar.specs.declared.kind.Kind.{Kind}
+use Rattle.bz_layout.specs.Words.{Kind, has_kind, Expr, Token, Form', Row_of-Expr, end_of-Expr, more_of-Expr, Item, Bytes, colon, line_feed, space, is_empty, Frame, compound, frame, comments_of, has_suite}
 use Rattle.bz_grammar.specs.declared.kind.Kind.TheVariants as k
-use Rattle.bz_rule.specs.Values.{has_kind}
-use Rattle.bz_value.specs.declared.value.Expr.{Expr, Token, Form', Row_of-Expr, end_of-Expr, more_of-Expr}
-use Rattle.bz_value.specs.declared.value.Item.{Item}
 use Rattle.bz_value.specs.declared.value.Item.TheVariants as i
-use Rattle.bz_items.specs.Characters.{Bytes, colon, line_feed, space}
-use Rattle.bz_value.specs.Empty.{is_empty}
-use Rattle.bz_value.specs.Frames.{Frame, compound, frame}
-use Rattle.bz_value.specs.Proper.{comments_of}
-use Rattle.bz_value.specs.Statements.{has_suite}
 use Rattle.bz_layout.specs.Layout.{Piece, mark, part, laid_in, margin_lines, suffix_text}
 
 -- ---- lines of comments

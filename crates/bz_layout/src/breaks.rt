@@ -1,7 +1,6 @@
 //! Which sequences the layout breaks.
 ghost use Rattle.std.specs.Prelude.{◌≡◌, ◌&&◌, ◌||◌, length, nat_le};
-ghost use Rattle.bz_rule.specs.Values.{has_kind};
-ghost use Rattle.bz_value.specs.Statements.{has_suite};
+ghost use Rattle.bz_layout.specs.Words.{has_kind, has_suite};
 ghost use Rattle.bz_layout.specs.Layout as layout;
 
 use bz_grammar::Kind;

@@ -1,16 +1,11 @@
 //! What of the layout's text is another where items came in the place of others.
 ghost use Rattle.std.specs.Prelude.{◌≡◌, ◌<◌, ◌≤◌, [], length, List, IfOk, MatchOption, Err};
 ghost use Rattle.std.specs.List.{flat_map};
-ghost use Rattle.bz_edit.specs.Windows.{AreThere, with_windows};
-ghost use Rattle.bz_edit.specs.declared.part_windows.PartWindow.{PartWindow};
-ghost use Rattle.bz_grammar.specs.Spell.{depth_limit, depth_of, limit, spell_node, spell_part};
+ghost use Rattle.bz_layout.specs.Words.{AreThere, with_windows, PartWindow, depth_limit, depth_of, limit, spell_node, spell_part, AreBuild, AreOver, AreWithin, Item};
 ghost use Rattle.bz_layout.specs.LaidOut.{laid_out, lines_from};
 ghost use Rattle.bz_layout.specs.Windows.{AreTextsOf, IsLayoutOf};
 ghost use Rattle.bz_layout.specs.Written.{layout};
 ghost use Rattle.bz_layout.specs.private.Reached.{IsPut, gone_length};
-ghost use Rattle.bz_value.specs.BuildValues.{AreBuild};
-ghost use Rattle.bz_value.specs.Windows.{AreOver, AreWithin};
-ghost use Rattle.bz_value.specs.declared.value.Item.{Item};
 
 use crate::depth::are_windows_within;
 use crate::line_windows::{all_as_one, old_count, old_lines};

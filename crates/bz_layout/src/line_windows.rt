@@ -1,8 +1,7 @@
 //! Windows that count the lines of what was taken out. Of the items that were there only the lines of the tree are known.
 ghost use Rattle.std.specs.Prelude.{◌≡◌, ◌+◌, ◌≤◌, ◌∷◌, [], drop, length, take, List, IfSome};
 ghost use Rattle.bz_layout.specs.private.Windows as counts;
-ghost use Rattle.bz_value.specs.Windows.{AreOver, AreWithin};
-ghost use Rattle.bz_value.specs.declared.value.Item.{Item};
+ghost use Rattle.bz_layout.specs.Words.{AreOver, AreWithin, Item};
 
 use bz_value::{Item, Window};
 

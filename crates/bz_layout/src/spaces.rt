@@ -1,9 +1,8 @@
 //! The single spaces between the parts of a row, and the blank lines between items.
 ghost use Rattle.std.specs.Prelude.{◌≡◌, ◌∷◌, [], if◌then◌else◌};
 ghost use Rattle.std.specs.Option.{option_copied};
-ghost use Rattle.bz_items.specs.Characters.{line_feed};
+ghost use Rattle.bz_layout.specs.Words.{line_feed, root};
 ghost use Rattle.bz_grammar.specs.Shapes as shapes;
-ghost use Rattle.bz_value.specs.Roots.{root};
 ghost use Rattle.bz_layout.specs.Appended.{gap_below};
 ghost use Rattle.bz_layout.specs.Spaces as spaces;
 ghost use Rattle.bz_layout.specs.Written as written;

@@ -1,16 +1,12 @@
 //! Text windows in the making: the lines that change, and where they are among those of the tree.
 ghost use Rattle.std.specs.Prelude.{◌≡◌, ◌∷◌, ◌++◌, ◌+◌, ◌-◌, ◌<◌, ◌≤◌, [], true, false, drop, length, take, slice_get, List, IfOk, IsTrue, MatchOption, OnOk};
 ghost use Rattle.std.specs.List.{flat_map};
-ghost use Rattle.bz_grammar.specs.Spell.{leaves_part, limit, spell_part};
-ghost use Rattle.bz_grammar.specs.declared.tree.Part.{Part};
+ghost use Rattle.bz_layout.specs.Words.{leaves_part, limit, spell_part, Part, IsProperBuild, AreWithin, Item};
 ghost use Rattle.bz_layout.specs.Drafts.{pushed};
 ghost use Rattle.bz_layout.specs.LaidOut.{left_gap, before_next, lines_from};
 ghost use Rattle.bz_layout.specs.Written as written;
 ghost use Rattle.bz_layout.specs.private.Reached.{AreReached, HasGap, HasNext, IsAt, IsPut, Passes, own_text};
 ghost use Rattle.bz_layout.specs.private.Windows.{AreCounted, HaveLines};
-ghost use Rattle.bz_value.specs.BuildValues.{IsProperBuild};
-ghost use Rattle.bz_value.specs.Windows.{AreWithin};
-ghost use Rattle.bz_value.specs.declared.value.Item.{Item};
 
 use crate::draft::Draft;
 use crate::gaps::{leave_gap, pass_over, push_comments};

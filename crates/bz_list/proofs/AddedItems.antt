@@ -6,11 +6,9 @@ use Rattle.std.specs.List.{list_any}
 use Rattle.std.specs.Option.{option_map_or}
 use Rattle.std.proofs.Math.Bool.{or_assoc}
 use Rattle.std.proofs.Math.Path.{fun_ext}
-use Rattle.bz_value.specs.declared.value.Expr.{Expr}
-use Rattle.bz_items.specs.Characters.{Bytes}
+use Rattle.bz_list.specs.Words.{Expr, Bytes, string_of}
 use Rattle.bz_attribute.proofs.KeySets.{or_none}
 use Rattle.bz_attribute.specs.Lists.{body_of, are_one, is_item, fresh, travelled, is_there, arriving}
-use Rattle.bz_attribute.specs.Made.{string_of}
 use Rattle.bz_list.specs.declared.listed.Added.{Added}
 use Rattle.bz_list.specs.declared.listed.Added.TheVariants as a
 use Rattle.bz_list.specs.private.KnownValues.{is_known, with_known, with_all, new_ones}

@@ -7,19 +7,15 @@ use Rattle.std.specs.Option.{option_and_then, option_map_or}
 use Rattle.std.proofs.lemmas.Slice.Eq.{ends_is}
 use Rattle.bz_token.specs.declared.class.Class.TheVariants as c
 use Rattle.bz_grammar.specs.Shapes.{is_class}
-use Rattle.bz_label.specs.Forms.{label_of}
+use Rattle.bz_list.specs.Words.{label_of, is_label_attribute, Label, text_of, are_one, body_of, is_item, listed}
 use Rattle.bz_label.specs.Labels.{IsLabel, whole, package_alone, repository_alone, colon_name, bare_name}
 use Rattle.bz_label.specs.Pieces.{is_slash}
 use Rattle.bz_label.specs.Read.{label_in, is_same}
-use Rattle.bz_label.specs.Tables.{is_label_attribute}
 use Rattle.bz_label.specs.declared.form.Parts.{Parts}
-use Rattle.bz_label.specs.declared.label.Label.{Label}
 use Rattle.bz_label.proofs.LabelFunctions.{label_exact, read_label, same_exactly}
 use Rattle.bz_value.specs.declared.value.Expr.{Expr, Token, Form'}
 use Rattle.bz_items.specs.Characters.{Bytes, apostrophe, quotation_mark}
 use Rattle.bz_rule.specs.Rules.{body, inner, is_plain_in}
-use Rattle.bz_rule.specs.Values.{text_of}
-use Rattle.bz_attribute.specs.Lists.{are_one, body_of, is_item, listed}
 use Rattle.bz_attribute.proofs.FormsAgain.{found_if}
 use Rattle.bz_attribute.proofs.KeySets.{any_like, equal_texts}
 use Rattle.bz_attribute.proofs.ListsThere.{any_listed}

@@ -15,12 +15,8 @@ use Rattle.std.proofs.lemmas.List.Folds.{list_any_none}
 use Rattle.std.proofs.lemmas.Map.Text.{is_eq-slice_cmp}
 use Rattle.std.proofs.Math.Bool.{and_assoc}
 use Rattle.std.proofs.Math.Path.{fun_ext}
-use Rattle.bz_label.specs.declared.label.Label.{Label}
+use Rattle.bz_list.specs.Words.{Label, is_label_attribute, Expr, Bytes, body_of, are_one, is_some_item, listed}
 use Rattle.bz_label.specs.Read.{label_in, is_equal, are_equal, is_same}
-use Rattle.bz_label.specs.Tables.{is_label_attribute}
-use Rattle.bz_value.specs.declared.value.Expr.{Expr}
-use Rattle.bz_items.specs.Characters.{Bytes}
-use Rattle.bz_attribute.specs.Lists.{body_of, are_one, is_some_item, listed}
 use Rattle.bz_attribute.proofs.FormsAgain.{both}
 use Rattle.bz_attribute.proofs.KeySets.{any_like, equal_texts, or_group, or_none, any_inserted}
 use Rattle.bz_attribute.proofs.PlainWords.{equal_self}

@@ -6,25 +6,20 @@ use Rattle.std.proofs.lemmas.Bool.{and_parts, or_parts, cases_Bool, and_from, or
 use Rattle.std.proofs.lemmas.List.{append-nil}
 use Rattle.bz_grammar.specs.declared.kind.Kind.TheVariants as k
 use Rattle.bz_value.specs.declared.value.Expr.{Expr, items_hidden-the_row-Expr-0}
-use Rattle.bz_items.specs.Characters.{Bytes}
-use Rattle.bz_rule.specs.Rules.{attribute}
+use Rattle.bz_list.specs.Words.{Bytes, attribute, has_attribute, on_first_that, with_value, with_new, Arguments, without, has_lists, items_in, is_no_list, with_more, are_one, is_item, fresh, body_of, listed, is_empty_list, is_some_item, is_label_attribute, is_escaped, is_empty, is_nonempty}
 use Rattle.bz_rule.specs.Values.{has_kind, parts_of, items_of, on_row, on_items, with_parts, with_items, on_lists}
-use Rattle.bz_attribute.specs.Attributes.{has_attribute, on_first_that, with_value, with_new, Arguments, without}
 use Rattle.bz_attribute.proofs.AttributesAgain.{by_there, by_absent, with_value_same, node_parts, attribute_new, attribute_changed, without_new, same_made}
 use Rattle.bz_attribute.proofs.FormsAgain.{if_true, if_either, row_same, items_same, both, if_false, parts_kind, items_kind, parts_filled, items_filled, row_changed, items_changed}
 use Rattle.bz_list.specs.Changes.{with_items_added, cleared, without_items, remove_values}
 use Rattle.bz_list.specs.Laws.{AddedAgain, become_plain, are_there, AddedIsThere, RemovedAgain}
-use Rattle.bz_attribute.specs.Lists.{has_lists, items_in, is_no_list, with_more, are_one, is_item, fresh, body_of, listed, is_empty_list, is_some_item}
 use Rattle.bz_attribute.specs.Made.{string_of, list_of, plus, shortened_in, mark, node, binds_looser, operand}
 use Rattle.bz_value.specs.declared.refusal.Refusal.TheVariants.{NotAList}
 use Rattle.std.specs.Option.{option_map_or}
 use Rattle.bz_label.specs.Pieces.{is_colon}
 use Rattle.bz_label.specs.Read.{is_same, is_own, shortened}
 use Rattle.bz_label.specs.Shorter.{before_colon, after_colon, is_repeated, unrepeated}
-use Rattle.bz_label.specs.Tables.{is_label_attribute}
 use Rattle.bz_label.proofs.LabelFunctions.{same_exactly, is_shortened}
 use Rattle.bz_label.proofs.Shorter.{shortened_same}
-use Rattle.bz_command_syntax.specs.Quoted.{is_escaped}
 use Rattle.bz_rule.proofs.ProperChanges.{by_test, by_case}
 use Rattle.bz_attribute.proofs.PlainWords.{IsPlain, equal_self, body_quoted}
 use Rattle.bz_list.proofs.KnownSteps.{meant_alike}
@@ -34,8 +29,6 @@ use Rattle.std.proofs.Math.Bool.{or_assoc, or-false}
 use Rattle.std.proofs.lemmas.Grind.{flat_map-append}
 use Rattle.std.proofs.lemmas.List.Folds.{list_any-append}
 use Rattle.bz_attribute.proofs.ListsThere.{any_alone, any_in_sum, in_sum, lists_there, sum_no_list}
-use Rattle.bz_value.specs.Empty.{is_empty}
-use Rattle.bz_command_syntax.specs.Words.{is_nonempty}
 
 -- what further items make of an attribute that is there
 abbrev pub grown : Bytes → (List Expr → List Expr) → List Expr → Expr → Arguments

@@ -6,28 +6,21 @@ use Rattle.std.specs.Option.{option_map_or}
 use Rattle.bz_grammar.specs.declared.kind.Kind.TheVariants as k
 use Rattle.std.proofs.lemmas.List.{append-nil, at_drop_all}
 use Rattle.bz_value.specs.declared.value.Expr.{Expr, Token, Form'}
-use Rattle.bz_value.specs.Empty.{is_empty}
+use Rattle.bz_list.specs.Words.{is_empty, Bytes, attribute, with_new, with_value, without, Arguments, by_value, on_first_that, on_value, is_attribute, Values, Attributes, list_of, plus, string_text, is_label_attribute}
 use Rattle.bz_attribute.specs.Lists.{items_in, listed, lists_of, is_empty_list, is_no_list, has_lists, is_some_item, with_more, body_of, are_one}
 use Rattle.bz_attribute.proofs.ListsThere.{in_sum, in_value, items_there, some_filtered}
 use Rattle.std.proofs.lemmas.Bool.{or_parts}
 use Rattle.std.proofs.lemmas.List.Folds.{list_any-append}
-use Rattle.bz_items.specs.Characters.{Bytes}
-use Rattle.bz_rule.specs.Rules.{attribute}
 use Rattle.bz_rule.specs.Values.{has_kind, parts_of, items_of, with_parts, with_items, with_text, on_row, on_items, on_lists}
-use Rattle.bz_attribute.specs.Attributes.{with_new, with_value, without, Arguments, by_value, on_first_that, on_value, is_attribute}
 use Rattle.bz_attribute.proofs.AttributesAgain.{by_there, with_value_same}
 use Rattle.bz_attribute.proofs.FormsAgain.{both, own_parts, own_items, if_true, if_false}
 use Rattle.bz_list.specs.Changes.{cleared, without_items, is_moved, items_moved, with_items_added, move, remove_values, with_body, in_attributes}
 use Rattle.bz_list.specs.private.Listing.{put_back, without_chosen, chosen_in, added_by, value_with, item_changed_by}
 use Rattle.bz_list.specs.declared.replacing.Change.{Change}
 use Rattle.bz_list.specs.declared.replacing.Change.TheVariants.{Replace, Substitute, Shorten}
-use Rattle.bz_command_syntax.specs.declared.command.Values.{Values}
-use Rattle.bz_command_syntax.specs.declared.command.Attributes.{Attributes}
 use Rattle.bz_command_syntax.specs.declared.command.Attributes.TheVariants as t
 use Rattle.bz_list.specs.declared.listed.Added.TheVariants as a
 use Rattle.bz_value.specs.declared.refusal.Refusal.TheVariants.{NoAttribute, NotAList}
-use Rattle.bz_attribute.specs.Made.{list_of, plus, string_text}
-use Rattle.bz_label.specs.Tables.{is_label_attribute}
 use Rattle.bz_label.specs.Read.{shortened}
 use Rattle.bz_command_syntax.specs.Patterns.{substituted}
 use Rattle.bz_command_syntax.specs.Quoted.{quoted_of}

@@ -12,11 +12,10 @@ use Rattle.bz_grammar.specs.Shapes.{is_class}
 use Rattle.bz_grammar.proofs.Numbers.{same_kind}
 use Rattle.std.proofs.lemmas.Bool.{eqb-true}
 use Rattle.bz_grammar.specs.Spots.{Spot, Within}
-use Rattle.bz_label.specs.Tables.{is_label_attribute}
+use Rattle.bz_list.specs.Words.{is_label_attribute, Bytes, string_text, list_of, string_of, plus, on_first_that, is_attribute, is_other_attribute, on_value, with_value, with_new, without, Attributes, Values}
 use Rattle.bz_label.specs.Read.{shortened}
 use Rattle.bz_value.specs.declared.value.Expr.{Expr, Token, Form', items-the_row-Expr}
 use Rattle.bz_value.specs.LineShapes.{Grammar, value_shape}
-use Rattle.bz_items.specs.Characters.{Bytes}
 use Rattle.bz_value.specs.Proper.{ProperExpr, after_expr}
 use Rattle.bz_value.proofs.FormParts.{ArePartsBy}
 use Rattle.bz_command_syntax.specs.Patterns.{substituted}
@@ -28,8 +27,6 @@ use Rattle.bz_rule.proofs.ProperChanges.{by_test, by_case, Stays, row_stays, ite
 use Rattle.bz_rule.proofs.ProperForms.{InPlace, AsForm, itself, each_mapped, opened}
 use Rattle.bz_rule.proofs.ProperItems.{IsValue, from_in_place, item_within, value_in_place, all_joined, all_kept, all_changed}
 use Rattle.bz_rule.proofs.ProperSequences.{IsItem, AreOf, list_apart, list_in_place, where_true}
-use Rattle.bz_attribute.specs.Made.{string_text, list_of, string_of, plus}
-use Rattle.bz_attribute.specs.Attributes.{on_first_that, is_attribute, is_other_attribute, on_value, with_value, with_new, without}
 use Rattle.bz_attribute.specs.Lists.{items_in, listed, with_more, body_of, are_one, is_item, fresh, travelled, is_there, arriving, has_lists, is_no_list, is_empty_list, is_some_item}
 use Rattle.bz_attribute.proofs.ListsThere as lists
 use Rattle.bz_attribute.proofs.ProperAttributes.{first_that_stays, AreArguments, Made, Keeps, of_attribute, first_that_kept, value_stays, with_value_kept, without_kept, with_new_kept}
@@ -37,9 +34,7 @@ use Rattle.bz_list.specs.Changes.{in_value, replaced_item, with_body, substitute
 use Rattle.bz_list.proofs.LawAdded.{grown}
 use Rattle.bz_attribute.proofs.ProperMade.{string_strung, quoted_string, list_value, plus_value, words_are_items}
 use Rattle.bz_attribute.proofs.ProperTexts.{body_utf8, shortened_utf8}
-use Rattle.bz_command_syntax.specs.declared.command.Attributes.{Attributes}
 use Rattle.bz_command_syntax.specs.declared.command.Attributes.TheVariants as t
-use Rattle.bz_command_syntax.specs.declared.command.Values.{Values}
 use Rattle.bz_value.specs.declared.refusal.Refusal.TheVariants.{NoAttribute, NotAList}
 
 -- ---- the items of a value

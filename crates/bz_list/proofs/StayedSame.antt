@@ -5,14 +5,10 @@ use Rattle.std.specs.List.{filter, list_any}
 use Rattle.std.proofs.lemmas.Bool.{cases_Bool, not-true}
 use Rattle.std.proofs.Math.Bool.{or-false}
 use Rattle.bz_grammar.specs.declared.kind.Kind.TheVariants as k
-use Rattle.bz_value.specs.declared.value.Expr.{Expr}
-use Rattle.bz_value.specs.Empty.{is_empty}
-use Rattle.bz_items.specs.Characters.{Bytes}
-use Rattle.bz_rule.specs.Rules.{attribute}
+use Rattle.bz_list.specs.Words.{Expr, is_empty, Bytes, attribute, has_lists, is_empty_list, items_in, listed, with_more}
 use Rattle.bz_rule.specs.Values.{has_kind, parts_of, items_of, with_parts, with_items, on_row, on_items, on_lists}
 use Rattle.bz_rule.proofs.ProperChanges.{by_case, by_test}
 use Rattle.bz_attribute.specs.Attributes.{has_attribute, is_attribute, inserted, on_first_that, with_new, with_value, without}
-use Rattle.bz_attribute.specs.Lists.{has_lists, is_empty_list, items_in, listed, with_more}
 use Rattle.bz_attribute.specs.Made.{argument_of, list_of, node, operand, plus}
 use Rattle.bz_attribute.proofs.AttributesAgain.{attribute_changed, with_value_same}
 use Rattle.bz_attribute.proofs.FormsAgain.{attribute_first, if_false, if_true, items_changed, items_filled, items_kind, parts_filled, parts_kind, row_changed}

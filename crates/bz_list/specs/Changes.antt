@@ -2,21 +2,12 @@
 use Rattle.std.specs.Prelude.{Bool, true, false, not, List, [], Ok, Err, map, if◌then◌else◌, bytes_eq}
 use Rattle.std.specs.List.{list_any, filter}
 use Rattle.std.specs.Option.{option_map_or}
-use Rattle.bz_value.specs.declared.value.Expr.{Expr}
-use Rattle.bz_items.specs.Characters.{Bytes}
+use Rattle.bz_list.specs.Words.{Expr, Bytes, ValueOperation, Attributes, Values, attribute, parts_of, with_text, first_text, on_lists, string_text, string_of, list_of, plus, is_attribute, is_other_attribute, on_first_that, on_value, with_value, with_new, without, Arguments, by_value, has_lists, items_in, is_no_list, is_empty_list, with_more, body_of, is_item, is_some_item, fresh, arriving}
 use Rattle.bz_command_syntax.specs.Patterns.{substituted}
-use Rattle.bz_command_syntax.specs.declared.command.ValueOperation.{ValueOperation}
 use Rattle.bz_command_syntax.specs.declared.command.ValueOperation.TheVariants as wv
-use Rattle.bz_command_syntax.specs.declared.command.Attributes.{Attributes}
 use Rattle.bz_command_syntax.specs.declared.command.Attributes.TheVariants as a
-use Rattle.bz_command_syntax.specs.declared.command.Values.{Values}
 use Rattle.bz_command_syntax.specs.declared.command.Values.TheVariants as v
-use Rattle.bz_rule.specs.Rules.{attribute}
-use Rattle.bz_rule.specs.Values.{parts_of, with_text, first_text, on_lists}
 use Rattle.bz_value.specs.declared.refusal.Refusal.TheVariants.{NoAttribute, NotAList}
-use Rattle.bz_attribute.specs.Made.{string_text, string_of, list_of, plus}
-use Rattle.bz_attribute.specs.Attributes.{is_attribute, is_other_attribute, on_first_that, on_value, with_value, with_new, without, Arguments, by_value}
-use Rattle.bz_attribute.specs.Lists.{has_lists, items_in, is_no_list, is_empty_list, with_more, body_of, is_item, is_some_item, fresh, arriving}
 
 -- ---- add
 

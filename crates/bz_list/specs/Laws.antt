@@ -2,13 +2,7 @@
 use Rattle.std.specs.Prelude.{◌≡◌, Bool, true, false, not, List, Some, Ok}
 use Rattle.std.specs.List.{list_any, list_all}
 use Rattle.std.specs.Option.{option_map_or}
-use Rattle.bz_items.specs.Characters.{Bytes}
-use Rattle.bz_value.specs.declared.value.Expr.{Expr}
-use Rattle.bz_command_syntax.specs.Quoted.{is_escaped}
-use Rattle.bz_command_syntax.specs.Words.{is_nonempty}
-use Rattle.bz_rule.specs.Rules.{attribute}
-use Rattle.bz_attribute.specs.Attributes.{has_attribute}
-use Rattle.bz_attribute.specs.Lists.{has_lists, items_in, is_item}
+use Rattle.bz_list.specs.Words.{Bytes, Expr, is_escaped, is_nonempty, attribute, has_attribute, has_lists, items_in, is_item}
 use Rattle.bz_list.specs.Changes.{add, remove_values}
 
 -- every word is an item of the value's lists

@@ -2,12 +2,7 @@
 ghost use Rattle.std.specs.Prelude.{◌≡◌, ◌⊎◌, ◌↔◌, IsTrue, ◌++◌, ◌∷◌, [], ℕ, List, Ok, Err, IfOk, OnOk, IfErr, map, not};
 ghost use Rattle.std.specs.List.{filter, flat_map, list_any};
 ghost use Rattle.bz_grammar.specs.declared.kind.Kind.TheVariants as kinds;
-ghost use Rattle.bz_value.specs.Empty.{is_empty};
-ghost use Rattle.bz_rule.specs.Rules.{attribute as value_there};
-ghost use Rattle.bz_rule.specs.Values.{has_kind as is_of, on_items, on_lists};
-ghost use Rattle.bz_attribute.specs.Attributes.{on_first_that};
-ghost use Rattle.bz_attribute.specs.Lists.{fresh, is_item as is_item_of, items_in, listed as as_listed, with_more};
-ghost use Rattle.bz_attribute.specs.Made.{string_of as string_made};
+ghost use Rattle.bz_list.specs.Words.{is_empty, attribute as value_there, has_kind as is_of, on_items, on_lists, on_first_that, fresh, is_item as is_item_of, items_in, listed as as_listed, with_more, string_of as string_made};
 ghost use Rattle.bz_list.specs.Changes.{with_items_added, remove_values, move, tells_change, values_changed};
 ghost use Rattle.bz_list.specs.private.KnownValues.{knows_word};
 ghost use Rattle.bz_list.specs.private.Listing.{added_by, added_to, chooses, chosen_in, is_item_ending, is_left, new_items, new_strings, put_back, value_with, without_chosen};

@@ -2,8 +2,7 @@
 ghost use Rattle.std.specs.Prelude.{◌≡◌, IfOk, OnOk, map};
 ghost use Rattle.std.specs.Option.{option_map_or};
 ghost use Rattle.bz_grammar.specs.declared.kind.Kind.TheVariants as kinds;
-ghost use Rattle.bz_rule.specs.Values.{on_items, on_lists, with_text};
-ghost use Rattle.bz_attribute.specs.Attributes.{on_value};
+ghost use Rattle.bz_list.specs.Words.{on_items, on_lists, with_text, on_value};
 ghost use Rattle.bz_list.specs.Changes.{in_attributes};
 ghost use Rattle.bz_list.specs.private.Listing.{item_changed_by, value_changed_by, other_changed_by};
 

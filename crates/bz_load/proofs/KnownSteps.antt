@@ -7,8 +7,7 @@ use Rattle.std.proofs.lemmas.Bool.{and_parts, not-false, not-true}
 use Rattle.std.proofs.Math.Path.{fun_ext}
 use Rattle.std.proofs.lemmas.List.{at_drop_all}
 use Rattle.indexmap.specs.IndexSet.{insert_key}
-use Rattle.bz_items.specs.Characters.{Bytes}
-use Rattle.bz_command_syntax.specs.declared.command.Symbol.{Symbol}
+use Rattle.bz_load.specs.Words.{Bytes, Symbol, Item}
 use Rattle.bz_attribute.proofs.KeySets.{or_turn, equal_texts, or_none}
 use Rattle.bz_attribute.proofs.FormsAgain.{if_true, if_false}
 use Rattle.bz_load.specs.declared.readings.Loaded.{Loaded}
@@ -18,7 +17,6 @@ use Rattle.bz_load.specs.private.Known.{knows, symbol_of_key, knows_name}
 use Rattle.bz_load.specs.Fixes.{is_used}
 use Rattle.std.specs.BTreeSet.{BTreeSet}
 use Rattle.std.specs.declared.alloc.Global.{Global}
-use Rattle.bz_value.specs.declared.value.Item.{Item}
 use Rattle.bz_rule.proofs.ProperChanges.{by_case}
 use Rattle.bz_attribute.proofs.ArgumentPlaces.{NonePasses, none_later, none_passes}
 use Rattle.bz_load.specs.Loads.{is_symbol, loads_symbol, is_load_from, symbols_of, is_loaded}

@@ -10,17 +10,10 @@ use Rattle.bz_attribute.proofs.KeySets.{or_turn}
 use Rattle.bz_token.specs.declared.class.Class.TheVariants as c
 use Rattle.bz_grammar.specs.declared.kind.Kind.TheVariants as k
 use Rattle.bz_value.specs.declared.value.Expr.{Expr, items_hidden-the_row-Expr-0, Token, Form'}
-use Rattle.bz_value.specs.declared.value.Item.{Item}
+use Rattle.bz_load.specs.Words.{Item, Bytes, is_escaped, quoted_of, Symbol, is_text, token, node, mark, name, on_first_that, without_first, body_of, is_empty}
 use Rattle.bz_value.specs.declared.value.Item.TheVariants as i
-use Rattle.bz_items.specs.Characters.{Bytes}
-use Rattle.bz_command_syntax.specs.Quoted.{is_escaped, quoted_of}
-use Rattle.bz_command_syntax.specs.declared.command.Symbol.{Symbol}
-use Rattle.bz_rule.specs.Rules.{is_text}
 use Rattle.bz_rule.specs.Values.{has_kind, items_of, with_items, on_items, on_rest}
 use Rattle.bz_rule.proofs.ProperChanges.{by_case, by_test}
-use Rattle.bz_attribute.specs.Made.{token, node, mark, name}
-use Rattle.bz_attribute.specs.Attributes.{on_first_that, without_first}
-use Rattle.bz_attribute.specs.Lists.{body_of}
 use Rattle.bz_attribute.proofs.FormsAgain.{both, if_true, items_kind, items_filled, if_false, items_twice}
 use Rattle.bz_attribute.proofs.PlainWords.{IsPlain, equal_self, body_quoted}
 use Rattle.bz_load.specs.Loads.{path_in, is_load_from, symbol_named, is_symbol, alias_in, loads_symbol, after_path, symbols_of, is_loaded, leading_blocks, loads_end, after_loads, is_load_item, is_block}
@@ -34,7 +27,6 @@ use Rattle.std.proofs.lemmas.List.Elements.{recursion_from_All}
 use Rattle.bz_grammar.specs.Spots.{Begins}
 use Rattle.bz_value.specs.Proper.{IsProperItem, IsProper}
 use Rattle.bz_value.specs.LineShapes.{whole_grammar}
-use Rattle.bz_value.specs.Empty.{is_empty}
 use Rattle.bz_load.specs.Fixes.{uses, is_used, is_commented, path_comments, has_own_comments, symbol_stays, with_used, is_emptied, used_alone, unused_loads, is_package_call, package_moved, move_package_to_top, fix}
 use Rattle.bz_load.proofs.ProperLoads.{used_statement, loads_stay_proper, load_none}
 

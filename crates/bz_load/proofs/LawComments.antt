@@ -10,22 +10,16 @@ use Rattle.bz_grammar.specs.declared.kind.Kind.TheVariants as k
 use Rattle.bz_grammar.specs.Shapes as s
 use Rattle.bz_grammar.specs.Spots.{Begins}
 use Rattle.bz_value.specs.declared.value.Expr.{Expr, Token, Form', items-the_row-Expr}
-use Rattle.bz_value.specs.declared.value.Item.{Item}
+use Rattle.bz_load.specs.Words.{Item, Bytes, is_empty, is_none, quoted_of, Symbol, token, node, mark, name, on_first_that, without_first}
 use Rattle.bz_value.specs.declared.value.Item.TheVariants as i
 use Rattle.bz_value.specs.Comments.{HostComments, no_comments}
 use Rattle.bz_value.specs.Counted.{total, suffix_amount, host_amount, row_amount, item_amount, one_if}
-use Rattle.bz_items.specs.Characters.{Bytes}
 use Rattle.bz_value.specs.Proper.{comments_of, IsProperItem}
 use Rattle.bz_value.specs.LineShapes.{whole_grammar}
 use Rattle.bz_value.proofs.Totals.{append_total, form_amount}
-use Rattle.bz_value.specs.Empty.{is_empty, is_none}
-use Rattle.bz_command_syntax.specs.Quoted.{quoted_of}
-use Rattle.bz_command_syntax.specs.declared.command.Symbol.{Symbol}
 use Rattle.bz_rule.specs.Values.{has_kind, parts_of, items_of, with_items, on_items, on_rest}
 use Rattle.bz_rule.proofs.ProperChanges.{by_test, by_case}
 use Rattle.bz_rule.proofs.ProperSequences.{IsItem, AreOf}
-use Rattle.bz_attribute.specs.Made.{token, node, mark, name}
-use Rattle.bz_attribute.specs.Attributes.{on_first_that, without_first}
 use Rattle.bz_attribute.proofs.FormsAgain.{if_false, made}
 use Rattle.bz_attribute.proofs.GrownArguments.{whole, row_total}
 use Rattle.bz_load.specs.Loads.{is_load_from, is_loaded, after_path, leading_blocks, loads_end, after_loads}

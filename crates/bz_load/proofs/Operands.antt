@@ -3,13 +3,11 @@ use Rattle.std.proofs.Common.{◌≡◌, ℕ, ◌+◌, length, Bool, ◌||◌, L
 use Rattle.std.specs.List.{AllByRecursion}
 use Rattle.std.proofs.Math.Bool.{or_assoc, or_comm}
 use Rattle.std.proofs.lemmas.Bool.{eqb-true}
-use Rattle.bz_grammar.specs.declared.kind.Kind.{Kind}
+use Rattle.bz_load.specs.Words.{Kind, Bytes, has_kind, items_of, parts_of}
 use Rattle.bz_grammar.proofs.Numbers.{same_kind}
-use Rattle.bz_items.specs.Characters.{Bytes}
 use Rattle.bz_value.specs.declared.value.Expr.{Expr, Token, Form', Row_of-Expr, end_of-Expr, more_of-Expr, items-the_row-Expr}
 use Rattle.bz_value.specs.declared.value.Expr.TheVariants as e
 use Rattle.bz_value.specs.declared.value.Form.{Form}
-use Rattle.bz_rule.specs.Values.{has_kind, items_of, parts_of}
 use Rattle.bz_attribute.proofs.FormsAgain.{both}
 use Rattle.bz_attribute.proofs.MakingForms.{part_row, part_list, item_row, item_list}
 use Rattle.bz_load.specs.Fixes.{has_operand, is_operand_at, operand_from}

@@ -5,11 +5,8 @@ use Rattle.std.specs.List.{list_any, position}
 use Rattle.std.proofs.lemmas.Bool.{or_parts}
 use Rattle.std.proofs.lemmas.List.{drop-drop, take-append-drop}
 use Rattle.std.proofs.lemmas.List.Folds.{list_any-append}
-use Rattle.bz_items.specs.Characters.{Bytes}
-use Rattle.bz_value.specs.Windows.{AreOver}
-use Rattle.bz_value.specs.declared.value.Item.{Item}
+use Rattle.bz_load.specs.Words.{Bytes, AreOver, Item, Window}
 use Rattle.bz_value.specs.declared.value.Item.TheVariants as i
-use Rattle.bz_value.specs.declared.windows.Window.{Window}
 use Rattle.bz_attribute.proofs.ArgumentPlaces.{is_first}
 use Rattle.bz_load.specs.Loads.{is_load_from}
 use Rattle.bz_load.specs.private.Known.{come_from}

@@ -5,9 +5,8 @@ use Rattle.std.specs.List.{AllByRecursion, list_any, insert, remove, find}
 use Rattle.std.specs.Option.{option_map_or}
 use Rattle.std.proofs.lemmas.Bool.{cases_Bool, or_parts}
 use Rattle.std.proofs.lemmas.List.Edits.{length-remove}
-use Rattle.bz_value.specs.declared.value.Item.{Item}
+use Rattle.bz_load.specs.Words.{Item, without_first}
 use Rattle.bz_value.specs.declared.value.Item.TheVariants as i
-use Rattle.bz_attribute.specs.Attributes.{without_first}
 use Rattle.bz_attribute.proofs.ArgumentPlaces.{IsFirst, NonePasses, removed_at, later, none_later}
 use Rattle.bz_attribute.proofs.KeySets.{or_turn}
 use Rattle.bz_load.specs.Loads.{is_load_item, leading_blocks, loads_end}

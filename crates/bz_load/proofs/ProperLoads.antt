@@ -11,28 +11,21 @@ use Rattle.bz_grammar.specs.declared.kind.Kind.TheVariants as k
 use Rattle.bz_grammar.specs.Shapes as s
 use Rattle.bz_grammar.specs.Spots.{Begins, Within, Spot}
 use Rattle.bz_value.specs.declared.value.Expr.{Expr, Token, Form', items-the_row-Expr}
-use Rattle.bz_value.specs.declared.value.Item.{Item}
+use Rattle.bz_load.specs.Words.{Item, Bytes, quoted_of, Symbol, Fixes, is_text, token, node, mark, name, on_first_that, without_first, Kind}
 use Rattle.bz_value.specs.declared.value.Item.TheVariants as i
 use Rattle.bz_value.specs.Comments.{no_comments}
-use Rattle.bz_items.specs.Characters.{Bytes}
 use Rattle.bz_value.specs.Proper.{IsComment, IsProperItemIn, comments_of, ProperExpr}
 use Rattle.bz_value.specs.LineShapes.{Grammar, value_shape}
 use Rattle.bz_value.specs.Roots as r
 use Rattle.bz_value.proofs.FormParts.{ArePartsBy, form_proper_by}
 use Rattle.bz_command_syntax.specs.Proper.{IsSymbol, IsAttribute, EachIs, AreSome}
-use Rattle.bz_command_syntax.specs.Quoted.{quoted_of}
-use Rattle.bz_command_syntax.specs.declared.command.Symbol.{Symbol}
-use Rattle.bz_command_syntax.specs.declared.command.Fixes.{Fixes}
 use Rattle.bz_command_syntax.proofs.NameTests.{identifiers_are_names}
-use Rattle.bz_rule.specs.Rules.{is_text}
 use Rattle.bz_rule.specs.Values.{has_kind, items_of, with_items, on_items, on_rest, parts_of}
 use Rattle.bz_rule.proofs.ProperChanges.{by_test, by_case}
 use Rattle.bz_rule.proofs.ProperRules.{statement_in_place}
 use Rattle.bz_rule.proofs.ProperForms.{InPlace, itself, AsForm, opened}
 use Rattle.bz_rule.proofs.ProperItems.{all_joined, all_kept, all_changed}
 use Rattle.bz_rule.proofs.ProperSequences.{IsItem, AreOf, items_again, each_item, load_in_place, items_apart}
-use Rattle.bz_attribute.specs.Made.{token, node, mark, name}
-use Rattle.bz_attribute.specs.Attributes.{on_first_that, without_first}
 use Rattle.bz_attribute.proofs.ProperTexts.{one_ascii}
 use Rattle.bz_attribute.proofs.ProperMade.{IsNew, none_there, new_part, row_proper, token_new, quoted_string}
 use Rattle.bz_load.specs.Loads.{path_in, is_load_from, is_loaded, leading_blocks, loads_end, after_loads}
@@ -43,7 +36,6 @@ use Rattle.bz_load.proofs.Operands.{none_among, operands_answered}
 use Rattle.bz_load.specs.Laws.{LoadsStayProper}
 use Rattle.bz_load.proofs.PlaceSteps.{all_put}
 use Rattle.bz_token.specs.declared.class.Class.{Class}
-use Rattle.bz_grammar.specs.declared.kind.Kind.{Kind}
 use Rattle.bz_grammar.specs.Shapes.{Terminal, has_token, is_one_of, is_class, is_kind}
 use Rattle.bz_grammar.proofs.Numbers.{same_kind}
 use Rattle.bz_attribute.proofs.FormsAgain.{both}

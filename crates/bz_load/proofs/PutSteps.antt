@@ -3,19 +3,16 @@ use Rattle.std.proofs.Common.{◌≡◌, ◌≢◌, ◌≤◌, ◌<◌, ◌+◌,
 use Rattle.std.specs.List.{insert, list_any, position}
 use Rattle.std.proofs.lemmas.List.{take_at, drop_at, drop-drop, length-append, length-take-le, set_split, append-nil, get_or-set_same, get_or_default, append_cancel_left, set-get_or}
 use Rattle.std.proofs.lemmas.List.Edits.{length-insert}
-use Rattle.bz_value.specs.declared.value.Item.{Item}
-use Rattle.bz_value.specs.Windows.{IsSpliced}
+use Rattle.bz_load.specs.Words.{Item, IsSpliced, Expr, has_kind, items_of, on_items}
 use Rattle.std.specs.Prelude.{◌==◌, ◌&&◌, ◌||◌, Option, Some, None, IsTrue, bytes_eq, slice_get, slice_set}
 use Rattle.std.proofs.lemmas.Option.{get_or_from_slice_get}
 use Rattle.std.proofs.Math.Bool.{and_self, and-false}
 use Rattle.std.proofs.lemmas.Bool.{and_parts, eqb-true}
 use Rattle.bz_grammar.specs.declared.kind.Kind.TheVariants as k
-use Rattle.bz_value.specs.declared.value.Expr.{Expr}
 use Rattle.bz_value.specs.declared.value.Item.TheVariants as i
 use Rattle.bz_items.specs.Characters.{Bytes, apostrophe, quotation_mark}
 use Rattle.bz_rule.specs.Rules.{body, inner, is_plain_in, is_text}
 use Rattle.bz_rule.specs.QuoteMarks.{inside}
-use Rattle.bz_rule.specs.Values.{has_kind, items_of, on_items}
 use Rattle.bz_rule.proofs.ProperChanges.{by_test}
 use Rattle.bz_attribute.proofs.ArgumentPlaces.{IsFirst, is_first, none_passes, changed_there}
 use Rattle.bz_attribute.proofs.FormsAgain.{if_true, if_false, items_changed, items_filled, items_same}

@@ -2,23 +2,11 @@
 use Rattle.std.specs.Prelude.{ℕ, ◌+◌, Bool, ◌||◌, List, [], ◌∷◌, map, length, bytes_eq, if◌then◌else◌, false, true, not, ◌&&◌, codes, nat_eq, nat_lt}
 use Rattle.std.specs.List.{list_any, filter, find, insert}
 use Rattle.bz_token.specs.declared.class.Class.TheVariants as c
-use Rattle.bz_grammar.specs.declared.kind.Kind.{Kind}
+use Rattle.bz_load.specs.Words.{Kind, is_class, is_kind, Expr, Form', Row_of-Expr, end_of-Expr, more_of-Expr, items-the_row-Expr, Item, Bytes, HostComments, comments_of, is_empty, is_none, Fixes, is_rule_of_kind as is_rule_of, has_kind, items_of, on_items, on_rest, local_name, without_first}
 use Rattle.bz_grammar.specs.declared.kind.Kind.TheVariants as k
-use Rattle.bz_grammar.specs.Shapes.{is_class, is_kind}
-use Rattle.bz_value.specs.declared.value.Expr.{Expr, Form', Row_of-Expr, end_of-Expr, more_of-Expr, items-the_row-Expr}
 use Rattle.bz_value.specs.declared.value.Expr.TheVariants as e
-use Rattle.bz_value.specs.declared.value.Item.{Item}
 use Rattle.bz_value.specs.declared.value.Item.TheVariants as i
-use Rattle.bz_items.specs.Characters.{Bytes}
 use Rattle.std.specs.Option.{option_map_or}
-use Rattle.bz_value.specs.Comments.{HostComments}
-use Rattle.bz_value.specs.Proper.{comments_of}
-use Rattle.bz_value.specs.Empty.{is_empty, is_none}
-use Rattle.bz_command_syntax.specs.declared.command.Fixes.{Fixes}
-use Rattle.bz_rule.specs.Rules.{is_rule_of_kind as is_rule_of}
-use Rattle.bz_rule.specs.Values.{has_kind, items_of, on_items, on_rest}
-use Rattle.bz_rule.specs.QuoteMarks.{local_name}
-use Rattle.bz_attribute.specs.Attributes.{without_first}
 use Rattle.bz_load.specs.Loads.{after_path, leading_blocks, loads_end}
 
 -- Whether a name that is itself a part of a node is an operand, by its place among the parts: the value of an argument, an alias or

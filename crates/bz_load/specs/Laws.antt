@@ -1,16 +1,7 @@
 -- Laws of new_load and of fix.
 use Rattle.std.specs.Prelude.{◌≡◌, Bool, true, false, not, List, IsUtf8}
 use Rattle.std.specs.List.{list_any, list_all}
-use Rattle.bz_value.specs.declared.value.Item.{Item}
-use Rattle.bz_value.specs.Counted.{times}
-use Rattle.bz_items.specs.Characters.{Bytes}
-use Rattle.bz_value.specs.Proper.{IsProper, IsProperIn}
-use Rattle.bz_value.specs.LineShapes.{Grammar}
-use Rattle.bz_command_syntax.specs.Proper.{IsSymbol, AreSome}
-use Rattle.bz_command_syntax.specs.Quoted.{is_escaped}
-use Rattle.bz_command_syntax.specs.declared.command.Symbol.{Symbol}
-use Rattle.bz_command_syntax.specs.declared.command.Fixes.{Fixes}
-use Rattle.bz_attribute.specs.Attributes.{without_first}
+use Rattle.bz_load.specs.Words.{Item, times, Bytes, IsProper, IsProperIn, Grammar, IsSymbol, AreSome, is_escaped, Symbol, Fixes, without_first}
 use Rattle.bz_load.specs.NewLoad.{new_load}
 use Rattle.bz_load.specs.Fixes.{is_used, is_emptied, unused_loads, is_package_call, move_package_to_top, fix}
 

@@ -3,14 +3,8 @@ use Rattle.std.specs.Prelude.{Bool, false, ◌&&◌, List, [], ◌∷◌, Option
 use Rattle.std.specs.List.{list_any, insert}
 use Rattle.std.specs.Option.{option_map_or}
 use Rattle.bz_grammar.specs.declared.kind.Kind.TheVariants as k
-use Rattle.bz_value.specs.declared.value.Expr.{Expr}
-use Rattle.bz_value.specs.declared.value.Item.{Item}
+use Rattle.bz_load.specs.Words.{Expr, Item, Bytes, Symbol, is_text, has_kind, parts_of, items_of, text_of, body_of}
 use Rattle.bz_value.specs.declared.value.Item.TheVariants as i
-use Rattle.bz_items.specs.Characters.{Bytes}
-use Rattle.bz_command_syntax.specs.declared.command.Symbol.{Symbol}
-use Rattle.bz_rule.specs.Rules.{is_text}
-use Rattle.bz_rule.specs.Values.{has_kind, parts_of, items_of, text_of}
-use Rattle.bz_attribute.specs.Lists.{body_of}
 
 abbrev pub is_load_item : Item → Bool
 is_load_item (i.Block lines) = false

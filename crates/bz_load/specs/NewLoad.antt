@@ -3,15 +3,8 @@ use Rattle.std.specs.Prelude.{Bool, ◌||◌, List, [], ◌∷◌, ◌++◌, cod
 use Rattle.std.specs.List.{list_any}
 use Rattle.bz_token.specs.declared.class.Class.TheVariants as c
 use Rattle.bz_grammar.specs.declared.kind.Kind.TheVariants as k
-use Rattle.bz_value.specs.declared.value.Expr.{Expr}
-use Rattle.bz_value.specs.declared.value.Item.{Item}
+use Rattle.bz_load.specs.Words.{Expr, Item, Bytes, Symbol, quoted_of, on_items, token, node, mark, sequence, name, on_first_that}
 use Rattle.bz_value.specs.declared.value.Item.TheVariants as i
-use Rattle.bz_items.specs.Characters.{Bytes}
-use Rattle.bz_command_syntax.specs.declared.command.Symbol.{Symbol}
-use Rattle.bz_command_syntax.specs.Quoted.{quoted_of}
-use Rattle.bz_rule.specs.Values.{on_items}
-use Rattle.bz_attribute.specs.Made.{token, node, mark, sequence, name}
-use Rattle.bz_attribute.specs.Attributes.{on_first_that}
 use Rattle.bz_load.specs.Loads.{is_load_from, is_symbol, is_loaded, after_loads}
 
 -- a symbol more is known

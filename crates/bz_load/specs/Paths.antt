@@ -1,8 +1,7 @@
 -- Paths from which a file loads: more may be listed, so they outlive a change that takes a load out.
 use Rattle.std.specs.Prelude.{◌≡◌, Bool, false, List, bytes_eq}
 use Rattle.std.specs.List.{list_any}
-use Rattle.bz_items.specs.Characters.{Bytes}
-use Rattle.bz_value.specs.declared.value.Item.{Item}
+use Rattle.bz_load.specs.Words.{Bytes, Item}
 use Rattle.bz_load.specs.Loads.{is_load_from}
 
 pub record Paths : Type 0 where

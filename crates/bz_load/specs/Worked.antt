@@ -2,14 +2,9 @@
 use Rattle.std.specs.Prelude.{◌≡◌, true, false, List, [], ◌∷◌, Some, codes}
 use Rattle.bz_token.specs.declared.class.Class.TheVariants as c
 use Rattle.bz_grammar.specs.declared.kind.Kind.TheVariants as k
-use Rattle.bz_value.specs.declared.value.Expr.{Expr}
+use Rattle.bz_load.specs.Words.{Expr, Item, Bytes, Symbol, Fixes, token, node, sequence, name, mark}
 use Rattle.bz_value.specs.declared.value.Expr.TheVariants as e
-use Rattle.bz_value.specs.declared.value.Item.{Item}
 use Rattle.bz_value.specs.declared.value.Item.TheVariants as i
-use Rattle.bz_items.specs.Characters.{Bytes}
-use Rattle.bz_command_syntax.specs.declared.command.Symbol.{Symbol}
-use Rattle.bz_command_syntax.specs.declared.command.Fixes.{Fixes}
-use Rattle.bz_attribute.specs.Made.{token, node, sequence, name, mark}
 use Rattle.bz_load.specs.NewLoad.{new_load}
 use Rattle.bz_load.specs.Fixes.{unused_loads, move_package_to_top, fix}
 

@@ -2,10 +2,7 @@
 ghost use Rattle.std.specs.Prelude.{◌≡◌, ◌↔◌, ◌||◌, ◌++◌, ◌∷◌, [], map, not, IfOk, IfSome, IsTrue, OnOk};
 ghost use Rattle.std.specs.List.{list_any, position};
 ghost use Rattle.bz_token.specs.declared.class.Class.TheVariants as c;
-ghost use Rattle.bz_value.specs.Windows.{IsSpliced};
-ghost use Rattle.bz_command_syntax.specs.declared.command.Symbol.{Symbol};
-ghost use Rattle.bz_command_syntax.specs.Quoted.{quoted_of};
-ghost use Rattle.bz_attribute.specs.Made.{token};
+ghost use Rattle.bz_load.specs.Words.{IsSpliced, Symbol, quoted_of, token};
 ghost use Rattle.bz_load.specs.Loads.{is_load_from as is_from, is_loaded, is_symbol, loads_symbol};
 ghost use Rattle.bz_load.specs.NewLoad.{load_made, new_load, new_symbols, symbol_made, with_symbols};
 ghost use Rattle.bz_load.specs.Paths.{AreListed};

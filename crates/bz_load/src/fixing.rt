@@ -2,10 +2,7 @@
 ghost use Rattle.std.specs.Prelude.{◌≡◌, ◌<◌, ◌||◌, IfOk, OnOk, if◌then◌else◌, not};
 ghost use Rattle.std.specs.List.{filter, list_any, position};
 ghost use Rattle.bz_grammar.specs.declared.kind.Kind.TheVariants as k;
-ghost use Rattle.bz_rule.specs.Values.{on_items, on_rest};
-ghost use Rattle.bz_value.specs.Empty.{is_empty};
-ghost use Rattle.bz_value.specs.Proper.{comments_of};
-ghost use Rattle.bz_items.specs.Characters.{Bytes};
+ghost use Rattle.bz_load.specs.Words.{on_items, on_rest, is_empty, comments_of, Bytes};
 ghost use Rattle.bz_load.specs.Fixes.{end_of, fix, has_own_comments, is_commented, is_emptied, is_package_call, is_used, move_package_to_top, has_operand, is_operand_at, path_comments, symbol_stays, unused_loads, used_alone};
 ghost use Rattle.bz_load.specs.private.Known.{knows_name, operand_in};
 

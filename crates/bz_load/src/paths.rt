@@ -1,12 +1,10 @@
 //! The paths from which a file loads, in a set that outlives a change: what came is added, and what is there no more stays in it.
 ghost use Rattle.std.specs.Prelude.{◌≡◌, ◌||◌, List, None, drop, take, false, IfOk, OnOk};
 ghost use Rattle.std.specs.List.{list_any, position};
-ghost use Rattle.bz_items.specs.Characters.{Bytes};
+ghost use Rattle.bz_load.specs.Words.{Bytes, AreOver, Item};
 ghost use Rattle.bz_load.specs.Loads.{is_load_from as is_from};
 ghost use Rattle.bz_load.specs.Paths.{AreListed};
 ghost use Rattle.bz_load.specs.private.Known.{come_from, knows_name};
-ghost use Rattle.bz_value.specs.Windows.{AreOver};
-ghost use Rattle.bz_value.specs.declared.value.Item.{Item};
 
 use crate::readings::path_of;
 use bz_attribute::{has_text, insert_text};

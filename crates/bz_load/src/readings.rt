@@ -1,9 +1,7 @@
 //! Loads and what they load, read off values, and places among the items of a file.
 ghost use Rattle.std.specs.Prelude.{◌≡◌, ◌≤◌, IfSome, is_some, length};
 ghost use Rattle.std.specs.Option.{option_copied, option_map};
-ghost use Rattle.bz_items.specs.Characters.{Bytes};
-ghost use Rattle.bz_rule.specs.Rules.{is_text};
-ghost use Rattle.bz_attribute.specs.Lists.{body_of};
+ghost use Rattle.bz_load.specs.Words.{Bytes, is_text, body_of};
 ghost use Rattle.bz_load.specs.private.Known.{symbol_of_key};
 ghost use Rattle.bz_load.specs.Loads.{is_block, is_load_from, is_load_item, leading_blocks, loads_end, symbol_in, symbols_of};
 

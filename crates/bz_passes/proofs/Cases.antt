@@ -2,18 +2,11 @@
 use Rattle.std.proofs.Common.{true, false, List, [], ◌∷◌, ◌++◌, ◌≡◌, sym, ap, ap₂, ◌∙◌, subst, inl, inr}
 use Rattle.std.proofs.lemmas.Bool.{cases_Bool, cond-true, cond-false}
 use Rattle.std.proofs.lemmas.List.Elements.{All-append, All-from_recursion}
-use Rattle.bz_value.specs.declared.value.Item.{Item}
-use Rattle.bz_value.specs.Counted.{times}
-use Rattle.bz_items.specs.Characters.{Bytes}
-use Rattle.bz_value.specs.declared.windows.Window.{Window}
+use Rattle.bz_passes.specs.Words.{Item, times, Bytes, Window, IsProperIn, AreOver, flags, IsSettled, AreBuild, IsBuildItem}
 use Rattle.bz_value.specs.LineShapes.{Grammar, build_grammar, whole_grammar}
-use Rattle.bz_value.specs.Proper.{IsProperIn}
-use Rattle.bz_value.specs.Windows.{AreOver}
 use Rattle.bz_value.proofs.BuildValues.{build_values_proper}
-use Rattle.bz_layout.specs.Flags.{flags, IsSettled}
 use Rattle.bz_layout.proofs.FlaggedProper.{flags_proper}
 use Rattle.bz_rule.proofs.ProperChanges.{by_case, by_test}
-use Rattle.bz_value.specs.BuildValues.{AreBuild, IsBuildItem}
 use Rattle.bz_passes.specs.Joined.{TidiedAlone, TidiedApart}
 use Rattle.bz_passes.specs.Laws.{BuildStays, ProperStays, TidySettles, TidyStays, TidyingKeepsComments}
 use Rattle.bz_passes.specs.Newer.{has_newer}

@@ -1,12 +1,9 @@
 -- The changes of single statements leave the comments above them as they are: so passes in turn are one pass.
 use Rattle.std.proofs.Common.{List, [], ◌∷◌, ◌≡◌, refl, ap, ◌∙◌, false, map, inl, inr}
 use Rattle.std.proofs.lemmas.Bool.{cases_Bool}
-use Rattle.bz_grammar.specs.declared.kind.Kind.{Kind}
+use Rattle.bz_passes.specs.Words.{Kind, Expr, Item, Bytes}
 use Rattle.bz_grammar.specs.declared.kind.Kind.TheVariants as k
-use Rattle.bz_value.specs.declared.value.Expr.{Expr}
-use Rattle.bz_value.specs.declared.value.Item.{Item}
 use Rattle.bz_value.specs.declared.value.Item.TheVariants as i
-use Rattle.bz_items.specs.Characters.{Bytes}
 use Rattle.bz_rule.proofs.ProperChanges.{by_test}
 use Rattle.bz_rule.specs.Values.{has_kind, above, parts_of, items_of, with_parts, with_items, on_first, on_third, on_rest, on_lists}
 use Rattle.bz_passes.specs.Changes.{after_passes}

@@ -2,21 +2,16 @@
 use Rattle.std.proofs.Common.{ℕ, ◌+◌, Bool, true, false, List, [], ◌∷◌, ◌≡◌, refl, sym, ap, ◌∙◌, subst, map, inl, inr, Option, Some, None, not, ◌&&◌, ◌++◌, arith}
 use Rattle.std.proofs.lemmas.Bool.{cases_Bool, and_parts, true≢false}
 use Rattle.bz_token.specs.declared.class.Class.TheVariants as c
-use Rattle.bz_grammar.specs.declared.kind.Kind.{Kind}
+use Rattle.bz_passes.specs.Words.{Kind, is_class, is_sorted, is_label_attribute, Item, Bytes, has_kind, has_class, text_of, parts_of, with_text, above, on_items, on_row, on_first, on_third, on_rest, first_text, on_lists, with_above, comments_of, is_empty, is_none}
 use Rattle.bz_grammar.specs.declared.kind.Kind.TheVariants as k
-use Rattle.bz_grammar.specs.Shapes.{is_class}
-use Rattle.bz_label.specs.Tables.{is_sorted, is_label_attribute}
 use Rattle.bz_value.specs.declared.value.Form.{Form}
 use Rattle.bz_value.specs.declared.value.Expr.{Expr, Token, Form', Row_of-Expr, end_of-Expr, more_of-Expr, items-the_row-Expr}
 use Rattle.bz_value.specs.declared.value.Expr.TheVariants as e
-use Rattle.bz_value.specs.declared.value.Item.{Item}
 use Rattle.bz_value.specs.declared.value.Item.TheVariants as i
 use Rattle.bz_value.specs.Counted.{total, suffix_amount, host_amount, amount, item_amount, one_if, times}
 use Rattle.bz_value.specs.Frames.{frame}
-use Rattle.bz_items.specs.Characters.{Bytes}
 use Rattle.bz_layout.specs.Flags.{settled_split, with_flags, each_with_flags, item_with_flags, flags}
 use Rattle.bz_rule.proofs.ProperChanges.{by_case, by_test}
-use Rattle.bz_rule.specs.Values.{has_kind, has_class, text_of, parts_of, with_text, above, on_items, on_row, on_first, on_third, on_rest, first_text, on_lists, with_above}
 use Rattle.bz_passes.specs.Passes.{on_statement, taken, on_taken, rule_kind, of_rule, on_call, on_rule_arguments, on_attribute, on_strings, each_on_strings, on_string, on_label_value, on_labels, on_list_value, on_assigned, on_list_values, quotes_in, labels_in, lists_in, argument_precedes, arguments_in, symbol_precedes, symbols_in, load_precedes, loads, passed, leave_alone, shorter_string, with_double}
 use Rattle.bz_passes.proofs.Parts.{in_form, Place, the_parts, the_items, made, own_parts}
 use Rattle.bz_passes.proofs.Keeping.{both, third_is}
@@ -25,8 +20,6 @@ use Rattle.std.specs.List.{list_any, AllByRecursion}
 use Rattle.std.specs.Prelude.{bytes_eq}
 use Rattle.std.proofs.lemmas.List.Sorted.{IsPermutation-filter_both}
 use Rattle.bz_value.proofs.Totals.{append_total, form_amount}
-use Rattle.bz_value.specs.Proper.{comments_of}
-use Rattle.bz_value.specs.Empty.{is_empty, is_none}
 use Rattle.bz_passes.specs.Sorting.{sort_by}
 use Rattle.bz_passes.specs.Lists.{is_taken, precedes, has_no_comment, without_repeats, in_order, without_marks, sorted, settled_list, MovesMarks, with_marks_moved, any_marked, is_marked, keep_sorted, keep_marks, other_comments}
 use Rattle.bz_passes.proofs.Listed.{unrepeated_all, marks_move}

@@ -10,12 +10,8 @@ use Rattle.std.proofs.Math.Bool.{or_comm}
 use Rattle.std.proofs.lemmas.Bool.{and_parts, and_right}
 use Rattle.std.proofs.lemmas.List.Folds.{list_any-append}
 use Rattle.std.proofs.lemmas.Slice.Eq.{bytes_eq-Decides}
-use Rattle.bz_label.specs.Keys.{key_order}
+use Rattle.bz_passes.specs.Words.{key_order, Expr, Bytes, text_of, between}
 use Rattle.bz_label.proofs.Orders.{key_total, key_ties}
-use Rattle.bz_value.specs.declared.value.Expr.{Expr}
-use Rattle.bz_items.specs.Characters.{Bytes}
-use Rattle.bz_rule.specs.Values.{text_of}
-use Rattle.bz_rule.specs.QuoteMarks.{between}
 use Rattle.bz_passes.specs.Lists.{precedes, without_repeats, has_no_comment}
 use Rattle.bz_passes.specs.private.Repeats.{AreKept, sort_key, last_of, ties_last, precedes_last, is_text_at, repeats_at, tied_places}
 use Rattle.bz_passes.specs.Sorting.{NoneBefore}

@@ -4,19 +4,15 @@ use Rattle.std.specs.Prelude.{length, nat_le}
 use Rattle.std.proofs.lemmas.Bool.{cases_Bool}
 use Rattle.std.proofs.lemmas.List.{length-map}
 use Rattle.bz_token.specs.declared.class.Class.TheVariants as c
-use Rattle.bz_grammar.specs.declared.kind.Kind.{Kind}
-use Rattle.bz_grammar.specs.Shapes.{is_class}
+use Rattle.bz_passes.specs.Words.{Kind, is_class, Bytes, is_empty, is_none, text_of, parts_of, items_of, with_above}
 use Rattle.bz_value.specs.declared.value.Expr.{Expr, Token, Form', Row_of-Expr, end_of-Expr, more_of-Expr, items-the_row-Expr}
 use Rattle.bz_value.specs.declared.value.Expr.TheVariants as e
 use Rattle.bz_value.specs.declared.value.Item.TheVariants as i
 use Rattle.bz_value.specs.Comments.{HostComments}
 use Rattle.bz_value.specs.Frames.{Frame, sequence, frame}
-use Rattle.bz_items.specs.Characters.{Bytes}
 use Rattle.bz_layout.specs.Layout.{has_comments, has_named, is_listed, is_call}
-use Rattle.bz_value.specs.Empty.{is_empty, is_none}
 use Rattle.bz_layout.specs.Flags.{settled_split, with_flags, each_with_flags, item_with_flags, flags}
 use Rattle.bz_layout.proofs.Flagged.{same_named, settled}
-use Rattle.bz_rule.specs.Values.{text_of, parts_of, items_of, with_above}
 use Rattle.bz_passes.specs.Passes.{quotes_in, each_on_strings, labelled, with_double}
 use Rattle.bz_passes.proofs.Keeping.{Keeps, Settles, both, map_settles, same_after, same_first}
 use Rattle.bz_passes.proofs.Parts.{made, flags_row, flags_Form, quoted_Form, parts_quoted, items_quoted, comments_flags}

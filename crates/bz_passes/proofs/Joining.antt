@@ -1,9 +1,7 @@
 -- Windows joined, and made wider by the loads that reach into them, hold all that they held; and what walks over windows have seen and done.
 use Rattle.std.proofs.Common.{◌||◌, ℕ, zero, suc, true, ◌+◌, ◌-◌, ◌≤◌, false, List, [], ◌∷◌, ◌≡◌, length, take, drop, refl, sym, ap, ◌∙◌, subst, arith, drop-drop, length-drop, length-take-le, take-take, ◌<◌, ◌++◌, get_or, slice_range, append_assoc, drop_at, length-append, take_at}
 use Rattle.std.proofs.lemmas.Bool.{and_left, and_right, or_from}
-use Rattle.bz_value.specs.declared.value.Item.{Item}
-use Rattle.bz_value.specs.declared.windows.Window.{Window}
-use Rattle.bz_value.specs.Windows.{AreOver, AreWithin}
+use Rattle.bz_passes.specs.Words.{Item, Window, AreOver, AreWithin}
 use Rattle.bz_passes.specs.Joined.{begins_with_load}
 use Rattle.bz_passes.specs.private.Borders.{AreLoads, AreSetApart, ends_with_load, all_joined, touches, any_touched, tidied_over}
 use borrow.Rule.Slice.PartMut.{put_mid}

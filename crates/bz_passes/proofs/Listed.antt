@@ -6,20 +6,14 @@ use Rattle.std.proofs.Math.Path.{fun_ext}
 use Rattle.std.specs.Bool.{beq}
 use Rattle.std.specs.List.{filter, list_any, list_all, AllByRecursion, insert}
 use Rattle.std.specs.Ordering.{is_lt}
-use Rattle.bz_label.specs.Keys.{key_order}
+use Rattle.bz_passes.specs.Words.{key_order, is_empty, is_none, Expr, Token, Form', Bytes, comments_of, has_class, text_of, above, with_above, between}
 use Rattle.std.specs.Cmp.{IsStrictWeakOrder}
 use Rattle.std.specs.Prelude.{bytes_eq}
 use Rattle.std.proofs.lemmas.List.MinMax.{ranks_by}
 use Rattle.bz_label.proofs.Orders.{key_total}
 use Rattle.bz_token.specs.declared.class.Class.TheVariants as c
 use Rattle.bz_value.specs.Comments.{HostComments}
-use Rattle.bz_value.specs.Empty.{is_empty, is_none}
-use Rattle.bz_value.specs.declared.value.Expr.{Expr, Token, Form'}
-use Rattle.bz_items.specs.Characters.{Bytes}
-use Rattle.bz_value.specs.Proper.{comments_of}
-use Rattle.bz_rule.specs.Values.{has_class, text_of, above, with_above}
 use Rattle.bz_passes.specs.Sorting.{insert_by, sort_by, NoneBefore, Rises}
-use Rattle.bz_rule.specs.QuoteMarks.{between}
 use Rattle.bz_passes.specs.Lists.{above_first, is_taken, precedes, has_no_comment, without_repeats, in_order, without_marks, marked_by, sorted, settled_list, MovesMarks, any_marked, is_marked, keep_marks, keep_sorted, other_comments}
 use Rattle.bz_passes.proofs.Ranks.{item_ranks}
 use Rattle.bz_passes.specs.private.Repeats.{Climbs, is_passed}

@@ -9,12 +9,8 @@ use Rattle.bz_grammar.specs.declared.kind.Kind.TheVariants as k
 use Rattle.bz_value.specs.declared.value.Form.{Form}
 use Rattle.bz_value.specs.declared.value.Expr.{Expr, Token, Form', Row_of-Expr, end_of-Expr, more_of-Expr, items-the_row-Expr}
 use Rattle.bz_value.specs.declared.value.Expr.TheVariants as e
-use Rattle.bz_value.specs.declared.value.Item.{Item}
+use Rattle.bz_passes.specs.Words.{Item, total, Bytes, flags, with_text}
 use Rattle.bz_value.specs.declared.value.Item.TheVariants as i
-use Rattle.bz_value.specs.Counted.{total}
-use Rattle.bz_items.specs.Characters.{Bytes}
-use Rattle.bz_layout.specs.Flags.{flags}
-use Rattle.bz_rule.specs.Values.{with_text}
 use Rattle.bz_value.specs.BuildValues.{AreBuild, AreBuildExprs, IsBuildExpr, IsBuildItem}
 use Rattle.bz_passes.specs.Lists.{is_taken, settled_list}
 use Rattle.bz_passes.specs.Newer.{has_newer, has_newer_node, is_newer_kind, item_newer, newer, row_newer}

@@ -1,22 +1,17 @@
 -- Reading what was changed: the parts of expressions, by lists; and what the definitions make of a form, said of its lists.
 use Rattle.std.proofs.Common.{true, List, ◌∷◌, ◌≡◌, refl, sym, ap, ◌∙◌, map, true≢false, suc, Bool, [], if◌then◌else◌}
 use mathlib.Core.Former.{Count}
-use Rattle.bz_token.specs.declared.class.Class.{Class}
-use Rattle.bz_grammar.specs.declared.kind.Kind.{Kind}
+use Rattle.bz_passes.specs.Words.{Class, Kind, Bytes, comments_of, is_broken, fronts, fronts_among}
 use Rattle.bz_value.specs.declared.value.Form.{Form}
 use Rattle.bz_value.specs.declared.value.Expr.{Expr, Token, Form', Row_of-Expr, end_of-Expr, more_of-Expr, items-the_row-Expr, items_hidden-the_row-Expr-0}
 use Rattle.bz_value.specs.declared.value.Expr.TheVariants as e
 use Rattle.bz_value.specs.Frames.{frame, Frame, sequence, has_brackets}
-use Rattle.bz_items.specs.Characters.{Bytes}
-use Rattle.bz_value.specs.Proper.{comments_of}
 use Rattle.bz_layout.specs.Flags.{settled_split, with_flags, each_with_flags}
 use Rattle.bz_rule.specs.Values.{has_kind, has_class, text_of, parts_of, items_of, with_parts, with_items, above, with_above}
 pub use Rattle.bz_rule.proofs.Opened.{made, own_parts, own_items}
 use Rattle.bz_passes.specs.Passes.{quotes_in, each_on_strings, with_double}
 use Rattle.bz_passes.proofs.Keeping.{both}
 use Rattle.bz_grammar.specs.declared.kind.Kind.TheVariants as k
-use Rattle.bz_layout.specs.Layout.{is_broken}
-use Rattle.bz_rule.specs.private.Named.{fronts, fronts_among}
 use Rattle.bz_rule.proofs.Forms.{fronts_Form}
 
 -- ---- the rows of a form

@@ -7,12 +7,8 @@ use Rattle.std.proofs.lemmas.List.Elements.{All-append, All-drop, All-take}
 use Rattle.std.specs.Option.{option_map_or}
 use Rattle.std.specs.Prelude.{All, slice_get}
 use Rattle.bz_grammar.specs.declared.kind.Kind.TheVariants as k
-use Rattle.bz_value.specs.Empty.{is_empty}
-use Rattle.bz_value.specs.declared.value.Item.{Item}
+use Rattle.bz_passes.specs.Words.{is_empty, Item, Window, AreOver, AreWithin, above, has_kind}
 use Rattle.bz_value.specs.declared.value.Item.TheVariants as i
-use Rattle.bz_value.specs.declared.windows.Window.{Window}
-use Rattle.bz_value.specs.Windows.{AreOver, AreWithin}
-use Rattle.bz_rule.specs.Values.{above, has_kind}
 use Rattle.bz_passes.specs.Changes.{after_passes}
 use Rattle.bz_passes.specs.Joined.{begins_with_load, item_tidied}
 use Rattle.bz_passes.specs.Passes.{is_run_load, load_precedes, loads, path_precedes, taken, passed}

@@ -2,7 +2,7 @@
 -- there keep what a pass leaves.
 use Rattle.std.proofs.Common.{true, false, List, ◌≡◌, refl, sym, ap, ◌∙◌, map, inl, inr, if◌then◌else◌, [], ◌∷◌, nat_eq, None, Option, Some}
 use Rattle.std.proofs.lemmas.Bool.{cases_Bool}
-use Rattle.bz_grammar.specs.declared.kind.Kind.{Kind}
+use Rattle.bz_passes.specs.Words.{Kind, kind_number, Bytes}
 use Rattle.bz_value.specs.declared.value.Expr.{Expr, Token, Form', Row_of-Expr, end_of-Expr, more_of-Expr, items-the_row-Expr}
 use Rattle.bz_value.specs.Comments.{HostComments}
 use Rattle.bz_layout.specs.Flags.{with_flags, settled_split, each_with_flags}
@@ -13,13 +13,11 @@ use Rattle.bz_passes.proofs.Keeping.{Keeps, Settles, both, first_composed, maps_
 use Rattle.bz_passes.proofs.Parts.{Place, kind_flags, made, the_parts, the_items, text_flags, above_flags, parts_flags, parts_filled, parts_with_items}
 use Rattle.bz_token.specs.declared.class.Class.TheVariants as c
 use Rattle.bz_grammar.specs.declared.kind.Kind.TheVariants as k
-use Rattle.bz_grammar.specs.Kinds.{kind_number}
 use Rattle.bz_value.specs.Frames.{frame}
 use Rattle.bz_rule.specs.Rules.{text_in, dotted, joined, dotted_name, with_names}
 use Rattle.bz_rule.specs.private.Named.{each_named}
 use Rattle.bz_rule.proofs.Forms.{dotted_name_Form}
 use Rattle.std.proofs.lemmas.Map.Views.{exact_unsigned_eq}
-use Rattle.bz_items.specs.Characters.{Bytes}
 
 module _ (place : Place) where
   -- at `the_parts` it is `on_row`, at `the_items` it is `on_items`

@@ -6,10 +6,9 @@ use Rattle.bz_grammar.specs.Shapes.{Nonterminal, is_class}
 use Rattle.bz_value.specs.declared.value.Expr.{Expr, Token, Form', Row_of-Expr, end_of-Expr, more_of-Expr, items-the_row-Expr}
 use Rattle.bz_value.specs.Comments.{HostComments}
 use Rattle.bz_value.specs.Commented.{with_comments}
-use Rattle.bz_items.specs.Characters.{Bytes}
+use Rattle.bz_passes.specs.Words.{Bytes, above, with_above, has_kind, has_class, text_of, parts_of, with_text, on_items, on_first, on_third, first_text, on_lists, is_sorted, is_label_attribute, Item}
 use Rattle.bz_value.specs.LineShapes.{build_grammar as build}
 use Rattle.bz_value.specs.Proper.{IsComment, AreComments, comments_of, IsProperItemIn, IsProperIn}
-use Rattle.bz_rule.specs.Values.{above, with_above, has_kind, has_class, text_of, parts_of, with_text, on_items, on_first, on_third, first_text, on_lists}
 use Rattle.bz_passes.specs.Lists.{settled_list, any_marked}
 use Rattle.bz_rule.proofs.ProperSequences.{IsItem, Keeps, where_true, list_in_place, call_in_place, load_in_place}
 use Rattle.bz_passes.proofs.Listed.{settled_all}
@@ -18,8 +17,6 @@ use Rattle.bz_token.specs.declared.class.Class.TheVariants as c
 use Rattle.bz_grammar.specs.declared.kind.Kind.TheVariants as k
 use Rattle.bz_grammar.specs.Shapes as s
 use Rattle.bz_grammar.specs.Spots.{Begins}
-use Rattle.bz_label.specs.Tables.{is_sorted, is_label_attribute}
-use Rattle.bz_value.specs.declared.value.Item.{Item}
 use Rattle.bz_value.specs.declared.value.Item.TheVariants as i
 use Rattle.bz_layout.proofs.FlaggedProper.{flags_proper}
 use Rattle.bz_passes.specs.Sorting.{sort_by}

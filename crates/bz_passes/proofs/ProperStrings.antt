@@ -10,9 +10,8 @@ use Rattle.bz_token.specs.Lexemes.{IsShort, short_plain, short_taken, short_line
 use Rattle.bz_label.specs.Shorter.{unrepeated, before_colon, after_colon, is_repeated}
 use Rattle.bz_label.proofs.Repeats.{is_unrepeated}
 use Rattle.bz_label.proofs.Shorter.{unrepeated_same}
-use Rattle.bz_items.specs.Characters.{Bytes, apostrophe, backslash, quotation_mark}
+use Rattle.bz_passes.specs.Words.{Bytes, apostrophe, backslash, quotation_mark, inner, is_plain_in}
 use Rattle.bz_rule.specs.QuoteMarks.{begins_thrice, is_quote_mark, inside, marks_of}
-use Rattle.bz_rule.specs.Rules.{inner, is_plain_in}
 use Rattle.bz_passes.specs.Programs.{IsSameString, IsUnescaped, itself, turned, turned_thrice, IsSameLabel, unchanged, renamed}
 use Rattle.std.specs.List.{list_any}
 use Rattle.std.specs.Str.{IsUtf8}

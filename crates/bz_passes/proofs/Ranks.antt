@@ -3,11 +3,9 @@ use Rattle.std.specs.Cmp.{IsStrictWeakOrder}
 use Rattle.std.proofs.lemmas.Cmp.{nat_list_cmp_total}
 use Rattle.std.proofs.lemmas.List.MinMax.{ranks_by}
 use Rattle.bz_label.proofs.Orders.{key_total}
-use Rattle.bz_value.specs.declared.value.Expr.{Expr}
+use Rattle.bz_passes.specs.Words.{Expr, local_name, between, text_of}
 use Rattle.bz_passes.specs.Lists.{precedes}
 use Rattle.bz_passes.specs.Passes.{symbol_precedes}
-use Rattle.bz_rule.specs.QuoteMarks.{local_name, between}
-use Rattle.bz_rule.specs.Values.{text_of}
 
 pub item_ranks : IsStrictWeakOrder precedes
 item_ranks = ranks_by key_total (λ (x : Expr). between (text_of x))

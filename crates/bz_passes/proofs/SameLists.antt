@@ -8,17 +8,14 @@ use Rattle.std.proofs.lemmas.List.Elements.{All-from_recursion}
 use Rattle.std.proofs.lemmas.List.Sorted.{IsPermutation-refl, IsPermutation-cons, IsPermutation-map, IsPermutation-middle, IsPermutation-sym, IsPermutation-trans}
 use Rattle.std.proofs.lemmas.Slice.Eq.{bytes_eq-Decides}
 use Rattle.bz_token.specs.declared.class.Class.TheVariants as c
-use Rattle.bz_value.specs.declared.value.Expr.{Expr, Token, Form'}
-use Rattle.bz_items.specs.Characters.{Bytes}
+use Rattle.bz_passes.specs.Words.{Expr, Token, Form', Bytes, has_class, text_of, above, with_above, has_kind, Item}
 use Rattle.bz_rule.proofs.ProperChanges.{by_case}
-use Rattle.bz_rule.specs.Values.{has_class, text_of, above, with_above, has_kind}
 use Rattle.bz_passes.specs.Sorting.{sort_by, IsSorting, IsSortingByRuns}
 use Rattle.bz_passes.specs.Lists.{is_taken, precedes, has_no_comment, without_repeats, in_order, without_marks, marked_by, sorted, settled_list, keep_marks, other_comments}
 use Rattle.bz_passes.specs.Programs.{HoldsTheStrings, IsSameList, PassesKeepProgram}
 use Rattle.bz_passes.proofs.Listed.{text_above, settled_anyway}
 use Rattle.bz_passes.proofs.Sorting.{sort_same}
 use Rattle.bz_grammar.specs.declared.kind.Kind.TheVariants as k
-use Rattle.bz_value.specs.declared.value.Item.{Item}
 use Rattle.bz_passes.specs.Passes.{argument_precedes, is_run_load, loads, name_precedes, path_precedes, symbol_precedes, on_taken, quotes_in, labels_in, lists_in, arguments_in, symbols_in, passed, shorter_string, with_double}
 use Rattle.bz_passes.proofs.SameSyntax.{flags_program}
 use Rattle.bz_passes.proofs.ProperStrings.{double_same, shorter_same}

@@ -3,9 +3,8 @@ use Rattle.std.proofs.Common.{false, List, [], ◌∷◌, ◌≡◌, refl, ap, �
 use Rattle.bz_value.specs.declared.value.Form.{Form}
 use Rattle.bz_value.specs.declared.value.Expr.{Expr, Token, Form', Row_of-Expr, end_of-Expr, more_of-Expr, items-the_row-Expr}
 use Rattle.bz_value.specs.declared.value.Expr.TheVariants as e
-use Rattle.bz_value.specs.declared.value.Item.{Item}
+use Rattle.bz_passes.specs.Words.{Item, no_comments}
 use Rattle.bz_value.specs.declared.value.Item.TheVariants as i
-use Rattle.bz_value.specs.Comments.{no_comments}
 use Rattle.bz_value.specs.Frames.{frame}
 use Rattle.bz_layout.specs.Flags.{settled_split, with_flags, each_with_flags, flags}
 use Rattle.bz_passes.specs.Syntax.{syntax_of, each_syntax, program}

@@ -4,9 +4,7 @@ use Rattle.std.proofs.Common.{Bool, true, false, not, ◌&&◌, Option, Some, No
 use Rattle.std.proofs.lemmas.Bool.{cases_Bool}
 use Rattle.bz_grammar.specs.declared.kind.Kind.TheVariants as k
 use Rattle.bz_label.specs.Tables.{is_in, is_label_attribute, is_sorted, sorted_attributes}
-use Rattle.bz_value.specs.declared.value.Expr.{Expr}
-use Rattle.bz_items.specs.Characters.{Bytes}
-use Rattle.bz_rule.specs.Rules.{is_text}
+use Rattle.bz_passes.specs.Words.{Expr, Bytes, is_text, bytes_order, Item, is_empty, with_flags, item_with_flags, flags, between, local_name}
 use Rattle.bz_rule.specs.Values.{above, has_kind, on_first, on_lists, on_third, text_of, parts_of, items_of, with_parts, on_rest, first_text}
 use Rattle.bz_passes.specs.Changes.{after_passes, arguments_changed, attribute_changed, labels_changed, list_changed, lists_and_arguments}
 use Rattle.bz_passes.specs.Sorting.{sort_by}
@@ -20,13 +18,8 @@ use mathlib.Core.List.{map-map}
 use Rattle.std.proofs.Math.Path.{fun_ext}
 use Rattle.std.specs.Ordering.{is_lt}
 use Rattle.bz_token.specs.declared.class.Class.TheVariants as c
-use Rattle.bz_label.specs.Keys.{bytes_order}
-use Rattle.bz_value.specs.declared.value.Item.{Item}
 use Rattle.bz_value.specs.declared.value.Item.TheVariants as i
-use Rattle.bz_value.specs.Empty.{is_empty}
-use Rattle.bz_layout.specs.Flags.{with_flags, item_with_flags, flags}
 use Rattle.bz_passes.specs.Joined.{item_tidied}
-use Rattle.bz_rule.specs.QuoteMarks.{between, local_name}
 use Rattle.bz_passes.specs.private.Ranks.{name_ranks, path_ranks}
 use Rattle.bz_passes.proofs.Ranks.{symbol_ranks}
 use Rattle.bz_passes.proofs.Sorting.{compared_one_way, sort_settles, sort_keeps, sort_map, map_keeps_sort}

@@ -5,10 +5,8 @@ use Rattle.std.proofs.lemmas.List.{drop-append-le, get_or-drop, take_more}
 use Rattle.std.proofs.lemmas.List.Elements.{All-append, All-drop, All-from_recursion, All-take, recursion_from_All}
 use Rattle.std.specs.List.{AllByRecursion, AllWithin}
 use Rattle.std.specs.List.Sorted.{IsPartitionPoint, IsPartitionedBy}
-use Rattle.bz_value.specs.declared.value.Item.{Item}
-use Rattle.bz_value.specs.declared.windows.Window.{Window}
+use Rattle.bz_passes.specs.Words.{Item, Window, AreOver, AreWithin}
 use Rattle.bz_value.specs.Proper.{IsProper, IsProperItem}
-use Rattle.bz_value.specs.Windows.{AreOver, AreWithin}
 use Rattle.bz_passes.specs.Joined.{item_tidied}
 use Rattle.bz_passes.specs.Sorting.{insert_by, sort_by}
 use Rattle.bz_passes.specs.Passes.{is_run_load, load_precedes, loads, path_precedes, passed}

@@ -8,14 +8,13 @@ use Rattle.std.specs.Cmp.{IsStrictWeakOrder}
 use Rattle.std.specs.List.{AllByRecursion}
 use Rattle.std.specs.List.Sorted.{IsPermutation}
 use Rattle.std.specs.Prelude.{sum_by}
-use Rattle.bz_value.specs.Counted.{total}
+use Rattle.bz_passes.specs.Words.{total, on_rest}
 use Rattle.bz_rule.proofs.ProperChanges.{by_case, by_test}
 use Rattle.bz_passes.specs.Sorting.{insert_by, sort_by}
 use Rattle.bz_passes.specs.private.Repeats.{Climbs}
 use Rattle.bz_passes.proofs.Keeping.{Keeps, Settles, both, same_first, same_after}
 use borrow.Rule.Slice.PartMut.{put_mid}
 use Rattle.std.proofs.lemmas.List.{drop_all, drop_more, take_all}
-use Rattle.bz_rule.specs.Values.{on_rest}
 use Rattle.std.proofs.lemmas.List.Edits.{length-between}
 
 -- ---- items that change places

@@ -7,8 +7,7 @@ use Rattle.std.proofs.lemmas.Option.{same_Some}
 use Rattle.std.proofs.lemmas.Slice.Eq.{bytes_eq-Decides}
 use Rattle.std.proofs.lemmas.List.{append_cancel_right}
 use Rattle.std.proofs.lemmas.List.Folds.{list_any-append}
-use Rattle.bz_items.specs.Characters.{Bytes, apostrophe, backslash, quotation_mark}
-use Rattle.bz_rule.specs.Rules.{inner, is_plain_in, body}
+use Rattle.bz_passes.specs.Words.{Bytes, apostrophe, backslash, quotation_mark, inner, is_plain_in, body}
 use Rattle.bz_label.specs.Pieces.{is_empty, last_piece, is_joined, is_present, has_slash, is_at, is_colon}
 use Rattle.bz_label.specs.Labels.{is_barred, is_plain, is_path, is_repository_name}
 use Rattle.bz_label.specs.Forms.{is_repository, are_whole}

@@ -4,19 +4,13 @@ use Rattle.std.proofs.lemmas.Bool.{cases_Bool}
 use Rattle.std.specs.Prelude.{bytes_eq}
 use Rattle.std.specs.List.{AllByRecursion}
 use Rattle.std.proofs.lemmas.List.Elements.{recursion_from_All}
-use Rattle.bz_token.specs.declared.class.Class.{Class}
+use Rattle.bz_passes.specs.Words.{Class, is_class, Item, no_comments, total, Bytes, with_text, on_rest, items_of, on_items, parts_of, text_of}
 use Rattle.bz_token.specs.declared.class.Class.TheVariants as c
-use Rattle.bz_grammar.specs.Shapes.{is_class}
 use Rattle.bz_value.specs.declared.value.Form.{Form}
 use Rattle.bz_value.specs.declared.value.Expr.{Expr, Token, Form', Row_of-Expr, end_of-Expr, more_of-Expr, items-the_row-Expr}
 use Rattle.bz_value.specs.declared.value.Expr.TheVariants as e
-use Rattle.bz_value.specs.declared.value.Item.{Item}
 use Rattle.bz_value.specs.declared.value.Item.TheVariants as i
-use Rattle.bz_value.specs.Comments.{no_comments}
-use Rattle.bz_value.specs.Counted.{total}
 use Rattle.bz_value.proofs.Totals.{append_total}
-use Rattle.bz_items.specs.Characters.{Bytes}
-use Rattle.bz_rule.specs.Values.{with_text, on_rest, items_of, on_items, parts_of, text_of}
 use Rattle.bz_passes.specs.Lists.{is_taken}
 use Rattle.bz_passes.specs.Newer.{has_newer}
 use Rattle.bz_passes.specs.Passes.{on_taken, argument_precedes, arguments_in, loads, on_labels, on_list_values, on_rule_arguments, symbol_precedes, symbols_in}

@@ -1,10 +1,7 @@
 -- What is done to one statement in one walk: to lists, the values of attributes, the arguments of a rule.
 use Rattle.std.specs.Prelude.{Bool, List, if◌then◌else◌, map}
 use Rattle.bz_grammar.specs.declared.kind.Kind.TheVariants as k
-use Rattle.bz_label.specs.Tables.{is_label_attribute, is_sorted}
-use Rattle.bz_value.specs.declared.value.Expr.{Expr}
-use Rattle.bz_items.specs.Characters.{Bytes}
-use Rattle.bz_rule.specs.Values.{has_kind, on_lists}
+use Rattle.bz_passes.specs.Words.{is_label_attribute, is_sorted, Expr, Bytes, has_kind, on_lists}
 use Rattle.bz_passes.specs.Sorting.{sort_by}
 use Rattle.bz_passes.specs.Lists.{settled_list}
 use Rattle.bz_passes.specs.Passes.{argument_precedes, arguments_in, labelled, labels_in, lists_in, on_assigned, on_attribute, on_rule_arguments, quotes_in, symbols_in}

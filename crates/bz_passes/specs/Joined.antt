@@ -1,8 +1,6 @@
 -- Items that are tidied apart from others.
 use Rattle.std.specs.Prelude.{◌≡◌, Bool, false, List, [], ◌∷◌, ◌++◌}
-use Rattle.bz_value.specs.BuildValues.{AreBuild, IsBuildItem}
-use Rattle.bz_value.specs.declared.value.Item.{Item}
-use Rattle.bz_layout.specs.Flags.{item_with_flags}
+use Rattle.bz_passes.specs.Words.{AreBuild, IsBuildItem, Item, item_with_flags}
 use Rattle.bz_passes.specs.Changes.{after_passes}
 use Rattle.bz_passes.specs.Passes.{is_run_load, on_statement, taken, tidied}
 

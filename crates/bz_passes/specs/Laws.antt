@@ -1,17 +1,7 @@
 -- Laws of tidying.
 use Rattle.std.specs.Prelude.{◌≡◌, Bool, List, map}
-use Rattle.bz_grammar.specs.declared.kind.Kind.{Kind}
+use Rattle.bz_passes.specs.Words.{Kind, Expr, Item, Bytes, times, Grammar, IsProperIn, has_kind, flags, IsSettled, with_flags, is_broken, AreBuild}
 use Rattle.bz_grammar.specs.declared.kind.Kind.TheVariants as k
-use Rattle.bz_value.specs.declared.value.Expr.{Expr}
-use Rattle.bz_value.specs.declared.value.Item.{Item}
-use Rattle.bz_items.specs.Characters.{Bytes}
-use Rattle.bz_value.specs.Counted.{times}
-use Rattle.bz_value.specs.LineShapes.{Grammar}
-use Rattle.bz_value.specs.Proper.{IsProperIn}
-use Rattle.bz_rule.specs.Values.{has_kind}
-use Rattle.bz_layout.specs.Flags.{flags, IsSettled, with_flags}
-use Rattle.bz_layout.specs.Layout.{is_broken}
-use Rattle.bz_value.specs.BuildValues.{AreBuild}
 use Rattle.bz_passes.specs.Lists.{precedes}
 use Rattle.bz_passes.specs.Sorting.{sort_by, GivesTheOne, IsSorting, IsSortingByRuns}
 use Rattle.bz_passes.specs.Passes.{argument_precedes, is_run_load, loads, name_precedes, path_precedes, symbol_precedes, tidied}

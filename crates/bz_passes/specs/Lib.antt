@@ -8,4 +8,5 @@ pub mod Programs
 pub mod Rows
 pub mod Sorting
 pub mod Syntax
+pub mod Words
 pub mod private

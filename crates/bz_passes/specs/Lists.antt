@@ -4,14 +4,8 @@ use Rattle.std.specs.Char.{to_ascii_lowercase}
 use Rattle.std.specs.List.{filter, list_any, list_all}
 use Rattle.std.specs.Ordering.{is_lt}
 use Rattle.bz_token.specs.declared.class.Class.TheVariants as c
-use Rattle.bz_label.specs.Keys.{key_order}
-use Rattle.bz_value.specs.declared.value.Expr.{Expr}
-use Rattle.bz_items.specs.Characters.{Bytes}
-use Rattle.bz_value.specs.Proper.{comments_of}
-use Rattle.bz_value.specs.Empty.{is_empty, is_none}
-use Rattle.bz_rule.specs.Values.{has_class, text_of, above, with_above}
+use Rattle.bz_passes.specs.Words.{key_order, Expr, Bytes, comments_of, is_empty, is_none, has_class, text_of, above, with_above, between}
 use Rattle.bz_passes.specs.Sorting.{sort_by}
-use Rattle.bz_rule.specs.QuoteMarks.{between}
 
 -- ---- marks: texts that are sought in comments ignoring ASCII case
 

@@ -1,11 +1,8 @@
 -- Whether a value has suites, or other nodes of the newer kinds, which BUILD files have not.
 use Rattle.std.specs.Prelude.{ℕ, ◌+◌, Bool, nat_le, nat_lt, List, if◌then◌else◌}
 use Rattle.std.specs.List.{list_any}
-use Rattle.bz_grammar.specs.declared.kind.Kind.{Kind}
+use Rattle.bz_passes.specs.Words.{Kind, kind_number, Expr, Token, Form', Row_of-Expr, end_of-Expr, more_of-Expr, Item}
 use Rattle.bz_grammar.specs.declared.kind.Kind.TheVariants as k
-use Rattle.bz_grammar.specs.Kinds.{kind_number}
-use Rattle.bz_value.specs.declared.value.Expr.{Expr, Token, Form', Row_of-Expr, end_of-Expr, more_of-Expr}
-use Rattle.bz_value.specs.declared.value.Item.{Item}
 use Rattle.bz_value.specs.declared.value.Item.TheVariants as i
 
 -- The newer kinds are those from Def on.

@@ -6,21 +6,10 @@ use Rattle.std.specs.Ordering.{is_lt, nat_cmp, ordering_then}
 use Rattle.std.specs.declared.cmp.Ordering.{Ordering}
 use Rattle.bz_token.specs.declared.class.Class.TheVariants as c
 use Rattle.bz_grammar.specs.declared.kind.Kind.TheVariants as k
-use Rattle.bz_grammar.specs.Shapes.{is_class}
-use Rattle.bz_label.specs.Tables.{is_sorted, is_label_attribute, priority_of}
-use Rattle.bz_label.specs.Keys.{group_of, bytes_order}
-use Rattle.bz_label.specs.Shorter.{unrepeated}
-use Rattle.bz_value.specs.declared.value.Expr.{Expr, Token, Form', Row_of-Expr, end_of-Expr, more_of-Expr}
+use Rattle.bz_passes.specs.Words.{is_class, is_sorted, is_label_attribute, priority_of, group_of, bytes_order, unrepeated, Expr, Token, Form', Row_of-Expr, end_of-Expr, more_of-Expr, Item, Bytes, apostrophe, backslash, quotation_mark, body, dotted_name, is_empty, flags, has_kind, has_class, text_of, parts_of, items_of, with_text, above, on_row, on_items, on_first, on_third, on_rest, first_text, on_lists, between, inside, local_name, marks_of}
 use Rattle.bz_value.specs.declared.value.Expr.TheVariants as e
-use Rattle.bz_value.specs.declared.value.Item.{Item}
 use Rattle.bz_value.specs.declared.value.Item.TheVariants as i
-use Rattle.bz_items.specs.Characters.{Bytes, apostrophe, backslash, quotation_mark}
-use Rattle.bz_rule.specs.Rules.{body, dotted_name}
-use Rattle.bz_value.specs.Empty.{is_empty}
-use Rattle.bz_layout.specs.Flags.{flags}
-use Rattle.bz_rule.specs.Values.{has_kind, has_class, text_of, parts_of, items_of, with_text, above, on_row, on_items, on_first, on_third, on_rest, first_text, on_lists}
 use Rattle.bz_passes.specs.Sorting.{sort_by}
-use Rattle.bz_rule.specs.QuoteMarks.{between, inside, local_name, marks_of}
 use Rattle.bz_passes.specs.Lists.{any_marked, settled_list}
 use Rattle.bz_passes.specs.Newer.{has_newer}
 

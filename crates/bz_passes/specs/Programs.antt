@@ -1,18 +1,9 @@
 -- Tidying keeps the program. What each pass may change of a file value, said without how it goes about it.
 use Rattle.std.specs.Prelude.{◌≡◌, ℕ, Bool, true, false, List, [], ◌∷◌, ◌++◌, All, Contains, map, replicate}
 use Rattle.std.specs.List.Sorted.{IsPermutation}
-use Rattle.bz_token.specs.declared.class.Class.{Class}
+use Rattle.bz_passes.specs.Words.{Class, IsLong, IsShort, IsString, is_class, IsSame, Expr, Item, Bytes, apostrophe, backslash, quotation_mark, is_quote_mark, inner, is_plain_in, on_rest, has_class, has_kind, on_items, text_of}
 use Rattle.bz_token.specs.declared.class.Class.TheVariants as c
-use Rattle.bz_token.specs.Lexemes.{IsLong, IsShort, IsString}
 use Rattle.bz_grammar.specs.declared.kind.Kind.TheVariants as k
-use Rattle.bz_grammar.specs.Shapes.{is_class}
-use Rattle.bz_label.specs.Labels.{IsSame}
-use Rattle.bz_value.specs.declared.value.Expr.{Expr}
-use Rattle.bz_value.specs.declared.value.Item.{Item}
-use Rattle.bz_items.specs.Characters.{Bytes, apostrophe, backslash, quotation_mark}
-use Rattle.bz_rule.specs.QuoteMarks.{is_quote_mark}
-use Rattle.bz_rule.specs.Rules.{inner, is_plain_in}
-use Rattle.bz_rule.specs.Values.{on_rest, has_class, has_kind, on_items, text_of}
 use Rattle.bz_passes.specs.Lists.{is_taken}
 use Rattle.bz_passes.specs.Newer.{has_newer}
 use Rattle.bz_passes.specs.Passes.{has_character, is_run_load, name_precedes, on_labels, on_list_values, on_rule_arguments, on_strings, on_taken, path_precedes, symbol_precedes, tidied}

@@ -1,16 +1,10 @@
 -- Worked rows of the passes.
 use Rattle.std.specs.Prelude.{◌≡◌, Bool, true, false, List, [], ◌∷◌, codes, Option, None, Some, map}
-use Rattle.bz_token.specs.declared.class.Class.{Class}
+use Rattle.bz_passes.specs.Words.{Class, Kind, Expr, Item, Bytes, no_comments, layout}
 use Rattle.bz_token.specs.declared.class.Class.TheVariants as c
-use Rattle.bz_grammar.specs.declared.kind.Kind.{Kind}
 use Rattle.bz_grammar.specs.declared.kind.Kind.TheVariants as k
-use Rattle.bz_value.specs.declared.value.Expr.{Expr}
 use Rattle.bz_value.specs.declared.value.Expr.TheVariants as e
-use Rattle.bz_value.specs.declared.value.Item.{Item}
 use Rattle.bz_value.specs.declared.value.Item.TheVariants as i
-use Rattle.bz_items.specs.Characters.{Bytes}
-use Rattle.bz_value.specs.Comments.{no_comments}
-use Rattle.bz_layout.specs.Written.{layout}
 use Rattle.bz_passes.specs.Passes.{tidied}
 use Rattle.bz_passes.specs.Programs.{IsSameLabel, IsSameString, KeepsProgram}
 use Rattle.bz_passes.specs.Syntax.{program, token_times}

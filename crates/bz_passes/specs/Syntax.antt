@@ -1,14 +1,8 @@
 -- What a compiler reads of a value: its kinds and tokens, without the comments and without the flags of the layout.
 use Rattle.std.specs.Prelude.{ℕ, ◌+◌, false, ◌&&◌, List, [], ◌∷◌, bytes_eq, if◌then◌else◌}
-use Rattle.bz_token.specs.declared.class.Class.{Class}
-use Rattle.bz_grammar.specs.Shapes.{is_class}
-use Rattle.bz_value.specs.declared.value.Expr.{Expr, Token, Form', Row_of-Expr, end_of-Expr, more_of-Expr}
+use Rattle.bz_passes.specs.Words.{Class, is_class, Expr, Token, Form', Row_of-Expr, end_of-Expr, more_of-Expr, Item, Bytes, no_comments, total}
 use Rattle.bz_value.specs.declared.value.Expr.TheVariants as e
-use Rattle.bz_value.specs.declared.value.Item.{Item}
 use Rattle.bz_value.specs.declared.value.Item.TheVariants as i
-use Rattle.bz_items.specs.Characters.{Bytes}
-use Rattle.bz_value.specs.Comments.{no_comments}
-use Rattle.bz_value.specs.Counted.{total}
 
 abbrev mutual
   pub syntax_of : Expr → Expr

@@ -1,13 +1,10 @@
 //! The items of one list: whether they are sorted, and sorting them.
 ghost use Rattle.std.specs.Prelude.{◌≡◌, ◌++◌, not, IfOk, IsTrue, OnOk, if◌then◌else◌};
 ghost use Rattle.std.specs.List.{list_all, list_any};
-ghost use Rattle.bz_label.specs.Keys.{key_order};
-ghost use Rattle.bz_value.specs.Empty.{is_empty};
+ghost use Rattle.bz_passes.specs.Words.{key_order, is_empty, between as between_marks, above, has_class, on_first, text_of as text_in, with_above};
 ghost use Rattle.bz_token.specs.declared.class.Class.TheVariants as classes;
 ghost use Rattle.bz_passes.specs.Lists.{above_first, in_order, is_taken as is_taken_in, marked_by, precedes, settled_list, sorted, without_marks, any_marked as marked_in_any, keep_marks, other_comments};
 ghost use Rattle.bz_passes.specs.private.Repeats.{Climbs, is_passed};
-ghost use Rattle.bz_rule.specs.QuoteMarks.{between as between_marks};
-ghost use Rattle.bz_rule.specs.Values.{above, has_class, on_first, text_of as text_in, with_above};
 
 use crate::marks::{any_marked, is_marked};
 use crate::repeats::drop_repeats;

@@ -2,8 +2,7 @@
 //! and there may be too many of them, each in the next, for a walk that calls itself.
 ghost use Rattle.std.specs.Prelude.{◌≡◌, ◌<◌, false, IsTrue, IfSome, map};
 ghost use Rattle.std.specs.List.{list_any};
-ghost use Rattle.bz_layout.specs.Flags.{with_flags};
-ghost use Rattle.bz_rule.specs.private.Named.{fronts, fronts_among};
+ghost use Rattle.bz_passes.specs.Words.{with_flags, fronts, fronts_among};
 ghost use Rattle.bz_passes.specs.Newer.{has_newer_node};
 ghost use Rattle.bz_passes.specs.Passes.{quotes_in};
 

@@ -1,9 +1,6 @@
 //! The passes in turn.
 ghost use Rattle.std.specs.Prelude.{◌≡◌, IfOk, OnOk};
-ghost use Rattle.bz_value.specs.Counted.{times};
-ghost use Rattle.bz_items.specs.Characters.{Bytes};
-ghost use Rattle.bz_layout.specs.Flags.{IsSettled};
-ghost use Rattle.bz_value.specs.BuildValues.{AreBuild};
+ghost use Rattle.bz_passes.specs.Words.{times, Bytes, IsSettled, AreBuild};
 ghost use Rattle.bz_passes.specs.Passes.{passed, tidied as tidied_all};
 ghost use Rattle.bz_passes.specs.Programs.{KeepsProgram};
 ghost use Rattle.bz_passes.specs.Joined.{item_tidied};

@@ -2,8 +2,7 @@
 //! assignment, to its lists.
 ghost use Rattle.std.specs.Prelude.{◌≡◌, OnOk, codes, bytes_eq};
 ghost use Rattle.bz_grammar.specs.declared.kind.Kind.TheVariants as k;
-ghost use Rattle.bz_rule.specs.Rules.{is_text, dotted_name};
-ghost use Rattle.bz_rule.specs.Values.{on_items, on_third, on_lists};
+ghost use Rattle.bz_passes.specs.Words.{is_text, dotted_name, on_items, on_third, on_lists};
 ghost use Rattle.bz_passes.specs.Passes.{of_rule, on_attribute, on_call, on_rule_arguments};
 ghost use Rattle.bz_passes.specs.Changes.{arguments_changed, attribute_changed, list_changed, lists_and_arguments};
 

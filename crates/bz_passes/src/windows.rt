@@ -1,8 +1,6 @@
 //! Tidying a file in which items came in the place of others of a tidy one.
 ghost use Rattle.std.specs.Prelude.{◌≡◌, ◌≤◌, ◌<◌, ◌+◌, ◌∷◌, List, Ok, false, true, drop, length, take, IfSome, OnOk};
-ghost use Rattle.bz_value.specs.Windows.{AreOver, AreWithin};
-ghost use Rattle.bz_value.specs.declared.value.Item.{Item};
-ghost use Rattle.bz_value.specs.BuildValues.{AreBuild};
+ghost use Rattle.bz_passes.specs.Words.{AreOver, AreWithin, Item, AreBuild};
 ghost use Rattle.bz_passes.specs.Passes.{tidied as tidied_all};
 ghost use Rattle.bz_passes.specs.private.Borders.{AreTidied, IsStillToTidy, tidied_over, AreInOrder, IsMoved, IsPlaceBack, IsPlaceOf, one_at};
 

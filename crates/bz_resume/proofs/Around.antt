@@ -2,14 +2,9 @@
 use Rattle.std.proofs.Common.{ℕ, ◌≡◌, ◌+◌, ◌<◌, List, [], ◌∷◌, ◌++◌, length, map, reverse, take, drop, get_or, refl, sym, ap, ◌∙◌, subst, arith, length-append, length-take-le}
 use Rattle.std.proofs.lemmas.List.{append_assoc, length-map, length-reverse, map-append, reverse-reverse, take_at, drop_at, get_or_at, drop_more, take-append-drop}
 use Rattle.std.proofs.lemmas.Grind.{reverse_onto}
-use Rattle.sha2.specs.Sha256.{sha256}
-use Rattle.bz_grammar.specs.declared.tree.Node.{Node}
-use Rattle.bz_grammar.specs.Spell.{spell_node}
-use Rattle.bz_edit.specs.declared.edit.Edit.{Edit}
-use Rattle.bz_edit.specs.Steps.{swap_node}
+use Rattle.bz_resume.specs.Words.{sha256, Node, spell_node, Edit, swap_node, Record}
 use Rattle.bz_edit.specs.Trails.{IsTree, LeadOn, steps_back, steps_forward, trees}
 use Rattle.bz_edit.proofs.Keeps.{trees_length}
-use Rattle.bz_journal_format.specs.declared.content.Record.{Record}
 use Rattle.bz_resume.specs.private.Agreement.{StepsAgree, StepsAgreeAround, IsCounted, RecordAgrees, edits_of, recorded_trail}
 
 abbrev digest_of : Node → List ℕ

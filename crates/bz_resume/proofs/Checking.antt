@@ -4,11 +4,10 @@ use Rattle.std.proofs.lemmas.Bool.{false≢true}
 use Rattle.std.proofs.lemmas.Result.{on_ok_weaker}
 use Rattle.std.specs.Prelude.{Result, Ok, Err, IsOk, IsErr, IfErr, OnOk, IsErrOf}
 use Rattle.std.specs.FinMap.{get}
-use Rattle.bz_files.specs.Faults.{Rises}
+use Rattle.bz_resume.specs.Words.{Rises, Ghosts as FilesOf}
 use Rattle.bz_files.specs.Folder.{Folder, Text, Elapses, IsUntouched, with_file}
 use Rattle.bz_files.specs.Pair.{AreReplaced, IsChecking, RewritesHeld}
 use Rattle.bz_files.specs.declared.files.FileFault.{FileFault}
-use Rattle.bz_files.specs.declared.files.Files.{Ghosts as FilesOf}
 use Rattle.bz_files.proofs.Acts.{Do, after_look, each}
 use Rattle.bz_files.proofs.Elapsing.{weakened, each_since}
 use Rattle.bz_files.proofs.Folders.{reads_back, other_stays}

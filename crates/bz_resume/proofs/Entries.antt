@@ -1,9 +1,6 @@
 -- Notes and steps side by side, and apart again.
 use Rattle.std.proofs.Common.{◌≡◌, List, [], ◌∷◌, length, refl, ap, arith}
-use Rattle.bz_edit.specs.declared.edit.Edit.{Edit}
-use Rattle.bz_edit.specs.Shown.{Text}
-use Rattle.bz_journal_format.specs.declared.content.RecordedStep.{RecordedStep}
-use Rattle.bz_journal_format.specs.Contents.{entries_of}
+use Rattle.bz_resume.specs.Words.{Edit, Text, RecordedStep, entries_of}
 use Rattle.bz_resume.specs.private.Agreement.{edits_of, notes_of}
 
 pub entries_back : (es : List RecordedStep) → entries_of (notes_of es) (edits_of es) ≡ es

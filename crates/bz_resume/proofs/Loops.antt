@@ -3,13 +3,8 @@ use Rattle.std.proofs.Common.{ℕ, ◌≡◌, ◌≤◌, ◌↔◌, Bool, List, 
 use Rattle.std.specs.Prelude.{IsTrue, MatchOption, Option, Some, None}
 use Rattle.std.specs.Str.{bytes_eq}
 use Rattle.std.proofs.lemmas.Slice.Eq.{bytes_eq-Decides}
-use Rattle.bz_grammar.specs.declared.tree.Node.{Node}
-use Rattle.bz_grammar.specs.Legal.{Reads}
-use Rattle.bz_grammar.specs.Spell.{spell_node, limit}
+use Rattle.bz_resume.specs.Words.{Node, Reads, spell_node, limit, Edit, swap_node, IsTree}
 use Rattle.bz_grammar.proofs.Unique.{one_tree}
-use Rattle.bz_edit.specs.declared.edit.Edit.{Edit}
-use Rattle.bz_edit.specs.Steps.{swap_node}
-use Rattle.bz_edit.specs.Trails.{IsTree}
 use Rattle.bz_resume.specs.private.Outlines.{outline_node}
 use Rattle.bz_resume.specs.private.Agreement.{StepAgrees, StepsAgree}
 use Rattle.bz_resume.proofs.Outlined.{one_outline}

@@ -1,13 +1,7 @@
 -- A record opened, as the code has it.
 use Rattle.std.proofs.Common.{ℕ, ◌≡◌, ◌≤◌, List, length, refl, sym, ◌∙◌, subst}
 use Rattle.std.specs.List.{AllByRecursion}
-use Rattle.bz_grammar.specs.declared.tree.Node.{Node}
-use Rattle.bz_grammar.specs.Legal.{Reads}
-use Rattle.bz_grammar.specs.Spell.{limit}
-use Rattle.bz_edit.specs.declared.edit.Edit.{Edit}
-use Rattle.bz_edit.specs.Trails.{IsTree}
-use Rattle.bz_edit.specs.Shown.{Text}
-use Rattle.bz_journal_format.specs.declared.content.Record.{Record}
+use Rattle.bz_resume.specs.Words.{Node, Reads, limit, Edit, IsTree, Text, Record}
 use Rattle.bz_resume.specs.private.Agreement.{StepsAgreeAround, IsCounted, IsOpened, RecordAgrees, MayLead, NoneAgrees, edits_of, notes_of, recorded_trail}
 use Rattle.bz_resume.proofs.Around.{to_whole, from_whole}
 use Rattle.bz_resume.proofs.Paths.{may_lead, trail_all}

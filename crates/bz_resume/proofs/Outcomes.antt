@@ -3,25 +3,15 @@ use Rattle.std.proofs.Common.{ℕ, ◌≡◌, ◌≤◌, List, ◌∷◌, length
 use Rattle.std.proofs.lemmas.List.{length-map}
 use Rattle.std.specs.Prelude.{IsUtf8, slice_index_or, []}
 use Rattle.std.specs.List.{AllByRecursion}
-use Rattle.sha2.specs.Sha256.{sha256}
-use Rattle.bz_grammar.specs.declared.tree.Node.{Node}
-use Rattle.bz_grammar.specs.Legal.{Reads}
-use Rattle.bz_grammar.specs.Spell.{spell_node, limit, depth_limit}
+use Rattle.bz_resume.specs.Words.{sha256, Node, Reads, spell_node, limit, depth_limit, Edit, Trail, IsTrail, IsSmall, trail_at, Moves, Text, texts_of, RecordedStep, Record, Version, entries_of}
 use Rattle.bz_grammar.proofs.Unique.{one_tree}
-use Rattle.bz_edit.specs.declared.edit.Edit.{Edit}
-use Rattle.bz_edit.specs.Trails.{Trail, IsTrail, IsSmall, trail_at}
-use Rattle.bz_edit.specs.Shown.{Moves, Text, texts_of}
 use Rattle.bz_edit.proofs.Keeps.{present_text, texts_length}
-use Rattle.bz_journal_format.specs.declared.content.RecordedStep.{RecordedStep}
-use Rattle.bz_journal_format.specs.declared.content.Record.{Record}
-use Rattle.bz_journal_format.specs.declared.content.Version.{Version}
 use Rattle.bz_journal_format.specs.declared.content.Version.TheVariants.{One, Two}
 use Rattle.bz_journal_format.specs.Texts.{record_text, short_limit, IsNotedStep, IsNote, IsRecord, IsRead, IsOtherVersion}
 use Rattle.bz_journal_format.proofs.Whole.{one_record}
 use Rattle.bz_journal_format.proofs.Own.{own_version}
 use Rattle.bz_resume.specs.declared.resumed.Resumed.{Resumed}
 use Rattle.bz_resume.specs.Journals.{History, Journal, NoJournal, AreSmall, record_of, stands, text_at}
-use Rattle.bz_journal_format.specs.Contents.{entries_of}
 use Rattle.bz_resume.specs.private.Agreement.{IsOpened, RecordAgrees, NoneAgrees, edits_of, notes_of, standing_place, recorded_trail}
 use Rattle.bz_resume.specs.Resumed.{IsResumed, IsStale, StandsFor, trail_of}
 use Rattle.bz_resume.proofs.Entries.{entries_back, entries_apart}

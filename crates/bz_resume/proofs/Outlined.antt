@@ -5,12 +5,10 @@ use Rattle.std.proofs.lemmas.Option.{same_Some}
 use Rattle.bz_token.specs.declared.class.Class.{Class}
 use Rattle.bz_token.specs.declared.class.Class.TheVariants as c
 use Rattle.bz_token.specs.Classes.{class_number, class_of}
-use Rattle.bz_lex.specs.declared.leaf.Leaf.{Leaf}
+use Rattle.bz_resume.specs.Words.{Leaf, Node, kind_number}
 use Rattle.bz_grammar.specs.declared.kind.Kind.{Kind}
-use Rattle.bz_grammar.specs.declared.tree.Node.{Node}
 use Rattle.bz_grammar.specs.declared.tree.Part.{Part, Row_of-Part, end_of-Part, more_of-Part, items-the_row-Part}
 use Rattle.bz_grammar.specs.declared.tree.Part.TheVariants as p
-use Rattle.bz_grammar.specs.Kinds.{kind_number}
 use Rattle.bz_grammar.proofs.Nested.{row_of, items_of_row, part_ind, leaf_or_node}
 use Rattle.bz_grammar.proofs.Numbers.{same_kind}
 use Rattle.bz_resume.specs.private.Outlines.{outline_list, marked, outline_leaf, outline_node, outline_part, outline_row}

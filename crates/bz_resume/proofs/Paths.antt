@@ -6,15 +6,12 @@ use Rattle.std.proofs.lemmas.Bool.{and_parts, lt-ltb}
 use Rattle.std.proofs.lemmas.Option.{same_Some}
 use Rattle.std.proofs.lemmas.List.{reverse-reverse, take-append-drop}
 use Rattle.std.proofs.lemmas.Grind.{reverse_onto}
-use Rattle.bz_grammar.specs.declared.tree.Node.{Node}
-use Rattle.bz_grammar.specs.declared.tree.Part.{Part}
+use Rattle.bz_resume.specs.Words.{Node, Part, Edit, all_there, swap_node}
 use Rattle.bz_grammar.specs.declared.tree.Part.TheVariants as p
 use Rattle.bz_grammar.specs.Spell.{depth_part, deepest, depth_limit}
 use Rattle.bz_grammar.proofs.Spells.{depth_Node}
 use Rattle.bz_grammar.proofs.Split.{all_both}
-use Rattle.bz_edit.specs.declared.edit.Edit.{Edit}
 use Rattle.bz_edit.specs.Places.{has_place}
-use Rattle.bz_edit.specs.Steps.{all_there, swap_node}
 use Rattle.bz_edit.proofs.Puts.{child_found}
 use Rattle.bz_edit.specs.Trails.{Trail, IsTrail, IsTree, StepLeads, LeadOn}
 use Rattle.bz_resume.specs.private.Agreement.{MayLead}

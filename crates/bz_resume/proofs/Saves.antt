@@ -3,20 +3,13 @@ use Rattle.std.proofs.Common.{◌≡◌, ◌<◌, List, [], ◌∷◌, length, m
 use Rattle.std.specs.Prelude.{slice_index_or}
 use Rattle.std.specs.List.{AllByRecursion}
 use Rattle.std.proofs.lemmas.List.{length-map}
-use Rattle.sha2.specs.Sha256.{sha256}
-use Rattle.bz_grammar.specs.declared.tree.Node.{Node}
-use Rattle.bz_grammar.specs.Spell.{spell_node, depth_limit}
-use Rattle.bz_edit.specs.declared.edit.Edit.{Edit}
-use Rattle.bz_edit.specs.Trails.{Trail, IsTrail, trail_at}
-use Rattle.bz_edit.specs.Shown.{Text, texts_of}
+use Rattle.bz_resume.specs.Words.{sha256, Node, spell_node, depth_limit, Edit, Trail, IsTrail, trail_at, Text, texts_of, Record, entries_of}
 use Rattle.bz_edit.proofs.Keeps.{present_text, texts_length}
-use Rattle.bz_journal_format.specs.declared.content.Record.{Record}
 use Rattle.bz_journal_format.specs.declared.content.Version.TheVariants.{Two}
 use Rattle.bz_journal_format.specs.Spellings.{number_limit, IsDigest}
 use Rattle.bz_journal_format.specs.Texts.{IsEdit, IsNotedStep, IsNote, IsRecord}
 use Rattle.bz_journal_format.proofs.Digests.{digest_fits}
 use Rattle.bz_resume.specs.Journals.{History, Journal, MaySave, journal_text, record_of, text_at}
-use Rattle.bz_journal_format.specs.Contents.{entries_of}
 use Rattle.bz_journal_format.proofs.Paired.{entries_length}
 use Rattle.bz_resume.proofs.Paths.{trail_all}
 use Rattle.bz_resume.proofs.Sized.{step_fits}

@@ -5,7 +5,7 @@ use Rattle.std.specs.List.{AllByRecursion, flat_map}
 use Rattle.std.proofs.lemmas.Bool.{and_parts, leb-true}
 use Rattle.std.proofs.lemmas.List.{take-append-drop}
 use Rattle.std.proofs.lemmas.Option.{same_Some, slice_get_within}
-use Rattle.bz_grammar.specs.declared.tree.Node.{Node}
+use Rattle.bz_resume.specs.Words.{Node, Edit, IsTree, StepLeads}
 use Rattle.bz_grammar.specs.declared.tree.Part.{Part, Row_of-Part, end_of-Part, more_of-Part, items-the_row-Part}
 use Rattle.bz_grammar.specs.declared.tree.Part.TheVariants as p
 use Rattle.bz_grammar.specs.declared.tree.Part.TheViews.{outs-Node}
@@ -13,7 +13,6 @@ use Rattle.bz_grammar.specs.Spell.{deepest, spell_part, depth_limit, limit}
 use Rattle.bz_grammar.proofs.Nested.{part_ind, row_of, items_of_row}
 use Rattle.bz_grammar.proofs.Spells.{depth_Node, spell_Node}
 use Rattle.bz_grammar.proofs.Split.{all_back, all_front}
-use Rattle.bz_edit.specs.declared.edit.Edit.{Edit}
 use Rattle.bz_edit.specs.Places.{has_place, covered, if_node, node_in, opened_node}
 use Rattle.bz_edit.specs.private.Plans.{parts_in, total_length}
 use Rattle.bz_edit.specs.Steps.{CountsFit, all_there, swap_node, turned_all}
@@ -22,7 +21,6 @@ use Rattle.bz_edit.proofs.Puts.{child_found}
 use Rattle.bz_edit.proofs.Sizes.{counted}
 use Rattle.bz_edit.proofs.Turns.{apart_of}
 use Rattle.bz_edit.proofs.Twice.{twice}
-use Rattle.bz_edit.specs.Trails.{IsTree, StepLeads}
 use Rattle.bz_resume.proofs.Paths.{place_within}
 use Rattle.bz_journal_format.specs.Spellings.{number_limit}
 use Rattle.bz_journal_format.specs.Texts.{row_length, IsSmallPart, AreSmallParts, IsHeld, IsEdit}

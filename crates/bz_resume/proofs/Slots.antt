@@ -4,18 +4,15 @@ use Rattle.std.specs.Prelude.{slice_get}
 use Rattle.std.specs.List.{AllByRecursion}
 use Rattle.std.proofs.lemmas.Bool.{and_parts, leb-true}
 use Rattle.std.proofs.lemmas.Option.{same_Some}
-use Rattle.bz_grammar.specs.declared.tree.Node.{Node}
-use Rattle.bz_grammar.specs.declared.tree.Part.{Part}
+use Rattle.bz_resume.specs.Words.{Node, Part, Edit, IsTree, StepLeads}
 use Rattle.bz_grammar.specs.declared.tree.Part.TheVariants as p
 use Rattle.bz_grammar.specs.declared.tree.Part.TheViews.{outs-Node}
-use Rattle.bz_edit.specs.declared.edit.Edit.{Edit}
 use Rattle.bz_edit.specs.Places.{has_place, child, if_node, node_in, opened_node}
 use Rattle.bz_edit.specs.private.Plans.{parts_in, total_length}
 use Rattle.bz_edit.specs.Steps.{IsBefore, WellFormed, MayFollow, all_there}
 use Rattle.bz_edit.proofs.Planning.{parts_Node, length_total}
 use Rattle.bz_edit.proofs.Puts.{child_found}
 use Rattle.bz_edit.proofs.Sizes.{few_parts}
-use Rattle.bz_edit.specs.Trails.{IsTree, StepLeads}
 
 -- ---- parts before a place
 

@@ -3,11 +3,7 @@ use Rattle.std.proofs.Common.{ℕ, ◌≡◌, Bool, true, false, List, [], ◌++
 use Rattle.std.proofs.lemmas.List.{take_at}
 use Rattle.std.specs.Prelude.{slice_index_or}
 use Rattle.std.specs.Str.{bytes_eq}
-use Rattle.bz_grammar.specs.declared.tree.Node.{Node}
-use Rattle.bz_grammar.specs.Spell.{spell_node}
-use Rattle.bz_edit.specs.declared.edit.Edit.{Edit}
-use Rattle.bz_edit.specs.Trails.{Trail, IsTrail, trail_at}
-use Rattle.bz_edit.specs.Shown.{Moves, Text, texts_of}
+use Rattle.bz_resume.specs.Words.{Node, spell_node, Edit, Trail, IsTrail, trail_at, Moves, Text, texts_of}
 use Rattle.bz_edit.proofs.Keeps.{present_text, texts_length}
 use Rattle.bz_resume.specs.private.Agreement.{HasStood}
 

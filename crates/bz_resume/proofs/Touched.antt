@@ -3,25 +3,20 @@ use Rattle.std.proofs.Common.{◌≡◌, ◌⊎◌, ℕ, zero, suc, ◌+◌, ◌
 use Rattle.std.specs.List.{AllByRecursion, flat_map}
 use Rattle.std.proofs.lemmas.Bool.{cases_Bool, eqb-true, cond-false}
 use Rattle.std.proofs.lemmas.List.{append-nil}
-use Rattle.bz_lex.specs.declared.leaf.Leaf.{Leaf}
+use Rattle.bz_resume.specs.Words.{Leaf, Node, Part, Node', bare_end, Edit, IsTree}
 use Rattle.bz_grammar.specs.declared.kind.Kind.TheVariants as k
-use Rattle.bz_grammar.specs.declared.tree.Node.{Node}
-use Rattle.bz_grammar.specs.declared.tree.Part.{Part, Node'}
 use Rattle.bz_grammar.specs.declared.tree.Part.TheVariants as p
 use Rattle.bz_grammar.specs.Spell.{leaves_part, spell_node, spell_part, limit}
 use Rattle.bz_grammar.specs.Legal.{LegalBuild, IsNonterminal}
 use Rattle.bz_grammar.specs.Shapes.{Several, stmt}
 use Rattle.bz_grammar.specs.Joined.{AreWholeLines, file_with, last_token}
 use Rattle.bz_items.specs.Characters.{line_feed}
-use Rattle.bz_grammar.specs.Split.{bare_end}
 use Rattle.bz_grammar.proofs.Balance.{no_such}
 use Rattle.bz_grammar.proofs.Spells.{leaves_Node}
 use Rattle.bz_grammar.proofs.Joining.{lines_join}
 use Rattle.bz_grammar.proofs.Split.{all_both, leaves_both, IsLast, lines_split}
-use Rattle.bz_edit.specs.declared.edit.Edit.{Edit}
 use Rattle.bz_edit.specs.Steps.{here, if_here, below, if_below, spliced, splice_all, swap_part, swap_list, swap_node}
 use Rattle.bz_edit.proofs.Swaps.{stays, swap_none}
-use Rattle.bz_edit.specs.Trails.{IsTree}
 use Rattle.bz_resume.proofs.Sized.{all_taken, all_dropped}
 use Rattle.bz_resume.specs.private.Alone.{IsAlone, AreAlone, EndsLine, AreLined, IsAloneAt, IsTouchedAlone, IsHeldAlone, AreTouchedAlone}
 

@@ -2,17 +2,8 @@
 use Rattle.std.specs.Prelude.{ℕ, ◌≡◌, ◌≤◌, List, [], length, map, slice_index_or, IsUtf8, Option, Some, None, if◌then◌else◌}
 use Rattle.std.specs.List.{AllByRecursion}
 use Rattle.std.specs.Str.{bytes_eq}
-use Rattle.sha2.specs.Sha256.{sha256}
-use Rattle.bz_grammar.specs.declared.tree.Node.{Node}
-use Rattle.bz_grammar.specs.Spell.{depth_limit}
-use Rattle.bz_edit.specs.declared.edit.Edit.{Edit}
-use Rattle.bz_edit.specs.Trails.{IsTrail, IsSmall, trail_at}
-use Rattle.bz_edit.specs.Shown.{Text, texts_of}
-use Rattle.bz_journal_format.specs.Contents.{entries_of}
-use Rattle.bz_journal_format.specs.declared.content.Record.{Record}
-use Rattle.bz_journal_format.specs.declared.content.Version.{Version}
+use Rattle.bz_resume.specs.Words.{sha256, Node, depth_limit, Edit, IsTrail, IsSmall, trail_at, Text, texts_of, entries_of, Record, Version, IsNote, IsRecord, record_text, short_limit, step_limit}
 use Rattle.bz_journal_format.specs.declared.content.Version.TheVariants.{Two}
-use Rattle.bz_journal_format.specs.Texts.{IsNote, IsRecord, record_text, short_limit, step_limit}
 
 -- the path of the file's package, the texts in the order in which they came, a note of each step between two of them, the number
 -- of the present text, and that of the one that was present before it

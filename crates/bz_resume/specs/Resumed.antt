@@ -1,9 +1,6 @@
 -- What is resumed of a journal.
 use Rattle.std.specs.Prelude.{◌≡◌, List, map, Some, None, Result, Ok, Err}
-use Rattle.sha2.specs.Sha256.{sha256}
-use Rattle.bz_edit.specs.declared.edit.Edit.{Edit}
-use Rattle.bz_edit.specs.Trails.{Trail, IsTrail, IsSmall, trail_at}
-use Rattle.bz_edit.specs.Shown.{Text, texts_of}
+use Rattle.bz_resume.specs.Words.{sha256, Edit, Trail, IsTrail, IsSmall, trail_at, Text, texts_of}
 use Rattle.bz_resume.specs.declared.resumed.Resumed.{Resumed}
 use Rattle.bz_resume.specs.declared.fault.ResumeFault.{ResumeFault}
 use Rattle.bz_resume.specs.declared.fault.ResumeFault.TheVariants as f

@@ -1,10 +1,8 @@
 -- A file whose journal records its history, and what a stop leaves of the two.
 use Rattle.std.specs.Prelude.{◌≡◌, ◌≢◌, ◌⊎◌, ◌≤◌, ℕ, true, List, [], ◌∷◌, Some, None, Result, IfErr, OnOk, IsErrOf}
 use Rattle.std.specs.FinMap.{get}
-use Rattle.bz_edit.specs.declared.edit.Edit.{Edit}
+use Rattle.bz_resume.specs.Words.{Edit, Rises, Ghosts as FilesOf}
 use Rattle.bz_files.specs.Folder.{Folder, Text, Elapses, new_name}
-use Rattle.bz_files.specs.Faults.{Rises}
-use Rattle.bz_files.specs.declared.files.Files.{Ghosts as FilesOf}
 use Rattle.bz_resume.specs.declared.pair_fault.PairFault.{PairFault}
 use Rattle.bz_resume.specs.declared.pair_fault.PairFault.TheVariants as f
 use Rattle.bz_resume.specs.Journals.{History, Journal, stands, text_at}

@@ -1,9 +1,6 @@
 -- What is saved of a session.
 use Rattle.std.specs.Prelude.{◌≡◌, length, map}
-use Rattle.sha2.specs.Sha256.{sha256}
-use Rattle.bz_grammar.specs.Spell.{spell_node}
-use Rattle.bz_edit.specs.Trails.{Trail, IsTrail, trail_at}
-use Rattle.bz_edit.specs.Shown.{texts_of}
+use Rattle.bz_resume.specs.Words.{sha256, spell_node, Trail, IsTrail, trail_at, texts_of}
 use Rattle.bz_resume.specs.declared.saving.Saved.{Saved}
 use Rattle.bz_resume.specs.Journals.{History, Journal, MaySave, journal_text}
 

@@ -1,7 +1,6 @@
 //! Laws of journals: the contract of each function is a law, and there is nothing to run.
 ghost use Rattle.std.specs.Prelude.{◌≡◌, List, Some};
-ghost use Rattle.bz_edit.specs.declared.edit.Edit.{Edit};
-ghost use Rattle.bz_edit.specs.Shown.{Text};
+ghost use Rattle.bz_resume.specs.Words.{Edit, Text};
 ghost use Rattle.bz_resume.specs.Journals.{History, Journal, stands, text_at};
 
 /// A history is at its cursor for the text there.

@@ -1,7 +1,6 @@
 //! A record opened: its text read, and its steps tested.
 ghost use Rattle.std.specs.Prelude.{◌≡◌, ◌+◌, ◌≤◌, IfOk, MatchOption, length};
-ghost use Rattle.bz_grammar.specs.declared.tree.Node.{Node};
-ghost use Rattle.bz_grammar.specs.Legal.{Reads};
+ghost use Rattle.bz_resume.specs.Words.{Node, Reads};
 ghost use Rattle.bz_resume.specs.private.Agreement.{StepsAgreeAround, IsCounted, IsOpened, NoneAgrees};
 
 use crate::reading::read;

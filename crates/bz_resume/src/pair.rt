@@ -1,9 +1,7 @@
 //! A file and its journal, replaced so that a stop at any moment leaves a pair that goes on.
 ghost use Rattle.std.specs.Prelude.{◌≡◌, ◌≢◌, ◌⊎◌, ◌≤◌, ◌↔◌, true, Some, IfOk, IfErr, OnOk, IsOk, IsErrOf, string_bytes};
 ghost use Rattle.std.specs.FinMap.{get};
-ghost use Rattle.bz_files.specs.Acts.{GoesThrough};
-ghost use Rattle.bz_files.specs.Folder.{IsUntouched};
-ghost use Rattle.bz_files.specs.Faults.{Rises};
+ghost use Rattle.bz_resume.specs.Words.{GoesThrough, IsUntouched, Rises};
 ghost use Rattle.bz_resume.specs.Pair.{journal_name};
 ghost use Rattle.bz_resume.specs.Resuming.{KeepsHeld};
 

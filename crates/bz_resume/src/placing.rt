@@ -1,7 +1,6 @@
 //! Steps made on a node that may be left half changed where memory is refused, so that neither of the two is copied as a whole.
 ghost use Rattle.std.specs.Prelude.{◌≡◌, IsTrue, true, IfOk, OnOk};
-ghost use Rattle.bz_grammar.specs.Spell.{spell_node};
-ghost use Rattle.bz_edit.specs.Steps.{IsStep, all_there, swap_node};
+ghost use Rattle.bz_resume.specs.Words.{spell_node, IsStep, all_there, swap_node};
 
 use bz_edit::{Step, all_places, swap_each};
 use bz_grammar::Node;

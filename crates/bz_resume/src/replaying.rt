@@ -1,11 +1,6 @@
 //! Over the steps of a stranger, each of which is tested. No more than one tree is held at a time.
 ghost use Rattle.std.specs.Prelude.{◌≡◌, ◌<◌, ◌∷◌, [], ◌↔◌, IsTrue, IfOk, IfSome, MatchOption, length};
-ghost use Rattle.sha2.specs.Sha256.{sha256};
-ghost use Rattle.bz_grammar.specs.declared.tree.Node.{Node};
-ghost use Rattle.bz_grammar.specs.Legal.{Reads};
-ghost use Rattle.bz_grammar.specs.Spell.{spell_node};
-ghost use Rattle.bz_edit.specs.Steps.{swap_node};
-ghost use Rattle.bz_edit.specs.Trails.{IsTree};
+ghost use Rattle.bz_resume.specs.Words.{sha256, Node, Reads, spell_node, swap_node, IsTree};
 ghost use Rattle.bz_resume.specs.private.Agreement.{StepAgrees, StepsAgree, as_taken};
 
 use crate::outlining::outline_of;

@@ -1,7 +1,6 @@
 //! Resuming a journal.
 ghost use Rattle.std.specs.Prelude.{◌≡◌, ◌↔◌, List, IfOk, Err};
-ghost use Rattle.bz_edit.specs.declared.edit.Edit.{Edit};
-ghost use Rattle.bz_journal_format.specs.Texts.{IsOtherVersion};
+ghost use Rattle.bz_resume.specs.Words.{Edit, IsOtherVersion};
 ghost use Rattle.bz_resume.specs.declared.fault.ResumeFault.TheVariants as f;
 ghost use Rattle.bz_resume.specs.Journals.{History, Journal, NoJournal};
 ghost use Rattle.bz_resume.specs.Resumed.{IsKnown, IsResumed, IsStale};

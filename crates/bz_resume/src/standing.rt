@@ -1,9 +1,7 @@
 //! Where a trail matches the text of a file.
 ghost use Rattle.std.specs.Prelude.{◌≡◌, ◌≤◌, IfOk, OnOk, length};
 ghost use Rattle.std.specs.Str.{bytes_eq};
-ghost use Rattle.bz_grammar.specs.Spell.{spell_node};
-ghost use Rattle.bz_edit.specs.Trails.{IsTrail, trail_at};
-ghost use Rattle.bz_edit.specs.Shown.{Moves};
+ghost use Rattle.bz_resume.specs.Words.{spell_node, IsTrail, trail_at, Moves};
 ghost use Rattle.bz_resume.specs.private.Agreement.{HasStood};
 
 use bz_edit::laws::texts_kept;

@@ -2,13 +2,7 @@
 //! not found to be legal.
 ghost use Rattle.std.specs.Prelude.{◌≡◌, ◌≤◌, [], ◌∷◌, IsTrue, length};
 ghost use Rattle.std.specs.List.{AllByRecursion};
-ghost use Rattle.bz_grammar.specs.declared.tree.Node.{Node};
-ghost use Rattle.bz_grammar.specs.Legal.{LegalBuild};
-ghost use Rattle.bz_grammar.specs.Spell.{spell_node, limit};
-ghost use Rattle.bz_grammar.specs.Joined.{file_with};
-ghost use Rattle.bz_grammar.specs.Split.{bare_end};
-ghost use Rattle.bz_edit.specs.Steps.{swap_node};
-ghost use Rattle.bz_edit.specs.Trails.{IsTree};
+ghost use Rattle.bz_resume.specs.Words.{Node, LegalBuild, spell_node, limit, file_with, bare_end, swap_node, IsTree};
 ghost use Rattle.bz_resume.specs.private.Alone.{AreAlone, AreLined, AreTouchedAlone, EndsLine, IsAlone, IsAloneAt, IsHeldAlone, IsTouchedAlone};
 
 use bz_edit::Edit;

@@ -1,18 +1,6 @@
 -- A text that is formatted chunk by chunk, as the private functions that do so state it.
 use Rattle.std.specs.Prelude.{◌≡◌, ◌≤◌, Bool, true, false, List, [], ◌∷◌, ◌++◌, Option, None, Result, length}
-use Rattle.bz_items.specs.Characters.{Bytes}
-use Rattle.bz_grammar.specs.declared.tree.Node.{Node}
-use Rattle.bz_grammar.specs.Legal.{Reads, ReadsBzl}
-use Rattle.bz_grammar.specs.Spell.{depth_of, depth_limit, limit}
-use Rattle.bz_value.specs.declared.value.Item.{Item}
-use Rattle.bz_hosts.specs.Joined.{EndsWithLine}
-use Rattle.bz_hosts.specs.SuitesJoined.{BeginsBare, EndsWithStatement}
-use Rattle.bz_hosts.specs.View.{view_of}
-use Rattle.bz_layout.specs.Appended.{gap_below}
-use Rattle.bz_layout.specs.LaidOut.{laid_out}
-use Rattle.bz_layout.specs.Written.{layout}
-use Rattle.bz_passes.specs.Joined.{begins_with_load}
-use Rattle.bz_passes.specs.Passes.{tidied}
+use Rattle.bz_build_format.specs.Words.{Bytes, Node, Reads, ReadsBzl, depth_of, depth_limit, limit, Item, EndsWithLine, BeginsBare, EndsWithStatement, view_of, gap_below, laid_out, layout, begins_with_load, tidied}
 use Rattle.bz_build_format.specs.Faults.{FormatsBzlTo, FormatsTo}
 use Rattle.bz_build_format.specs.declared.chunks.FileKind.{FileKind}
 use Rattle.bz_build_format.specs.declared.chunks.FileKind.TheVariants.{Build, Suites}

@@ -1,15 +1,7 @@
 -- Lines that are read by themselves, and windows of texts.
 use Rattle.std.specs.Prelude.{ℕ, ◌≡◌, ◌≤◌, ◌+◌, ◌-◌, ◌⊎◌, List, [], ◌∷◌, ◌++◌, length, take, drop}
 use Rattle.std.specs.List.{flat_map}
-use Rattle.bz_items.specs.Characters.{Bytes}
-use Rattle.bz_grammar.specs.declared.tree.Part.{Part}
-use Rattle.bz_grammar.specs.Joined.{AreWholeLines, file_with}
-use Rattle.bz_grammar.specs.Legal.{Reads}
-use Rattle.bz_grammar.specs.Spell.{limit, spell_part}
-use Rattle.bz_grammar.specs.Split.{bare_end}
-use Rattle.bz_edit.specs.declared.part_windows.PartWindow.{PartWindow}
-use Rattle.bz_edit.specs.Windows.{AreThere, window_parts}
-use Rattle.bz_layout.specs.declared.writer.TextWindow.{TextWindow}
+use Rattle.bz_build_format.specs.Words.{Bytes, Part, AreWholeLines, file_with, Reads, limit, spell_part, bare_end, PartWindow, AreThere, window_parts, TextWindow}
 use Rattle.bz_build_format.specs.declared.ends.Side.{Side}
 use Rattle.bz_build_format.specs.declared.ends.Side.TheVariants.{Front, Back}
 

@@ -1,8 +1,6 @@
 -- What buildifier's words and effects are, as contracts see them.
 use Rattle.std.specs.Prelude.{◌≡◌, List, map, Err}
-use Rattle.clap.specs.Words.{IsAmong, fault_of}
-use Rattle.clap.specs.Values.{kind_of}
-use Rattle.bz_items.specs.Characters.{Bytes}
+use Rattle.bz_buildifier.specs.Words.{IsAmong, fault_of, kind_of, Bytes}
 use Rattle.bz_buildifier.specs.FormatRun as r
 use Rattle.bz_buildifier.specs.Modes as m
 use Rattle.bz_buildifier.specs.declared.effect.Effect.{Effect}

@@ -1,11 +1,10 @@
 -- How far a run has come, and lines, as contracts see them.
 use Rattle.std.specs.Prelude.{Bool, not, ◌&&◌}
 use Rattle.std.specs.List.{list_any}
-use Rattle.bz_command_line.specs.Verbs.{prints}
+use Rattle.bz_buildozer.specs.Words.{prints, request_in}
 use Rattle.bz_command_line.specs.declared.requested.Requested.{Requested}
 use Rattle.bz_command_line.specs.declared.requested.Request.{Request}
 use Rattle.bz_buildozer.specs.Run as r
-use Rattle.bz_command_line.specs.Shown.{request_in}
 use Rattle.bz_buildozer.specs.Steps.{RunStep, is_of_input, step_of}
 use Rattle.bz_buildozer.specs.declared.run.Run.{Run}
 use Rattle.bz_buildozer.specs.declared.step.Step.{Step}

@@ -2,8 +2,7 @@
 use Rattle.std.specs.Prelude.{ℕ, List, Option, Vec, map, string_bytes}
 use Rattle.std.specs.Option.{option_map}
 use Rattle.std.specs.declared.alloc.Global.{Global}
-use Rattle.bz_items.specs.Characters.{Bytes}
-use Rattle.bz_journal.specs.Forms.{past_history}
+use Rattle.bz_buildozer.specs.Words.{Bytes, past_history}
 use Rattle.bz_buildozer.specs.Found as p
 use Rattle.bz_buildozer.specs.declared.reading.Taken.{Taken}
 use Rattle.bz_buildozer.specs.declared.used.Opened.{Opened}

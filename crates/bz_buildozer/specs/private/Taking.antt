@@ -1,11 +1,6 @@
 -- What comes of reading the file of a package, or standard input.
 use Rattle.std.specs.Prelude.{◌≡◌, Bool, true, false, List, Option, None, codes}
-use Rattle.bz_files.specs.Folder.{Folder}
-use Rattle.bz_items.specs.Characters.{Bytes}
-use Rattle.bz_streams.specs.Outputs.{Reports}
-use Rattle.bz_streams.specs.Ports.{IsInput}
-use Rattle.bz_streams.specs.Reported.{stdin}
-use Rattle.bz_streams.specs.declared.exit.Cut.{Cut}
+use Rattle.bz_buildozer.specs.Words.{Folder, Bytes, Reports, IsInput, stdin, Cut}
 use Rattle.bz_streams.specs.declared.exit.Cut.TheVariants as c
 use Rattle.bz_streams.specs.declared.sink.Sink.{Ghosts as SinkOf}
 use Rattle.bz_buildozer.specs.Found.{Opened}

@@ -6,11 +6,8 @@ use Rattle.std.specs.Cmp.Lexicographic.{slice_cmp}
 use Rattle.std.specs.BTreeMap as tree
 use Rattle.std.specs.BTreeMap.{BTreeMap}
 use Rattle.std.specs.declared.alloc.Global.{Global}
-use Rattle.bz_value.specs.declared.value.Expr.{Expr}
+use Rattle.bz_change.specs.Words.{Expr, Refusal, Bytes, Arguments}
 use Rattle.bz_value.specs.declared.refusal.Refusal.TheVariants.{Memory}
-use Rattle.bz_value.specs.declared.refusal.Refusal.{Refusal}
-use Rattle.bz_items.specs.Characters.{Bytes}
-use Rattle.bz_attribute.specs.Attributes.{Arguments}
 use Rattle.bz_change.specs.Dicts.{has_key}
 
 -- What a call leaves is what the definition makes, or its refusal, memory aside.

@@ -1,9 +1,6 @@
 -- Windows of what changed so far, while more comes.
 use Rattle.std.specs.Prelude.{◌≡◌, ◌↔◌, ◌+◌, ℕ, IsTrue, List, [], ◌∷◌}
-use Rattle.bz_value.specs.declared.value.Item.{Item}
-use Rattle.bz_value.specs.declared.windows.Window.{Window}
-use Rattle.bz_value.specs.Windows.{AreOver}
-use Rattle.bz_rule.specs.Index.{HaveSameNames}
+use Rattle.bz_command.specs.Words.{Item, Window, AreOver, HaveSameNames}
 use Rattle.bz_command.specs.declared.ruling.Changed.{Changed}
 use Rattle.bz_command.specs.declared.windows.Growing.{Growing}
 

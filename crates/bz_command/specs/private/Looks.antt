@@ -1,19 +1,13 @@
 -- What is known of a command before it changes anything.
 use Rattle.std.specs.Prelude.{ℕ, IsTrue, List, [], ◌≡◌, Bool, true, false, Result, Ok, Option}
-use Rattle.bz_value.specs.declared.value.Expr.{Expr}
-use Rattle.bz_value.specs.declared.value.Item.{Item}
+use Rattle.bz_command.specs.Words.{Expr, Item, Refusal, Bytes, Operation, Arguments, marked_places}
 use Rattle.std.specs.Option.{option_copied}
-use Rattle.bz_value.specs.declared.refusal.Refusal.{Refusal}
-use Rattle.bz_items.specs.Characters.{Bytes}
 use Rattle.bz_command_syntax.specs.declared.command.CommentOperation.TheVariants as wc
-use Rattle.bz_command_syntax.specs.declared.command.Operation.{Operation}
 use Rattle.bz_command_syntax.specs.declared.command.Operation.TheVariants as w
 use Rattle.bz_command_syntax.specs.declared.command.RuleOperation.TheVariants as wr
 use Rattle.bz_command.specs.declared.ruling.Work.{Work}
-use Rattle.bz_attribute.specs.Attributes.{Arguments}
 use Rattle.bz_command.specs.Effect.{NewItem, arguments_of, effect, looks_at_rules, meant, on_one, on_rules, printed}
 use Rattle.bz_list.specs.Changes as values
-use Rattle.bz_rule.specs.Index.{marked_places}
 use Rattle.bz_command.specs.declared.running.Look.{Look}
 use Rattle.bz_command.specs.declared.running.Look.TheVariants as l
 

@@ -1,11 +1,9 @@
 -- What the private functions append and pass over, as they state it.
 use Rattle.std.specs.Prelude.{ℕ, Bool, false, List, [], ◌∷◌, ◌&&◌, Option, codes, map, nat_eq}
 use Rattle.std.specs.Option.{option_map_or}
-use Rattle.bz_items.specs.Characters.{Bytes, space}
-use Rattle.bz_label.specs.declared.target.Which.{Which}
+use Rattle.bz_command.specs.Words.{Bytes, space, Which, Item}
 use Rattle.bz_label.specs.declared.target.Which.TheVariants as t
 use Rattle.bz_rule.specs.Rules as r
-use Rattle.bz_value.specs.declared.value.Item.{Item}
 use Rattle.bz_command.specs.Effect.{is_rule, lines_after_item, meant}
 use Rattle.bz_command.specs.declared.printing.Subject.{Subject}
 

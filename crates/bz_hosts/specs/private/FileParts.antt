@@ -1,13 +1,9 @@
 -- What the walk over the parts of a file has so far, for private functions: the groups of comment lines before a part are made before
 -- it, but for the last one, which is above it.
 use Rattle.std.specs.Prelude.{ℕ, Bool, true, ◌≡◌, ◌≤◌, ◌<◌, ◌+◌, List, [], ◌∷◌, ◌++◌, map, drop, length}
-use Rattle.bz_grammar.specs.declared.tree.Part.{Part, Node'}
+use Rattle.bz_hosts.specs.Words.{Part, Node', Expr, Item, GapLine, Bytes}
 use Rattle.bz_grammar.specs.declared.tree.Part.TheVariants as p
-use Rattle.bz_value.specs.declared.value.Expr.{Expr}
-use Rattle.bz_value.specs.declared.value.Item.{Item}
 use Rattle.bz_value.specs.declared.value.Item.TheVariants as i
-use Rattle.bz_value.specs.Gaps.{GapLine}
-use Rattle.bz_items.specs.Characters.{Bytes}
 use Rattle.bz_hosts.specs.Seen.{blocks}
 use Rattle.bz_hosts.specs.Suites.{ReadStatements, stated, indented_lines_before}
 use Rattle.bz_hosts.specs.SuitesJoined.{lines_at_end}

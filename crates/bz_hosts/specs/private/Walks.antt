@@ -1,8 +1,7 @@
 -- What the walk over a tree has so far, for private functions.
 use Rattle.std.specs.Prelude.{Bool, not, nat_eq, List, [], ◌∷◌, ◌++◌}
 use Rattle.std.specs.List.{list_all}
-use Rattle.bz_items.specs.Characters.{Bytes, number_sign}
-use Rattle.bz_value.specs.Gaps.{others_in, all_in}
+use Rattle.bz_hosts.specs.Words.{Bytes, number_sign, others_in, all_in}
 use Rattle.bz_hosts.specs.Seen.{Seen}
 
 -- After an item, from its mark on: the gap that its suffix is in, and what is above the next item.

@@ -1,11 +1,7 @@
 -- How deep what is laid out of a value is, as the functions that look at it state it.
 use Rattle.std.specs.Prelude.{ℕ, suc, max, List, [], ◌∷◌, if◌then◌else◌}
-use Rattle.bz_value.specs.declared.value.Expr.{Expr, Token, Form', Row_of-Expr, end_of-Expr, more_of-Expr}
-use Rattle.bz_value.specs.declared.value.Form.{Form}
-use Rattle.bz_value.specs.declared.value.Item.{Item}
+use Rattle.bz_layout.specs.Words.{Expr, Token, Form', Row_of-Expr, end_of-Expr, more_of-Expr, Form, Item, Frame, row, sequence, compound, frame, has_suite}
 use Rattle.bz_value.specs.declared.value.Item.TheVariants as i
-use Rattle.bz_value.specs.Frames.{Frame, row, sequence, compound, frame}
-use Rattle.bz_value.specs.Statements.{has_suite}
 
 -- From the depths of its parts, of its items, and of these as lines. A row lays out no items. The suite is a node in that of its
 -- header, and the alternatives are parts of this node.

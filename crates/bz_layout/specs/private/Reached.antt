@@ -1,11 +1,7 @@
 -- For private functions only: how far text windows are made, and what is still to come.
 use Rattle.std.specs.Prelude.{ℕ, Bool, false, ◌≡◌, ◌≤◌, ◌+◌, ◌-◌, List, [], ◌∷◌, ◌++◌, length, take, drop, slice_get, Option, MatchOption}
 use Rattle.std.specs.List.{flat_map, AllByRecursion}
-use Rattle.bz_edit.specs.Windows.{AreThere, window_parts}
-use Rattle.bz_edit.specs.declared.part_windows.PartWindow.{PartWindow}
-use Rattle.bz_grammar.specs.Spell.{spell_part, leaves_part, limit}
-use Rattle.bz_grammar.specs.declared.tree.Part.{Part}
-use Rattle.bz_items.specs.Characters.{Bytes}
+use Rattle.bz_layout.specs.Words.{AreThere, window_parts, PartWindow, spell_part, leaves_part, limit, Part, Bytes, Leaf, IsBuildItem, IsProperItem, comments_of, Item}
 use Rattle.bz_layout.specs.Drafts.{Drafted, drafted, pushed}
 use Rattle.bz_layout.specs.LaidOut.{lines_from}
 use Rattle.bz_layout.specs.Windows.{AreTextsOf}
@@ -13,10 +9,6 @@ use Rattle.bz_layout.specs.Written.{comment_lines, item_text}
 use Rattle.bz_layout.specs.declared.writer.TextWindow.{TextWindow}
 use Rattle.bz_layout.specs.declared.writer.Writer.{Writer}
 use Rattle.bz_layout.specs.private.Windows.{HaveLines}
-use Rattle.bz_lex.specs.declared.leaf.Leaf.{Leaf}
-use Rattle.bz_value.specs.BuildValues.{IsBuildItem}
-use Rattle.bz_value.specs.Proper.{IsProperItem, comments_of}
-use Rattle.bz_value.specs.declared.value.Item.{Item}
 use Rattle.bz_value.specs.declared.value.Item.TheVariants as i
 
 -- how many parts are before the end of the last window

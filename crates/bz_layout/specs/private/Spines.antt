@@ -1,10 +1,6 @@
 -- Names joined by dots, as the functions that write them state them: forms of which each is the first part of the next one.
 use Rattle.std.specs.Prelude.{ℕ, Bool, true, false, List, [], ◌∷◌, ◌++◌}
-use Rattle.bz_grammar.specs.declared.kind.Kind.{Kind}
-use Rattle.bz_value.specs.declared.value.Expr.{Expr, Token, Form'}
-use Rattle.bz_value.specs.declared.value.Form.{Form}
-use Rattle.bz_items.specs.Characters.{Bytes}
-use Rattle.bz_rule.specs.Values.{text_of}
+use Rattle.bz_layout.specs.Words.{Kind, Expr, Token, Form', Form, Bytes, text_of}
 use Rattle.bz_layout.specs.Layout.{gap_after}
 use Rattle.bz_layout.specs.private.Writings.{row_text}
 

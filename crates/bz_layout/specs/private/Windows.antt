@@ -1,10 +1,8 @@
 -- For private functions only: the lines of items that came in the place of others, and the gap before an item.
 use Rattle.std.specs.Prelude.{ℕ, zero, suc, Bool, IsTrue, ◌≡◌, ◌≤◌, ◌+◌, ◌-◌, List, [], ◌∷◌, ◌++◌, length, take, drop}
-use Rattle.bz_value.specs.declared.value.Item.{Item}
+use Rattle.bz_layout.specs.Words.{Item, Bytes, Window}
 use Rattle.bz_value.specs.declared.value.Item.TheVariants as i
-use Rattle.bz_items.specs.Characters.{Bytes}
 use Rattle.bz_layout.specs.LaidOut.{left_gap, before_next}
-use Rattle.bz_value.specs.declared.windows.Window.{Window}
 
 -- how many lines items have: one for each statement
 abbrev pub line_count_in : List Item → ℕ

@@ -1,10 +1,7 @@
 -- The texts of what is in a form, as the functions that write them state them.
 use Rattle.std.specs.Prelude.{ℕ, Bool, ◌&&◌, List, [], ◌∷◌, None, length, nat_eq, map, if◌then◌else◌}
 use Rattle.std.specs.List.{flat_map}
-use Rattle.bz_grammar.specs.declared.kind.Kind.{Kind}
-use Rattle.bz_value.specs.declared.value.Expr.{Expr}
-use Rattle.bz_value.specs.declared.value.Form.{Form}
-use Rattle.bz_items.specs.Characters.{Bytes, comma, space}
+use Rattle.bz_layout.specs.Words.{Kind, Expr, Form, Bytes, comma, space}
 use Rattle.bz_layout.specs.Layout.{rowed, joined, stacked, is_broken, is_tuple}
 use Rattle.bz_layout.specs.Written.{TextAt, piece_text, text_of}
 

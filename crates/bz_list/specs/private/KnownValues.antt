@@ -3,14 +3,9 @@
 use Rattle.std.specs.Prelude.{List, Bool, true, false, not, ◌||◌, ◌&&◌, [], ◌∷◌, Option, Some, None, if◌then◌else◌}
 use Rattle.std.specs.List.{list_any}
 use Rattle.std.specs.Option.{option_map_or}
-use Rattle.bz_label.specs.declared.label.Label.{Label}
-use Rattle.bz_label.specs.Tables.{is_label_attribute}
-use Rattle.bz_label.specs.Read.{label_in, is_equal}
+use Rattle.bz_list.specs.Words.{Label, is_label_attribute, label_in, is_equal, Expr, Bytes, are_one}
 use Rattle.bz_list.specs.declared.known.Key.{Key}
 use Rattle.std.specs.BTreeSet.{BTreeSet}
-use Rattle.bz_value.specs.declared.value.Expr.{Expr}
-use Rattle.bz_items.specs.Characters.{Bytes}
-use Rattle.bz_attribute.specs.Lists.{are_one}
 
 -- the label that a word means in a label attribute, where it means one
 abbrev pub label_meant : Bytes → Bytes → Bytes → Option Label

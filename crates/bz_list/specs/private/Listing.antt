@@ -1,19 +1,13 @@
 -- What the commands on lists do, in the steps in which they do it.
 use Rattle.std.specs.Prelude.{Bool, true, not, ◌&&◌, nat_eq, List, [], Option, Some, None, if◌then◌else◌, map}
 use Rattle.std.specs.List.{ends_with, filter}
-use Rattle.bz_value.specs.declared.value.Expr.{Expr}
-use Rattle.bz_items.specs.Characters.{Bytes}
+use Rattle.bz_list.specs.Words.{Expr, Bytes, with_value, is_other_attribute, on_value, body_of, items_in, is_item, fresh, travelled, arriving, has_lists, with_more, list_of, plus, string_of, inside, parts_of, first_text, text_of}
 use Rattle.std.specs.BTreeSet.{BTreeSet}
 use Rattle.bz_list.specs.declared.known.Key.{Key}
-use Rattle.bz_attribute.specs.Attributes.{with_value, is_other_attribute, on_value}
-use Rattle.bz_attribute.specs.Lists.{body_of, items_in, is_item, fresh, travelled, arriving, has_lists, with_more}
 use Rattle.bz_list.specs.Changes.{cleared, without_items, in_value, replaced_item, substituted_item}
 use Rattle.bz_list.specs.private.KnownValues.{knows_word, is_known, new_ones}
 use Rattle.bz_list.specs.declared.listed.Added.{Added}
 use Rattle.bz_list.specs.declared.listed.Added.TheVariants as a
-use Rattle.bz_attribute.specs.Made.{list_of, plus, string_of}
-use Rattle.bz_rule.specs.QuoteMarks.{inside}
-use Rattle.bz_rule.specs.Values.{parts_of, first_text, text_of}
 use Rattle.bz_list.specs.declared.replacing.Change.{Change}
 use Rattle.bz_list.specs.declared.replacing.Change.TheVariants.{Replace, Substitute, Shorten}
 

@@ -3,15 +3,9 @@ use Rattle.std.specs.Prelude.{ℕ, ◌+◌, length, Bool, false, ◌||◌, List,
 use Rattle.std.specs.List.{list_any}
 use Rattle.std.specs.BTreeSet.{BTreeSet}
 use Rattle.std.specs.declared.alloc.Global.{Global}
-use Rattle.bz_grammar.specs.declared.kind.Kind.{Kind}
-use Rattle.bz_items.specs.Characters.{Bytes}
-use Rattle.bz_command_syntax.specs.declared.command.Symbol.{Symbol}
-use Rattle.bz_attribute.specs.Sets.{texts_of}
+use Rattle.bz_load.specs.Words.{Kind, Bytes, Symbol, texts_of, Expr, Item, Window}
 use Rattle.bz_load.specs.Loads.{is_load_from, is_symbol}
 use Rattle.bz_load.specs.Fixes.{has_operand, is_operand_at}
-use Rattle.bz_value.specs.declared.value.Expr.{Expr}
-use Rattle.bz_value.specs.declared.value.Item.{Item}
-use Rattle.bz_value.specs.declared.windows.Window.{Window}
 use Rattle.bz_load.specs.declared.readings.Loaded.{Loaded}
 
 -- a key of the set, as the symbol that it represents

@@ -1,9 +1,7 @@
 -- Windows of a file's items that are tidied apart from what is around them, and where one item comes among the loads around it.
 use Rattle.std.specs.Prelude.{◌≡◌, ◌+◌, ◌&&◌, ◌||◌, ℕ, Bool, true, false, List, [], ◌∷◌, ◌++◌, drop, take, not}
 use Rattle.std.specs.List.{AllByRecursion}
-use Rattle.bz_value.specs.Windows.{AreOver, AreWithin}
-use Rattle.bz_value.specs.declared.value.Item.{Item}
-use Rattle.bz_value.specs.declared.windows.Window.{Window}
+use Rattle.bz_passes.specs.Words.{AreOver, AreWithin, Item, Window}
 use Rattle.bz_passes.specs.Joined.{begins_with_load}
 use Rattle.bz_passes.specs.Passes.{is_run_load, passed, load_precedes}
 use Rattle.bz_passes.specs.private.Repeats.{Climbs}

@@ -2,8 +2,7 @@
 use Rattle.std.specs.Cmp.{IsStrictWeakOrder}
 use Rattle.std.proofs.lemmas.Cmp.{nat_cmp_total, nat_list_cmp_total, then_total, on_total, back_total}
 use Rattle.std.proofs.lemmas.List.MinMax.{ranks_by}
-use Rattle.bz_label.specs.Keys.{group_of}
-use Rattle.bz_label.specs.Tables.{priority_of}
+use Rattle.bz_passes.specs.Words.{group_of, priority_of}
 use Rattle.bz_passes.specs.Passes.{argument_name, load_path, name_precedes, path_precedes}
 
 pub name_ranks : IsStrictWeakOrder name_precedes

@@ -2,10 +2,7 @@
 use Rattle.std.specs.Prelude.{◌≡◌, ℕ, ◌-◌, ◌<◌, Bool, false, ◌&&◌, List, [], ◌++◌, Option, length, slice_get, bytes_eq, if◌then◌else◌, true, ◌∷◌}
 use Rattle.std.specs.List.{AllByRecursion, list_any}
 use Rattle.std.specs.Option.{option_map_or}
-use Rattle.bz_value.specs.declared.value.Expr.{Expr}
-use Rattle.bz_items.specs.Characters.{Bytes}
-use Rattle.bz_rule.specs.Values.{text_of}
-use Rattle.bz_rule.specs.QuoteMarks.{between}
+use Rattle.bz_passes.specs.Words.{Expr, Bytes, text_of, between}
 use Rattle.bz_passes.specs.Lists.{precedes, without_repeats}
 use Rattle.bz_passes.specs.Sorting.{Rises}
 

@@ -2,16 +2,7 @@
 use Rattle.std.specs.Prelude.{ℕ, ◌≡◌, ◌+◌, ◌≤◌, IsTrue, nat_lt, List, [], ◌∷◌, map, length, reverse, take, drop, slice_index_or, Option, Some, None, if◌then◌else◌}
 use Rattle.std.specs.List.{list_all}
 use Rattle.std.specs.Str.{bytes_eq}
-use Rattle.sha2.specs.Sha256.{sha256}
-use Rattle.bz_grammar.specs.declared.tree.Node.{Node}
-use Rattle.bz_grammar.specs.Legal.{Reads}
-use Rattle.bz_grammar.specs.Spell.{spell_node, depth_limit}
-use Rattle.bz_edit.specs.declared.edit.Edit.{Edit}
-use Rattle.bz_edit.specs.Steps.{IsStep, swap_node}
-use Rattle.bz_edit.specs.Trails.{StepLeads, IsTrail, Trail, trail_at}
-use Rattle.bz_edit.specs.Shown.{Moves, Text, texts_of}
-use Rattle.bz_journal_format.specs.declared.content.RecordedStep.{RecordedStep}
-use Rattle.bz_journal_format.specs.declared.content.Record.{Record}
+use Rattle.bz_resume.specs.Words.{sha256, Node, Reads, spell_node, depth_limit, Edit, IsStep, swap_node, StepLeads, IsTrail, Trail, trail_at, Moves, Text, texts_of, RecordedStep, Record}
 use Rattle.bz_resume.specs.declared.replaying.Way.{Way}
 use Rattle.bz_resume.specs.declared.replaying.Way.TheVariants as w
 use Rattle.bz_resume.specs.declared.resumed.Resumed.{Resumed}

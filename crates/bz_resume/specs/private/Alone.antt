@@ -1,13 +1,8 @@
 -- Statements of a file by themselves.
 use Rattle.std.specs.Prelude.{◌≡◌, ◌⊎◌, ℕ, List, [], ◌∷◌, ◌++◌, Some, slice_get}
 use Rattle.std.specs.List.{AllByRecursion}
-use Rattle.bz_lex.specs.declared.leaf.Leaf.{Leaf}
-use Rattle.bz_grammar.specs.declared.tree.Part.{Part, Node'}
+use Rattle.bz_resume.specs.Words.{Leaf, Part, Node', LegalBuild, AreWholeLines, file_with, bare_end, Edit}
 use Rattle.bz_grammar.specs.declared.tree.Part.TheVariants as p
-use Rattle.bz_grammar.specs.Legal.{LegalBuild}
-use Rattle.bz_grammar.specs.Joined.{AreWholeLines, file_with}
-use Rattle.bz_grammar.specs.Split.{bare_end}
-use Rattle.bz_edit.specs.declared.edit.Edit.{Edit}
 
 -- the part makes a legal file by itself
 abbrev pub IsAlone : Part → Type 0

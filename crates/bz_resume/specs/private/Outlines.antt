@@ -2,12 +2,8 @@
 -- compared with it later.
 use Rattle.std.specs.Prelude.{ℕ, List, [], ◌∷◌, ◌++◌}
 use Rattle.std.specs.List.{flat_map}
-use Rattle.bz_token.specs.Classes.{class_number}
-use Rattle.bz_lex.specs.declared.leaf.Leaf.{Leaf}
-use Rattle.bz_grammar.specs.declared.tree.Node.{Node}
-use Rattle.bz_grammar.specs.declared.tree.Part.{Part, Row_of-Part, end_of-Part, more_of-Part, Node'}
+use Rattle.bz_resume.specs.Words.{class_number, Leaf, Node, Part, Row_of-Part, end_of-Part, more_of-Part, Node', kind_number}
 use Rattle.bz_grammar.specs.declared.tree.Part as p
-use Rattle.bz_grammar.specs.Kinds.{kind_number}
 
 -- a list: a 1 before what says an item, and a 0 after the last; and a text, by its bytes
 abbrev pub outline_list : {A : Type 0} → (A → List ℕ) → List A → List ℕ

@@ -2,9 +2,7 @@ use Rattle.std.proofs.Common.{◌∙◌, [], ap, sym}
 use Rattle.std.specs.Prelude.{◌≢◌}
 use Rattle.std.proofs.lemmas.Bool.{not-true}
 use Rattle.std.proofs.lemmas.Result.{err_from_is_err_and}
-use Rattle.bz_grammar.specs.Legal.{Accepted, NoBzlTree}
-use Rattle.bz_passes.specs.Joined.{begins_with_load}
-use Rattle.bz_passes.specs.Passes.{tidied}
+use Rattle.bz_build_format.specs.Words.{Accepted, NoBzlTree, begins_with_load, tidied}
 use Rattle.bz_build_format.proofs.ReadFaults.{reported}
 use Rattle.bz_build_format.proofs.chunks.seen.Goals as goal
 

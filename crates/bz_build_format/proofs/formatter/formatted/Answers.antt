@@ -1,6 +1,5 @@
 use Rattle.std.proofs.Common.{◌≡◌, ◌∙◌, Bool, Err, List, ap, subst, sym}
-use Rattle.bz_items.specs.Characters.{Bytes}
-use Rattle.bz_value.specs.declared.value.Item.{Item}
+use Rattle.bz_build_format.specs.Words.{Bytes, Item}
 use Rattle.bz_build_format.specs.declared.chunks.FileKind.{FileKind}
 use Rattle.bz_build_format.specs.private.Chunks.{ReadsAs, of_kind}
 use Rattle.bz_build_format.proofs.Chunking.{answered_chunks, answered_fault, answered_text, answered_too_deep, answered_too_large}

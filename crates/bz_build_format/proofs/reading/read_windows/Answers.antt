@@ -1,7 +1,6 @@
 use Rattle.std.proofs.Common.{◌∙◌, ap, rules, sym, subst}
-use Rattle.bz_grammar.specs.declared.tree.Node.{Node}
+use Rattle.bz_build_format.specs.Words.{Node, with_windows}
 use Rattle.bz_grammar.specs.Legal.{Accepted, Legal, Reads}
-use Rattle.bz_edit.specs.Windows.{with_windows}
 use Rattle.bz_build_format.proofs.Windowed.{file_legal, one_tree, required, tree_read}
 use Rattle.bz_build_format.proofs.reading.read_windows.Goals as goal
 

@@ -1,10 +1,6 @@
 use Rattle.std.proofs.Common.{◌≡◌, ◌∙◌, List, ap, subst, sym}
 use Rattle.bz_value.specs.Proper.{IsProper}
-use Rattle.bz_value.specs.declared.value.Item.{Item}
-use Rattle.bz_grammar.specs.Legal.{IsBuild, NoBzlTree, ReadsBzl}
-use Rattle.bz_hosts.specs.View.{view_of}
-use Rattle.bz_layout.specs.LaidOut.{laid_out}
-use Rattle.bz_layout.specs.Written.{layout}
+use Rattle.bz_build_format.specs.Words.{Item, IsBuild, NoBzlTree, ReadsBzl, view_of, laid_out, layout}
 use Rattle.bz_build_format.proofs.Formatting.{layout_read}
 use Rattle.bz_build_format.proofs.ReadFaults.{refused_text}
 use Rattle.bz_build_format.proofs.writing.set.Goals as goal

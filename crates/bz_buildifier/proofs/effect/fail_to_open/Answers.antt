@@ -1,8 +1,6 @@
 use Rattle.std.proofs.Common.{◌∷◌, [], Option, codes, refl, subst}
 use Rattle.std.specs.Option.{option_map_or}
-use Rattle.bz_items.specs.Characters.{Bytes}
-use Rattle.bz_streams.specs.Outputs.{Reports}
-use Rattle.bz_streams.specs.Reported.{named_line}
+use Rattle.bz_buildifier.specs.Words.{Bytes, Reports, named_line}
 use Rattle.bz_streams.proofs.Outputs.{reports_more}
 use Rattle.bz_buildifier.proofs.effect.fail_to_open.Goals as goal
 

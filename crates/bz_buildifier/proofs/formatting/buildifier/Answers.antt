@@ -2,10 +2,9 @@ use Rattle.std.proofs.Common.{◌≡◌, ◌∙◌, ◌∷◌, ◌+◌, [], arit
 use Rattle.std.proofs.lemmas.List.{drop_all}
 use Rattle.bz_buildifier.specs.FormatRun as r
 use Rattle.bz_buildifier.specs.private.FormatShown.{seen_line}
-use Rattle.bz_streams.specs.Reported.{named_line}
+use Rattle.bz_buildifier.specs.Words.{named_line, WritesUnlessClosed}
 use Rattle.bz_streams.specs.declared.exit.Cut.TheVariants as cut
 use Rattle.bz_buildifier.specs.declared.effect.Effect.{Effect}
-use Rattle.bz_streams.specs.Outputs.{WritesUnlessClosed}
 use Rattle.bz_streams.proofs.Written.{left-cons}
 use Rattle.bz_streams.proofs.Outputs.{appends_nothing, counts_more, reports_more}
 use Rattle.bz_buildifier.proofs.FormatRuns.{cut_more, files_more, files_outcome, grown_is, input_outcome, no_names, some_names, status_more, usage_outcome, writes_on}

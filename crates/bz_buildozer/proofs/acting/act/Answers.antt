@@ -1,10 +1,8 @@
 use Rattle.std.proofs.Common.{◌∙◌, ◌∷◌, inl, inr, Ok, Err, Option, Some, true, ap, refl, subst, sym, []}
 use Rattle.std.specs.Prelude.{option_map}
-use Rattle.bz_command_line.specs.Shown.{request_in}
-use Rattle.bz_streams.specs.declared.exit.Cut.{Cut}
+use Rattle.bz_buildozer.specs.Words.{request_in, Cut, Bytes}
 use Rattle.bz_buildozer.specs.Sessions.{Action, KeepFault, Refused, Pair, action_in}
 use Rattle.bz_value.specs.declared.refusal.Refusal.TheVariants.{Memory}
-use Rattle.bz_items.specs.Characters.{Bytes}
 use Rattle.bz_buildozer.specs.Calls.{ReportsLines}
 use Rattle.bz_buildozer.specs.Keeps.{KeepsAt, file_left}
 use Rattle.bz_buildozer.specs.Found.{Opened}

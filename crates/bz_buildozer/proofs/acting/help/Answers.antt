@@ -1,8 +1,5 @@
 use Rattle.std.proofs.Common.{◌≡◌, ◌∙◌, ◌++◌, List, ℕ, Some, refl, inl, inr, sym, ap, subst}
-use Rattle.bz_grammar.specs.Legal.{Reads}
-use Rattle.bz_grammar.specs.Statements.{lines_of}
-use Rattle.bz_hosts.specs.View.{view_of}
-use Rattle.bz_hint.specs.Hints.{refusal_hint}
+use Rattle.bz_buildozer.specs.Words.{Reads, lines_of, view_of, refusal_hint}
 use Rattle.bz_buildozer.specs.Calls.{ReportsLines}
 use Rattle.bz_buildozer.specs.Found.{Opened}
 use Rattle.bz_buildozer.specs.Sessions.{present}

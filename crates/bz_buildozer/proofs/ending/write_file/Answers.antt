@@ -3,8 +3,7 @@ use Rattle.bz_buildozer.specs.Sessions.{present}
 use Rattle.std.specs.Option.{option_map}
 use Rattle.bz_buildozer.specs.private.ShownFiles.{opened_in, used_in}
 use Rattle.bz_buildozer.specs.Ending.{Writing, WritesFile}
-use Rattle.bz_streams.specs.Faults.{AppendsUnlessFailed}
-use Rattle.bz_streams.specs.Reported.{named_line}
+use Rattle.bz_buildozer.specs.Words.{AppendsUnlessFailed, named_line}
 use Rattle.bz_buildozer.proofs.EndingSteps.{trusted, unwritten_as, writing_is}
 use Rattle.bz_buildozer.proofs.ending.write_file.Goals as goal
 

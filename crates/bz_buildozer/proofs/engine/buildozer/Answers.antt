@@ -2,11 +2,7 @@ use Rattle.std.proofs.Common.{◌≡◌, ◌≢◌, ◌∷◌, [], List, ℕ, ma
 use Rattle.std.specs.Prelude.{IsErr}
 use Rattle.std.specs.List.{All}
 use Rattle.std.proofs.lemmas.List.Elements.{All-push}
-use Rattle.bz_files.specs.Folder.{Folder}
-use Rattle.bz_command_line.specs.Line.{LineUsage, operands, script, command_line_of}
-use Rattle.bz_command_line.specs.Paths.{HasPath}
-use Rattle.bz_command_line.specs.Refused.{IsGroupFault}
-use Rattle.bz_command_line.specs.Requested.{Usage}
+use Rattle.bz_buildozer.specs.Words.{Folder, LineUsage, operands, script, command_line_of, HasPath, IsGroupFault, Usage}
 use Rattle.bz_command_line.specs.Shown.{given_in, line_in, line_usage_in, requested_in, usage_in}
 use Rattle.bz_command_line.specs.declared.requested.Requested.{Requested}
 use Rattle.bz_buildozer.specs.Calls.{ReportsLine}

@@ -1,7 +1,6 @@
 use Rattle.std.proofs.Common.{◌≡◌, ap, sym, subst, refl, inr, List, ℕ, ◌∙◌}
-use Rattle.bz_files.specs.Folder.{Folder}
+use Rattle.bz_buildozer.specs.Words.{Folder, Cut}
 use Rattle.bz_streams.proofs.Outputs.{appends_nothing}
-use Rattle.bz_streams.specs.declared.exit.Cut.{Cut}
 use Rattle.bz_streams.specs.declared.exit.Cut.TheVariants as cut
 use Rattle.bz_buildozer.specs.Calls.{ReportsLine}
 use Rattle.bz_buildozer.specs.Outcome.{reported_name, unread}

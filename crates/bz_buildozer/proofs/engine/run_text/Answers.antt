@@ -1,10 +1,8 @@
 use Rattle.std.proofs.Common.{List, ℕ, refl, map, ap, sym, subst, ◌∙◌, inl, inr}
 use Rattle.std.specs.List.{All}
-use Rattle.bz_command_line.specs.Paths.{HasPath}
-use Rattle.bz_command_line.specs.Requested.{Usage}
+use Rattle.bz_buildozer.specs.Words.{HasPath, Usage, fault_line}
 use Rattle.bz_command_line.specs.Shown.{requested_in, script_usage_in}
 use Rattle.bz_command_line.specs.declared.requested.Requested.{Requested}
-use Rattle.bz_streams.specs.Reported.{fault_line}
 use Rattle.bz_streams.specs.declared.exit.Cut.TheVariants as cut
 use Rattle.bz_buildozer.specs.Calls.{ReportsLine}
 use Rattle.bz_buildozer.specs.Outcome.{OrOutOfMemory, TextOutcome, unused}

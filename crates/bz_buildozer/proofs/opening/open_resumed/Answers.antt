@@ -1,8 +1,7 @@
 use Rattle.std.proofs.Common.{◌≡◌, ◌≢◌, ◌∙◌, Bool, true, false, not, true≢false, [], Option, None, Some, Ok, Err, ap, refl, subst, sym, string_bytes}
 use Rattle.std.proofs.lemmas.Slice.Eq.{bytes_eq-Decides}
 use Rattle.std.specs.Option.{option_map}
-use Rattle.bz_items.specs.Characters.{Bytes}
-use Rattle.bz_journal.specs.Forms.{past_history}
+use Rattle.bz_buildozer.specs.Words.{Bytes, past_history}
 use Rattle.bz_journal.specs.Shown.{session_history}
 use Rattle.bz_journal.specs.State.{SessionState}
 use Rattle.bz_streams.specs.declared.exit.Cut.TheVariants as cut

@@ -1,6 +1,5 @@
 use Rattle.std.proofs.Common.{◌++◌, ◌∷◌, [], Some, refl, subst, sym, string_bytes}
-use Rattle.bz_streams.specs.Excerpts.{fault_excerpt}
-use Rattle.bz_streams.specs.Reported.{fault_line}
+use Rattle.bz_buildozer.specs.Words.{fault_excerpt, fault_line}
 use Rattle.bz_buildozer.specs.Found.{Opened}
 use Rattle.bz_buildozer.specs.Opens.{Takes}
 use Rattle.bz_buildozer.proofs.ReadSteps.{past_takes, refused, refused_takes}

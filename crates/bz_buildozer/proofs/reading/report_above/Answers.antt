@@ -1,7 +1,6 @@
 use Rattle.std.proofs.Common.{◌≡◌, ◌++◌, ◌∙◌, List, ℕ, ap, codes, subst, sym, append_assoc}
 use Rattle.std.proofs.lemmas.List.{append-nil}
-use Rattle.bz_streams.specs.Controls.{escaped_text}
-use Rattle.bz_streams.specs.Faults.{AppendsUnlessFailed}
+use Rattle.bz_buildozer.specs.Words.{escaped_text, AppendsUnlessFailed}
 use Rattle.bz_buildozer.proofs.reading.report_above.Goals as goal
 
 in_one : (a b c d rest : List ℕ) → a ++ (b ++ (c ++ (d ++ rest))) ≡ (((a ++ b) ++ c) ++ d) ++ rest

@@ -1,10 +1,8 @@
 use Rattle.std.proofs.Common.{◌≡◌, ◌∙◌, ◌+◌, ◌++◌, ◌∷◌, [], refl, sym, ap, subst, List, false, map, take}
 use Rattle.std.specs.List.{All, flat_map}
 use Rattle.std.proofs.lemmas.List.{append-nil, get_or-map, length-map}
-use Rattle.bz_label.specs.declared.target.Target.{Target}
+use Rattle.bz_buildozer.specs.Words.{Target, HasPath, requested_in}
 use Rattle.bz_command_line.specs.Requested as a
-use Rattle.bz_command_line.specs.Paths.{HasPath}
-use Rattle.bz_command_line.specs.Shown.{requested_in}
 use Rattle.bz_command_line.specs.declared.requested.Request.{Request}
 use Rattle.bz_command_line.specs.declared.requested.Requested.{Requested}
 use Rattle.bz_buildozer.specs.Calls.{spot}

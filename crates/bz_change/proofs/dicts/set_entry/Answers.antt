@@ -1,8 +1,6 @@
 use Rattle.std.proofs.Common.{◌∙◌, ap}
 use Rattle.bz_grammar.specs.declared.kind.Kind.TheVariants as kinds
-use Rattle.bz_value.specs.declared.value.Expr.{Expr}
-use Rattle.bz_rule.specs.Values.{on_row, on_third}
-use Rattle.bz_attribute.specs.Made.{string_of}
+use Rattle.bz_change.specs.Words.{Expr, on_row, on_third, string_of}
 use Rattle.bz_change.proofs.dicts.set_entry.Goals as goal
 
 pub returns : goal.returns

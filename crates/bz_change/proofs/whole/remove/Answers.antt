@@ -2,8 +2,7 @@ use Rattle.std.proofs.Common.{◌∙◌, ap, rules, sym}
 use Rattle.std.specs.Prelude.{not, Ok}
 use Rattle.std.specs.List.{filter}
 use Rattle.std.proofs.lemmas.List.Elements.{filter_from_retain}
-use Rattle.bz_command_syntax.specs.declared.command.Attributes.{Attributes}
-use Rattle.bz_attribute.specs.Attributes.{is_other_attribute}
+use Rattle.bz_change.specs.Words.{Attributes, is_other_attribute}
 use Rattle.bz_change.specs.Changes.{remove}
 use Rattle.bz_change.proofs.whole.remove.Goals as goal
 

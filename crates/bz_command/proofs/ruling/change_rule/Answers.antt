@@ -1,8 +1,7 @@
 use Rattle.std.proofs.Common.{◌≡◌, ◌∙◌, true, List, rules, subst}
 use Rattle.std.specs.Prelude.{◌↔◌, IsTrue, Ok}
-use Rattle.bz_value.specs.declared.value.Expr.{Expr}
+use Rattle.bz_command.specs.Words.{Expr, Arguments}
 use Rattle.bz_value.specs.declared.value.Form.{Form}
-use Rattle.bz_attribute.specs.Attributes.{Arguments}
 use Rattle.bz_command.specs.Effect.{is_rule}
 use Rattle.bz_command.specs.private.Looks.{arguments_by}
 use Rattle.bz_command.proofs.StatementRules.{held_in, same_rule}

@@ -1,11 +1,10 @@
 use Rattle.std.proofs.Common.{append-nil, ◌≡◌, ◌<◌, ◌+◌, ◌++◌, ◌∷◌, ◌∙◌, Bool, List, ap, ap₂, arith, drop, false, get_or, length, subst, sym}
 use Rattle.std.proofs.lemmas.List.{drop_more, length-append}
 use Rattle.std.specs.Vec.Iter.{into_iter_items}
-use Rattle.bz_value.specs.declared.value.Item.{Item}
+use Rattle.bz_command.specs.Words.{Item, marked_places}
 use Rattle.bz_command.specs.Effect.{unmarked}
 use Rattle.bz_command.specs.private.Growing.{IsGrown}
 use Rattle.bz_command.specs.private.Looks.{marks_by}
-use Rattle.bz_rule.specs.Index.{marked_places}
 use Rattle.bz_command.proofs.MeantPlaces.{unmarked_none}
 use Rattle.bz_command.proofs.TargetMarks.{as_many}
 use Rattle.bz_command.proofs.ruling.delete.Goals as goal

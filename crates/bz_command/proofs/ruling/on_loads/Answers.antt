@@ -1,6 +1,5 @@
 use Rattle.std.proofs.Common.{◌∙◌, ap, ap₂, sym, true≢false}
-use Rattle.bz_command_syntax.specs.declared.command.LoadOperation.{LoadOperation}
-use Rattle.bz_load.specs.NewLoad.{new_load}
+use Rattle.bz_command.specs.Words.{LoadOperation, new_load}
 use Rattle.bz_command.specs.Effect.{loads_changed}
 use Rattle.bz_command.proofs.ruling.on_loads.Goals as goal
 

@@ -1,8 +1,7 @@
 use Rattle.std.proofs.Common.{◌≡◌, [], drop, length}
 use Rattle.std.specs.Prelude.{IsTrue}
 use Rattle.bz_value.specs.declared.value.Item.TheVariants as i
-use Rattle.bz_grammar.specs.Places.{Ascend}
-use Rattle.bz_rule.specs.Index.{HaveSameNames}
+use Rattle.bz_command.specs.Words.{Ascend, HaveSameNames}
 use Rattle.bz_command.specs.private.Growing.{IsGrown}
 use Rattle.bz_command.specs.private.Looks.{one_made_by}
 use Rattle.bz_command.proofs.MeantPlaces.{on_places}

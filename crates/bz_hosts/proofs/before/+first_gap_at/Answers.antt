@@ -1,7 +1,5 @@
 use Rattle.std.proofs.Common.{◌≡◌, [], List, map, MatchOption, sym, ap, ◌∙◌, subst}
-use Rattle.bz_grammar.specs.declared.tree.Node.{Node}
-use Rattle.bz_grammar.specs.declared.tree.Part.{Part}
-use Rattle.bz_items.specs.Characters.{Bytes}
+use Rattle.bz_hosts.specs.Words.{Node, Part, Bytes}
 use Rattle.bz_hosts.specs.Seen.{first_seen_gap, seen}
 use Rattle.bz_hosts.proofs.NodeViews.{gap_of_node}
 use Rattle.bz_hosts.proofs.RowSteps.{seen_here}

@@ -1,8 +1,7 @@
 use Rattle.std.proofs.Common.{◌≡◌, [], ◌∷◌, ◌++◌, map, ◌+◌, append-nil, sym, refl, ap, ◌∙◌, drop, arith}
 use Rattle.std.proofs.lemmas.List.{take_all}
-use Rattle.bz_grammar.specs.declared.tree.Part.{Part}
+use Rattle.bz_hosts.specs.Words.{Part, frame}
 use Rattle.bz_value.specs.declared.value.Expr.TheVariants as e
-use Rattle.bz_value.specs.Frames.{frame}
 use Rattle.bz_hosts.specs.Seen.{first_seen_gap, seen}
 use Rattle.bz_hosts.proofs.HostSteps.{item_more, items_done}
 use Rattle.bz_hosts.proofs.NodeViews.{node_pushed, node_loose, sequence_made}

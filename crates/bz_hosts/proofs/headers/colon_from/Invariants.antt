@@ -1,7 +1,5 @@
 use Rattle.std.proofs.Common.{◌≡◌, ◌-◌, Bool, [], List, map, take, drop}
-use Rattle.bz_grammar.specs.declared.kind.Kind.{Kind}
-use Rattle.bz_items.specs.Characters.{Bytes}
-use Rattle.bz_value.specs.Gaps.{GapLine}
+use Rattle.bz_hosts.specs.Words.{Kind, Bytes, GapLine}
 use Rattle.bz_hosts.specs.Seen.{seen}
 use Rattle.bz_hosts.specs.Suites.{branches, stated}
 use Rattle.bz_hosts.proofs.headers.colon_from.Given as goal

@@ -1,9 +1,8 @@
 use Rattle.std.proofs.Common.{◌<◌, ◌≤◌, ◌+◌, List, [], ◌∷◌, ◌++◌, length, map, take, drop, refl, sym, ap, ◌∙◌, subst, arith}
 use Rattle.std.proofs.lemmas.List.{drop-set-lt}
-use Rattle.bz_grammar.specs.declared.tree.Part.{Part}
+use Rattle.bz_hosts.specs.Words.{Part, frame}
 use Rattle.bz_grammar.specs.declared.tree.Part.TheVariants as p
 use Rattle.bz_value.specs.declared.value.Expr.TheVariants as e
-use Rattle.bz_value.specs.Frames.{frame}
 use Rattle.bz_hosts.specs.Seen.{is_split, plain, seen}
 use Rattle.bz_hosts.proofs.HostSteps.{item_more, items_done}
 use Rattle.bz_hosts.proofs.NodeViews.{node_pushed, node_loose, sequence_made}

@@ -1,6 +1,5 @@
 use Rattle.std.proofs.Common.{false, sym, ap, ◌≡◌, ◌∙◌, ◌++◌, ◌+◌, ◌-◌, ◌∷◌, [], List, map, take, drop, arith}
-use Rattle.bz_grammar.specs.declared.tree.Part.{Part}
-use Rattle.bz_value.specs.Gaps.{GapLine, lines_of}
+use Rattle.bz_hosts.specs.Words.{Part, GapLine, lines_of}
 use Rattle.bz_hosts.specs.Seen.{Seen, seen}
 use Rattle.bz_hosts.specs.Suites.{branches, stated, Stated, with_suite}
 use Rattle.bz_hosts.proofs.Branches.{branch_more}

@@ -1,6 +1,5 @@
 use Rattle.std.proofs.Common.{subst, sym, ap, ◌∙◌}
-use Rattle.bz_value.specs.Counted.{times}
-use Rattle.bz_value.specs.Proper.{IsProper}
+use Rattle.bz_hosts.specs.Words.{times, IsProper}
 use Rattle.bz_hosts.specs.Kept.{occurrences}
 use Rattle.bz_hosts.proofs.ProperViews.{comments_kept, views_proper}
 use Rattle.bz_hosts.proofs.viewing.into_view.Goals as goal

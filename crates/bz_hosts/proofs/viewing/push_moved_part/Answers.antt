@@ -1,7 +1,6 @@
 use Rattle.std.proofs.Common.{◌+◌, List, map, drop, ap, ◌∙◌, refl, arith}
 use Rattle.std.proofs.lemmas.List.{length-set, drop-set-lt}
-use Rattle.bz_grammar.specs.declared.tree.Part.{Part}
-use Rattle.bz_value.specs.Gaps.{lines_of}
+use Rattle.bz_hosts.specs.Words.{Part, lines_of}
 use Rattle.bz_hosts.specs.Seen.{last_gap, seen}
 use Rattle.bz_hosts.specs.private.FileParts.{part_read}
 use Rattle.bz_hosts.proofs.FileSteps.{before, line_moved, moved}

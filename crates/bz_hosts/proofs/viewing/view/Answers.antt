@@ -1,6 +1,5 @@
 use Rattle.std.proofs.Common.{[], map, subst, sym, ap, ◌∙◌}
-use Rattle.bz_value.specs.Counted.{times}
-use Rattle.bz_value.specs.Proper.{IsProper}
+use Rattle.bz_hosts.specs.Words.{times, IsProper}
 use Rattle.bz_hosts.specs.Kept.{occurrences}
 use Rattle.bz_hosts.specs.Suites.{indented_lines_before, stated}
 use Rattle.bz_hosts.specs.View.{items_from}

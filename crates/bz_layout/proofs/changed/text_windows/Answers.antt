@@ -1,9 +1,7 @@
 use Rattle.std.proofs.Common.{◌≡◌, ◌≤◌, ◌<◌, length, ap, sym, ◌∙◌, subst, arith}
-use Rattle.bz_grammar.specs.Spell.{limit, depth_limit, depth_of, spell_node}
+use Rattle.bz_layout.specs.Words.{limit, depth_limit, depth_of, spell_node, IsProper, AreOver}
 use Rattle.bz_layout.specs.LaidOut.{laid_out}
 use Rattle.bz_layout.specs.Written.{layout}
-use Rattle.bz_value.specs.Proper.{IsProper}
-use Rattle.bz_value.specs.Windows.{AreOver}
 use Rattle.bz_layout.proofs.Changes.{of_some, of_none, parts_put, whole_length}
 use Rattle.bz_layout.proofs.LineWindows.{shallow_over, deep_over}
 use Rattle.bz_layout.proofs.changed.text_windows.Goals as goal

@@ -1,9 +1,7 @@
 use Rattle.std.proofs.Common.{◌≡◌, List, [], drop}
 use Rattle.bz_layout.specs.LaidOut.{lines_from}
 use Rattle.bz_layout.specs.private.Windows.{AreCounted}
-use Rattle.bz_value.specs.BuildValues.{IsProperBuild}
-use Rattle.bz_value.specs.Windows.{AreWithin}
-use Rattle.bz_value.specs.declared.value.Item.{Item}
+use Rattle.bz_layout.specs.Words.{IsProperBuild, AreWithin, Item}
 use Rattle.bz_layout.proofs.Staying.{IsOver}
 use Rattle.bz_layout.proofs.writer.go_over.Given as goal
 

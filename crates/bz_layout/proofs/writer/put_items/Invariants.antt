@@ -1,7 +1,6 @@
 use Rattle.std.proofs.Common.{List, drop}
-use Rattle.bz_grammar.specs.declared.tree.Part.{Part}
+use Rattle.bz_layout.specs.Words.{Part, Item}
 use Rattle.bz_layout.specs.private.Reached.{AreReached}
-use Rattle.bz_value.specs.declared.value.Item.{Item}
 use Rattle.bz_layout.proofs.writer.put_items.Given as goal
 
 abbrev pub invariant-loop-at : goal.invariant-loop-at

@@ -1,9 +1,7 @@
 use Rattle.std.proofs.Common.{◌≡◌, ◌∙◌, false, List, ap, refl, rules, subst, sym}
 use Rattle.std.specs.Prelude.{◌↔◌, IsTrue, Some, Ok, Err}
-use Rattle.bz_value.specs.declared.value.Expr.{Expr}
+use Rattle.bz_list.specs.Words.{Expr, attribute, with_new, with_value}
 use Rattle.bz_value.specs.declared.refusal.Refusal.TheVariants.{NotAList}
-use Rattle.bz_rule.specs.Rules.{attribute}
-use Rattle.bz_attribute.specs.Attributes.{with_new, with_value}
 use Rattle.bz_attribute.proofs.FormsAgain.{if_false}
 use Rattle.bz_list.specs.private.Listing.{added_by}
 use Rattle.bz_list.proofs.ListedForms.{added_found}

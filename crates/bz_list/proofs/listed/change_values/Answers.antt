@@ -1,8 +1,6 @@
 use Rattle.std.proofs.Common.{◌≡◌, List, sym, ap, ◌∙◌, subst}
 use Rattle.std.specs.Prelude.{Ok, OnOk}
-use Rattle.bz_items.specs.Characters.{Bytes}
-use Rattle.bz_command_syntax.specs.declared.command.ValueOperation.{ValueOperation}
-use Rattle.bz_attribute.specs.Attributes.{Arguments}
+use Rattle.bz_list.specs.Words.{Bytes, ValueOperation, Arguments}
 use Rattle.bz_list.specs.Changes.{add, values_changed}
 use Rattle.bz_list.proofs.listed.change_values.Goals as goal
 

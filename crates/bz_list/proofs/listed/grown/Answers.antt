@@ -1,8 +1,6 @@
 use Rattle.std.proofs.Common.{◌≡◌, ◌∙◌, true, false, List, ap, sym, subst, rules}
 use Rattle.std.specs.Prelude.{◌↔◌, IsTrue}
-use Rattle.bz_value.specs.declared.value.Expr.{Expr}
-use Rattle.bz_attribute.specs.Lists.{has_lists, with_more}
-use Rattle.bz_attribute.specs.Made.{plus}
+use Rattle.bz_list.specs.Words.{Expr, has_lists, with_more, plus}
 use Rattle.bz_list.proofs.StayedSame.{never, other_sum, same_more}
 use Rattle.bz_list.proofs.listed.grown.Goals as goal
 

@@ -1,8 +1,7 @@
 use Rattle.std.proofs.Common.{◌≡◌, ◌∙◌, true, [], inl, inr, rules}
 use Rattle.std.specs.Prelude.{Some}
 use Rattle.std.proofs.lemmas.Result.{err_from_is_err_and}
-use Rattle.bz_rule.specs.Rules.{attribute}
-use Rattle.bz_attribute.specs.Lists.{has_lists}
+use Rattle.bz_list.specs.Words.{attribute, has_lists}
 use Rattle.bz_list.specs.private.Listing.{chooses}
 use Rattle.bz_list.proofs.ListedForms.{nothing_moved, something_moved, not_emptied}
 use Rattle.bz_list.proofs.listed.move_values.Goals as goal

@@ -1,8 +1,6 @@
 use Rattle.std.proofs.Common.{◌≡◌, ◌∙◌, Bool, false, List, ap, rules, subst, sym}
 use Rattle.std.specs.Prelude.{◌↔◌, IsTrue, Option, Some}
-use Rattle.bz_value.specs.declared.value.Expr.{Expr}
-use Rattle.bz_rule.specs.Rules.{attribute}
-use Rattle.bz_attribute.specs.Lists.{is_no_list}
+use Rattle.bz_list.specs.Words.{Expr, attribute, is_no_list}
 use Rattle.bz_list.specs.private.Listing.{chooses, chosen_in, without_chosen}
 use Rattle.bz_list.proofs.ListedForms.{removed}
 use Rattle.bz_list.proofs.StayedSame.{same_left}

@@ -1,8 +1,7 @@
 use Rattle.std.proofs.Common.{◌≡◌, ◌++◌, take, drop, map}
 use Rattle.std.specs.List.{filter, flat_map}
 use Rattle.bz_grammar.specs.declared.kind.Kind.TheVariants as k
-use Rattle.bz_rule.specs.Values.{on_items, parts_of}
-use Rattle.bz_attribute.specs.Lists.{listed}
+use Rattle.bz_list.specs.Words.{on_items, parts_of, listed}
 use Rattle.bz_list.specs.private.Listing.{chooses, is_left}
 use Rattle.bz_list.proofs.listed.take_from_lists.Given as goal
 

@@ -1,10 +1,7 @@
 use Rattle.std.proofs.Common.{◌≡◌, Bool, not, List, ap, ◌∙◌, rules}
 use Rattle.std.specs.Prelude.{Some}
 use Rattle.std.specs.List.{filter}
-use Rattle.bz_value.specs.declared.value.Expr.{Expr}
-use Rattle.bz_rule.specs.Rules.{attribute}
-use Rattle.bz_value.specs.Empty.{is_empty}
-use Rattle.bz_attribute.specs.Lists.{items_in}
+use Rattle.bz_list.specs.Words.{Expr, attribute, is_empty, items_in}
 use Rattle.bz_list.specs.private.Listing.{chooses, put_back}
 use Rattle.bz_list.proofs.ListedForms.{left_there}
 use Rattle.bz_list.proofs.listed.take_items.Goals as goal

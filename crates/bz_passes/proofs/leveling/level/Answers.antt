@@ -2,8 +2,7 @@ use Rattle.std.proofs.Common.{List, subst, sym}
 use Rattle.std.proofs.lemmas.List.{length-map}
 use Rattle.bz_value.specs.LineShapes.{whole_grammar}
 use Rattle.bz_value.specs.Proper.{IsProper}
-use Rattle.bz_value.specs.declared.value.Item.{Item}
-use Rattle.bz_layout.specs.Flags.{flags, item_with_flags}
+use Rattle.bz_passes.specs.Words.{Item, flags, item_with_flags}
 use Rattle.bz_layout.proofs.FlaggedProper.{flags_proper}
 use Rattle.bz_passes.proofs.EachChanged.{put_back}
 use Rattle.bz_passes.proofs.leveling.level.Goals as goal

@@ -1,6 +1,5 @@
 use Rattle.std.proofs.Common.{◌≡◌, false}
-use Rattle.bz_layout.specs.Flags.{with_flags}
-use Rattle.bz_rule.specs.private.Named.{fronts}
+use Rattle.bz_passes.specs.Words.{with_flags, fronts}
 use Rattle.bz_passes.specs.Newer.{has_newer_node}
 use Rattle.bz_passes.specs.Passes.{quotes_in}
 use Rattle.bz_passes.proofs.names.is_still.Given as goal

@@ -1,7 +1,6 @@
 use Rattle.std.proofs.Common.{◌≡◌, ◌++◌, ◌∷◌, ◌∙◌, [], true, false, ap, refl, length, List, ℕ, rules}
-use Rattle.bz_value.specs.declared.value.Expr.{Expr as Value}
+use Rattle.bz_passes.specs.Words.{Expr as Value, text_of}
 use Rattle.bz_passes.specs.Lists.{has_no_comment}
-use Rattle.bz_rule.specs.Values.{text_of}
 use Rattle.bz_passes.specs.private.Repeats.{repeats_at, tied_places}
 use Rattle.bz_passes.proofs.Dropping.{turn_new, turn_old, turn_dropped, turned}
 use Rattle.bz_passes.proofs.repeats.keep.Goals as goal

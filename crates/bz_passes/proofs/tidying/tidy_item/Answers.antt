@@ -1,7 +1,6 @@
 use Rattle.std.proofs.Common.{◌≡◌, ◌∙◌, true, false, ap, refl, rules, sym}
 use Rattle.bz_value.specs.declared.value.Item.TheVariants as i
-use Rattle.bz_layout.specs.Flags.{with_flags}
-use Rattle.bz_rule.specs.Values.{above}
+use Rattle.bz_passes.specs.Words.{with_flags, above}
 use Rattle.bz_passes.specs.Changes.{after_passes}
 use Rattle.bz_passes.specs.Joined.{item_tidied}
 use Rattle.bz_passes.specs.Lists.{any_marked}

@@ -1,7 +1,6 @@
 use Rattle.std.proofs.Common.{◌≡◌, ◌++◌, map, take, drop}
 use Rattle.bz_grammar.specs.declared.kind.Kind.TheVariants as k
-use Rattle.bz_value.specs.declared.value.Expr.{Expr}
-use Rattle.bz_rule.specs.Values.{on_items, parts_of}
+use Rattle.bz_passes.specs.Words.{Expr, on_items, parts_of}
 use Rattle.bz_passes.specs.Changes.{list_changed}
 use Rattle.bz_passes.proofs.walk.change_lists.Given as goal
 

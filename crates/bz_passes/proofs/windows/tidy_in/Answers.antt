@@ -2,8 +2,7 @@ use Rattle.std.proofs.Common.{◌∙◌, List, subst, sym}
 use Rattle.bz_value.specs.BuildValues.{AreBuild, IsProperBuild}
 use Rattle.bz_value.specs.LineShapes.{build_grammar}
 use Rattle.bz_value.specs.Proper.{IsProper, IsProperItemIn}
-use Rattle.bz_value.specs.declared.value.Item.{Item}
-use Rattle.bz_value.specs.declared.windows.Window.{Window}
+use Rattle.bz_passes.specs.Words.{Item, Window}
 use Rattle.bz_value.proofs.BuildValues.{build_values_proper}
 use Rattle.bz_passes.specs.private.Borders.{tidied_over}
 use Rattle.bz_passes.proofs.EachChanged.{put_back}

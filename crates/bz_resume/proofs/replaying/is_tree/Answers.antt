@@ -1,6 +1,5 @@
 use Rattle.std.proofs.Common.{◌∙◌, sym, subst}
-use Rattle.bz_grammar.specs.declared.tree.Node.{Node}
-use Rattle.bz_grammar.specs.Legal.{NoTree, Reads}
+use Rattle.bz_resume.specs.Words.{Node, NoTree, Reads}
 use Rattle.bz_resume.proofs.Loops.{by_outline, when_some}
 use Rattle.bz_resume.proofs.replaying.is_tree.Goals as goal
 

@@ -1,6 +1,5 @@
 use Rattle.std.proofs.Common.{Err, List, ap, sym, subst, refl}
-use Rattle.bz_edit.specs.declared.edit.Edit.{Edit}
-use Rattle.bz_edit.specs.Trails.{trail_at}
+use Rattle.bz_resume.specs.Words.{Edit, trail_at}
 use Rattle.bz_resume.specs.private.Agreement.{HasStood, IsOpened, NoneAgrees}
 use Rattle.bz_resume.specs.declared.resumed.Resumed.{Resumed}
 use Rattle.bz_resume.specs.Resumed.{IsResumed}

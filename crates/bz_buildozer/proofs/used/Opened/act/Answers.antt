@@ -1,7 +1,6 @@
 use Rattle.std.proofs.Common.{◌≡◌, ◌∙◌, ◌||◌, Bool, not, Ok, Err, refl, subst, sym, true≢false}
 use Rattle.std.specs.Prelude.{◌==◌}
-use Rattle.bz_items.specs.Characters.{Bytes}
-use Rattle.bz_journal.specs.Forms.{past_history}
+use Rattle.bz_buildozer.specs.Words.{Bytes, past_history}
 use Rattle.bz_buildozer.specs.Keeps.{file_left}
 use Rattle.bz_buildozer.specs.Sessions.{KeepFault, Keeps, KeepsFile, action_in}
 use Rattle.bz_buildozer.specs.private.ShownFiles.{opened_in}
