@@ -19,6 +19,7 @@ pub mod Both
 pub mod Unique
 pub mod Statements
 pub mod AllLines
+pub mod Stated
 pub mod Blanks
 pub mod Build
 pub mod Newer

@@ -1,5 +1,5 @@
 -- Laws of legal trees.
-use Rattle.std.specs.Prelude.{◌≡◌, ◌≤◌, ◌↔◌, ℕ, Some, List, []}
+use Rattle.std.specs.Prelude.{◌≡◌, ◌≤◌, ◌↔◌, ℕ, Some, List, [], map}
 use Rattle.bz_lex.specs.Leaves.{AreLeaves, AreCoded}
 use Rattle.bz_grammar.specs.declared.kind.Kind.{Kind}
 use Rattle.bz_grammar.specs.declared.tree.Node.{Node}
@@ -7,6 +7,7 @@ use Rattle.bz_grammar.specs.Kinds.{kind_number, kind_of}
 use Rattle.bz_grammar.specs.Spell.{spell_node, leaves_of, depth_of, depth_limit}
 use Rattle.bz_grammar.specs.Spots.{Begins, AtParts, Stands, AreTokens}
 use Rattle.bz_grammar.specs.Indents.{AreIndented}
+use Rattle.bz_grammar.specs.Statements.{statements, begins_on, lines_of}
 use Rattle.bz_grammar.specs.Legal.{IsFile, Legal, Reads, ReadsBzl}
 
 -- trees that spell the same are the same
@@ -45,3 +46,8 @@ LegalByNodes = (n : Node) → Legal n ↔ IsLegalByLeaves n
 -- the kind of the number of a kind is that kind
 abbrev pub KindOfNumber : Type 0
 KindOfNumber = (kind : Kind) → kind_of (kind_number kind) ≡ Some kind
+
+-- The lines of a legal tree are those of all its nodes that are statements, as many and in their order: no expression, parameter or other
+-- part of a header has one inside, and none is anywhere else.
+abbrev pub EachStatementHasALine : Type 0
+EachStatementHasALine = (n : Node) → Legal n → lines_of n ≡ map begins_on (statements [] n.parts)

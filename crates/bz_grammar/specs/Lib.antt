@@ -13,3 +13,4 @@ pub mod Statements
 pub mod Worked
 pub mod Joined
 pub mod Split
+pub mod private

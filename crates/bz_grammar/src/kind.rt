@@ -1,5 +1,7 @@
 ghost use Rattle.std.specs.Prelude.{◌≡◌, ◌+◌, ◌≤◌, ◌↔◌, IsTrue, MatchOption, IfNone, IfSome, Some, None};
 ghost use Rattle.bz_grammar.specs.Kinds.{kind_number, kind_of};
+ghost use Rattle.bz_grammar.specs.Shapes.{is_kind, nonterminal_has_kind, small, stmt};
+ghost use Rattle.bz_grammar.specs.Statements.{has_statements, is_statement_kind};
 
 use bz_items::at;
 
@@ -106,6 +108,44 @@ impl Kind {
         ensures { IsTrue result ↔ (35 ≤ kind_number self.now) }
     {
         self.number() >= 35
+    }
+
+    fn is(&self, other: Kind) -> bool
+        ensures { result ≡ is_kind self.now other }
+    {
+        self.number() == other.number()
+    }
+
+    /// Whether a Line has nodes of this kind.
+    fn is_small(&self) -> bool
+        ensures { result ≡ nonterminal_has_kind small self.now }
+    {
+        self.is(Kind::Bare)
+            || self.is(Kind::Assign)
+            || self.is(Kind::Load)
+            || self.is(Kind::Return)
+            || self.is(Kind::Flow)
+    }
+
+    /// Whether a file or a suite has nodes of this kind.
+    fn is_stmt(&self) -> bool
+        ensures { result ≡ nonterminal_has_kind stmt self.now }
+    {
+        self.is(Kind::Line) || self.is(Kind::Def) || self.is(Kind::IfStmt) || self.is(Kind::ForStmt)
+    }
+
+    /// Whether nodes of this kind are statements: what a Line has, and what a file or a suite has but a Line.
+    pub fn is_statement(&self) -> bool
+        ensures { result ≡ is_statement_kind self.now }
+    {
+        self.is_small() || (self.is_stmt() && !self.is(Kind::Line))
+    }
+
+    /// Whether statements may be in nodes of this kind: what a file or a suite has, and what is a suite.
+    pub fn has_statements(&self) -> bool
+        ensures { result ≡ has_statements self.now }
+    {
+        self.is_stmt() || self.is(Kind::Suite) || self.is(Kind::Line)
     }
 
     /// The kind of a number; `None` for a number that no kind has.

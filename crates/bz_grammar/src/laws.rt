@@ -1,6 +1,6 @@
 //! Laws of legal trees: the contract of each function is a law, and there is nothing to run.
 ghost use Rattle.bz_grammar.specs.Joined.{BzlLinesJoin, LinesJoin};
-ghost use Rattle.bz_grammar.specs.Laws.{GapsByNodes, KindOfNumber, LegalByNodes, OneFile, OneReading, OneBzlReading, OneTree};
+ghost use Rattle.bz_grammar.specs.Laws.{EachStatementHasALine, GapsByNodes, KindOfNumber, LegalByNodes, OneFile, OneReading, OneBzlReading, OneTree};
 ghost use Rattle.bz_grammar.specs.Split.{LinesSplit};
 ghost use Rattle.bz_grammar.specs.Worked.{WorkedLines};
 
@@ -44,6 +44,11 @@ pub fn lines_join()
 /// The lines in front of a part of a legal file are a legal file, and so is what is after them.
 pub fn lines_split()
     ensures { LinesSplit }
+{}
+
+/// The lines of a tree are those of its statements, wherever in it they are.
+pub fn each_statement_has_a_line()
+    ensures { EachStatementHasALine }
 {}
 
 /// The lines of the statements of one small text.

@@ -3,7 +3,8 @@ ghost use Rattle.std.specs.Prelude.{◌≡◌, ◌+◌, ◌<◌, ◌^◌, ℕ, [
 ghost use Rattle.std.specs.List.{flat_map};
 ghost use Rattle.std.specs.Option.{option_copied};
 ghost use Rattle.bz_grammar.specs.Spell.{spell_leaf, spell_part, leaves_part};
-ghost use Rattle.bz_grammar.specs.Statements.{is_node, node_parts, gap_of, newlines, fronts_in, fronts, line_following, line_of, lines_of};
+ghost use Rattle.bz_grammar.specs.Statements.{gap_of, newlines, fronts_part, fronts, line_following, line_of, lines_of};
+ghost use Rattle.bz_grammar.specs.private.Seeking.{is_stated, own_front, passed_line, all_passed};
 
 use crate::tree::{Part, Tree};
 use bz_items::{Gap, Memory};
@@ -12,12 +13,17 @@ use std::alloc::Global;
 
 impl Tree {
     /// The line, from 1, on which the first token of a statement is. Statements are counted from 0, in the order of
-    /// the text; where semicolons are between them, a Line holds several. `None` past the last statement. It takes no
-    /// memory.
+    /// the text: those of a Line, of which it holds several where semicolons are between them, and functions, branches
+    /// and loops, each before those of its suites. `None` past the last statement. It takes no memory.
     pub fn line_of(&self, statement: usize) -> Option<u32>
         ensures { result ≡ line_of self.now statement }
     {
-        line_among(self.root.parts.as_slice(), statement)
+        let mut sought = Sought {
+            left: statement,
+            line: None,
+        };
+        pass_all(self.root.parts.as_slice(), 1, &mut sought);
+        sought.line
     }
 
     /// The lines of all statements, each as `line_of` gives it, in the order of the text. The text is read once. The error: a
@@ -26,129 +32,134 @@ impl Tree {
         ensures { IfOk result (λ lines. lines.items ≡ lines_of self.now) }
     {
         let mut lines = Vec::new(alloc);
-        push_lines_among(self.root.parts.as_slice(), &mut lines)?;
+        push_all(self.root.parts.as_slice(), 1, &mut lines)?;
         Ok(lines)
     }
 }
 
-/// Appends the lines of all statements of a file that has these parts.
-fn push_lines_among(parts: &[Part], lines: &mut Vec<u32>) -> Result<(), Memory>
-    requires { 1 + length (flat_map spell_part parts.now) < 2 ^ 32 }
-    ensures { OnOk result (lines.new.items ≡ lines.old.items ++ map line_following (fronts [] parts.now)) }
-{
-    let mut begins = 1;
-    for part in parts {
-        begins = part.push_lines(begins, lines)?;
-    }
-    Ok(())
-}
-
-/// Appends the lines of the statements of a Line that has these parts, whose spelling begins on line `first`, and returns
-/// the line after it.
-fn push_lines_in(parts: &[Part], first: u32, lines: &mut Vec<u32>) -> Result<u32, Memory>
+/// Appends the lines of the statements in parts, the first of which begins on line `first`, and returns the line after
+/// them.
+#[cycle(lines)]
+fn push_all(parts: &[Part], first: u32, lines: &mut Vec<u32>) -> Result<u32, Memory>
     requires { first + length (flat_map spell_part parts.now) < 2 ^ 32 }
     ensures following { IfOk result (λ line. line ≡ first + newlines (flat_map spell_part parts.now)) }
-    ensures lines { (front : List ℕ) → line_following front ≡ first → OnOk result (lines.new.items ≡ lines.old.items ++ map line_following (fronts_in front parts.now)) }
+    ensures lines { (front : List ℕ) → line_following front ≡ first → OnOk result (lines.new.items ≡ lines.old.items ++ map line_following (fronts front parts.now)) }
 {
     let mut line = first;
     for part in parts {
-        part.push_line(line, lines)?;
-        line += part.newlines();
+        line = part.push_lines(line, lines)?;
     }
     Ok(line)
 }
 
+/// The statements in parts, the first of which begins on line `first`, are passed; the line after them.
+#[cycle(passing)]
+fn pass_all(parts: &[Part], first: u32, sought: &mut Sought) -> u32
+    requires { first + length (flat_map spell_part parts.now) < 2 ^ 32 }
+    ensures following { result ≡ first + newlines (flat_map spell_part parts.now) }
+    ensures sought { (front : List ℕ) → line_following front ≡ first → sought.new ≡ all_passed sought.old (map line_following (fronts front parts.now)) }
+{
+    let mut line = first;
+    for part in parts {
+        line = part.pass(line, sought);
+    }
+    line
+}
+
 impl Part {
-    /// Appends the lines of the statements in a part of a file that begins on line `first`, and returns the line after it.
-    #[tactic(auto, using(crate::proofs::Spells::spell_Node))]
+    /// Appends the lines of the statements in a part that begins on line `first`, and returns the line after it.
+    #[cycle(lines)]
     fn push_lines(&self, first: u32, lines: &mut Vec<u32>) -> Result<u32, Memory>
         requires { first + length (spell_part self.now) < 2 ^ 32 }
         ensures following { IfOk result (λ line. line ≡ first + newlines (spell_part self.now)) }
-        ensures lines { (front : List ℕ) → line_following front ≡ first → OnOk result (lines.new.items ≡ lines.old.items ++ map line_following (fronts_in front (node_parts self.now))) }
+        ensures lines { (front : List ℕ) → line_following front ≡ first → OnOk result (lines.new.items ≡ lines.old.items ++ map line_following (fronts_part front self.now)) }
     {
-        match self {
-            Part::Leaf(leaf) => Ok(first + leaf_newlines(leaf)),
-            Part::Node(node) => push_lines_in(node.parts.as_slice(), first, lines),
+        let Part::Node(node) = self else {
+            return Ok(first + self.newlines());
+        };
+        self.push_own(first, lines)?;
+        if node.kind.has_statements() {
+            push_all(node.parts.as_slice(), first, lines)
+        } else {
+            Ok(first + self.newlines())
         }
     }
 
-    /// Appends the line of a part of a Line that begins on line `first`, if it is a statement.
-    fn push_line(&self, first: u32, lines: &mut Vec<u32>) -> Result<(), Memory>
+    /// The statements in a part that begins on line `first` are passed; the line after it.
+    #[cycle(passing)]
+    fn pass(&self, first: u32, sought: &mut Sought) -> u32
         requires { first + length (spell_part self.now) < 2 ^ 32 }
-        ensures { (front : List ℕ) → line_following front ≡ first → OnOk result (lines.new.items ≡ lines.old.items ++ map line_following (fronts_in front (self.now ∷ []))) }
+        ensures following { result ≡ first + newlines (spell_part self.now) }
+        ensures sought { (front : List ℕ) → line_following front ≡ first → sought.new ≡ all_passed sought.old (map line_following (fronts_part front self.now)) }
     {
-        if self.is_node() {
+        let Part::Node(node) = self else {
+            return first + self.newlines();
+        };
+        self.pass_own(first, sought);
+        if node.kind.has_statements() {
+            pass_all(node.parts.as_slice(), first, sought)
+        } else {
+            first + self.newlines()
+        }
+    }
+}
+
+impl Part {
+    fn is_statement(&self) -> bool
+        ensures { result ≡ is_stated self.now }
+    {
+        match self {
+            Part::Leaf(_) => false,
+            Part::Node(node) => node.kind.is_statement(),
+        }
+    }
+
+    /// Appends the line of a part that begins on line `first`, if it is a statement itself.
+    fn push_own(&self, first: u32, lines: &mut Vec<u32>) -> Result<(), Memory>
+        requires { first + length (spell_part self.now) < 2 ^ 32 }
+        ensures { (front : List ℕ) → line_following front ≡ first → OnOk result (lines.new.items ≡ lines.old.items ++ map line_following (own_front front self.now)) }
+    {
+        if self.is_statement() {
             lines.push(first + self.gap_newlines())?;
         }
         Ok(())
     }
-}
 
-/// The line of a statement of a file that has these parts.
-fn line_among(parts: &[Part], statement: usize) -> Option<u32>
-    requires { 1 + length (flat_map spell_part parts.now) < 2 ^ 32 }
-    ensures { result ≡ option_map line_following (slice_get (fronts [] parts.now) statement) }
-{
-    let mut line = 1;
-    let mut left = statement;
-    for part in parts {
-        let inner = part.parts();
-        let count = statement_count(inner);
-        if left < count {
-            return line_in(inner, line, left);
+    /// A part that begins on line `first` is passed, if it is a statement itself.
+    fn pass_own(&self, first: u32, sought: &mut Sought)
+        requires { first + length (spell_part self.now) < 2 ^ 32 }
+        ensures { (front : List ℕ) → line_following front ≡ first → sought.new ≡ all_passed sought.old (map line_following (own_front front self.now)) }
+    {
+        if self.is_statement() {
+            sought.pass(first + self.gap_newlines());
         }
-        left -= count;
-        line += part.newlines();
     }
-    None
 }
 
-/// The line of a statement of a Line that has these parts, whose spelling begins on line `first`.
-fn line_in(parts: &[Part], first: u32, statement: usize) -> Option<u32>
-    requires { first + length (flat_map spell_part parts.now) < 2 ^ 32 }
-    ensures { (front : List ℕ) → line_following front ≡ first → result ≡ option_map line_following (slice_get (fronts_in front parts.now) statement) }
-{
-    let mut line = first;
-    let mut left = statement;
-    for part in parts {
-        if part.is_node() {
-            if left == 0 {
-                return Some(line + part.gap_newlines());
-            }
-            left -= 1;
+/// A statement that is sought: how many others come before it, and once it is passed its line.
+#[derive(Drop)]
+struct Sought {
+    left: usize,
+    line: Option<u32>,
+}
+
+impl Sought {
+    /// A statement that begins on this line is passed.
+    fn pass(&mut self, line: u32)
+        ensures { self.new ≡ passed_line self.old line }
+    {
+        if self.line.is_some() {
+            return;
         }
-        line += part.newlines();
+        if self.left == 0 {
+            self.line = Some(line);
+        } else {
+            self.left -= 1;
+        }
     }
-    None
-}
-
-/// How many statements a Line has that has these parts.
-fn statement_count(parts: &[Part]) -> usize
-    ensures { result ≡ count_by is_node parts.now }
-{
-    parts.iter().filter(|part| part.is_node()).count()
 }
 
 impl Part {
-    fn is_node(&self) -> bool
-        ensures { result ≡ is_node self.now }
-    {
-        match self {
-            Part::Leaf(_) => false,
-            Part::Node(_) => true,
-        }
-    }
-
-    /// The parts of a node; a leaf has none.
-    fn parts(&self) -> &[Part]
-        ensures { result.now ≡ node_parts self.now }
-    {
-        match self {
-            Part::Leaf(_) => &[],
-            Part::Node(node) => node.parts.as_slice(),
-        }
-    }
-
     /// How many newlines are before the first token.
     #[tactic(auto, using(crate::proofs::Statements::gap_is, crate::proofs::Statements::gap_is_none))]
     fn gap_newlines(&self) -> u32

@@ -17,6 +17,7 @@
 //! | `accepted` | a text | whether it has a tree |
 //! | `equal` | two texts | whether their trees are equal |
 //! | `lines` | a text | the line of each statement |
+//! | `bzl_lines` | a text of a .bzl file | the line of each statement, those of suites too |
 //! | `kind`, `class` | a number | the kind of node or the class of leaf that has it, and its number |
 //! | `view` | a text | its file value, an item a line |
 //! | `copies` | a gap, and a comment | a copy of a form that has the comments of the gap, but for that of its first line, above, and the comment after; whether all copies are equal |

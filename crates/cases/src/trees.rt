@@ -24,7 +24,8 @@ pub(crate) fn answer(case: &Case, page: &mut Page) -> Result<bool, CaseFault> {
         }
         "accepted" => page.answer(acceptance(alloc, text)?.as_bytes())?,
         "equal" => page.answer(equality(alloc, text, case.given_text(1)?)?.as_bytes())?,
-        "lines" => page.answer(lines_of(alloc, text)?.as_bytes())?,
+        "lines" => page.answer(lines_of(alloc, Grammar::Build, text)?.as_bytes())?,
+        "bzl_lines" => page.answer(lines_of(alloc, Grammar::Bzl, text)?.as_bytes())?,
         "kind" => page.answer(kind_of(case)?.as_bytes())?,
         _ => return Ok(false),
     }
@@ -132,8 +133,8 @@ fn statement(alloc: Global, text: &[u8], page: &mut Page) -> Result<(), CaseFaul
 }
 
 /// The lines of the statements of a text.
-fn lines_of(alloc: Global, text: &[u8]) -> Result<String, CaseFault> {
-    let tree = read(alloc, Grammar::Build, text)?;
+fn lines_of(alloc: Global, grammar: Grammar, text: &[u8]) -> Result<String, CaseFault> {
+    let tree = read(alloc, grammar, text)?;
     let mut lines = String::new(alloc);
     let all = tree.lines(alloc)?;
     for (place, line) in all.iter().enumerate() {

@@ -1,0 +1,12 @@
+use Rattle.std.proofs.Common.{◌∙◌, [], ap, option_map, refl, slice_get}
+use Rattle.bz_grammar.specs.declared.statement.Sought.{Sought}
+use Rattle.bz_grammar.specs.declared.tree.Node.{Node}
+use Rattle.bz_grammar.specs.Statements.{fronts, line_following}
+use Rattle.bz_grammar.proofs.AllLines.{sought_line}
+use Rattle.bz_grammar.proofs.tree.Tree.line_of.Goals as goal
+
+pub returns : goal.returns
+returns c =
+    ap (λ (s : Sought). s.line) (c.pass_all.ensures.sought [] refl)
+    ∙ (sought_line (fronts [] c.as_slice.result.now) c.args.statement
+    ∙ ap (λ ps. option_map line_following (slice_get (fronts [] ps) c.args.statement)) (c.as_slice.ensures ∙ ap (λ (n : Node). n.parts) c.self.view_is))

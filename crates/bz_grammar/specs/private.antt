@@ -1,0 +1,2 @@
+-- What the contracts of private functions cite, and no contract of a public call reaches: nobody has to trust it.
+pub mod Seeking
