@@ -1,5 +1,5 @@
 //! The lines on standard error that speak of files. Its faults are passed over.
-ghost use Rattle.std.specs.Prelude.{◌≡◌, ◌++◌, List, ℕ, OnOk, OnErr, decimal};
+ghost use Rattle.std.specs.Prelude.{◌≡◌, ◌++◌, List, ℕ, IfSome, OnOk, OnErr, decimal};
 ghost use Rattle.bz_streams.specs.Faults.{AppendsUnlessFailed};
 ghost use Rattle.bz_streams.specs.Excerpts.{fault_excerpt};
 ghost use Rattle.bz_streams.specs.Options.{option_hint_text};
@@ -12,6 +12,7 @@ use crate::{LinePiece, OptionHint, Sink};
 use bz_lex::ReadFault;
 use itoa::Buffer;
 use std::alloc::{AllocError, Global};
+use std::fmt::Display;
 
 /// The name by which standard input is reported.
 pub const STDIN: &str = "<stdin>";
@@ -131,17 +132,19 @@ pub fn report_fault_in<E: Sink>(err: &mut E, file: &str, text: &[u8], fault: &Re
     report_fault_above(err, file, fault, below.as_slice());
 }
 
-/// Reports a fault that clap finds in words, by clap's own text, and this hint of the program of this name below it, up to the first
-/// fault of `err`. The error: there was no memory for clap's text; nothing is then printed.
-pub fn report_clap_hinted<'a, E: Sink>(
+/// Reports a fault that is found in words, as clap finds them, by its own text, and this hint of the program of this name below it, up to the
+/// first fault of `err`. The error: there was no memory for that text; nothing is then printed.
+pub fn report_clap_hinted<'a, E: Sink, T: Display>(
     alloc: Global,
     err: &mut E,
-    error: &clap::Error,
+    error: &T,
     program: &'a str,
     hint: OptionHint<'a>,
 ) -> Result<(), AllocError>
     ensures ok { OnOk result ((text : List ℕ) × AppendsUnlessFailed (E.faults err.old) (E.faults err.new)
         (E.contents err.old) (E.contents err.new) (text ++ option_hint_text program.entry.now hint.entry)) }
+    ensures text { OnOk result (IfSome (T.output error.now) (λ text. AppendsUnlessFailed (E.faults err.old) (E.faults err.new)
+        (E.contents err.old) (E.contents err.new) (text ++ option_hint_text program.entry.now hint.entry))) }
     ensures err { OnErr result (err.new ≡ err.old) }
 {
     let text = error.to_string(alloc)?;
