@@ -63,7 +63,7 @@ SCRIPTS = [
     ("runs beside one another", races, ["buildozer", "buildifier"]),
     ("runs that lose power", power, ["buildozer", "buildifier"]),
     ("acts of the disk", disk_acts, ["buildozer", "buildifier"]),
-    ("places of refusals", refusal_places, ["buildifier"]),
+    ("places of refusals", refusal_places, ["buildozer", "buildifier"]),
     ("runs by chance", fuzz, ["buildozer", "buildifier"]),
     ("runs beside Bazel", bazel, ["buildozer", "buildifier"]),
 ]

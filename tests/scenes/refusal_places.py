@@ -1,124 +1,130 @@
 #!/usr/bin/env python3
-"""Looks where a text is told to be refused as Unexpected: right after the longest beginning of it that some accepted text begins with.
+"""Looks where, and as what, a text is refused that is not accepted: BUILD files by both programs, .bzl files by buildifier.
 
-No clause speaks of that place, so it is computed here, over texts by chance: a statement of lib/grammar.py is cut after some of its
-tokens, and a token that may not come there is put after that. Three things are looked at, each over whole texts that buildifier reads:
+No clause speaks of most of these places, so they are computed here, by lib/starlark.py, which has the grammar in a form of its own and reads no
+program's answer. Texts by chance, of many lines, with functions, branches, loops and their suites, are accepted. One of them is then
+changed: a token is put in or comes in the place of another one, a line begins at another indent, the text breaks off, or a character or a string comes
+with which no token begins. What is refused first of that is reported, and where:
 
-- the place is not before that token, since what stands before it begins an accepted text;
-- the text up to the place goes on to an accepted one: with what followed the cut, or with some words and what closes its brackets;
-- with the token at the place it goes on to none of these.
+- Unexpected at the first token with which no accepted row of tokens goes on, or at the end;
+- Indented at the first token of a line at whose indent no statement may begin; in a BUILD file at one with any indent;
+- BadCharacter and OpenString at what is no token.
 
-The first two are so of each text or the program is wrong. The third one tries some hundred ends of a text, and no more can be done by trying.
-The places of Indented and TooDeep are rows of crates/cases: those of the first token of a line, and of the first token of the first node
-that is nested too deep.
+The places of TooDeep are rows of crates/cases: those of the first token of the first node that is nested too deep.
 
-    tests/scenes/refusal_places.py BUILDIFIER
+    tests/scenes/refusal_places.py BUILDOZER BUILDIFIER
 """
 
-import itertools
+import pathlib
 import random
 import re
 
-from lib import grammar
 from lib.folders import new_folder
 from lib.runs import ended
 from lib.scenes import WHOLE, Scenes
+from lib.starlark import KEYWORDS, WRONG_CHARACTERS, File, Piece, first_fault, place_of, spelled
 
-# how many texts are looked at as a part of the gate
-TEXTS = 2000 if WHOLE else 40
+# how many texts of each kind are made as a part of the gate, and how many times each is changed
+TEXTS, CHANGES = (1000, 20) if WHOLE else (25, 6)
 # tokens that are put where they may not come, or may
-WRONG = [")", "]", "}", ",", ":", "=", "+=", ".", "==", "in", "for", "if", "else", "or", "not", "x", '"s"', "1", "(", "[", "{", "*", "lambda", ";", "def", "&"]
-# what may come in the innermost open bracket before it is closed, or after a text without one; and in the bracket around that
-FILLERS = ["", "x", "= x", ": x", "x : x", "in x", "x in x", "for x in x", "x for x in x", "else x", "x else x", "if x else x", "x if x else x", ", x", "x ,", ". x"]
-OUTER = ["", ", x", "= x", "in x", "for x in x", ": x"]
-CLOSERS = {"(": ")", "[": "]", "{": "}"}
-PLACE = re.compile(r"^t(\d+):(\d+):(\d+): (\w+)$|^t(\d+): (\w+)", re.MULTILINE)
+WRONG = [*")]},:.=;([{*-", "+=", "==", "**", "x", '"s"', "1", "\n", *KEYWORDS]
+INDENTS = ["", " ", "  ", "    ", "\t", "     "]
+PLACE = re.compile(r"^t(\d+)(?:/BUILD)?:(?:(\d+):(\d+):)? (\w+)", re.MULTILINE)
+# how many texts one run reads
+AT_ONCE = 500
 
 
-def faults(program, texts):
-    """The fault of each text, as its name and the number of the character at which it is told; None of one that is accepted."""
+def by_buildifier(program, kind, texts):
+    """What is reported of each text that is refused."""
     with new_folder() as folder:
         for number, text in enumerate(texts):
-            with open(f"{folder}/t{number}", "w", encoding="utf-8") as file:
-                file.write(text)
-        names = [f"t{number}" for number in range(len(texts))]
-        lines = []
-        for some in range(0, len(names), 1000):
-            lines += PLACE.findall(ended([program, "--mode=check", *names[some : some + 1000]], folder).err.decode())
+            (pathlib.Path(folder) / f"t{number}").write_text(text, encoding="utf-8", newline="")
+        return ended([program, "--mode=check", f"--type={kind}", *[f"t{number}" for number in range(len(texts))]], folder).err
+
+
+def by_buildozer(program, kind, texts):
+    """The same of BUILD files, of which no command changes anything."""
+    with new_folder() as folder:
+        for number, text in enumerate(texts):
+            package = pathlib.Path(folder) / f"t{number}"
+            package.mkdir()
+            (package / "BUILD").write_text(text, encoding="utf-8", newline="")
+        return ended([program, "-k", "fix unusedLoads", "--stdout", *[f"//t{number}:all" for number in range(len(texts))]], folder).err
+
+
+def faults(run, program, kind, texts):
+    """The fault of each text, as its name, line and column; None of one that is accepted."""
     found = [None] * len(texts)
-    for number, line, column, name, whole, word in lines:
-        if whole:
-            found[int(whole)] = (word, 0)
-        else:
-            # (each of these texts is one line)
-            found[int(number)] = (name, int(column) - 1 if line == "1" else len(texts[int(number)]))
+    for since in range(0, len(texts), AT_ONCE):
+        for number, line, column, name in PLACE.findall(run(program, kind, texts[since : since + AT_ONCE]).decode()):
+            found[since + int(number)] = (name, int(line or 0), int(column or 0))
     return found
 
 
-def open_in(tokens):
-    """The brackets that are open after these tokens, the outermost first."""
-    stack = []
-    for token in tokens:
-        if token in CLOSERS:
-            stack.append(token)
-        elif token in CLOSERS.values() and stack:
-            stack.pop()
-    return stack
+def with_another_indent(pieces, chance):
+    """These pieces, of which one that begins a line has another indent."""
+    starts = [at for at, piece in enumerate(pieces) if at == 0 or pieces[at - 1].token == "\n"]
+    at = chance.choice(starts)
+    gap = pieces[at].gap.rstrip(" \t") + chance.choice(INDENTS)
+    return [*pieces[:at], Piece(pieces[at].token, gap), *pieces[at + 1 :]]
 
 
-def ends_of(tokens):
-    """Some ends of a text that begins with these tokens: a filler before each of the brackets is closed, and one after it."""
-    closers = [CLOSERS[token] for token in reversed(open_in(tokens))]
-    for first, second in itertools.product(FILLERS, OUTER if closers else [""]):
-        pieces = [first, *closers[:1], second, *closers[1:]]
-        yield " ".join(piece for piece in pieces if piece)
+def changed(pieces, chance):
+    """These pieces, changed in one place."""
+    at = chance.randrange(len(pieces))
+    piece, following = pieces[at], pieces[at + 1 :]
+    how = chance.choice(["put in", "put in", "exchanged", "exchanged", "broken off", "indented", "no token"])
+    if how == "indented":
+        return with_another_indent(pieces, chance)
+    if how == "broken off":
+        return pieces[:at]
+    if how == "no token":
+        wrong = chance.choice(list(WRONG_CHARACTERS))
+        # a string that is open has the rest of the text
+        rest = [Piece(piece.token, " "), *following] if len(wrong) == 1 else []
+        return [*pieces[:at], Piece(wrong, piece.gap), *rest]
+    wrong = Piece(chance.choice(WRONG), piece.gap)
+    if how == "exchanged" and piece.token != "\n":
+        return [*pieces[:at], wrong, *following]
+    return [*pieces[:at], wrong, Piece(piece.token, " "), *following]
 
 
-def made(seed):
-    """The tokens of a statement on one line, how many of them stay, and the token that is put after these."""
-    chance = random.Random(seed)
-    tokens = ['"s"' if "\n" in token else token for token in grammar.Text(seed).small()]
-    return tokens, chance.randrange(len(tokens)), chance.choice(WRONG)
+def texts_of(kind):
+    """Texts by chance, and each changed some times, as pieces."""
+    for seed in range(TEXTS):
+        pieces = File(kind, seed).made()
+        yield pieces
+        chance = random.Random(f"{kind} {seed}")
+        for _ in range(CHANGES):
+            yield changed(pieces, chance)
 
 
-def places_of_unexpected(programs):
-    """What is wrong of the places that are reported."""
-    (program,) = programs
-    cases = [made(seed) for seed in range(TEXTS)]
-    whole = faults(program, [" ".join(tokens) for tokens, _, _ in cases])
-    cases = [case for case, fault in zip(cases, whole) if fault is None]
-    texts = [" ".join([*tokens[:count], wrong]) for tokens, count, wrong in cases]
-    wrong, tries, meant, kinds = [], [], [], 0
-    for (tokens, count, token), text, fault in zip(cases, texts, faults(program, texts)):
-        start = len(text) - len(token)
-        if fault is None or fault[0] != "Unexpected":
-            continue
-        kinds += 1
-        at = fault[1]
-        if at < start:
-            wrong.append(f"{text!r} is refused at {at}, and begins an accepted text up to {start}")
-            continue
-        before = tokens[:count] if at == start else [*tokens[:count], token]
-        further = [*tokens[:count], token]
-        ends = [" ".join(tokens[count:]), *ends_of(before)]
-        tries += [[" ".join([*before, end]) for end in ends]]
-        meant += [(text, at, True)]
-        if at == start:
-            tries += [[" ".join([*further, end]) for end in ends_of(further)]]
-            meant += [(text, at, False)]
-    answers = iter(faults(program, [text for some in tries for text in some]))
-    for some, (text, at, is_begun) in zip(tries, meant):
-        accepted = [one for one, fault in zip(some, [next(answers) for _ in some]) if fault is None]
-        if is_begun and not accepted:
-            wrong.append(f"{text!r} is refused at {at}, and no text was found that goes on from there")
-        if not is_begun and accepted:
-            wrong.append(f"{text!r} is refused at {at}, and begins {accepted[0]!r}")
-    if kinds < TEXTS // 4:
-        wrong.append(f"only {kinds} texts are refused as Unexpected")
-    return wrong
+def wrong_places(kind, readers):
+    """What is wrong of the places that these programs report of the texts of a kind."""
+    cases = list(texts_of(kind))
+    texts = [spelled(pieces) for pieces in cases]
+    meant = []
+    for pieces in cases:
+        fault = first_fault(kind, pieces)
+        meant.append(fault and (fault[0], *place_of(pieces, fault[1])))
+    wrong = []
+    for run, program in readers:
+        found = faults(run, program, kind, texts)
+        wrong += [f"{text!r} is reported by {run.__name__} as {is_}, and not {wanted}" for text, is_, wanted in zip(texts, found, meant) if is_ != wanted]
+    seen = {fault and fault[0] for fault in meant}
+    missing = {None, "Unexpected", "Indented", "BadCharacter", "OpenString"} - seen
+    return wrong + [f"no text of the kind {kind} is {name}" for name in missing]
 
 
-SCENES = Scenes(__file__, {"places of Unexpected": places_of_unexpected})
+def places_in_build_files(programs):
+    return wrong_places("build", list(zip([by_buildozer, by_buildifier], programs)))
+
+
+def places_in_bzl_files(programs):
+    return wrong_places("bzl", [(by_buildifier, programs[1])])
+
+
+SCENES = Scenes(__file__, {"places in BUILD files": places_in_build_files, "places in .bzl files": places_in_bzl_files})
 
 if __name__ == "__main__":
     SCENES.main()
