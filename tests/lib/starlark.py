@@ -8,9 +8,9 @@ refused as Unexpected. Lines are compared by their indents before that: where no
 import random
 import re
 
-from lib.grammar import BINARY, NUMBERS, STRINGS, Text
+from lib.grammar import ASSIGN, Text
 
-# each nonterminal with its alternatives, one a line where a token is written `|`; small letters are nonterminals, all else is tokens
+# nonterminals with their alternatives; small letters are nonterminals, all else is tokens (`assign` and `bitor` are below)
 SHARED = """
 line = smalls NEWLINE | smalls ; NEWLINE
 smalls = small | smalls ; small
@@ -63,14 +63,16 @@ params = param | params , param
 param = NAME | NAME = test | * | * NAME | ** NAME
 small = RETURN | RETURN expr | BREAK | CONTINUE | PASS
 """
-ASSIGN_ALONE = "= += -= *= /= //= %= &= |= ^= <<= >>="
 KEYWORDS = ["and", "break", "continue", "def", "elif", "else", "for", "if", "in", "lambda", "load", "not", "or", "pass", "return"]
 CLOSED = {"(": ")", "[": "]", "{": "}"}
+
+# characters and strings with which no token begins, and how they are refused
+WRONG_CHARACTERS = {"$": "BadCharacter", "?": "BadCharacter", '"open': "OpenString", "'''open": "OpenString"}
 
 
 def rules_of(text):
     """The alternatives of each nonterminal."""
-    rules = {"assign": [(token,) for token in ASSIGN_ALONE.split()], "bitor": [("xor",), ("bitor", "|", "xor")]}
+    rules = {"assign": [(token,) for token in ASSIGN], "bitor": [("xor",), ("bitor", "|", "xor")]}
     for row in text.strip().splitlines():
         if row:
             name, _, right = row.partition(" = ")
@@ -120,7 +122,7 @@ class Prefixes:
 
 
 class Piece:
-    """A token of a text, with the gap before it. That of a newline is the one character; that of a wrong character is None as its class."""
+    """A token of a text, with the gap before it. A newline within brackets is one too, though it is part of a gap."""
 
     def __init__(self, token, gap=""):
         self.token, self.gap = token, gap
@@ -161,10 +163,6 @@ def first_fault(kind, pieces):
     if prefixes.expects("INDENT") or not all(prefixes.take(token) for token in [*ends, *["DEDENT"] * (len(blocks) - 1), "END"]):
         return "Unexpected", len(pieces)
     return None
-
-
-# characters and strings with which no token begins, and how they are refused
-WRONG_CHARACTERS = {"$": "BadCharacter", "?": "BadCharacter", '"open': "OpenString", "'''open": "OpenString"}
 
 
 def line_fault(kind, prefixes, blocks, indent):
