@@ -135,7 +135,7 @@ impl Kind {
     }
 
     /// Whether nodes of this kind are statements: what a Line has, and what a file or a suite has but a Line.
-    pub fn is_statement(&self) -> bool
+    pub fn is_statement_kind(&self) -> bool
         ensures { result ≡ is_statement_kind self.now }
     {
         self.is_small() || (self.is_stmt() && !self.is(Kind::Line))

@@ -110,7 +110,7 @@ impl Part {
     {
         match self {
             Part::Leaf(_) => false,
-            Part::Node(node) => node.kind.is_statement(),
+            Part::Node(node) => node.kind.is_statement_kind(),
         }
     }
 
