@@ -19,6 +19,6 @@ pub use laws::{
     worked_effects,
 };
 pub use outcome::{Outcome, Ran};
-pub use printing::looks_at_lines;
+pub use printing::{looks_at_lines, printed_of};
 pub use ruling::{Work, looks_for_load};
 pub use running::{Known, run, run_in, run_named};

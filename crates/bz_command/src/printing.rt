@@ -1,6 +1,6 @@
 //! What commands print of the rules that they are meant for: comments, or fields on one line and the values of attributes among them. And
 //! which commands depend on the lines on which statements begin.
-ghost use Rattle.std.specs.Prelude.{◌≡◌, ◌⊎◌, ◌++◌, Ok, Err, OnOk, IfOk, IfErr, decimal, is_some, length, map, option_map};
+ghost use Rattle.std.specs.Prelude.{◌≡◌, ◌⊎◌, ◌++◌, None, Ok, Err, OnOk, IfOk, IfErr, decimal, is_some, length, map, option_map};
 ghost use Rattle.std.specs.List.{list_all, list_any};
 ghost use Rattle.bz_token.specs.declared.class.Class.TheVariants as c;
 ghost use Rattle.bz_command.specs.Words.{item_text, each_named};
@@ -229,6 +229,17 @@ fn push(work: Work<'_, '_>, at: Option<u32>, item: &Item, out: &mut Vec<u8>) -> 
         | Operation::Load(_) => {}
     }
     Ok(())
+}
+
+/// What a command prints of an item that it is meant for; of the line on which it begins nothing is known. Errors: the one with which it is
+/// refused; `Memory`: a growth was refused.
+pub fn printed_of(work: Work<'_, '_>, item: &Item) -> Result<Text, Refusal>
+    ensures ok { IfOk result (λ text. printed_one work.entry.command.now work.entry.current.now None item.now ≡ Ok text) }
+    ensures err { IfErr result (λ refusal. (printed_one work.entry.command.now work.entry.current.now None item.now ≡ Err refusal) ⊎ (refusal ≡ Refusal.Memory)) }
+{
+    let mut out = Vec::new(work.alloc);
+    push(work, None, item, &mut out)?;
+    Ok(Text::from_vec(out))
 }
 
 /// What a command prints of the rules that it is meant for, which are at these places. The first that refuses decides.

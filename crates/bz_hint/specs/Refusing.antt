@@ -1,5 +1,5 @@
 -- Which of the rules that a target means refuses a command.
-use Rattle.std.specs.Prelude.{ℕ, Bool, false, ◌&&◌, List, [], ◌∷◌, Option, Some, None, is_err, option_map, if◌then◌else◌}
+use Rattle.std.specs.Prelude.{ℕ, Bool, false, ◌&&◌, ◌||◌, List, [], ◌∷◌, Option, Some, None, is_err, option_map, if◌then◌else◌}
 use Rattle.std.specs.Str.Lossy.{utf8_lossy}
 use Rattle.bz_items.specs.Characters.{Bytes}
 use Rattle.bz_label.specs.declared.target.Which.{Which}
@@ -9,7 +9,7 @@ use Rattle.bz_value.specs.declared.value.Item.{Item}
 use Rattle.bz_value.specs.declared.value.Item.TheVariants as i
 use Rattle.bz_rule.specs.Rules.{is_rule_of_kind}
 use Rattle.bz_command_syntax.specs.declared.command.Operation.{Operation}
-use Rattle.bz_command.specs.Effect.{is_rule, on_one, source_of}
+use Rattle.bz_command.specs.Effect.{is_rule, on_one, printed_one, source_of}
 use Rattle.bz_hint.specs.Names.{rule_name}
 
 -- A target that may mean several rules means this one.
@@ -20,9 +20,11 @@ is_meant (Line line) item = false
 is_meant Package item = false
 is_meant (Name name) item = false
 
--- The item is meant, and the operation by itself is refused on it. (The value that is copied, where one is.)
+-- The item is meant, and the operation by itself is refused on it: what it changes there, or what it prints. (The value that is copied, where
+-- one is; whether what is printed is refused doesn't depend on the line.)
 abbrev pub refuses : Operation → Which → Bytes → Option Expr → Item → Bool
-refuses operation which current found item = is_meant which item && is_err (on_one operation current found item)
+refuses operation which current found item =
+    is_meant which item && (is_err (on_one operation current found item) || is_err (printed_one operation current None item))
 
 -- a rule by the line on which it begins, and by its name, as characters
 pub record RuleAt : Type 0 where

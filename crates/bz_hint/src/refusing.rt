@@ -1,16 +1,16 @@
 //! Which of the rules that a target means refuses a command.
-ghost use Rattle.std.specs.Prelude.{◌≡◌, ◌&&◌, IfOk, false, is_err, is_some, option_map, string_bytes};
+ghost use Rattle.std.specs.Prelude.{◌≡◌, ◌&&◌, ◌||◌, IfOk, None, false, is_err, is_some, option_map, string_bytes};
 ghost use Rattle.std.specs.Option.{option_copied};
 ghost use Rattle.bz_grammar.specs.Legal.{Reads};
 ghost use Rattle.bz_grammar.specs.Statements.{lines_of};
 ghost use Rattle.bz_grammar.specs.declared.tree.Node.{Node};
 ghost use Rattle.bz_hosts.specs.View.{view_of};
-ghost use Rattle.bz_command.specs.Effect.{is_rule, on_one};
+ghost use Rattle.bz_command.specs.Effect.{is_rule, on_one, printed_one};
 ghost use Rattle.bz_hint.specs.Refusing.{first_refusing, named_at, is_meant, refuses, refusing_rule};
 ghost use Rattle.bz_hint.specs.private.Shown.{rule_seen};
 
 use crate::names::rule_name;
-use bz_command::{Command, Refusal, Work, changed_copy, copied};
+use bz_command::{Command, Refusal, Work, changed_copy, copied, printed_of};
 use bz_grammar::ReadFault;
 use bz_grammar::laws::one_reading;
 use bz_hosts::view;
@@ -56,6 +56,28 @@ fn is_meant(which: &Which, item: &Item) -> bool
     }
 }
 
+// Whether what a command changes in an item is refused. The error: memory was.
+fn refuses_change(work: Work<'_, '_>, item: &Item) -> Result<bool, Memory>
+    ensures { IfOk result (λ refused. refused ≡ is_err (on_one work.entry.command.now work.entry.current.now (option_copied work.entry.found) item.now)) }
+{
+    match changed_copy(work, item) {
+        Ok(_) => Ok(false),
+        Err(Refusal::Memory) => Err(AllocError),
+        Err(_) => Ok(true),
+    }
+}
+
+// Whether what a command prints of an item is refused. The error: memory was.
+fn refuses_printing(work: Work<'_, '_>, item: &Item) -> Result<bool, Memory>
+    ensures { IfOk result (λ refused. refused ≡ is_err (printed_one work.entry.command.now work.entry.current.now None item.now)) }
+{
+    match printed_of(work, item) {
+        Ok(_) => Ok(false),
+        Err(Refusal::Memory) => Err(AllocError),
+        Err(_) => Ok(true),
+    }
+}
+
 // Whether a rule is meant and refuses the command. The error: memory was refused.
 fn refuses(work: Work<'_, '_>, item: &Item) -> Result<bool, Memory>
     ensures { IfOk result (λ refused. refused ≡ refuses work.entry.command.now work.entry.target.now.which work.entry.current.now (option_copied work.entry.found) item.now) }
@@ -63,11 +85,10 @@ fn refuses(work: Work<'_, '_>, item: &Item) -> Result<bool, Memory>
     if !is_meant(&work.target.which, item) {
         return Ok(false);
     }
-    match changed_copy(work, item) {
-        Ok(_) => Ok(false),
-        Err(Refusal::Memory) => Err(AllocError),
-        Err(_) => Ok(true),
+    if refuses_change(work, item)? {
+        return Ok(true);
     }
+    refuses_printing(work, item)
 }
 
 // A rule that refuses, by its line.
