@@ -1,18 +1,19 @@
 -- The lines on which statements begin, where one part of a file takes the place of another.
-use Rattle.std.proofs.Common.{◌≡◌, ◌<◌, ◌≤◌, ◌+◌, ◌∙◌, ℕ, suc, Bool, true, false, List, [], ◌∷◌, ◌++◌, None, Some, if◌then◌else◌, length, map, take, drop, get_or, slice_get, refl, sym, ap, subst, arith, append_assoc}
+use Rattle.std.proofs.Common.{◌≡◌, ◌<◌, ◌≤◌, ◌+◌, ◌∙◌, ℕ, suc, true, false, not, List, [], ◌∷◌, ◌++◌, None, Some, length, map, take, drop, get_or, slice_get, refl, sym, ap, subst, arith, append_assoc}
 use Rattle.std.specs.List.{AllByRecursion, flat_map}
+use Rattle.std.proofs.lemmas.Bool.{and_parts, both_ways, not-true}
 use Rattle.std.proofs.Math.Seq.{drop-append_seam, take-append_seam}
 use Rattle.std.proofs.lemmas.Grind.{flat_map-append}
 use Rattle.std.proofs.lemmas.List.{append-nil, drop_more, length-map, length-take-le, map-append, take-append-drop, take_more}
 use Rattle.bz_lex.specs.declared.leaf.Leaf.{Leaf}
-use Rattle.bz_journal.specs.Clauses.{AreThere, IsLike, IsLineOfOne, Node, fronts, fronts_in, is_node, lines_of, moved, moved_from, newlines, node_parts}
+use Rattle.bz_journal.specs.Clauses.{AreThere, IsLike, IsLineOfOne, Node, fronts, fronts_part, is_node, is_lone_statement, lines_of, moved, moved_from, newlines}
 use Rattle.bz_journal.specs.Clauses.{spell_node, spell_part, with_windows}
 use Rattle.bz_journal.specs.private.Making.{HasOne}
-use Rattle.bz_journal.specs.Words.{Part, PartWindow, first_gap, leaves_part}
+use Rattle.bz_journal.specs.Words.{Part, PartWindow, first_gap, has_statements, is_statement_kind, leaves_part}
+use Rattle.bz_grammar.specs.declared.tree.Part.{Node'}
 use Rattle.bz_grammar.specs.declared.tree.Part.TheVariants as p
 use Rattle.bz_grammar.specs.Statements.{gap_of, line_following}
-use Rattle.bz_grammar.proofs.AllLines.{lines_among, lines_in}
-use Rattle.bz_grammar.proofs.Nested.{items_of_row}
+use Rattle.bz_grammar.proofs.AllLines.{fronts_Node, fronts_further, lines_among}
 use Rattle.bz_grammar.proofs.Spells.{spell_Node}
 use Rattle.bz_grammar.proofs.Statements.{newlines_append}
 use Rattle.bz_edit.specs.Windows.{window_parts}
@@ -22,21 +23,32 @@ spelled n = spell_Node n
 
 -- ---- lines with one statement
 
-two_front : (xs : List Part) (s e : Part) (front : List ℕ) → length xs ≡ 2 → s ≡ get_or xs 0 s → e ≡ get_or xs 1 e → true ≡ is_node s → false ≡ is_node e
-    → fronts_in front xs ≡ (front ++ first_gap (flat_map leaves_part (take 1 xs))) ∷ []
+simple_front : (x : Part) (front : List ℕ) → true ≡ is_lone_statement x → fronts_part front x ≡ (front ++ gap_of x) ∷ []
+simple_front (p.Leaf l) front e = absurd (both_ways false refl (sym e))
+simple_front (Node' kind size row) front e =
+    let w = and_parts (is_statement_kind kind) (not (has_statements kind)) (sym e) in
+    rw (w.0, not-true (has_statements kind) w.1) refl
+
+leaf_front : (x : Part) (front : List ℕ) → false ≡ is_node x → fronts_part front x ≡ []
+leaf_front (p.Leaf l) front e = refl
+leaf_front (Node' kind size row) front e = absurd (both_ways true (sym e) refl)
+
+two_front : (xs : List Part) (s e : Part) (front : List ℕ) → length xs ≡ 2 → s ≡ get_or xs 0 s → e ≡ get_or xs 1 e → true ≡ is_lone_statement s → false ≡ is_node e
+    → fronts front xs ≡ (front ++ first_gap (flat_map leaves_part (take 1 xs))) ∷ []
 two_front [] s e front count is next node leaf = absurd (omega arith)
 two_front (a ∷ []) s e front count is next node leaf = absurd (omega arith)
 two_front (a ∷ b ∷ []) s e front count is next node leaf =
-    let first : is_node a ≡ true = ap is_node (sym is) ∙ sym node in
-    let last : is_node b ≡ false = ap is_node (sym next) ∙ sym leaf in
-    rw (first, last, append-nil (leaves_part a)) refl
+    rw (simple_front a front (node ∙ ap is_lone_statement is), leaf_front b (front ++ spell_part a) (leaf ∙ ap is_node next), append-nil (leaves_part a)) refl
 two_front (a ∷ b ∷ c ∷ xs) s e front count is next node leaf = absurd (omega arith)
 
-pub line_of_one : (line : Node) (x : Part) (xs : List Part) (s e : Part) → x ≡ p.Node line → xs ≡ line.parts → length xs ≡ 2 → s ≡ get_or xs 0 s → e ≡ get_or xs 1 e
-    → true ≡ is_node s → false ≡ is_node e → IsLineOfOne x xs
-line_of_one line x xs s e is own size at_first at_end node leaf = record {
+line_front : (n : Node) (front : List ℕ) → false ≡ is_statement_kind n.kind → true ≡ has_statements n.kind → fronts_part front (p.Node n) ≡ fronts front n.parts
+line_front n front none some = fronts_Node n front ∙ rw (sym none, sym some) refl
+
+pub line_of_one : (line : Node) (x : Part) (xs : List Part) (s e : Part) → x ≡ p.Node line → false ≡ is_statement_kind line.kind → true ≡ has_statements line.kind → xs ≡ line.parts → length xs ≡ 2
+    → s ≡ get_or xs 0 s → e ≡ get_or xs 1 e → true ≡ is_lone_statement s → false ≡ is_node e → IsLineOfOne x xs
+line_of_one line x xs s e is none some own size at_first at_end node leaf = record {
   count = size;
-  begun = λ front. ap (λ (y : Part). fronts_in front (node_parts y)) is ∙ ap (fronts_in front) (items_of_row line ∙ sym own) ∙ two_front xs s e front size at_first at_end node leaf;
+  begun = λ front. ap (fronts_part front) is ∙ line_front line front none some ∙ ap (fronts front) (sym own) ∙ two_front xs s e front size at_first at_end node leaf;
 }
 
 first_is : (ls : List Leaf) (first : Leaf) → Some first ≡ slice_get ls 0 → first_gap ls ≡ first.gap
@@ -45,7 +57,7 @@ first_is (l ∷ ls) first e = let same : first ≡ l = (let some : Some first �
 
 -- the gap in front of the first leaf of such a line
 pub opening : (x : Part) (xs : List Part) (first : Leaf) (front : List ℕ) → IsLineOfOne x xs → Some first ≡ slice_get (flat_map leaves_part (take 1 xs)) 0
-    → fronts_in front (node_parts x) ≡ (front ++ first.gap) ∷ []
+    → fronts_part front x ≡ (front ++ first.gap) ∷ []
 opening x xs first front one is = one.begun front ∙ ap (λ (gap : List ℕ). (front ++ gap) ∷ []) (first_is _ first is)
 
 -- parts that have one statement each
@@ -58,31 +70,18 @@ all_one (x ∷ xs) ((held, one), each) front =
 
 -- ---- after a text with fewer or more newlines
 
-further : (f g t : List ℕ) (gone come : ℕ) → newlines g + gone ≡ newlines f + come → newlines (g ++ t) + gone ≡ newlines (f ++ t) + come
-further f g t gone come e = omega (arith, e, newlines_append g t, newlines_append f t)
-
 line_moved : (f g t : List ℕ) (gone come : ℕ) → newlines g + gone ≡ newlines f + come → line_following (g ++ t) ≡ moved gone come (line_following (f ++ t))
 line_moved f g t gone come e = omega (arith, e, newlines_append g t, newlines_append f t)
 
-first_moved : (b : Bool) (t u : List ℕ) (ts us : List (List ℕ)) (gone come : ℕ) → line_following u ≡ moved gone come (line_following t) → map line_following us ≡ map (moved gone come) (map line_following ts)
-    → map line_following (if b then u ∷ us else us) ≡ map (moved gone come) (map line_following (if b then t ∷ ts else ts))
-first_moved true t u ts us gone come e rest = ap (λ (line : ℕ). line ∷ map line_following us) e ∙ ap (λ (lines : List ℕ). moved gone come (line_following t) ∷ lines) rest
-first_moved false t u ts us gone come e rest = rest
-
-in_moved : (f g : List ℕ) (xs : List Part) (gone come : ℕ) → newlines g + gone ≡ newlines f + come → lines_in g xs ≡ map (moved gone come) (lines_in f xs)
-in_moved f g [] gone come e = refl
-in_moved f g (x ∷ xs) gone come e =
-    first_moved (is_node x) (f ++ gap_of x) (g ++ gap_of x) _ _ gone come (line_moved f g (gap_of x) gone come e) (in_moved (f ++ spell_part x) (g ++ spell_part x) xs gone come (further f g (spell_part x) gone come e))
-
-both_moved : (a b c d : List (List ℕ)) (gone come : ℕ) → map line_following c ≡ map (moved gone come) (map line_following a) → map line_following d ≡ map (moved gone come) (map line_following b)
-    → map line_following (c ++ d) ≡ map (moved gone come) (map line_following (a ++ b))
-both_moved a b c d gone come e f = simp (map-append, e, f)
+each_moved : (f g : List ℕ) (ts : List (List ℕ)) (gone come : ℕ) → newlines g + gone ≡ newlines f + come
+    → map line_following (map (λ t. g ++ t) ts) ≡ map (moved gone come) (map line_following (map (λ t. f ++ t) ts))
+each_moved f g [] gone come e = refl
+each_moved f g (t ∷ ts) gone come e =
+    ap (λ (line : ℕ). line ∷ map line_following (map (λ t. g ++ t) ts)) (line_moved f g t gone come e) ∙ ap (λ (lines : List ℕ). moved gone come (line_following (f ++ t)) ∷ lines) (each_moved f g ts gone come e)
 
 among_moved : (f g : List ℕ) (xs : List Part) (gone come : ℕ) → newlines g + gone ≡ newlines f + come → lines_among g xs ≡ map (moved gone come) (lines_among f xs)
-among_moved f g [] gone come e = refl
-among_moved f g (x ∷ xs) gone come e =
-    both_moved (fronts_in f (node_parts x)) (fronts (f ++ spell_part x) xs) (fronts_in g (node_parts x)) (fronts (g ++ spell_part x) xs) gone come (in_moved f g (node_parts x) gone come e)
-    (among_moved (f ++ spell_part x) (g ++ spell_part x) xs gone come (further f g (spell_part x) gone come e))
+among_moved f g xs gone come e =
+    ap (map line_following) (fronts_further g xs) ∙ each_moved f g (fronts [] xs) gone come e ∙ sym (ap (λ (ts : List (List ℕ)). map (moved gone come) (map line_following ts)) (fronts_further f xs))
 
 -- ---- one part in the place of another
 
@@ -90,8 +89,8 @@ parted : (here : List ℕ) (xs ys : List Part) → fronts here (xs ++ ys) ≡ fr
 parted here [] ys = ap (λ (t : List ℕ). fronts t ys) (sym (append-nil here))
 parted here (x ∷ xs) ys =
     let next : List ℕ = here ++ spell_part x in
-    ap (λ (ts : List (List ℕ)). fronts_in here (node_parts x) ++ ts) (parted next xs ys ∙ ap (λ (t : List ℕ). fronts next xs ++ fronts t ys) (append_assoc here (spell_part x) (flat_map spell_part xs)))
-    ∙ sym (append_assoc (fronts_in here (node_parts x)) (fronts next xs) (fronts (here ++ flat_map spell_part (x ∷ xs)) ys))
+    ap (λ (ts : List (List ℕ)). fronts_part here x ++ ts) (parted next xs ys ∙ ap (λ (t : List ℕ). fronts next xs ++ fronts t ys) (append_assoc here (spell_part x) (flat_map spell_part xs)))
+    ∙ sym (append_assoc (fronts_part here x) (fronts next xs) (fronts (here ++ flat_map spell_part (x ∷ xs)) ys))
 
 -- these lines are those with the ones from a place on moved
 abbrev pub AreShifted : ℕ → ℕ → ℕ → List ℕ → List ℕ → Type 0

@@ -8,7 +8,7 @@ pub use Rattle.bz_journal.specs.History.{Acts, Answer, History, IsKept, MakesOrW
 pub use Rattle.bz_journal.specs.Keeping.{HasActed, IsWrittenSince, Keeps, KeepsFile, KeepsPair}
 pub use Rattle.bz_journal.specs.Lasting.{AlikeActs, AlikeGoesOn, GoesOn, IsAgain, IsKnownSession, IsResumedSession, IsSavedSession, StoppedIsResumed, saved}
 pub use Rattle.bz_journal.specs.private.Kept.{HoldsState}
-pub use Rattle.bz_journal.specs.private.Making.{AreLinesOf, HaveListedNames, HaveListedNamesIn, HasListedName, HasOne, IsLike, IsLineOfOne, MakesLines, moved, moved_from}
+pub use Rattle.bz_journal.specs.private.Making.{AreLinesOf, HaveListedNames, HaveListedNamesIn, HasListedName, HasOne, IsLike, IsLineOfOne, MakesLines, is_node, is_lone_statement, moved, moved_from}
 pub use Rattle.bz_journal.specs.Listing.{lines_of_texts, listing, noted, text_line}
 pub use Rattle.bz_journal.specs.Meaning.{Means, gives, refuses, printed_answer, written}
 pub use Rattle.bz_journal.specs.Shown.{HoldsSteps, OpensText, session_history}
@@ -17,6 +17,6 @@ pub use Rattle.bz_journal.specs.Worked.{WorkedHistories}
 pub use Rattle.bz_journal.specs.declared.action.Reply.{Reply}
 pub use Rattle.bz_journal.specs.Words.{AreBuild, AreListed, AreOver, AreSmall, AreThere, Bytes, Edit, Holds256, IsBuild, IsFormatted, IsIndexOf, IsOtherVersion, IsProperItem, IsSmall}
 pub use Rattle.bz_journal.specs.Words.{IsStale, IsTrail, IsTree, IsWritten, Item, Journal, NoJournal, Node, PairFault, Refusal, SetFault, StandsFor, are_even}
-pub use Rattle.bz_journal.specs.Words.{depth_limit, depth_of, effect, fronts, fronts_in, is_node, laid_out, layout, limit, lines_of, marked_places, meant, newlines, node_parts}
+pub use Rattle.bz_journal.specs.Words.{depth_limit, depth_of, effect, fronts, fronts_part, laid_out, layout, limit, lines_of, marked_places, meant, newlines}
 pub use Rattle.bz_journal.specs.Words.{printed, sha256, spell_node, spell_part, steps_back, steps_forward, texts_of, tidied, trail_at, view_of}
 pub use Rattle.bz_journal.specs.Words.{with_windows}

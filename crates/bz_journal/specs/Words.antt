@@ -16,7 +16,7 @@ pub use Rattle.bz_files.specs.Folder.{Elapses, Folder}
 pub use Rattle.bz_grammar.specs.Faults.{IsOfText}
 pub use Rattle.bz_grammar.specs.Legal.{Accepted, IsBuild, Reads}
 pub use Rattle.bz_grammar.specs.Spell.{depth_limit, depth_of, leaves_part, limit, spell_node, spell_part}
-pub use Rattle.bz_grammar.specs.Statements.{first_gap, fronts, fronts_in, is_node, lines_of, newlines, node_parts}
+pub use Rattle.bz_grammar.specs.Statements.{first_gap, fronts, fronts_part, has_statements, is_statement_kind, lines_of, newlines}
 pub use Rattle.bz_grammar.specs.declared.tree.Node.{Node}
 pub use Rattle.bz_grammar.specs.declared.tree.Part.{Part}
 pub use Rattle.bz_hosts.specs.View.{view_of}

@@ -2,7 +2,7 @@
 ghost use Rattle.std.specs.Prelude.{◌≡◌, ◌++◌, ◌∷◌, [], List, ℕ, IfSome, IsTrue};
 ghost use Rattle.std.specs.List.{AllByRecursion};
 ghost use Rattle.std.specs.Option.{option_copied};
-ghost use Rattle.bz_journal.specs.Clauses.{AreThere, HasOne, IsLike, IsLineOfOne, fronts_in, is_node, lines_of, moved, moved_from, newlines, node_parts, spell_part, with_windows};
+ghost use Rattle.bz_journal.specs.Clauses.{AreThere, HasOne, IsLike, IsLineOfOne, fronts_part, is_node, is_lone_statement, lines_of, moved, moved_from, newlines, spell_part, with_windows};
 
 use bz_edit::PartWindow;
 use bz_grammar::{LENGTH_LIMIT, Part, Tree, first_of};
@@ -29,6 +29,16 @@ fn is_node(part: &Part) -> bool
     matches!(part, Part::Node(_))
 }
 
+/// Whether a part is a statement in which no other one is.
+fn is_lone_statement(part: &Part) -> bool
+    ensures { result ≡ is_lone_statement part.now }
+{
+    match part {
+        Part::Leaf(_) => false,
+        Part::Node(node) => node.kind.is_statement_kind() && !node.kind.has_statements(),
+    }
+}
+
 /// The parts of a line of a file that has one statement, and its end after it; none of any other part.
 fn line_of_one(part: &Part) -> Option<&[Part]>
     ensures { IfSome (option_copied result) (λ parts. IsLineOfOne part.now parts) }
@@ -36,8 +46,11 @@ fn line_of_one(part: &Part) -> Option<&[Part]>
     let Part::Node(line) = part else {
         return None;
     };
+    if line.kind.is_statement_kind() || !line.kind.has_statements() {
+        return None;
+    }
     let parts = line.parts.as_slice();
-    if parts.len() != 2 || !is_node(&parts[0]) || is_node(&parts[1]) {
+    if parts.len() != 2 || !is_lone_statement(&parts[0]) || is_node(&parts[1]) {
         return None;
     }
     Some(parts)
@@ -60,7 +73,7 @@ fn hold_one_each(parts: &[Part]) -> bool
 
 /// The gap in front of the statement of such a line; none of any other part.
 fn opening(part: &Part) -> Option<&Gap>
-    ensures { IfSome (option_copied result) (λ gap. (front : List ℕ) → fronts_in front (node_parts part.now) ≡ (front ++ gap) ∷ []) }
+    ensures { IfSome (option_copied result) (λ gap. (front : List ℕ) → fronts_part front part.now ≡ (front ++ gap) ∷ []) }
 {
     let parts = line_of_one(part)?;
     let leaf = first_of(&parts[..1])?;

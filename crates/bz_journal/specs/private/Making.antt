@@ -1,10 +1,12 @@
 -- The lines of a tidy value that are other ones than in a tree, and what was looked up that outlives them.
-use Rattle.std.specs.Prelude.{◌≡◌, ◌⊎◌, ◌≤◌, ◌==◌, ◌+◌, ◌-◌, ℕ, true, List, [], ◌∷◌, ◌++◌, length, map, take, drop, Option, Some, IfErr, IfOk, IfSome, Result}
+use Rattle.std.specs.Prelude.{◌≡◌, ◌⊎◌, ◌≤◌, ◌==◌, ◌+◌, ◌-◌, ◌&&◌, ℕ, Bool, true, false, not, List, [], ◌∷◌, ◌++◌, length, map, take, drop, Option, Some, IfErr, IfOk, IfSome, Result}
 use Rattle.std.specs.List.{flat_map, list_any}
 use Rattle.bz_journal.specs.Words.{AreListed, AreThere, Bytes, Index, IsIndexOf, IsProperBuild, Item, Memory, Node, Part, PartWindow, Reads, Refusal, Window, depth_limit}
-use Rattle.bz_journal.specs.Words.{depth_of, first_gap, fronts_in, held_name, laid_out, layout, leaves_part, newlines, node_parts, places_from, spell_part}
+use Rattle.bz_journal.specs.Words.{depth_of, first_gap, fronts_part, has_statements, held_name, is_statement_kind, laid_out, layout, leaves_part, newlines, places_from, spell_part}
 use Rattle.bz_journal.specs.Words.{tidied, with_windows}
 use Rattle.bz_journal.specs.Meaning.{refuses, written}
+use Rattle.bz_grammar.specs.declared.tree.Part.{Node'}
+use Rattle.bz_grammar.specs.declared.tree.Part as p
 use Rattle.bz_journal.specs.declared.making.Made.{Made}
 
 -- With these windows the tree is what the layout of the items reads as, within the limits.
@@ -55,10 +57,19 @@ moved gone come line = line + come - gone
 abbrev pub moved_from : ℕ → ℕ → ℕ → List ℕ → List ℕ
 moved_from from gone come lines = take from lines ++ map (moved gone come) (drop from lines)
 
+abbrev pub is_node : Part → Bool
+is_node (p.Leaf l) = false
+is_node (Node' kind size row) = true
+
+-- a statement in which no other one is
+abbrev pub is_lone_statement : Part → Bool
+is_lone_statement (p.Leaf l) = false
+is_lone_statement (Node' kind size row) = is_statement_kind kind && not (has_statements kind)
+
 -- Such parts are in this part of a file: a statement, and the end of its line.
 pub record IsLineOfOne (part : Part) (parts : List Part) : Type 0 where
   pub count : length parts ≡ 2
-  pub begun : (front : List ℕ) → fronts_in front (node_parts part) ≡ (front ++ first_gap (flat_map leaves_part (take 1 parts))) ∷ []
+  pub begun : (front : List ℕ) → fronts_part front part ≡ (front ++ first_gap (flat_map leaves_part (take 1 parts))) ∷ []
 
 -- there are such parts
 unfoldable pub HasOne : Part → Type 0
@@ -66,6 +77,6 @@ HasOne part = (parts : List Part) × IsLineOfOne part parts
 
 -- The statements of both parts begin on the same lines, where the parts do, and this many newlines are in the one and in the other.
 pub record IsLike (old new : Part) (gone come : ℕ) : Type 0 where
-  pub begun : (front : List ℕ) → fronts_in front (node_parts new) ≡ fronts_in front (node_parts old)
+  pub begun : (front : List ℕ) → fronts_part front new ≡ fronts_part front old
   pub gone_is : gone ≡ newlines (spell_part old)
   pub come_is : come ≡ newlines (spell_part new)
