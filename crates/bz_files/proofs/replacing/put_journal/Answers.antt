@@ -5,8 +5,8 @@ use Rattle.bz_files.proofs.Acts.{before_flush, counted_on, not_made, placed_afte
 use Rattle.bz_files.proofs.Keeping.{replaced_after, replacing, same_beside}
 use Rattle.bz_files.proofs.replacing.put_journal.Goals as goal
 
-pub returns-in_err-create : goal.returns-in_err-create
-returns-in_err-create g c =
+pub returns-in_err-create-clause-acts : goal.returns-in_err-create-clause-acts
+returns-in_err-create-clause-acts g c =
     let journal = c.args.journal.now in
     let P = IsReplacing journal c.args.stored.now in
     let Q = IsReplaced journal c.args.stored.now in
@@ -18,8 +18,8 @@ returns-in_err-create g c =
     flushed.counted.honest (not_made g.F.Files journal c.args.stored.now P Q (λ old now same. inl same) fault c.flush.new.self c.create.new.self
     c.create.ensures.aside c.in_err-create.ensures.unmade c.in_err-create.ensures.counted))
 
-pub returns-in_err-place : goal.returns-in_err-place
-returns-in_err-place g c =
+pub returns-in_err-place-clause-acts : goal.returns-in_err-place-clause-acts
+returns-in_err-place-clause-acts g c =
     let journal = c.args.journal.now in
     let stored = c.args.stored.now in
     let P = IsReplacing journal stored in
@@ -33,8 +33,8 @@ returns-in_err-place g c =
     c.create.new.self c.place.new.files (replacing journal stored) (replaced_after journal stored) c.create.ensures.aside
     c.in_ok-create.ensures.made (c.in_ok-create.ensures.counted.kept refl) c.create.ensures.counted.honest c.in_err-place.ensures.acts))
 
-pub returns : goal.returns
-returns g c =
+pub returns-clause-acts : goal.returns-clause-acts
+returns-clause-acts g c =
     let f = g.F.Files in
     let journal = c.args.journal.now in
     let stored = c.args.stored.now in

@@ -4,8 +4,8 @@ use Rattle.bz_files.proofs.Acts.{rewritten}
 use Rattle.bz_files.proofs.Keeping.{replaced_after, replacing, same_beside}
 use Rattle.bz_files.proofs.replacing.rewrite.Goals as goal
 
-pub returns : goal.returns
-returns g c =
+pub returns-clause-rewrites : goal.returns-clause-rewrites
+returns-clause-rewrites g c =
     let name = c.args.name.now in
     let bytes = c.args.bytes.now in
     let P = IsReplacing name bytes in

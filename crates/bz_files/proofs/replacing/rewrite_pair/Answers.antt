@@ -6,8 +6,8 @@ use Rattle.bz_files.proofs.Acts.{after, counted_before, counted_on, last, rewrit
 use Rattle.bz_files.proofs.Keeping.{beside_file, both, first, given_up, keeping_after, replaced_both, same_beside, second}
 use Rattle.bz_files.proofs.replacing.rewrite_pair.Goals as goal
 
-pub returns-in-Ok : goal.returns-in-Ok
-returns-in-Ok g c =
+pub returns-in-Ok-clause-rewrites : goal.returns-in-Ok-clause-rewrites
+returns-in-Ok-clause-rewrites g c =
     let f = g.F.Files in
     let journal = c.args.journal.now in
     let stored = c.args.stored.now in
@@ -16,7 +16,7 @@ returns-in-Ok g c =
     let text = c.args.text.now in
     let old = f.folder c.create.new.self in
     let mid = f.folder c.put_journal.new.files in
-    let put = c.put_journal.ensures in
+    let put = c.put_journal.ensures.acts in
     let placed = c.place.ensures.acts in
     rewritten f g.met.F.Files.only_now g.met.F.Files.counts_now file held text (IsKeeping journal stored file text)
     (IsChecking held journal stored file text) (AreReplaced journal stored file text) (λ old now same. inl same) (λ old now there is. inr (there, is))
@@ -27,19 +27,19 @@ returns-in-Ok g c =
     c.look.ensures.stays c.look.ensures.waiting (c.in_ok-stamp.ensures.counted.kept refl) c.look.ensures.counted.honest c.create.ensures.aside
     c.in_ok-create.ensures.made (c.in_ok-create.ensures.counted.kept refl) c.create.ensures.counted.honest (record {
       goes = λ honest rest file text is.
-          let done : IsReplaced journal stored old mid = (c.in-Ok.ensures.goes honest).done in
+          let done : IsReplaced journal stored old mid = (c.in-Ok.ensures.acts.goes honest).done in
           after f c.create.new.self c.put_journal.new.files c.place.new.files (IsReplacing journal stored) (IsReplaced journal stored) (IsReplacing file text)
           (λ was now. OnOk c.place.result (IsReplaced file text was now)) (IsKeeping journal stored file text)
           (λ was now. OnOk c.place.result (AreReplaced journal stored file text was now)) (first journal stored file text old)
           (second journal stored file text old mid done) (on_ok_weaker c.place.result (both journal stored file text old mid done (f.folder c.place.new.files)))
-          (c.in-Ok.ensures.goes honest) (placed.goes (put.counted.honest ∙ honest) rest file text (put.waiting honest ∙ is));
+          (c.in-Ok.ensures.acts.goes honest) (placed.goes (put.counted.honest ∙ honest) rest file text (put.waiting honest ∙ is));
       waiting = λ honest rest file text is. placed.waiting (put.counted.honest ∙ honest) rest file text (put.waiting honest ∙ is);
-      counted = counted_on f c.place.result c.create.new.self c.put_journal.new.files c.place.new.files (c.in-Ok.ensures.counted.kept refl) put.counted.honest
+      counted = counted_on f c.place.result c.create.new.self c.put_journal.new.files c.place.new.files (c.in-Ok.ensures.acts.counted.kept refl) put.counted.honest
           placed.counted;
     })
 
-pub returns-in-Err : goal.returns-in-Err
-returns-in-Err g c =
+pub returns-in-Err-clause-rewrites : goal.returns-in-Err-clause-rewrites
+returns-in-Err-clause-rewrites g c =
     let f = g.F.Files in
     let journal = c.args.journal.now in
     let stored = c.args.stored.now in
@@ -47,7 +47,7 @@ returns-in-Err g c =
     let held = c.args.held.now in
     let text = c.args.text.now in
     let old = f.folder c.create.new.self in
-    let put = c.put_journal.ensures in
+    let put = c.put_journal.ensures.acts in
     let gone = c.give_up in
     rewritten f g.met.F.Files.only_now g.met.F.Files.counts_now file held text (IsKeeping journal stored file text)
     (IsChecking held journal stored file text) (AreReplaced journal stored file text) (λ old now same. inl same) (λ old now there is. inr (there, is))
@@ -62,9 +62,9 @@ returns-in-Err g c =
           (inl (same_beside journal old old refl)) (put.goes honest) in
           after f c.create.new.self c.put_journal.new.files gone.new.self (IsReplacing journal stored) (λ _ _. Unit {0}) (SameBeside file) (SameBeside file)
           (IsKeeping journal stored file text) (λ _ _. Unit {0}) (first journal stored file text old)
-          (given_up journal stored file text old (f.folder c.put_journal.new.files) moment) (λ _. tt) (c.in-Err.ensures.goes honest)
+          (given_up journal stored file text old (f.folder c.put_journal.new.files) moment) (λ _. tt) (c.in-Err.ensures.acts.goes honest)
           (gone.ensures.aside (put.counted.honest ∙ honest) rest file text (put.waiting honest ∙ is));
       waiting = λ honest rest file text is. gone.ensures.waiting (put.counted.honest ∙ honest) rest file text (put.waiting honest ∙ is);
       counted = counted_before f c.in-Err.fault c.create.new.self c.put_journal.new.files gone.new.self gone.ensures.faults gone.ensures.honest
-          c.in-Err.ensures.counted;
+          c.in-Err.ensures.acts.counted;
     })
