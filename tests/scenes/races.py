@@ -1,12 +1,13 @@
 #!/usr/bin/env python3
 """Runs the built programs beside one another, beside an editor, and over what others have put in their way.
 
-Many runs of buildozer edit one file at once, with and without --journal; a second run, or an editor that saves, comes at each call of
-a first one, which waits there (lib/preloaded/failing.c); a run is killed at each call; links, pipes, devices and folders are where a file is to be;
+Many runs of buildozer edit one file at once, with and without --journal; a second run, an editor that saves, or whoever changes the rights of
+the file, comes at each call of a first one, which waits there (lib/preloaded/failing.c); a run is killed at each call; links, pipes, devices and folders are where a file is to be;
 and a file has owners, groups and bits of many kinds. What must be there:
 
 - a run that ends with 0 has its edit in the file, and one that reports `cannot write` hasn't;
 - whoever reads the file meanwhile sees a text that some run wrote, and an editor's text is not lost;
+- a change of its bits, owner or group stays, and who has read the file before it reports `cannot write`;
 - the journal goes on, and nothing is left of a new file, or the next run takes it away;
 - nothing is written through what was there under the new file's name.
 
@@ -145,6 +146,41 @@ def editor_saves(p, journal):
             lost.append(what)
     if len(lost) > MOST_LATE or not all(map(LATE.fullmatch, lost)):
         p.wrong.append(f"an editor's save is lost at {lost}")
+
+
+def own_bits(file):
+    file.chmod(bits_of(file) ^ 0o044)
+    return bits_of(file)
+
+
+def own_owner(file):
+    os.chown(file, OTHER, OTHER)
+    return OTHER, OTHER
+
+
+# how another program changes who may do what with a file, and what is seen of that
+RIGHTS = {
+    "chmod": (own_bits, bits_of),
+    "chown": (own_owner, lambda file: (file.stat().st_uid, file.stat().st_gid)),
+}
+
+
+def rights_change(p, how, journal):
+    """Another program changes them at each call of a run: they stay, and a run that has read the file before reports that it can't write it;
+    at few calls they are lost, since no system has a rename that looks first."""
+    change, seen = RIGHTS[how]
+    lost, ends = [], set()
+    for what, run in calls(p, [*journal, *add(":first")], "stop"):
+        wanted = change(p.folder / FILE)
+        run.send_signal(signal.SIGCONT)
+        end = outcome(run)
+        ends.add(end)
+        if seen(p.folder / FILE) != wanted:
+            lost.append(what)
+        p.expect(f"{how} at {what}, after {end}", labels_in(p.text()), [b":first"] if end == FIXED else [])
+    p.expect(f"how runs end at which {how} comes", ends, {FIXED, UNWRITTEN})
+    if len(lost) > MOST_LATE or not all(map(LATE.fullmatch, lost)):
+        p.wrong.append(f"{how} is lost at {lost}")
 
 
 def between_two_commands(p, journal):
@@ -452,6 +488,7 @@ RACES |= {
     for mine, its in (("", ""), (", with journals", ", with journals"), (", with journals", ""))
 }
 RACES |= {f"{what}{name}": over(scene, journal, library=True) for what, scene in AT_CALLS.items() for name, journal in KEPT.items()}
+RACES |= {f"{how} at each call{name}": over(rights_change, how, journal, library=True, root=how == "chown") for how in RIGHTS for name, journal in KEPT.items()}
 for name, program, journal in (("buildifier", "buildifier", []), ("buildozer", "buildozer", []), ("buildozer with journals", "buildozer", ["--journal"])):
     RACES[f"another's secret, {name}"] = over(anothers_secret, program, journal, library=True, root=True)
     RACES[f"a folder is exchanged, {name}"] = over(a_folder_is_exchanged, program, journal, library=True)

@@ -26,8 +26,6 @@ pub struct MemoryFiles {
     log: Vec<Entry>,
     // the new files that wait, the newest last
     waiting: Vec<Entry>,
-    // whether the last call, `has_file` aside, was a look that found what it was to find
-    looked: bool,
     unreadable: Vec<String>,
     calls: u64,
     fails_at: Option<u64>,
@@ -83,7 +81,6 @@ impl MemoryFiles {
             alloc,
             log: Vec::new(alloc),
             waiting: Vec::new(alloc),
-            looked: false,
             unreadable: Vec::new(alloc),
             calls: 0,
             fails_at: None,
@@ -189,13 +186,12 @@ impl MemoryFiles {
 
     // The next call is counted. Whether it may go on.
     fn goes_on(&mut self) -> bool
-        ensures same { self.new ≡ record self.old { calls = self.new.calls; looked = false } }
+        ensures same { self.new ≡ record self.old { calls = self.new.calls } }
         ensures next { IsNextCall (plan_in self.old) (plan_in self.new) }
         ensures goes { IsTrue result → IsToFail (plan_in self.new) → ⊥ }
         ensures fails { (IsTrue result → ⊥) → IsToFail (plan_in self.new) }
     {
         self.calls = one_more(self.calls);
-        self.looked = false;
         let fails = self.fails_at == Some(self.calls);
         let stops = self.stops_at.is_some_and(|k| k <= self.calls);
         !fails && !stops
@@ -203,7 +199,7 @@ impl MemoryFiles {
 
     // The next call is counted, which reads this file. Whether it may go on.
     fn reads(&mut self, name: &str) -> bool
-        ensures same { self.new ≡ record self.old { calls = self.new.calls; looked = false } }
+        ensures same { self.new ≡ record self.old { calls = self.new.calls } }
         ensures next { IsNextCall (plan_in self.old) (plan_in self.new) }
         ensures goes { IsTrue result → (IsToFail (plan_in self.new)) ⊎ IsUnreadable name.now (plan_in self.new) → ⊥ }
         ensures fails { (IsTrue result → ⊥) → (IsToFail (plan_in self.new)) ⊎ IsUnreadable name.now (plan_in self.new) }
@@ -247,7 +243,7 @@ impl Files for MemoryFiles {
 
     ghost waiting = { λ m. map shown_entry m.waiting.items };
 
-    ghost looked = { λ m. m.looked };
+    ghost acts = { λ _. None };
 
     ghost plan = { λ m. Some (plan_in m) };
 
@@ -293,7 +289,6 @@ impl Files for MemoryFiles {
         if !self.contains(name, held) {
             return Err(self.failed(FileFault::Write));
         }
-        self.looked = true;
         Ok(FileStamp::default())
     }
 
@@ -332,7 +327,6 @@ impl Files for MemoryFiles {
     }
 
     fn give_up(&mut self) {
-        self.looked = false;
         let _ = self.waiting.pop();
     }
 }

@@ -2,6 +2,8 @@
 ghost use Rattle.std.specs.Prelude.{◌≡◌, Some, true, OnOk};
 ghost use Rattle.std.specs.FinMap.{get};
 ghost use Rattle.bz_files.specs.Folder.{IsReplaced, IsReplacing};
+ghost use Rattle.bz_files.specs.Orders.{KeepsOrder, WasSeen, place_acts, journal_acts, rewrite_acts, pair_acts};
+ghost use Rattle.bz_files.specs.declared.stamp.FileStamp.{FileStamp};
 ghost use Rattle.bz_files.specs.Pair.{PutsFiles, PutsNewest, AreReplaced, IsChecking, RewritesHeld};
 
 use crate::{FileFault, FileStamp, Files};
@@ -17,8 +19,10 @@ struct Seen<'a> {
 // The newest of the new files that wait takes the place of its file, where the file that was looked at is still as it was seen. In any
 // case it waits no more.
 fn place<F: Files>(files: &mut F, seen: Seen<'_>) -> Result<(), FileFault>
+    requires { WasSeen seen.file.now seen.held.now seen.stamp (F.acts files.old) }
     ensures there { F.honest files.old ≡ true → OnOk result (get (F.folder files.old) seen.entry.file.now ≡ Some seen.entry.held.now) }
     ensures acts { PutsNewest F.Files IsReplacing IsReplaced result files.old files.new }
+    ensures ordered { KeepsOrder (place_acts seen.entry.file.now seen.entry.held.now seen.entry.stamp) result (F.acts files.old) (F.acts files.new) }
 {
     match files.look(seen.file, seen.held, Some(seen.stamp)) {
         Ok(_) => files.take_place(),
@@ -37,7 +41,10 @@ fn put_journal<F: Files>(
     stored: &[u8],
     seen: Seen<'_>,
 ) -> Result<(), FileFault>
-    ensures { PutsFiles F.Files (IsReplacing journal.now stored.now) (IsReplaced journal.now stored.now) result files.old files.new }
+    requires { WasSeen seen.file.now seen.held.now seen.stamp (F.acts files.old) }
+    ensures acts { PutsFiles F.Files (IsReplacing journal.now stored.now) (IsReplaced journal.now stored.now) result files.old files.new }
+    ensures ordered { KeepsOrder (journal_acts journal.now stored.now seen.entry.file.now seen.entry.held.now seen.entry.stamp) result
+        (F.acts files.old) (F.acts files.new) }
 {
     files.flush(seen.file)?;
     files.create(journal, stored, seen.stamp)?;
@@ -54,7 +61,8 @@ pub fn rewrite<F: Files>(
     held: &[u8],
     bytes: &[u8],
 ) -> Result<(), FileFault>
-    ensures { RewritesHeld F.Files name.now held.now (IsReplacing name.now bytes.now) (IsReplaced name.now bytes.now) result files.old files.new }
+    ensures rewrites { RewritesHeld F.Files name.now held.now (IsReplacing name.now bytes.now) (IsReplaced name.now bytes.now) result files.old files.new }
+    ensures ordered { (stamp : FileStamp) × KeepsOrder (rewrite_acts name.now held.now bytes.now stamp) result (F.acts files.old) (F.acts files.new) }
 {
     let stamp = files.look(name, held, None)?;
     files.create(name, bytes, stamp)?;
@@ -75,8 +83,10 @@ pub fn rewrite_pair<F: Files>(
     held: &[u8],
     text: &[u8],
 ) -> Result<(), FileFault>
-    ensures { RewritesHeld F.Files file.now held.now (IsChecking held.now journal.now stored.now file.now text.now)
+    ensures rewrites { RewritesHeld F.Files file.now held.now (IsChecking held.now journal.now stored.now file.now text.now)
         (AreReplaced journal.now stored.now file.now text.now) result files.old files.new }
+    ensures ordered { (stamp : FileStamp)
+        × KeepsOrder (pair_acts journal.now stored.now file.now held.now text.now stamp) result (F.acts files.old) (F.acts files.new) }
 {
     let stamp = files.look(file, held, None)?;
     files.create(file, text, stamp)?;

@@ -4,13 +4,15 @@ use Rattle.std.proofs.lemmas.Bool.{false≢true}
 use Rattle.std.proofs.lemmas.Result.{on_ok_weaker}
 use Rattle.std.specs.Prelude.{Result, Ok, Err, IsOk, IsErr, IfErr, OnOk, IsErrOf}
 use Rattle.std.specs.FinMap.{get}
-use Rattle.bz_resume.specs.Words.{Rises, Ghosts as FilesOf}
+use Rattle.bz_resume.specs.Words.{FileFault, FileStamp, KeepsOrder, Read, Rises, pair_acts, with_act, with_acts, Ghosts as FilesOf}
 use Rattle.bz_files.specs.Folder.{Folder, Text, Elapses, IsUntouched, with_file}
 use Rattle.bz_files.specs.Pair.{AreReplaced, IsChecking, RewritesHeld}
-use Rattle.bz_files.specs.declared.files.FileFault.{FileFault}
+use Rattle.bz_files.specs.declared.files.FileFault.TheVariants as q
+use Rattle.bz_files.specs.declared.files.FileKind.TheVariants as k
 use Rattle.bz_files.proofs.Acts.{Do, after_look, each}
 use Rattle.bz_files.proofs.Elapsing.{weakened, each_since}
 use Rattle.bz_files.proofs.Folders.{reads_back, other_stays}
+use Rattle.bz_files.proofs.Orders.{Acts, pair_reads, reads_on, reads_one}
 use Rattle.bz_resume.specs.declared.pair_fault.PairFault.{PairFault}
 use Rattle.bz_resume.specs.declared.pair_fault.PairFault.TheVariants as p
 use Rattle.bz_resume.specs.Pair.{journal_name}
@@ -26,12 +28,26 @@ pub of_ok : {T E : Type 0} (r : Result T E) (P : Type 0) → IsOk r → OnOk r P
 of_ok (Ok x) P is p = p
 of_ok (Err e) P is p = absurd (false≢true is)
 
+pub ok_alone : {E : Type 0} (r : Result (Unit {0}) E) → IsOk r → r ≡ Ok tt
+ok_alone (Ok tt) is = refl
+ok_alone (Err e) is = absurd (false≢true is)
+
+pub memory_alone : {T : Type 0} (r : Result T FileFault) → IfErr r (λ fault. fault ≢ q.Write) → (IsErrOf r q.Memory) ⊎ (IsErrOf r q.Write) → r ≡ Err q.Memory
+memory_alone r other (inl is) = is
+memory_alone (Ok x) other (inr is) = absurd (never_err x q.Write is)
+memory_alone (Err fault) other (inr is) = let same : fault ≡ q.Write = cc in absurd (other same)
+
+pub as_read : (file : Text) (a b : Acts) (read : Result (Unit {0}) FileFault) → b ≡ with_act a (Read file k.Regular read) → read ≡ Ok tt
+    → b ≡ with_act a (Read file k.Regular (Ok tt))
+as_read file a b read is whole = is ∙ ap (λ (r : Result (Unit {0}) FileFault). with_act a (Read file k.Regular r)) whole
+
 -- the errors of what only reads
-other_fault : (fault : PairFault) → fault ≢ p.Write → IsErrOf {T = Unit {0}} (Err fault) p.Changed ⊎ (IsErrOf {T = Unit {0}} (Err fault) p.Open ⊎ IsErrOf {T = Unit {0}} (Err fault) p.Memory)
-other_fault p.Memory other = inr (inr refl)
-other_fault p.Open other = inr (inl refl)
-other_fault p.Changed other = inl refl
-other_fault p.Write other = absurd (other refl)
+pub other_fault : (X : Type 0) (fault : PairFault) → fault ≢ p.Write → (IsErrOf {T = Unit {0}} (Err fault) p.Memory → X)
+    → IsErrOf {T = Unit {0}} (Err fault) p.Changed ⊎ (IsErrOf {T = Unit {0}} (Err fault) p.Open ⊎ (IsErrOf {T = Unit {0}} (Err fault) p.Memory × X))
+other_fault X p.Memory other memory = inr (inr (refl, memory refl))
+other_fault X p.Open other memory = inr (inl refl)
+other_fault X p.Changed other memory = inl refl
+other_fault X p.Write other memory = absurd (other refl)
 
 no_write : (fault : PairFault) → fault ≢ p.Write → IsErrOf {T = Unit {0}} (Err fault) p.Write → ⊥
 no_write fault other is = let same : fault ≡ p.Write = cc in other same
@@ -88,8 +104,10 @@ module _ {F : Type 0} (files : FilesOf F) (only : (held : F) (now : Folder) → 
       → (files.honest old ≡ true → IsErrOf {T = Unit {0}} (Err fault) p.Changed → get (files.folder old) file ≢ Some standing)
       → (IsErrOf {T = Unit {0}} (Err fault) p.Open → Rises (files.faults old) (files.faults new))
       → ((IsErrOf {T = Unit {0}} (Err fault) p.Open → ⊥) → files.faults new ≡ files.faults old) → files.faults old ≤ files.faults new → files.honest new ≡ files.honest old
+      → (read : Result (Unit {0}) FileFault) → files.acts new ≡ with_act (files.acts old) (Read file k.Regular read)
+      → (files.honest old ≡ true → get (files.folder old) file ≢ Some standing → IsErrOf {T = Unit {0}} (Err fault) p.Memory → read ≡ Err q.Memory)
       → KeepsHeld files file standing stored text (Err fault) old new
-  unkept fault old new kinds reads changed cause rest count honest =
+  unkept fault old new kinds reads changed cause rest count honest read act refused =
       let still : files.honest old ≡ true → (now : Folder) → files.since new (files.moment old) now → now ≡ files.folder old =
       λ is. each files only counts old new IsUntouched IsUntouched refl (reads is) in
       record {
@@ -100,10 +118,13 @@ module _ {F : Type 0} (files : FilesOf F) (only : (held : F) (now : Folder) → 
         kept = λ _. tt;
         stored = λ is now stood. inl (ap (λ (f : Folder). get f (journal_name file)) (still is now stood));
         journal = λ _. tt;
-        checked = λ _ _. other_fault fault kinds;
+        checked = λ is other. other_fault _ fault kinds (λ memory. act ∙ ap (λ (r : Result (Unit {0}) FileFault). with_act (files.acts old) (Read file k.Regular r)) (refused is other memory));
         apart = λ is _. still is;
         changed = changed;
         untouched = λ is _. still is;
+        ordered = tt;
+        alone = λ _. (read, act);
+        regular = reads_one (files.acts old) (files.acts new) (Read file k.Regular read) refl act;
         cause = ⊎_elim (λ err. absurd (no_write fault kinds err)) cause;
         rest = λ _. rest;
         count = count;
@@ -112,13 +133,16 @@ module _ {F : Type 0} (files : FilesOf F) (only : (held : F) (now : Folder) → 
 
   -- where the file was read, and what it holds is replaced
   module _ (old mid new : F) (honest : files.honest mid ≡ files.honest old) (faults : files.faults mid ≡ files.faults old)
-      (there : files.honest old ≡ true → get (files.folder old) file ≡ Some standing) (reads : files.honest old ≡ true → Do files IsUntouched IsUntouched old mid) where
+      (there : files.honest old ≡ true → get (files.folder old) file ≡ Some standing) (reads : files.honest old ≡ true → Do files IsUntouched IsUntouched old mid)
+      (act : files.acts mid ≡ with_act (files.acts old) (Read file k.Regular (Ok tt))) where
     goes : (r : Result (Unit {0}) FileFault) → RewritesHeld files file standing P Q r mid new → files.honest old ≡ true → Do files P (λ was now. OnOk r (Q was now)) old new
     goes r acts is = after_look files old mid new P (λ was now. OnOk r (Q was now)) P (λ was now. OnOk r (Q was now)) (λ now same. inl same) (λ now it. it) (λ ok. ok) (reads is)
         (record { time = acts.time (honest ∙ is); done = acts.replaced (honest ∙ is) })
 
-    by_name : (r : Result (Unit {0}) FileFault) → RewritesHeld files file standing P Q r mid new → KeepsHeld files file standing stored text (answered r) old new
-    by_name r acts = record {
+    by_name : (r : Result (Unit {0}) FileFault) → RewritesHeld files file standing P Q r mid new
+        → ((stamp : FileStamp) × KeepsOrder (pair_acts (journal_name file) stored file standing text stamp) r (files.acts mid) (files.acts new))
+        → KeepsHeld files file standing stored text (answered r) old new
+    by_name r acts (stamp, order) = record {
       each = λ is. each_now is;
       time = λ is. time is;
       resumes = λ is h after es may now stood. goes_on file h after (files.folder old) now may.resumes (each_now is h after es may now stood);
@@ -133,6 +157,10 @@ module _ {F : Type 0} (files : FilesOf F) (only : (held : F) (now : Folder) → 
       apart = λ is other. absurd (other (there is));
       changed = λ _ err. absurd (no_changed r err);
       untouched = λ _. only_write _ r;
+      ordered = carried _ r (on_ok_weaker r (λ is. (stamp, is ∙ ap (λ (a : Acts). with_acts a (pair_acts (journal_name file) stored file standing text stamp)) act)) order.whole);
+      alone = only_write _ r;
+      regular = reads_on (files.acts old) (files.acts mid) (files.acts new) (reads_one (files.acts old) (files.acts mid) (Read file k.Regular (Ok tt)) refl act)
+          (pair_reads r (journal_name file) stored file standing text (files.acts mid) (files.acts new) (stamp, order));
       cause = λ err. subst (λ (n : ℕ). Rises n (files.faults new)) faults (acts.counted.cause (⊎_elim (is_err r p.Write) (is_err r p.Open) err));
       rest = λ none _. acts.counted.kept (is_ok r none) ∙ faults;
       count = subst (λ (n : ℕ). n ≤ files.faults new) faults acts.counted.count;
@@ -151,5 +179,8 @@ module _ {F : Type 0} (files : FilesOf F) (only : (held : F) (now : Folder) → 
 
     pub held : (journal : Text) → journal ≡ journal_name file → (r : Result (Unit {0}) FileFault)
         → RewritesHeld files file standing (IsChecking standing journal stored file text) (AreReplaced journal stored file text) r mid new
+        → ((stamp : FileStamp) × KeepsOrder (pair_acts journal stored file standing text stamp) r (files.acts mid) (files.acts new))
         → KeepsHeld files file standing stored text (answered r) old new
-    held journal named r acts = by_name r (subst (λ (j : Text). RewritesHeld files file standing (IsChecking standing j stored file text) (AreReplaced j stored file text) r mid new) named acts)
+    held journal named r acts order = by_name r
+        (subst (λ (j : Text). RewritesHeld files file standing (IsChecking standing j stored file text) (AreReplaced j stored file text) r mid new) named acts)
+        (subst (λ (j : Text). (stamp : FileStamp) × KeepsOrder (pair_acts j stored file standing text stamp) r (files.acts mid) (files.acts new)) named order)

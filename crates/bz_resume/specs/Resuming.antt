@@ -1,8 +1,10 @@
 -- A file whose journal records its history, and what a stop leaves of the two.
-use Rattle.std.specs.Prelude.{◌≡◌, ◌≢◌, ◌⊎◌, ◌≤◌, ℕ, true, List, [], ◌∷◌, Some, None, Result, IfErr, OnOk, IsErrOf}
+use Rattle.std.specs.Prelude.{◌≡◌, ◌≢◌, ◌⊎◌, ◌≤◌, ℕ, true, List, [], ◌∷◌, Some, None, Result, Ok, Err, IfErr, OnOk, IsErrOf}
 use Rattle.std.specs.FinMap.{get}
-use Rattle.bz_resume.specs.Words.{Edit, Rises, Ghosts as FilesOf}
+use Rattle.bz_resume.specs.Words.{Edit, Rises, FileFault, FileStamp, Read, ReadsRegular, pair_acts, with_act, with_acts, Ghosts as FilesOf}
 use Rattle.bz_files.specs.Folder.{Folder, Text, Elapses, new_name}
+use Rattle.bz_files.specs.declared.files.FileFault.TheVariants as q
+use Rattle.bz_files.specs.declared.files.FileKind.TheVariants as k
 use Rattle.bz_resume.specs.declared.pair_fault.PairFault.{PairFault}
 use Rattle.bz_resume.specs.declared.pair_fault.PairFault.TheVariants as f
 use Rattle.bz_resume.specs.Journals.{History, Journal, stands, text_at}
@@ -73,14 +75,20 @@ pub record KeepsHeld {F : Type 0} (files : FilesOf F) (file standing bytes text 
   pub stored : files.honest old ≡ true → (now : Folder) → files.since new (files.moment old) now
       → (get now (journal_name file) ≡ get (files.folder old) (journal_name file)) ⊎ (get now (journal_name file) ≡ Some bytes)
   pub journal : files.honest old ≡ true → OnOk answer (get (files.folder new) (journal_name file) ≡ Some bytes)
-  -- Where the file holds another text, that is said, and at no moment is anything touched.
-  pub checked : files.honest old ≡ true → get (files.folder old) file ≢ Some standing
-      → (IsErrOf answer f.Changed) ⊎ ((IsErrOf answer f.Open) ⊎ (IsErrOf answer f.Memory))
+  -- Where the file holds another text, that is said, and at no moment is anything touched: or want of memory, where the read had that.
+  pub checked : files.honest old ≡ true → get (files.folder old) file ≢ Some standing → (IsErrOf answer f.Changed) ⊎ ((IsErrOf answer f.Open)
+      ⊎ ((IsErrOf answer f.Memory) × (files.acts new ≡ with_act (files.acts old) (Read file k.Regular (Err q.Memory)))))
   pub apart : files.honest old ≡ true → get (files.folder old) file ≢ Some standing
       → (now : Folder) → files.since new (files.moment old) now → now ≡ files.folder old
   pub changed : files.honest old ≡ true → IsErrOf answer f.Changed → get (files.folder old) file ≢ Some standing
   pub untouched : files.honest old ≡ true → IfErr answer (λ fault. fault ≢ f.Write
       → (now : Folder) → files.since new (files.moment old) now → now ≡ files.folder old)
+  -- At an Ok the file was read, and both replaced in their order; at a fault but Write it was read alone.
+  pub ordered : OnOk answer ((stamp : FileStamp) × (files.acts new ≡ with_acts (with_act (files.acts old) (Read file k.Regular (Ok tt)))
+      (pair_acts (journal_name file) bytes file standing text stamp)))
+  pub alone : IfErr answer (λ fault. fault ≢ f.Write
+      → (read : Result (Unit {0}) FileFault) × (files.acts new ≡ with_act (files.acts old) (Read file k.Regular read)))
+  pub regular : ReadsRegular (files.acts old) (files.acts new)
   -- A Write and an Open are counted, and nothing else.
   pub cause : (IsErrOf answer f.Write) ⊎ (IsErrOf answer f.Open) → Rises (files.faults old) (files.faults new)
   pub rest : (IsErrOf answer f.Write → ⊥) → (IsErrOf answer f.Open → ⊥) → files.faults new ≡ files.faults old

@@ -6,7 +6,10 @@ pub use Rattle.bz_edit.specs.declared.edit.Edit.{Edit}
 pub use Rattle.bz_files.specs.Acts.{GoesThrough}
 pub use Rattle.bz_files.specs.Faults.{Rises}
 pub use Rattle.bz_files.specs.Folder.{Elapses, Folder, IsUntouched, new_name}
+pub use Rattle.bz_files.specs.Orders.{KeepsOrder, Read, ReadsRegular, pair_acts, with_act, with_acts}
+pub use Rattle.bz_files.specs.declared.files.FileFault.{FileFault}
 pub use Rattle.bz_files.specs.declared.files.Files.{Ghosts}
+pub use Rattle.bz_files.specs.declared.stamp.FileStamp.{FileStamp}
 pub use Rattle.bz_grammar.specs.Joined.{AreWholeLines, file_with}
 pub use Rattle.bz_grammar.specs.Kinds.{kind_number}
 pub use Rattle.bz_grammar.specs.Legal.{LegalBuild, NoTree, Reads}

@@ -1,7 +1,7 @@
 //! A file and its journal, replaced so that a stop at any moment leaves a pair that goes on.
-ghost use Rattle.std.specs.Prelude.{◌≡◌, ◌≢◌, ◌⊎◌, ◌≤◌, ◌↔◌, true, Some, IfOk, IfErr, OnOk, IsOk, IsErrOf, string_bytes};
+ghost use Rattle.std.specs.Prelude.{◌≡◌, ◌≢◌, ◌⊎◌, ◌≤◌, ◌↔◌, true, Some, Result, Ok, Err, IfOk, IfErr, OnOk, IsOk, IsErrOf, string_bytes};
 ghost use Rattle.std.specs.FinMap.{get};
-ghost use Rattle.bz_resume.specs.Words.{GoesThrough, IsUntouched, Rises};
+ghost use Rattle.bz_resume.specs.Words.{GoesThrough, IsUntouched, Read, Rises, with_act};
 ghost use Rattle.bz_resume.specs.Pair.{journal_name};
 ghost use Rattle.bz_resume.specs.Resuming.{KeepsHeld};
 
@@ -23,6 +23,7 @@ fn compared(read: Result<(), FileFault>, held: &[u8], standing: &[u8]) -> Result
     ensures ok { OnOk result (IsOk read × (held.now ≡ standing.now)) }
     ensures changed { IsErrOf result PairFault.Changed ↔ (IsErrOf read FileFault.Absent) ⊎ (IsOk read × held.now ≢ standing.now) }
     ensures open { IsErrOf result PairFault.Open ↔ IsErrOf read FileFault.Open }
+    ensures memory { IsErrOf result PairFault.Memory → (IsErrOf read FileFault.Memory) ⊎ (IsErrOf read FileFault.Write) }
     ensures kinds { IfErr result (λ fault. fault ≢ PairFault.Write) }
 {
     match read {
@@ -49,6 +50,8 @@ fn check_file<F: Files>(
     ensures ok { F.honest files.old ≡ true → OnOk result (get (F.folder files.old) file.now ≡ Some standing.now) }
     ensures changed { F.honest files.old ≡ true → IsErrOf result PairFault.Changed → get (F.folder files.old) file.now ≢ Some standing.now }
     ensures reads { F.honest files.old ≡ true → GoesThrough F.folder F.moment F.since IsUntouched IsUntouched files.old files.new }
+    ensures acts { (read : Result (Unit {0}) FileFault) × (F.acts files.new ≡ with_act (F.acts files.old) (Read file.now FileKind.Regular read))
+        × (IsOk result → read ≡ Ok tt) × (IsErrOf result PairFault.Memory → read ≡ Err FileFault.Memory) }
     ensures kinds { IfErr result (λ fault. fault ≢ PairFault.Write) }
     ensures cause { IsErrOf result PairFault.Open → Rises (F.faults files.old) (F.faults files.new) }
     ensures rest { (IsErrOf result PairFault.Open → ⊥) → F.faults files.new ≡ F.faults files.old }

@@ -1,7 +1,9 @@
-use Rattle.std.proofs.Common.{◌∙◌, inl, refl, OnOk}
+use Rattle.std.proofs.Common.{◌∙◌, ◌∷◌, [], inl, refl, OnOk}
 use Rattle.bz_files.specs.Folder.{SameBeside, IsReplaced, IsReplacing}
+use Rattle.bz_files.specs.Orders.{SawAgain, TookPlace, place_acts}
 use Rattle.bz_files.proofs.Acts.{after_look, counted_before, counted_on, on_ok_all}
 use Rattle.bz_files.proofs.Keeping.{same_beside}
+use Rattle.bz_files.proofs.Orders.{broken, broken_off, fails, one_act, order_after}
 use Rattle.bz_files.proofs.replacing.place.Goals as goal
 
 pub returns-in-Ok-clause-there : goal.returns-in-Ok-clause-there
@@ -36,3 +38,21 @@ returns-in-Err-clause-acts g c =
       waiting = λ honest rest name bytes is. gone.ensures.waiting (seen.counted.honest ∙ honest) rest name bytes (seen.waiting honest ∙ is);
       counted = counted_before f c.in-Err.fault old c.look.new.self gone.new.self gone.ensures.faults gone.ensures.honest c.in-Err.ensures.counted;
     }
+
+pub returns-in-Ok-clause-ordered : goal.returns-in-Ok-clause-ordered
+returns-in-Ok-clause-ordered g c =
+    let f = g.F.Files in
+    let seen = c.args.seen in
+    let taken = c.take_place in
+    order_after taken.result (SawAgain seen.file.now seen.held.now seen.stamp ∷ []) (TookPlace ∷ []) (f.acts c.args.files.now) (f.acts c.look.new.self) (f.acts taken.new.self)
+    c.in-Ok.ensures.acts (one_act taken.result TookPlace (f.acts c.look.new.self) (f.acts taken.new.self) taken.ensures.acts)
+
+pub returns-in-Err-clause-ordered : goal.returns-in-Err-clause-ordered
+returns-in-Err-clause-ordered g c =
+    let f = g.F.Files in
+    let seen = c.args.seen in
+    let order = place_acts seen.file.now seen.held.now seen.stamp in
+    let old = f.acts c.args.files.now in
+    let new = f.acts c.give_up.new.self in
+    broken c.in-Err.fault order old new
+    (broken_off order old (f.acts c.look.new.self) new (fails order old (f.acts c.look.new.self) c.in-Err.ensures.acts) c.give_up.ensures.acts)

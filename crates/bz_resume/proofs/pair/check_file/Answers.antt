@@ -1,7 +1,7 @@
 use Rattle.std.proofs.Common.{◌≡◌, ◌∙◌, ap, sym, inl, inr, Some, None}
 use Rattle.std.proofs.lemmas.Result.{on_ok_weaker}
 use Rattle.bz_files.proofs.Fronts.{shows}
-use Rattle.bz_resume.proofs.Checking.{of_ok}
+use Rattle.bz_resume.proofs.Checking.{memory_alone, of_ok, ok_alone}
 use Rattle.bz_resume.proofs.pair.check_file.Goals as goal
 
 pub returns-clause-ok : goal.returns-clause-ok
@@ -27,3 +27,12 @@ returns-clause-cause g c = λ unread. c.read_most-read.ensures.cause (c.compared
 
 pub returns-clause-rest : goal.returns-clause-rest
 returns-clause-rest g c = λ none. c.read_most-read.ensures.kept (λ unread. none (c.compared.ensures.open.1 unread))
+
+pub returns-clause-acts : goal.returns-clause-acts
+returns-clause-acts g c =
+    let read = c.read_most-read.result in (
+      read,
+      c.read_most-read.ensures.acts,
+      λ ok. ok_alone read (of_ok c.compared.result _ ok c.compared.ensures.ok).0,
+      λ memory. memory_alone read c.read_most-read.ensures.kinds (c.compared.ensures.memory memory),
+    )
