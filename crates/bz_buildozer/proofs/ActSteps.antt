@@ -11,7 +11,7 @@ use Rattle.bz_command_syntax.specs.declared.command.Operation.{Operation}
 use Rattle.bz_streams.specs.declared.sink.Sink.{Ghosts as SinkOf}
 use Rattle.bz_buildozer.specs.Calls.{ReportsLine, ReportsLines}
 use Rattle.bz_buildozer.specs.Found.{Opened, Used, file_at, with_opened}
-use Rattle.bz_buildozer.specs.Run.{reported_of, Answers, AnswersIn, AreHints, FailsAt, IsKeptAt, LeadsBy, Progress, reply_notes, printed_in, state_after}
+use Rattle.bz_buildozer.specs.Run.{reported_of, Answers, AnswersIn, AreHints, FailsAt, LeadsBy, Progress, RefusesBy, reply_notes, printed_in, state_after}
 use Rattle.bz_buildozer.specs.Reported.{refusal_line, unkept_line}
 use Rattle.std.proofs.Math.Bool.{or-false, or-true}
 use Rattle.std.proofs.lemmas.List.{append-nil}
@@ -20,24 +20,31 @@ use Rattle.bz_buildozer.specs.Steps.{RunStep, action_of}
 
 -- ---- what an action leaves of a history
 
+-- it prints nothing, and another text is the present one
+abbrev pub IsMove : Reply → Type 0
+IsMove Changed = Unit {0}
+IsMove Moved = Unit {0}
+IsMove _ = ⊥
+
 -- The history is as it was; or it was answered well, another text is the present one, and its package is the same.
 abbrev pub Leaves : History → Answer → History → Type 0
-Leaves h answer after = (after ≡ h) ⊎ (((reply : Reply) × (answer ≡ Ok reply)) × (after.cursor ≢ h.cursor) × (after.«package» ≡ h.«package»))
+Leaves h answer after =
+    (after ≡ h) ⊎ (((reply : Reply) × (answer ≡ Ok reply) × IsMove reply) × (after.cursor ≢ h.cursor) × (after.«package» ≡ h.«package»))
 
 stays : (h after : History) (one answer : Answer) → ◌≡◌ {A = Answer × History} (one, after) (answer, h) → Leaves h one after
 stays h after one answer e = inl (ap (λ (z : Answer × History). z.1) e)
 
-goes : (h after to : History) (one : Answer) (reply : Reply) → to.cursor ≢ h.cursor → to.«package» ≡ h.«package»
+goes : (h after to : History) (one : Answer) (reply : Reply) → IsMove reply → to.cursor ≢ h.cursor → to.«package» ≡ h.«package»
     → ◌≡◌ {A = Answer × History} (one, after) (Ok reply, to) → Leaves h one after
-goes h after to one reply other same e =
+goes h after to one reply move other same e =
     let is : after ≡ to = ap (λ (z : Answer × History). z.1) e in
-    inr ((reply, ap (λ (z : Answer × History). z.0) e), (λ back. other (sym (ap (λ (g : History). g.cursor) is) ∙ back)), ap (λ (g : History). g.«package») is ∙ same)
+    inr ((reply, ap (λ (z : Answer × History). z.0) e, move), (λ back. other (sym (ap (λ (g : History). g.cursor) is) ∙ back)), ap (λ (g : History). g.«package») is ∙ same)
 
 by_text : (same below : Bool) (note : Bytes) (h after : History) (text : Bytes) (printed : Option Bytes) (answer : Answer)
     → ◌≡◌ {A = Answer × History} (answer, after) (if same then (Ok (unchanged printed), h) else (if below then (Ok Changed, changed note h text) else (Err Full, h)))
     → Leaves h answer after
 by_text true below note h after text printed answer e = stays h after answer (Ok (unchanged printed)) e
-by_text false true note h after text printed answer e = goes h after (changed note h text) answer Changed (λ back. omega (arith, back)) refl e
+by_text false true note h after text printed answer e = goes h after (changed note h text) answer Changed tt (λ back. omega (arith, back)) refl e
 by_text false false note h after text printed answer e = stays h after answer (Err Full) e
 
 by_meaning : (note : Bytes) (h after : History) (m : Meaning) (answer : Answer) → ◌≡◌ {A = Answer × History} (answer, after) (after_meaning note h m) → Leaves h answer after
@@ -50,7 +57,7 @@ differ m n is same = true≢false (sym (eq-eqb m n same) ∙ is)
 by_move : (same : Bool) (h after : History) (cursor : ℕ) (answer : Answer) → (cursor == h.cursor) ≡ same
     → ◌≡◌ {A = Answer × History} (answer, after) (Ok Moved, if same then h else record h { cursor = cursor; before = h.cursor }) → Leaves h answer after
 by_move true h after cursor answer is e = stays h after answer (Ok Moved) e
-by_move false h after cursor answer is e = goes h after (record h { cursor = cursor; before = h.cursor }) answer Moved
+by_move false h after cursor answer is e = goes h after (record h { cursor = cursor; before = h.cursor }) answer Moved tt
     (λ back. differ cursor h.cursor is back) refl e
 
 by_undo : (far : Bool) (h after : History) (cursor : ℕ) (answer : Answer)
@@ -73,6 +80,22 @@ pub acts_leaves : (action : Action) (note : Bytes) (h after : History) (answer :
 acts_leaves action note h after answer (inl (long, e)) = stays h after answer (Err NoteTooLong) e
 acts_leaves action note h after answer (inr (short, inl makes)) = made_leaves action note h after answer makes
 acts_leaves action note h after answer (inr (short, inr (takes, memory, same))) = inl same
+
+-- a refusal, and what is printed, leave the history
+pub refused_still : (action : Action) (note : Bytes) (h after : History) (refusal : Refusal) → Acts action note h (Err refusal) after → after ≡ h
+refused_still action note h after refusal acts = elim (acts_leaves action note h after (Err refusal) acts) [
+  | inl same ↦ same
+  | inr went ↦ absurd (let e = went.0.1 in cc)
+]
+
+pub printed_still : (action : Action) (note text : Bytes) (h after : History) → Acts action note h (Ok (Printed text)) after → after ≡ h
+printed_still action note text h after acts = elim (acts_leaves action note h after (Ok (Printed text)) acts) [
+  | inl same ↦ same
+  | inr went ↦ absurd (subst IsMove (is_reply went.0.0 (Printed text) (sym went.0.1)) went.0.2)
+]
+  where
+    is_reply : (one other : Reply) → ◌≡◌ {A = Answer} (Ok one) (Ok other) → one ≡ other
+    is_reply one other same = cc
 
 pub still_same : StillIsSame
 still_same action note h after answer acts = go (acts_leaves action note h after answer acts)
@@ -190,22 +213,14 @@ left_answers journals step place folder state left =
 
 -- ---- memory is refused
 
--- to a step that prints nothing and fails, and leaves the file so
-pub fails_at : (place : ℕ) (file : Opened) (before after : Progress) (used : List Used) (printed line : Bytes) → used ≡ with_opened place (Some file) before.used
-    → printed ≡ before.printed → after ≡ record { used = used; printed = printed; failed = true } → FailsAt place before (line ∷ []) after
-fails_at place file before after used printed line put same is = (
-  (line, refl),
-  (
-    Some file,
-    is ∙ ap (λ (text : Bytes). record { used = used; printed = text; failed = true }) same ∙ ap (λ (u : List Used). record before { used = u; failed = true }) put,
-  ),
-)
-
 pub memory_answers : (result : Cut) (journals : Bool) (step : RunStep) (place : ℕ) (folder folder' : Folder) (before after : Progress) (lines : List Bytes) → result ≡ c.Memory
-    → FailsAt place before lines after → (folder' ≡ folder) ⊎ ((journals ≡ true) × IsKeptAt place after.used folder folder')
-    → Answers result journals step (Some place) folder before lines folder' after
-memory_answers result journals step place folder folder' before after lines is fails left =
-    subst (λ (it : Cut). Answers it journals step (Some place) folder before lines folder' after) (sym is) (fails, left)
+    → FailsAt journals step place folder before lines folder' after → Answers result journals step (Some place) folder before lines folder' after
+memory_answers result journals step place folder folder' before after lines is fails =
+    subst (λ (it : Cut). Answers it journals step (Some place) folder before lines folder' after) (sym is) (inl fails)
+
+pub refused_by : (target : Target) (verb : Verb) (note : Bytes) (action : Action) (h : History) (refusal : Refusal) → action_of target verb ≡ Some action
+    → Acts action note h (Err refusal) h ⊎ ((refusal ≡ Memory) × ((text : Bytes) × Acts action note h (Ok (Printed text)) h)) → RefusesBy (action_of target verb) note h refusal
+refused_by target verb note action h refusal requested = subst (λ (it : Option Action). RefusesBy it note h refusal) (sym requested)
 
 -- ---- an answer
 
@@ -244,24 +259,18 @@ module _ (journals : Bool) (step : RunStep) (place : ℕ) (file : Opened) (histo
       ∙ ap (λ (b : Bool). record { used = put_in; printed = before.printed ++ printed_in reply; failed = b }) (sym (or-false before.failed))
       )
 
-  -- It is refused, for memory or something else.
-  pub refused : (result : Cut) (refusal : Refusal) (hint : List Bytes) → (result ≡ c.Whole) ⊎ (result ≡ c.Memory) → (result ≡ c.Whole → LeadsTo (Err refusal))
-      → (result ≡ c.Whole → AreHints (Err refusal) (action_of step.target step.request.verb) file.name history hint) → (result ≡ c.Memory → hint ≡ []) → folder' ≡ folder
-      → used ≡ with_opened place (Some (record file { history = history })) before.used → after ≡ record before { used = used; failed = true }
-      → Answers result journals step (Some place) folder before (reported_of journals file.name step.request.text (Err refusal) hint) folder' after
-  refused result refusal hint (inl whole) leads hints none still put is =
+  -- It is refused.
+  pub refused : (refusal : Refusal) (hint : List Bytes) → LeadsTo (Err refusal) → AreHints (Err refusal) (action_of step.target step.request.verb) file.name history hint
+      → folder' ≡ folder → used ≡ with_opened place (Some (record file { history = history })) before.used → after ≡ record before { used = used; failed = true }
+      → Answers c.Whole journals step (Some place) folder before (reported_of journals file.name step.request.text (Err refusal) hint) folder' after
+  refused refusal hint leads hints still put is =
       let put_in = with_opened place (Some (record file { history = history })) before.used in
-      subst (λ (it : Cut). Answers it journals step (Some place) folder before (reported_of journals file.name step.request.text (Err refusal) hint) folder' after) (sym whole)
-      (answers_so (Err refusal) hint (leads whole) (hints whole) still (
+      answers_so (Err refusal) hint leads hints still (
       is
       ∙ ap (λ (u : List Used). record before { used = u; failed = true }) put
       ∙ ap (λ (text : Bytes). record { used = put_in; printed = text; failed = true }) (sym (append-nil before.printed))
       ∙ ap (λ (b : Bool). record { used = put_in; printed = before.printed ++ []; failed = b }) (sym (or-true before.failed))
-      ))
-  refused result refusal hint (inr memory) leads hints none still put is =
-      subst (λ (it : List Bytes). Answers result journals step (Some place) folder before (reported_of journals file.name step.request.text (Err refusal) it) folder' after)
-      (sym (none memory)) (memory_answers result journals step place folder folder' before after (reported_of journals file.name step.request.text (Err refusal) []) memory
-      (fails_at place (record file { history = history }) before after used before.printed (refusal_line journals file.name step.request.text refusal) put refl is) (inl still))
+      )
 
 -- ---- the texts of a file are listed
 
@@ -269,7 +278,7 @@ folder_still : (journals : Bool) (reply : Reply) (file : Opened) (folder : Folde
 folder_still false reply file folder = refl
 folder_still true reply file folder = inl (refl, refl)
 
-file_still : (journals : Bool) (reply : Reply) (file : Opened) → file_after journals (Ok reply) file.history file ≡ file
+pub file_still : (journals : Bool) (reply : Reply) (file : Opened) → file_after journals (Ok reply) file.history file ≡ file
 file_still false reply file = refl
 file_still true reply file =
     let same : file.history.cursor == file.history.cursor ≡ true = eq-eqb file.history.cursor file.history.cursor refl in
@@ -285,3 +294,19 @@ listed journals step place file folder before after printed text there free none
     (sym (ap (λ (it : Option Action). reply_notes it reply file.name) none)) (subst (λ (it : Option Action). LeadsBy it step.request.text file.history (Ok reply) file.history) (sym none) (refl, refl)) (folder_still journals reply file folder)
     (sym (ap (λ (f : Opened). with_opened place (Some f) before.used) (file_still journals reply file) ∙ put_again place before.used file there))
     (said ∙ ap (λ (t : Bytes). before.printed ++ t) is)
+
+-- memory is refused to that
+pub unlisted : (result : Cut) (journals : Bool) (step : RunStep) (place : ℕ) (file : Opened) (folder : Folder) (before after : Progress) (printed note : Bytes)
+    → file_at place before.used ≡ Some file → journals && is_left_at place before.used ≡ false → action_of step.target step.request.verb ≡ None → step.request.text ≡ note
+    → result ≡ c.Memory → printed ≡ before.printed → after ≡ record before { printed = printed; failed = true }
+    → Answers result journals step (Some place) folder before (refusal_line journals file.name note Memory ∷ []) folder after
+unlisted result journals step place file folder before after printed note there free none named memory same is =
+    memory_answers result journals step place folder folder before after (refusal_line journals file.name note Memory ∷ []) memory (record {
+      file = file;
+      refusal = Memory;
+      there = free_file journals place before.used file there free;
+      refused = subst (λ (it : Option Action). RefusesBy it step.request.text file.history Memory) (sym none) refl;
+      reported = ap (λ (text : Bytes). refusal_line journals file.name text Memory ∷ []) (sym named);
+      still = refl;
+      state_is = is ∙ ap (λ (text : Bytes). record before { printed = text; failed = true }) same;
+    })

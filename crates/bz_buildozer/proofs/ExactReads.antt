@@ -14,7 +14,7 @@ use Rattle.std.proofs.lemmas.List.{append-nil}
 use Rattle.bz_buildozer.specs.Ending.{Ended, Left, Performs, TriesFile, TriesFiles, ended_whole, opened_out, is_input, status_of, texts_out}
 use Rattle.bz_buildozer.specs.Exact.{OutputCutsNothingElse}
 use Rattle.bz_buildozer.proofs.CutSteps.{both_whole}
-use Rattle.bz_buildozer.proofs.PlaceSteps.{last_is_used, unused_before}
+use Rattle.bz_buildozer.proofs.PlaceSteps.{last_is_used}
 
 -- ---- steps on rules of standard input use no other package, and so write no file
 
@@ -44,11 +44,11 @@ used_on : (why : Cut) (world : World) (current : Bytes) (before : List Used) (nu
 used_on c.Whole world current before number lines after is (place, inl again, at) are = subst AreInput (sym again.2) are
 used_on c.Whole world current before number lines after is (place, inr (absent, last, (found, file, finds, opens, new)), at) are =
     subst AreInput (sym new) (one_more before _ is are)
-used_on c.Memory world current before number lines after is (at, told, inl same) are = subst AreInput (sym same) are
-used_on c.Memory world current before number lines after is (at, told, inr new) are = subst AreInput (sym new) (one_more before _ is are)
+used_on c.Memory world current before number lines after is (none, at, inl (same, told)) are = subst AreInput (sym same) are
+used_on c.Memory world current before number lines after is (none, at, inr (new, told)) are = subst AreInput (sym new) (one_more before _ is are)
 used_on c.Read world current before number lines after is (plain, of_input, none, at, told, new) are = subst AreInput (sym new) (one_more before _ is are)
 used_on c.Write world current before number lines after is uses are = absurd uses
-used_on c.Files world current before number lines after is (none, (file, opens, new, at)) are = subst AreInput (sym new) (one_more before _ is are)
+used_on c.Files world current before number lines after is (none, here, (file, opens, new, at)) are = subst AreInput (sym new) (one_more before _ is are)
 
 answers_on : (why : Cut) (step : RunStep) (number : Option ℕ) (folder : Folder) (state : Progress) (lines : List Bytes) (folder' : Folder) (after : Progress)
     → Answers why false step number folder state lines folder' after → AreInput state.used → AreInput after.used
@@ -227,10 +227,6 @@ AreClosed (used ∷ more) = (used.file ≡ None) × AreClosed more
 abbrev IsEmpty : Progress → Type 0
 IsEmpty state = (state.printed ≡ []) × AreClosed state.used
 
-closed_more : (used : List Used) (one : Used) → one.file ≡ None → AreClosed used → AreClosed (used ++ one ∷ [])
-closed_more [] one is closed = (is, tt)
-closed_more (used ∷ more) one is closed = (closed.0, closed_more more one is closed.1)
-
 closed_at : (place : ℕ) (used : List Used) → AreClosed used → file_at place used ≡ None
 closed_at place [] closed = refl
 closed_at zero (used ∷ more) closed = closed.0
@@ -255,13 +251,7 @@ module _ (journals : Bool) (world : World) (number : Option ℕ) (lines : List B
     (λ closed. let still = subst AreClosed (sym same) closed in (at ∙ ap (option_map (λ (_ : Opened). place)) (closed_at place after still), still)),
   )
   used_again c.Whole before used (place, inr (none, last, opens), at) = absurd (used none)
-  used_again c.Memory before used (none, told, inl same) =
-      ((λ is. absurd (cc is)), subst IsUsed (sym same) used, λ closed. (none, subst AreClosed (sym same) closed))
-  used_again c.Memory before used (none, told, inr new) = (
-    (λ is. absurd (cc is)),
-    subst IsUsed (sym new) (λ unused. used (unused_before input_package before _ unused)),
-    (λ closed. (none, subst AreClosed (sym new) (closed_more before _ refl closed))),
-  )
+  used_again c.Memory before used (none, wants) = absurd (used none)
   used_again c.Read before used (plain, is, none, at, told, new) = absurd (used none)
   used_again c.Files before used (none, opened) = absurd (used none)
   used_again c.Write before used uses = absurd uses
@@ -276,7 +266,7 @@ module _ (journals : Bool) (world : World) (number : Option ℕ) (lines : List B
   used_first c.Memory other uses = absurd (other refl)
   used_first c.Read other (plain, is, absent, none, told, new) =
       (one_used None new, λ is. (none, subst AreClosed (sym new) (refl, tt)))
-  used_first c.Files other (absent, (file, opens, new, at)) = (one_used file new, λ is. absurd (cc is))
+  used_first c.Files other (absent, here, (file, opens, new, at)) = (one_used file new, λ is. absurd (cc is))
   used_first c.Write other uses = absurd uses
 
 module _ (journals : Bool) (world : World) (step : RunStep) (acted : Cut) (number : Option ℕ) (state after : Progress) (answer : List Bytes) (folder : Folder)

@@ -1,6 +1,6 @@
 -- What a run opens and does that may be cut: openings, and steps one after the other.
-use Rattle.std.proofs.Common.{arith, ◌≡◌, true, ◌⊎◌, ◌∙◌, ◌<◌, ◌++◌, inl, inr, ℕ, Bool, List, [], ◌∷◌, length, Option, Some, None, Result, Ok, Err, refl, sym, ap, subst, ◌+◌, take, false, codes, append_assoc}
-use Rattle.std.specs.Prelude.{IfSome, unwrap_or}
+use Rattle.std.proofs.Common.{arith, ◌≡◌, ◌≢◌, true, ◌⊎◌, ◌∙◌, ◌<◌, ◌++◌, inl, inr, ℕ, Bool, List, [], ◌∷◌, length, Option, Some, None, Result, Ok, Err, refl, sym, ap, subst, ◌+◌, take, false, codes, append_assoc}
+use Rattle.std.specs.Prelude.{IfSome, IsSome, unwrap_or}
 use Rattle.std.specs.Option.{option_map}
 use Rattle.std.specs.FinMap.{get}
 use Rattle.std.proofs.lemmas.List.{length-append, append-nil}
@@ -11,7 +11,7 @@ use Rattle.bz_streams.specs.declared.sink.Sink.{Ghosts as SinkOf}
 use Rattle.bz_buildozer.specs.Found.{IsNameOf, PackagesFound, found_in, found_second, second_name, Opened, Used, file_at, opened_with, first_name, in_package, package_number, with_opened}
 use Rattle.bz_buildozer.specs.Journals.{IsOpenedIn, JournalFault, OpensBeside, TakesBeside, file_of_journal, journal_beside, lines_of_journal}
 use Rattle.bz_buildozer.specs.Keeps.{after_keeping, file_after, left_out}
-use Rattle.bz_buildozer.specs.Run.{OpensUntil, SecondUntil, Answers, AnswersIn, Does, Finds, Progress, RunsSteps, TakesUntil, Uses, UsesWhole, World, ends_run, unreadable}
+use Rattle.bz_buildozer.specs.Run.{FindsUntil, IsInFolder, LeavesUnkept, OpensUntil, SecondUntil, Answers, AnswersIn, Does, Finds, Progress, RunsSteps, TakesUntil, Uses, UsesWhole, World, ends_run, unreadable, wanting, wanting_name}
 use Rattle.bz_buildozer.proofs.PlaceSteps.{last_place, left_after_input, left_after_use, place_stays}
 use Rattle.bz_buildozer.proofs.StandSteps.{found_holds, second_holds}
 use Rattle.bz_streams.proofs.Outputs.{reports_more}
@@ -62,24 +62,54 @@ opened_found journals folder current (Some (name, text)) (Some file) lines holds
 none_opened : (journals : Bool) (folder : Folder) (current : Bytes) (file : Option Opened) → file ≡ None → IfSome file (IsOpenedIn journals folder current)
 none_opened journals folder current file is = subst (λ (it : Option Opened). IfSome it (IsOpenedIn journals folder current)) (sym is) tt
 
+none_taken_until : (why : Cut) (journals : Bool) (folder : Folder) (current name text : Bytes) (file : Option Opened) (lines : List Bytes) → why ≢ c.Whole
+    → TakesUntil why journals folder current name text file lines → file ≡ None
+none_taken_until c.Whole journals folder current name text file lines other takes = absurd (other refl)
+none_taken_until c.Files journals folder current name text file lines other takes = takes.1
+none_taken_until c.Memory journals folder current name text file lines other takes = takes.0
+none_taken_until _ journals folder current name text file lines other takes = absurd takes
+
+none_found : (why : Cut) (journals : Bool) (folder : Folder) (current name : Bytes) (file : Option Opened) (lines : List Bytes) → why ≢ c.Whole
+    → FindsUntil why journals folder current name file lines → file ≡ None
+none_found why journals folder current name file lines other (inl none) = none.0
+none_found why journals folder current name file lines other (inr (text, held, takes)) = none_taken_until why journals folder current name text file lines other takes
+
+-- where memory is refused none is open
+memory_second : (journals : Bool) (folder : Folder) (current : Bytes) (file : Option Opened) (lines : List Bytes) → SecondUntil c.Memory journals folder current file lines → file ≡ None
+memory_second journals folder current file lines (inl none) = none.0
+memory_second journals folder current file lines (inr opens) = none_found c.Memory journals folder current (second_name current) file lines (λ is. absurd (cc is)) opens
+
+memory_closes : (journals : Bool) (folder : Folder) (current : Bytes) (file : Option Opened) (lines : List Bytes) → OpensUntil c.Memory journals folder current file lines → file ≡ None
+memory_closes journals folder current file lines (inl none) = none.0
+memory_closes journals folder current file lines (inr (inl gone)) = memory_second journals folder current file lines gone.1
+memory_closes journals folder current file lines (inr (inr opens)) = none_found c.Memory journals folder current (first_name current) file lines (λ is. absurd (cc is)) opens
+
 opened_second : (why : Cut) (journals : Bool) (folder : Folder) (current : Bytes) (file : Option Opened) (lines : List Bytes) → SecondUntil why journals folder current file lines
     → IfSome file (IsOpenedIn journals folder current)
 opened_second c.Whole journals folder current file lines opens =
     opened_found journals folder current (found_second folder current) file lines (second_holds folder current) opens
 opened_second c.Read journals folder current file lines opens = absurd opens
 opened_second c.Write journals folder current file lines opens = absurd opens
-opened_second _ journals folder current file lines opens = none_opened journals folder current file opens.0
+opened_second c.Files journals folder current file lines opens =
+    none_opened journals folder current file (none_found c.Files journals folder current (second_name current) file lines (λ is. absurd (cc is)) opens)
+opened_second c.Memory journals folder current file lines opens = none_opened journals folder current file (memory_second journals folder current file lines opens)
 
 -- an open file is one that the folder has
 pub opened_until : (why : Cut) (journals : Bool) (folder : Folder) (current : Bytes) (file : Option Opened) (lines : List Bytes) → OpensUntil why journals folder current file lines
     → IfSome file (IsOpenedIn journals folder current)
 opened_until c.Whole journals folder current file lines opens =
     opened_found journals folder current (found_in folder current) file lines (found_holds folder current) opens
-opened_until c.Memory journals folder current file lines opens = none_opened journals folder current file opens.0
+opened_until c.Memory journals folder current file lines opens = none_opened journals folder current file (memory_closes journals folder current file lines opens)
 opened_until c.Files journals folder current file lines (inl (why, more, told, second)) = opened_second why journals folder current file more second
 opened_until c.Files journals folder current file lines (inr (inl gone)) = opened_second c.Files journals folder current file lines gone.1
-opened_until c.Files journals folder current file lines (inr (inr unread)) = none_opened journals folder current file unread.1
+opened_until c.Files journals folder current file lines (inr (inr (text, held, unread))) = none_opened journals folder current file unread.1
 opened_until _ journals folder current file lines opens = absurd opens
+
+-- the journal of a file is there
+pub journal_there : (journals : Bool) (folder : Folder) (name journal bytes : Bytes) → journals ≡ true → journal ≡ journal_name name → get folder journal ≡ Some bytes
+    → IsSome (journal_beside journals folder name)
+journal_there journals folder name journal bytes kept is held = subst (λ (b : Bool). IsSome (journal_beside b folder name)) (sym kept)
+    (subst (λ (found : Option Bytes). IsSome found) (sym (ap (get folder) (sym is) ∙ held)) refl)
 
 -- the last package is one of them
 pub last_within : (place : ℕ) (used mid : List Used) (one : Used) → place ≡ length used → mid ≡ used ++ one ∷ [] → place < length mid
@@ -133,14 +163,33 @@ memory_until sink Is Until line why file old new more refused whole (inl is) tol
 memory_until sink Is Until line why file old new more refused whole (inr (memory, closed)) told =
     (line ∷ [], subst (λ (it : Cut). Until it file (line ∷ [])) (sym memory) (refused closed), one_line sink old new line (told memory))
 
+-- A file that was found is opened, or its journal is not: what cuts that says nothing of the text.
+found_until : (why : Cut) (journals : Bool) (current name called front text : Bytes) (folder now : Folder) (file : Option Opened) (lines : List Bytes) → name ≡ called
+    → get folder name ≡ Some text → now ≡ folder → why ≢ c.Whole → TakesUntil why journals now current name front file lines
+    → (held : Bytes) × (get folder called ≡ Some held) × TakesUntil why journals folder current called held file lines
+found_until why journals current name called front text folder now file lines is held same other takes = (
+  text,
+  ap (get folder) (sym is) ∙ held,
+  go why other (subst (λ (n : Bytes). TakesUntil why journals folder current n front file lines) is
+      (subst (λ (f : Folder). TakesUntil why journals f current name front file lines) same takes)),
+)
+  where
+    go : (cut : Cut) → cut ≢ c.Whole → TakesUntil cut journals folder current called front file lines → TakesUntil cut journals folder current called text file lines
+    go c.Whole other it = absurd (other refl)
+    go c.Files other it = it
+    go c.Memory other it = it
+    go _ other it = absurd it
+
 second_until : (why : Cut) (journals : Bool) (current name front text : Bytes) (folder now : Folder) (file : Option Opened) (lines : List Bytes) → name ≡ second_name current
     → get folder name ≡ Some text → front ≡ take (limit + 1) text → now ≡ folder → TakesUntil why journals now current name front file lines
     → SecondUntil why journals folder current file lines
 second_until c.Whole journals current name front text folder now file lines is held cut same takes =
     second_opens journals current name front text folder now file lines is held cut same takes
 second_until c.Files journals current name front text folder now file lines is held cut same takes =
-    (takes.1, inr (takes.0, takes.2 ∙ ap (λ (n : Bytes). unreadable (journal_name n)) is))
-second_until _ journals current name front text folder now file lines is held cut same takes = takes
+    inr (found_until c.Files journals current name (second_name current) front text folder now file lines is held same (λ is. absurd (cc is)) takes)
+second_until c.Memory journals current name front text folder now file lines is held cut same takes =
+    inr (inr (found_until c.Memory journals current name (second_name current) front text folder now file lines is held same (λ is. absurd (cc is)) takes))
+second_until _ journals current name front text folder now file lines is held cut same takes = absurd takes
 
 first_until : (why : Cut) (journals : Bool) (current name front text : Bytes) (folder now : Folder) (file : Option Opened) (lines : List Bytes) → name ≡ first_name current
     → get folder name ≡ Some text → front ≡ take (limit + 1) text → now ≡ folder → TakesUntil why journals now current name front file lines
@@ -148,8 +197,10 @@ first_until : (why : Cut) (journals : Bool) (current name front text : Bytes) (f
 first_until c.Whole journals current name front text folder now file lines is held cut same takes =
     first_opens journals current name front text folder now file lines is held cut same takes
 first_until c.Files journals current name front text folder now file lines is held cut same takes =
-    inr (inr (takes.0, takes.1, takes.2 ∙ ap (λ (n : Bytes). unreadable (journal_name n)) is))
-first_until _ journals current name front text folder now file lines is held cut same takes = takes
+    inr (inr (found_until c.Files journals current name (first_name current) front text folder now file lines is held same (λ is. absurd (cc is)) takes))
+first_until c.Memory journals current name front text folder now file lines is held cut same takes =
+    inr (inr (inr (found_until c.Memory journals current name (first_name current) front text folder now file lines is held same (λ is. absurd (cc is)) takes)))
+first_until _ journals current name front text folder now file lines is held cut same takes = absurd takes
 
 pub named_until : (second : Bool) (why : Cut) (journals : Bool) (current name front text : Bytes) (folder now : Folder) (file : Option Opened) (lines : List Bytes)
     → name ≡ in_package current (base_of second) → get folder name ≡ Some text → front ≡ take (limit + 1) text → now ≡ folder
@@ -157,9 +208,15 @@ pub named_until : (second : Bool) (why : Cut) (journals : Bool) (current name fr
 named_until false = first_until
 named_until true = second_until
 
-pub memory_named : (second journals : Bool) (folder : Folder) (current line : Bytes) → NamedUntil second c.Memory journals folder current None (line ∷ [])
-memory_named false journals folder current line = (refl, (line, refl))
-memory_named true journals folder current line = (refl, (line, refl))
+pub memory_named : (second journals : Bool) (folder : Folder) (current : Bytes) → NamedUntil second c.Memory journals folder current None (wanting_name current)
+memory_named false journals folder current = inl (refl, refl)
+memory_named true journals folder current = inl (refl, refl)
+
+-- memory is refused to read the file of this name
+pub memory_read : (second journals : Bool) (folder : Folder) (current name : Bytes) → name ≡ in_package current (base_of second)
+    → NamedUntil second c.Memory journals folder current None (wanting name)
+memory_read false journals folder current name is = inr (inr (inl (refl, ap wanting is)))
+memory_read true journals folder current name is = inr (inl (refl, ap wanting is))
 
 pub by_name_of : (second number : Bool) (why : Cut) (journals : Bool) (folder : Folder) (current : Bytes) (file : Option Opened) (lines : List Bytes) → second ≡ number
     → NamedUntil number why journals folder current file lines → NamedUntil second why journals folder current file lines
@@ -189,9 +246,14 @@ pub used_first : (journals : Bool) (world : World) (current : Bytes) (before aft
 used_first journals world current before after found file lines none finds opens added = inr (none, refl, (found, file, finds, opens, added))
 
 -- the file of a package that isn't read from standard input
-found_there : (journals : Bool) (world : World) (current : Bytes) → (journals ≡ false → current ≡ input_package → ⊥) → Finds journals world current (found_in world.folder current)
-found_there true world current other = inr (inl refl, refl)
-found_there false world current other = inr (inr (other refl), refl)
+in_folder : (journals : Bool) (current : Bytes) → (journals ≡ false → current ≡ input_package → ⊥) → IsInFolder journals current
+in_folder true current other = inl refl
+in_folder false current other = inr (other refl)
+
+-- a package that has no file from now on
+closed_added : (current : Bytes) (before after : List Used) (file : Option Opened) → after ≡ before ++ record { «package» = current; file = file } ∷ [] → file ≡ None
+    → after ≡ before ++ record { «package» = current; file = None } ∷ []
+closed_added current before after file added closed = added ∙ ap (λ (f : Option Opened). before ++ record { «package» = current; file = f } ∷ []) closed
 
 -- what was opened of a package that was not used before
 uses_until : (why : Cut) (journals : Bool) (world : World) (current : Bytes) (before after : List Used) (file : Option Opened) (number : Option ℕ) (lines : List Bytes)
@@ -200,14 +262,19 @@ uses_until : (why : Cut) (journals : Bool) (world : World) (current : Bytes) (be
     → Uses why journals world current before number lines after
 uses_until c.Whole journals world current before after file number lines other none opens added at =
     let found = found_in world.folder current in
-    let uses = used_first journals world current before after found file lines none (found_there journals world current other) opens added in
+    let uses = used_first journals world current before after found file lines none (inr (in_folder journals current other, refl)) opens added in
     (length before, uses, last_place before after current file number added at)
-uses_until c.Memory journals world current before after file number lines other none (closed, told) added at = (
-  at ∙ ap (option_map (λ (_ : Opened). length before)) closed,
-  told,
-  inr (added ∙ ap (λ (f : Option Opened). before ++ record { «package» = current; file = f } ∷ []) closed),
-)
-uses_until c.Files journals world current before after file number lines other none opens added at = (none, (file, opens, added, at))
+uses_until c.Memory journals world current before after file number lines other none opens added at =
+    let closed = memory_closes journals world.folder current file lines opens in (
+      none,
+      at ∙ ap (option_map (λ (_ : Opened). length before)) closed,
+      inr (
+        closed_added current before after file added closed,
+        inr (in_folder journals current other, subst (λ (f : Option Opened). OpensUntil c.Memory journals world.folder current f lines) closed opens),
+      ),
+    )
+uses_until c.Files journals world current before after file number lines other none opens added at =
+    (none, in_folder journals current other, (file, opens, added, at))
 uses_until _ journals world current before after file number lines other none opens added at = absurd opens
 
 -- the file of a package that was not used before was read, or memory is refused
@@ -240,12 +307,12 @@ input_uses c.Read world before after file number lines none added at (closed, to
   none,
   at ∙ ap (option_map (λ (_ : Opened). length before)) closed,
   told,
-  added ∙ ap (λ (f : Option Opened). before ++ record { «package» = input_package; file = f } ∷ []) closed,
+  closed_added input_package before after file added closed,
 )
 input_uses c.Memory world before after file number lines none added at (closed, told) = (
+  none,
   at ∙ ap (option_map (λ (_ : Opened). length before)) closed,
-  told,
-  inr (added ∙ ap (λ (f : Option Opened). before ++ record { «package» = input_package; file = f } ∷ []) closed),
+  inr (closed_added input_package before after file added closed, inl (refl, refl, told)),
 )
 input_uses _ world before after file number lines none added at reads = absurd reads
 
@@ -272,6 +339,11 @@ uses_input sink world journals current remaining left_over before after why file
 abbrev pub StayBut : List Used → List Used → Type 0
 StayBut before after = (after ≡ before) ⊎ ((place : ℕ) × (file : Option Opened) × (after ≡ with_opened place file before))
 
+unkept_stays : (why : Cut) (step : RunStep) (place : ℕ) (folder folder' : Folder) (before after : Progress) (lines : List Bytes)
+    → LeavesUnkept why step place folder before lines folder' after → StayBut before.used after.used
+unkept_stays why step place folder folder' before after lines leaves =
+    inr (place, Some (after_keeping (Err (Pair leaves.fault)) leaves.history leaves.file), ap (λ (now : Progress). now.used) leaves.state_is)
+
 pub answers_stay : (why : Cut) (journals : Bool) (step : RunStep) (number : Option ℕ) (folder folder' : Folder) (before after : Progress) (lines : List Bytes)
     → Answers why journals step number folder before lines folder' after → StayBut before.used after.used
 answers_stay c.Whole journals step None folder folder' before after lines (told, still, is) = inl (ap (λ (now : Progress). now.used) is)
@@ -280,9 +352,9 @@ answers_stay c.Whole journals step (Some place) folder folder' before after line
     go : (found : Option Opened) → AnswersIn journals step place found folder before lines folder' after → StayBut before.used after.used
     go None (told, still, is) = inl (ap (λ (now : Progress). now.used) is)
     go (Some file) (answer, history, leads, following, told, is) = inr (place, Some (file_after journals answer history file), ap (λ (now : Progress). now.used) is)
-answers_stay c.Memory journals step (Some place) folder folder' before after lines ((told, (file, is)), kept) = inr (place, file, ap (λ (now : Progress). now.used) is)
-answers_stay c.Files journals step (Some place) folder folder' before after lines (kept, leaves) =
-    inr (place, Some (after_keeping (Err (Pair leaves.fault)) leaves.history leaves.file), ap (λ (now : Progress). now.used) leaves.state_is)
+answers_stay c.Memory journals step (Some place) folder folder' before after lines (inl fails) = inl (ap (λ (now : Progress). now.used) fails.state_is)
+answers_stay c.Memory journals step (Some place) folder folder' before after lines (inr (kept, leaves)) = unkept_stays c.Memory step place folder folder' before after lines leaves
+answers_stay c.Files journals step (Some place) folder folder' before after lines (kept, leaves) = unkept_stays c.Files step place folder folder' before after lines leaves
 answers_stay _ journals step number folder folder' before after lines answers = absurd answers
 
 -- a step changes no package

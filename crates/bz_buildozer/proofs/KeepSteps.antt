@@ -4,19 +4,19 @@ use Rattle.std.specs.Option.{option_map_or}
 use Rattle.std.specs.Prelude.{IsSome}
 use Rattle.std.proofs.lemmas.Bool.Decides.{eqb_tells}
 use Rattle.bz_buildozer.specs.Words.{Bytes, Target, Verb, Refusal, Holds, PairFault, Cut, Ghosts as FilesOf, first_cut}
-use Rattle.bz_buildozer.specs.Sessions.{KeepFault, Pair, Refused, KeepsFile, Action, Reply, History, Leads, present}
+use Rattle.bz_buildozer.specs.Sessions.{KeepFault, Pair, Refused, KeepsFile, Action, Acts, Printed, Reply, History, Leads, present}
 use Rattle.bz_value.specs.declared.refusal.Refusal.TheVariants.{Memory}
-use Rattle.bz_buildozer.specs.Keeps.{KeepsAt, after_keeping, file_left, FolderAfter, is_left_at}
-use Rattle.bz_buildozer.specs.Found.{Opened, Used, file_at}
+use Rattle.bz_buildozer.specs.Keeps.{KeepsAt, file_left, FolderAfter, is_left_at, left_out}
+use Rattle.bz_buildozer.specs.Found.{Opened, Used, file_at, with_opened}
 use Rattle.bz_resume.specs.declared.pair_fault.PairFault.TheVariants as f
 use Rattle.bz_streams.specs.declared.exit.Cut.TheVariants as c
 use Rattle.bz_streams.proofs.Outputs.{counts_more}
 use Rattle.bz_buildozer.specs.Calls.{WorksOn}
 use Rattle.bz_buildozer.specs.Moments.{AllAreSafe}
-use Rattle.bz_buildozer.specs.Reported.{unkept_line}
-use Rattle.bz_buildozer.specs.Run.{Answers, AreHints, IsKeptAt, Progress, reply_notes, printed_in, reported_of}
+use Rattle.bz_buildozer.specs.Reported.{refusal_line, unkept_line}
+use Rattle.bz_buildozer.specs.Run.{Answers, AreHints, CutsPair, LeavesUnkept, Progress, reply_notes, printed_in, reported_of}
 use Rattle.bz_buildozer.specs.Steps.{action_of}
-use Rattle.bz_buildozer.proofs.ActSteps.{file_put, led_on, led_to, still_open, fails_at, free_file, hints_by, leads_by, memory_answers, refused, replied, step_at, still_same}
+use Rattle.bz_buildozer.proofs.ActSteps.{file_still, led_on, led_to, still_open, free_file, hints_by, leads_by, memory_answers, printed_still, put_again, refused, refused_by, refused_still, replied, step_at, still_same}
 use Rattle.bz_buildozer.proofs.CutSteps.{files_cut}
 use Rattle.bz_buildozer.proofs.SafeSteps.{goes_on_there, safe_at, survived}
 
@@ -124,30 +124,36 @@ module _ {F : Type 0} (files : FilesOf F) (counts : (held : F) (t : ℕ) → t �
       (leads_by target verb note action done.file.history done.history (Ok reply) requested (led_on done.file.history done.history action note reply done.keeps))
       (following_of reply done) done.kept said is
 
-  -- it was done, and what it prints is not kept
-  pub unprinted_answers : (result : Cut) (reply : Reply) (done : Kept (Ok reply)) (line printed : Bytes) → result ≡ c.Memory → printed ≡ before.printed
-      → after ≡ record { used = used; printed = printed; failed = true } → Did result (line ∷ [])
-  unprinted_answers result reply done line printed memory same is =
-      memory_answers result journals (step_at target verb note) place (files.folder old) (files.folder new) before after (line ∷ []) memory
-      (fails_at place next before after used printed line done.kept same is) (go journals refl)
+  -- What it prints is not kept: nothing else was done.
+  pub unprinted_answers : (result : Cut) (reply : Reply) (text : Bytes) (done : Kept (Ok reply)) (printed : Bytes) → reply ≡ Printed text → result ≡ c.Memory
+      → printed ≡ before.printed → after ≡ record { used = used; printed = printed; failed = true } → Did result (refusal_line journals done.file.name note Memory ∷ [])
+  unprinted_answers result reply text done printed prints memory same is =
+      memory_answers result journals (step_at target verb note) place (files.folder old) (files.folder new) before after (refusal_line journals done.file.name note Memory ∷ []) memory (record {
+        file = done.file;
+        refusal = Memory;
+        there = free_file journals place before.used done.file done.there free;
+        refused = refused_by target verb note action done.file.history Memory requested
+            (inr (refl, (text, subst (λ (h : History). Acts action note done.file.history (Ok (Printed text)) h) stays acts)));
+        reported = refl;
+        still = go journals refl;
+        state_is = is ∙ ap (λ (it : Bytes). record { used = used; printed = it; failed = true }) same ∙ ap (λ (u : List Used). record before { used = u; failed = true }) put;
+      })
     where
-      next : Opened
-      next = file_left journals (Ok reply) done.history done.file
+      acts : Acts action note done.file.history (Ok (Printed text)) done.history
+      acts = subst (λ (it : Reply). Acts action note done.file.history (Ok it) done.history) prints done.keeps
 
-      go : (b : Bool) → journals ≡ b → (files.folder new ≡ files.folder old) ⊎ ((journals ≡ true) × IsKeptAt place after.used (files.folder old) (files.folder new))
-      go false plain = inl (ap files.folder (done.plain plain).0)
-      go true kept = elim (kept_folder reply done kept) [
-        | inl stays ↦ inl stays.1
-        | inr pair ↦ inr (
-          kept,
-          (
-            file_left true (Ok reply) done.history done.file,
-            ap (λ (state : Progress). file_at place state.used) is ∙ file_put place before.used used done.file next done.there done.kept
-                ∙ ap (λ (b : Bool). Some (file_left b (Ok reply) done.history done.file)) kept,
-            pair.1,
-          ),
-        )
-      ]
+      stays : done.history ≡ done.file.history
+      stays = printed_still action note text done.file.history done.history acts
+
+      put : used ≡ before.used
+      put = done.kept
+          ∙ ap (λ (h : History). with_opened place (Some (file_left journals (Ok reply) h done.file)) before.used) stays
+          ∙ ap (λ (it : Opened). with_opened place (Some it) before.used) (file_still journals reply done.file)
+          ∙ put_again place before.used done.file done.there
+
+      go : (b : Bool) → journals ≡ b → files.folder new ≡ files.folder old
+      go false plain = ap files.folder (done.plain plain).0
+      go true kept = ap files.folder ((done.pair kept).still (ap (λ (h : History). h.cursor) stays))
 
   refused_folder : (refusal : Refusal) → Kept (Err (Refused refusal)) → files.folder new ≡ files.folder old
   refused_folder refusal done = go journals refl
@@ -159,12 +165,34 @@ module _ {F : Type 0} (files : FilesOf F) (counts : (held : F) (t : ℕ) → t �
   pub refused_answers : (result : Cut) (refusal : Refusal) (done : Kept (Err (Refused refusal))) (hint : List Bytes) → (result ≡ c.Whole) ⊎ (result ≡ c.Memory)
       → (result ≡ c.Whole → refusal ≢ Memory) → (result ≡ c.Whole → AreHints (Err refusal) (Some action) done.file.name done.history hint) → (result ≡ c.Memory → hint ≡ [])
       → after ≡ record before { used = used; failed = true } → Did result (reported_of journals done.file.name note (Err refusal) hint)
-  refused_answers result refusal done hint kinds other hints none is =
-      refused journals (step_at target verb note) place done.file done.history (files.folder old) (files.folder new) before after used
-      (free_file journals place before.used done.file done.there free) result refusal hint kinds
-      (λ whole. leads_by target verb note action done.file.history done.history (Err refusal) requested
-      (led_to done.file.history done.history action note refusal done.keeps (other whole)))
-      (λ whole. hints_by target verb action done.file.name done.history (Err refusal) hint requested (hints whole)) none (refused_folder refusal done) done.kept is
+  refused_answers result refusal done hint kinds other hints none is = go kinds
+    where
+      there : left_out journals (file_at place before.used) ≡ Some done.file
+      there = free_file journals place before.used done.file done.there free
+
+      stays : done.history ≡ done.file.history
+      stays = refused_still action note done.file.history done.history refusal done.keeps
+
+      put : used ≡ before.used
+      put = done.kept ∙ ap (λ (h : History). with_opened place (Some (record done.file { history = h })) before.used) stays ∙ put_again place before.used done.file done.there
+
+      go : (result ≡ c.Whole) ⊎ (result ≡ c.Memory) → Did result (reported_of journals done.file.name note (Err refusal) hint)
+      go (inl whole) = subst (λ (it : Cut). Did it (reported_of journals done.file.name note (Err refusal) hint)) (sym whole)
+          (refused journals (step_at target verb note) place done.file done.history (files.folder old) (files.folder new) before after used there refusal hint
+          (leads_by target verb note action done.file.history done.history (Err refusal) requested
+          (led_to done.file.history done.history action note refusal done.keeps (other whole)))
+          (hints_by target verb action done.file.name done.history (Err refusal) hint requested (hints whole)) (refused_folder refusal done) done.kept is)
+      go (inr memory) = memory_answers result journals (step_at target verb note) place (files.folder old) (files.folder new) before after
+          (reported_of journals done.file.name note (Err refusal) hint) memory (record {
+            file = done.file;
+            refusal = refusal;
+            there = there;
+            refused = refused_by target verb note action done.file.history refusal requested
+                (inl (subst (λ (h : History). Acts action note done.file.history (Err refusal) h) stays done.keeps));
+            reported = ap (λ (it : List Bytes). refusal_line journals done.file.name note refusal ∷ it) (none memory);
+            still = refused_folder refusal done;
+            state_is = is ∙ ap (λ (u : List Used). record before { used = u; failed = true }) put;
+          })
 
   -- the last moment of a pair that was not written
   pub unkept_answers : (result : Cut) (fault : PairFault) (done : Kept (Err (Pair fault)))
@@ -197,29 +225,26 @@ module _ {F : Type 0} (files : FilesOf F) (counts : (held : F) (t : ℕ) → t �
       untouched : fault ≢ f.Write → files.folder new ≡ files.folder old
       untouched other = pair.untouched (honest kept) (λ same. other (pair_is fault f.Write same)) (files.folder new) last
 
+      -- it is left alone
+      unkept : (cut : Cut) → CutsPair cut fault → LeavesUnkept cut (step_at target verb note) place (files.folder old) before (unkept_line file.name fault ∷ []) (files.folder new) after
+      unkept cut failed = record {
+        file = file;
+        action = action;
+        history = done.history;
+        fault = fault;
+        there = done.there;
+        stays = free_at kept file done.there;
+        requested = requested;
+        keeps = done.keeps;
+        failed = failed;
+        reported = refl;
+        survives = survived files file old new done.history (files.folder new) holds (pair.each (honest kept) (present file.history, holds) (files.folder new) last);
+        untouched = untouched;
+        state_is = is ∙ ap (λ (u : List Used). record before { used = u; failed = true }) done.kept;
+      }
+
       go : ((result ≡ c.Whole) × (fault ≡ f.Changed)) ⊎ ((result ≡ c.Memory) × (fault ≡ f.Memory)) ⊎ ((result ≡ c.Files) × IsWritten fault)
           → Did result (unkept_line done.file.name fault ∷ [])
       go (inl changed) = absurd (not_changed files file done.history fault old new (honest kept) holds pair changed.1)
-      go (inr (inl memory)) =
-          memory_answers result journals (step_at target verb note) place (files.folder old) (files.folder new) before after (unkept_line file.name fault ∷ []) memory.0
-          (fails_at place (after_keeping (Err (Pair fault)) done.history file) before after used before.printed (unkept_line file.name fault) done.kept refl is)
-          (inl (untouched (λ write. let e = sym memory.1 ∙ write in cc)))
-      go (inr (inr written)) =
-          subst (λ (it : Cut). Did it (unkept_line file.name fault ∷ [])) (sym written.0) (
-            kept,
-            record {
-              file = file;
-              action = action;
-              history = done.history;
-              fault = fault;
-              there = done.there;
-              stays = free_at kept file done.there;
-              requested = requested;
-              keeps = done.keeps;
-              failed = written.1;
-              reported = refl;
-              survives = survived files file old new done.history (files.folder new) holds (pair.each (honest kept) (present file.history, holds) (files.folder new) last);
-              untouched = untouched;
-              state_is = is ∙ ap (λ (u : List Used). record before { used = u; failed = true }) done.kept;
-            },
-          )
+      go (inr (inl memory)) = subst (λ (it : Cut). Did it (unkept_line file.name fault ∷ [])) (sym memory.0) (inr (kept, unkept c.Memory memory.1))
+      go (inr (inr written)) = subst (λ (it : Cut). Did it (unkept_line file.name fault ∷ [])) (sym written.0) (kept, unkept c.Files written.1)

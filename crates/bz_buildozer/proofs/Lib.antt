@@ -1,4 +1,5 @@
 pub mod ActSteps
+pub mod CourseSteps
 pub mod CutSteps
 pub mod EndingSteps
 pub mod ExactOutcomes
@@ -6,6 +7,7 @@ pub mod ExactReads
 pub mod ExactSteps
 pub mod FailSteps
 pub mod KeepSteps
+pub mod NamedLines
 pub mod Outcomes
 pub mod PlaceSteps
 pub mod ReadSteps

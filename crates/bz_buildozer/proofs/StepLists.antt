@@ -1,9 +1,10 @@
 -- Tests over lists of commands, targets and lines.
-use Rattle.std.proofs.Common.{ap, ◌∙◌, ◌≡◌, refl, List, [], ◌∷◌, map, Bool, true, false, ◌||◌, ◌&&◌, not}
+use Rattle.std.proofs.Common.{arith, ap, ◌∙◌, ◌≡◌, ◌≤◌, length, refl, List, [], ◌∷◌, map, Bool, true, false, ◌||◌, ◌&&◌, not}
 use Rattle.std.specs.List.{flat_map, list_any}
 use Rattle.std.proofs.Math.Bool.{and-false}
+use Rattle.std.proofs.lemmas.List.{length-map}
 use Rattle.std.proofs.lemmas.List.Folds.{list_any-append}
-use Rattle.bz_buildozer.specs.Words.{Requested, Request, prints, requested_in, request_in}
+use Rattle.bz_buildozer.specs.Words.{Requested, Request, Target, prints, requested_in, request_in}
 use Rattle.bz_command_line.specs.declared.requested.Requested.{Requested as Held}
 use Rattle.bz_buildozer.specs.private.Shown.{targets_input_in, shown_in}
 use Rattle.bz_buildozer.specs.Steps.{step_of, steps_requested, all_steps, is_of_input, is_shown_by, shows_input, names_input}
@@ -53,6 +54,17 @@ shown_by_lines lines =
     ∙ any_map (λ (requested : Requested). list_any is_shown_by (steps_requested requested)) requested_in lines
     ∙ any_same (λ (line : Held). list_any is_shown_by (steps_requested (requested_in line))) shown_in
     (λ line. shown_by_line (requested_in line) ∙ ap (λ b. targets_input_in line && b) (any_map prints_nothing request_in line.commands.items)) lines
+
+-- one command on one target is one step
+pub one_step : (line : Held) → length line.commands.items ≡ 1 → length line.targets.items ≡ 1 → length (steps_requested (requested_in line)) ≤ 1
+one_step line alone single = go (map request_in line.commands.items) line.targets.items (length-map line.commands.items request_in ∙ alone) single
+  where
+    go : (commands : List Request) (targets : List Target) → length commands ≡ 1 → length targets ≡ 1 → length (steps_requested (record { commands = commands; targets = targets })) ≤ 1
+    go [] targets alone single = absurd (let e = alone in cc)
+    go (command ∷ []) [] alone single = absurd (let e = single in cc)
+    go (command ∷ []) (target ∷ []) alone single = omega arith
+    go (command ∷ []) (target ∷ other ∷ more) alone single = absurd (omega (arith, single))
+    go (command ∷ other ∷ more) targets alone single = absurd (omega (arith, alone))
 
 pub named_in_lines : (lines : List Held) → names_input (map requested_in lines) ≡ list_any targets_input_in lines
 named_in_lines lines = any_map (λ (requested : Requested). list_any is_of_input requested.targets) requested_in lines

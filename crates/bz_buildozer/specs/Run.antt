@@ -1,16 +1,17 @@
 -- What steps do, one after the other. Each relation takes why it is cut; where nothing fails that is `Whole`. (The flag: journals are kept.)
-use Rattle.std.specs.Prelude.{◌≡◌, ◌≢◌, ◌⊎◌, ◌&&◌, ◌||◌, not, Bool, true, false, ℕ, List, [], ◌∷◌, ◌++◌, codes, length, is_err, Option, Some, None, Ok, Err}
+use Rattle.std.specs.Prelude.{◌≡◌, ◌≢◌, ◌⊎◌, ◌&&◌, ◌||◌, not, Bool, true, false, ℕ, List, [], ◌∷◌, ◌++◌, bytes_eq, codes, if◌then◌else◌, length, is_err, IsSome, Option, Some, None, Ok, Err}
 use Rattle.std.specs.FinMap.{get}
 use Rattle.std.specs.Option.{option_map}
-use Rattle.bz_buildozer.specs.Words.{Reads, lines_of, Node, view_of, change_notes, refusal_hint, Bytes, Folder, journal_name, Survives, PairFault, first_cut, IsInput, stdin, named_line, Cut}
-use Rattle.bz_value.specs.declared.refusal.Refusal.TheVariants.{NoteTooLong}
-use Rattle.bz_buildozer.specs.Sessions.{Pair, Keeps, Action, Do, present, Reply, Changed, Same, Printed, Moved, History, Answer, Leads, listing}
+use Rattle.bz_buildozer.specs.Words.{Reads, lines_of, Node, view_of, change_notes, refusal_hint, Bytes, Folder, journal_name, Survives, PairFault, Refusal, first_cut, IsInput, stdin, named_line, Cut}
+use Rattle.bz_value.specs.declared.refusal.Refusal.TheVariants.{Memory, NoteTooLong}
+use Rattle.bz_buildozer.specs.Sessions.{Pair, Keeps, Action, Do, present, Reply, Changed, Same, Printed, Moved, History, Acts, Answer, Leads, listing}
+use Rattle.bz_resume.specs.declared.fault.ResumeFault.TheVariants as r
 use Rattle.bz_resume.specs.declared.pair_fault.PairFault.TheVariants as f
 use Rattle.bz_streams.specs.declared.exit.Cut.TheVariants as c
 use Rattle.bz_buildozer.specs.Found.{PackagesFound, first_name, found_in, found_second, second_name, Opened, Used, package_number, file_at, with_opened}
-use Rattle.bz_buildozer.specs.Journals.{OpensBeside, TakesBeside, journal_beside}
-use Rattle.bz_buildozer.specs.Keeps.{FolderAfter, KeepsHistory, file_after, left_out, after_keeping}
-use Rattle.bz_buildozer.specs.Reported.{refusal_line, unkept_line}
+use Rattle.bz_buildozer.specs.Journals.{OpensBeside, TakesBeside, fault_lines, journal_beside, of_resuming}
+use Rattle.bz_buildozer.specs.Keeps.{FolderAfter, file_after, left_out, after_keeping}
+use Rattle.bz_buildozer.specs.Reported.{refusal_line, unkept_line, unread_line}
 use Rattle.bz_buildozer.specs.Steps.{RunStep, action_of, input_package}
 
 -- what can be read: the files of a folder, and the bytes of standard input where they are known
@@ -27,45 +28,67 @@ pub record Progress : Type 0 where
 abbrev pub nothing_done : Progress
 nothing_done = record { used = []; printed = []; failed = false }
 
--- one line
-abbrev pub AreOneLine : List Bytes → Type 0
-AreOneLine lines = (line : Bytes) × (lines ≡ line ∷ [])
-
 -- a file that can't be read
 abbrev pub unreadable : Bytes → List Bytes
 unreadable name = named_line name (codes "cannot open") ∷ []
 
+-- a file for which memory is refused
+abbrev pub wanting : Bytes → List Bytes
+wanting name = named_line name (codes "Memory") ∷ []
+
+-- Memory is refused before the file of a package has its name: the line is of `BUILD`, or of standard input.
+abbrev pub wanting_name : Bytes → List Bytes
+wanting_name current = wanting (if bytes_eq current input_package then stdin else second_name current)
+
 -- ---- the package of a step
+
+-- Where journals are kept the file of a package is in the folder, without them that of each package but `-`.
+abbrev pub IsInFolder : Bool → Bytes → Type 0
+IsInFolder journals current = (journals ≡ true) ⊎ (current ≢ input_package)
 
 -- Without journals package `-` is read from standard input; each other one is read from its file in the folder.
 abbrev pub Finds : Bool → World → Bytes → Option PackagesFound → Type 0
 Finds journals world current found =
     ((journals ≡ false) × (current ≡ input_package) × ((text : Bytes) × IsInput world.known text × (found ≡ Some (stdin, text))))
-    ⊎ (((journals ≡ true) ⊎ (current ≢ input_package)) × (found ≡ found_in world.folder current))
+    ⊎ (IsInFolder journals current × (found ≡ found_in world.folder current))
+
+-- Memory is refused for a file or for its journal, which the line names. That of a journal that is there may be refused as it is resumed.
+abbrev pub WantsMemory : Bool → Folder → Bytes → List Bytes → Type 0
+WantsMemory journals folder name lines = (lines ≡ wanting name)
+    ⊎ ((journals ≡ true) × (lines ≡ wanting (journal_name name)))
+    ⊎ (IsSome (journal_beside journals folder name) × (lines ≡ fault_lines (journal_name name) (of_resuming r.Memory)))
 
 -- A file that was found is opened, or its journal can't be read. Where memory is refused nothing is open, and a line says so.
 abbrev pub TakesUntil : Cut → Bool → Folder → Bytes → Bytes → Bytes → Option Opened → List Bytes → Type 0
 TakesUntil c.Whole journals folder current name text file lines = TakesBeside (journal_beside journals folder name) current name text file lines
 TakesUntil c.Files journals folder current name text file lines = (journals ≡ true) × (file ≡ None) × (lines ≡ unreadable (journal_name name))
-TakesUntil c.Memory journals folder current name text file lines = (file ≡ None) × AreOneLine lines
+TakesUntil c.Memory journals folder current name text file lines = (file ≡ None) × WantsMemory journals folder name lines
 TakesUntil why journals folder current name text file lines = ⊥
 
--- `BUILD` is opened, or it or its journal can't be read.
+-- The file of this name can't be read, or memory is refused for it; or it is there, and is not opened for its journal.
+abbrev pub FindsUntil : Cut → Bool → Folder → Bytes → Bytes → Option Opened → List Bytes → Type 0
+FindsUntil why journals folder current name file lines = ((file ≡ None) × (lines ≡ unread_line name why ∷ []))
+    ⊎ ((text : Bytes) × (get folder name ≡ Some text) × TakesUntil why journals folder current name text file lines)
+
+-- `BUILD` is opened, or it or its journal can't be read, or memory is refused.
 abbrev pub SecondUntil : Cut → Bool → Folder → Bytes → Option Opened → List Bytes → Type 0
 SecondUntil c.Whole journals folder current file lines = OpensBeside journals folder current (found_second folder current) file lines
-SecondUntil c.Files journals folder current file lines =
-    (file ≡ None) × ((lines ≡ unreadable (second_name current)) ⊎ ((journals ≡ true) × (lines ≡ unreadable (journal_name (second_name current)))))
-SecondUntil c.Memory journals folder current file lines = (file ≡ None) × AreOneLine lines
+SecondUntil c.Files journals folder current file lines = FindsUntil c.Files journals folder current (second_name current) file lines
+SecondUntil c.Memory journals folder current file lines =
+    ((file ≡ None) × (lines ≡ wanting_name current)) ⊎ FindsUntil c.Memory journals folder current (second_name current) file lines
 SecondUntil why journals folder current file lines = ⊥
 
--- The file that is found for a package is opened, or can't be read. Where `BUILD.bazel` can't be, that is reported, and `BUILD` is tried.
+-- The file that is found for a package is opened, or can't be read, or memory is refused. Where `BUILD.bazel` can't be read, that is
+-- reported, and `BUILD` is tried.
 abbrev pub OpensUntil : Cut → Bool → Folder → Bytes → Option Opened → List Bytes → Type 0
 OpensUntil c.Whole journals folder current file lines = OpensBeside journals folder current (found_in folder current) file lines
 OpensUntil c.Files journals folder current file lines =
     ((why : Cut) × (more : List Bytes) × (lines ≡ unreadable (first_name current) ++ more) × SecondUntil why journals folder current file more)
     ⊎ (((get folder (first_name current) ≡ None) × SecondUntil c.Files journals folder current file lines)
-    ⊎ ((journals ≡ true) × (file ≡ None) × (lines ≡ unreadable (journal_name (first_name current)))))
-OpensUntil c.Memory journals folder current file lines = (file ≡ None) × AreOneLine lines
+    ⊎ ((text : Bytes) × (get folder (first_name current) ≡ Some text) × TakesUntil c.Files journals folder current (first_name current) text file lines))
+OpensUntil c.Memory journals folder current file lines = ((file ≡ None) × (lines ≡ wanting_name current))
+    ⊎ (((get folder (first_name current) ≡ None) × SecondUntil c.Memory journals folder current file lines)
+    ⊎ FindsUntil c.Memory journals folder current (first_name current) file lines)
 OpensUntil why journals folder current file lines = ⊥
 
 -- A package is read and opened where it is used first, with the journal of its file where journals are kept; it gets the next number.
@@ -76,17 +99,23 @@ UsesWhole journals world current before place lines after =
     × ((found : Option PackagesFound) × (file : Option Opened) × Finds journals world current found × OpensBeside journals world.folder current found file lines
     × (after ≡ before ++ record { «package» = current; file = file } ∷ [])))
 
+-- Memory is refused for a package, which has no file then: for its name, for standard input, or for its file in the folder.
+abbrev pub UsesNone : Bool → World → Bytes → List Bytes → Type 0
+UsesNone journals world current lines = ((journals ≡ false) × (current ≡ input_package) × (lines ≡ wanting stdin))
+    ⊎ (IsInFolder journals current × OpensUntil c.Memory journals world.folder current None lines)
+
 -- The package of a step is used, and this is its number where its file is open. One that can't be read has none from now on.
 abbrev pub Uses : Cut → Bool → World → Bytes → List Used → Option ℕ → List Bytes → List Used → Type 0
 Uses c.Whole journals world current before number lines after =
     (place : ℕ) × UsesWhole journals world current before place lines after × (number ≡ option_map (λ _. place) (file_at place after))
-Uses c.Files journals world current before number lines after = (package_number current before ≡ None)
+Uses c.Files journals world current before number lines after = (package_number current before ≡ None) × IsInFolder journals current
     × ((file : Option Opened) × OpensUntil c.Files journals world.folder current file lines
     × (after ≡ before ++ record { «package» = current; file = file } ∷ []) × (number ≡ option_map (λ _. length before) file))
 Uses c.Read journals world current before number lines after = (journals ≡ false) × (current ≡ input_package) × (package_number current before ≡ None)
     × (number ≡ None) × (lines ≡ unreadable stdin) × (after ≡ before ++ record { «package» = current; file = None } ∷ [])
-Uses c.Memory journals world current before number lines after = (number ≡ None) × AreOneLine lines
-    × ((after ≡ before) ⊎ (after ≡ before ++ record { «package» = current; file = None } ∷ []))
+Uses c.Memory journals world current before number lines after = (package_number current before ≡ None) × (number ≡ None)
+    × (((after ≡ before) × (lines ≡ wanting_name current))
+    ⊎ ((after ≡ before ++ record { «package» = current; file = None } ∷ []) × UsesNone journals world current lines))
 Uses c.Write journals world current before number lines after = ⊥
 
 -- ---- one step
@@ -144,19 +173,34 @@ AnswersIn journals step place (Some file) folder state lines folder' after =
     × ((hint : List Bytes) × AreHints answer (action_of step.target step.request.verb) file.name history hint × (lines ≡ reported_of journals file.name step.request.text answer hint))
     × (after ≡ state_after journals place file answer history state)
 
--- Memory is refused to a step in the open file of this number: it fails and prints nothing, a line says so; the file as it left it is open.
-abbrev pub FailsAt : ℕ → Progress → List Bytes → Progress → Type 0
-FailsAt place state lines after =
-    AreOneLine lines × ((file : Option Opened) × (after ≡ record state { used = with_opened place file state.used; failed = true }))
+-- What is reported of a command to which memory is refused: that, where it was refused to list the texts, to the action, or to what it
+-- answers; or the refusal to which the action leads, where it was refused to what helps below.
+abbrev pub RefusesBy : Option Action → Bytes → History → Refusal → Type 0
+RefusesBy None note h refusal = refusal ≡ Memory
+RefusesBy (Some action) note h refusal =
+    Acts action note h (Err refusal) h ⊎ ((refusal ≡ Memory) × ((text : Bytes) × Acts action note h (Ok (Printed text)) h))
 
--- The open file of this number is kept in the folder with its history.
-abbrev pub IsKeptAt : ℕ → List Used → Folder → Folder → Type 0
-IsKeptAt place used before after = (file : Opened) × (file_at place used ≡ Some file) × KeepsHistory file.name file.history before after
+-- Memory is refused to a step in the open file of this number: it fails, the line of its command is reported, and nothing else changes,
+-- neither a history nor the folder.
+pub record FailsAt (journals : Bool) (step : RunStep) (place : ℕ) (folder : Folder) (state : Progress) (lines : List Bytes) (folder' : Folder) (after : Progress) : Type 0 where
+  pub file : Opened
+  pub refusal : Refusal
+  pub there : left_out journals (file_at place state.used) ≡ Some file
+  pub refused : RefusesBy (action_of step.target step.request.verb) step.request.text file.history refusal
+  pub reported : lines ≡ refusal_line journals file.name step.request.text refusal ∷ []
+  pub still : folder' ≡ folder
+  pub state_is : after ≡ record state { failed = true }
+
+-- which fault of a pair cuts a step so
+abbrev pub CutsPair : Cut → PairFault → Type 0
+CutsPair c.Memory fault = fault ≡ f.Memory
+CutsPair c.Files fault = (fault ≡ f.Write) ⊎ (fault ≡ f.Open)
+CutsPair why fault = ⊥
 
 -- A step's action is done in the open file of this number, which isn't left alone, and its journal and it could not both be written: that is
 -- reported, the step fails, and the file is left alone from then on. It goes on with the texts of before or after, and holds the present
--- text of either.
-pub record LeavesUnkept (step : RunStep) (place : ℕ) (folder : Folder) (state : Progress) (lines : List Bytes) (folder' : Folder) (after : Progress) : Type 0 where
+-- text of either. (Why that cuts it.)
+pub record LeavesUnkept (why : Cut) (step : RunStep) (place : ℕ) (folder : Folder) (state : Progress) (lines : List Bytes) (folder' : Folder) (after : Progress) : Type 0 where
   pub file : Opened
   pub action : Action
   pub history : History
@@ -165,21 +209,21 @@ pub record LeavesUnkept (step : RunStep) (place : ℕ) (folder : Folder) (state 
   pub stays : file.left ≡ false
   pub requested : action_of step.target step.request.verb ≡ Some action
   pub keeps : Keeps action step.request.text file.history (Err (Pair fault)) history
-  pub failed : (fault ≡ f.Write) ⊎ (fault ≡ f.Open)
+  pub failed : CutsPair why fault
   pub reported : lines ≡ unkept_line file.name fault ∷ []
   pub survives : Survives file.name file.history history folder folder'
   pub untouched : fault ≢ f.Write → folder' ≡ folder
   pub state_is : after ≡ record state { used = with_opened place (Some (after_keeping (Err (Pair fault)) history file)) state.used; failed = true }
 
 -- What a step does in the open file of this number, and in the folder; without one it does nothing and fails. A file that is left alone is as
--- none. Where memory is refused the folder stays, or with journals the file is kept.
+-- none. Memory may be refused to the step, which then changes nothing, or with journals, once its action is done, to keeping that.
 abbrev pub Answers : Cut → Bool → RunStep → Option ℕ → Folder → Progress → List Bytes → Folder → Progress → Type 0
 Answers c.Whole journals step None folder state lines folder' after = (lines ≡ []) × (folder' ≡ folder) × (after ≡ record state { failed = true })
 Answers c.Whole journals step (Some place) folder state lines folder' after =
     AnswersIn journals step place (left_out journals (file_at place state.used)) folder state lines folder' after
 Answers c.Memory journals step (Some place) folder state lines folder' after =
-    FailsAt place state lines after × ((folder' ≡ folder) ⊎ ((journals ≡ true) × IsKeptAt place after.used folder folder'))
-Answers c.Files journals step (Some place) folder state lines folder' after = (journals ≡ true) × LeavesUnkept step place folder state lines folder' after
+    FailsAt journals step place folder state lines folder' after ⊎ ((journals ≡ true) × LeavesUnkept c.Memory step place folder state lines folder' after)
+Answers c.Files journals step (Some place) folder state lines folder' after = (journals ≡ true) × LeavesUnkept c.Files step place folder state lines folder' after
 Answers why journals step number folder state lines folder' after = ⊥
 
 -- Its package is opened, if it was not used before; then its command is done there. (The folder after it.)

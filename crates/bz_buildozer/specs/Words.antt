@@ -23,6 +23,7 @@ pub use Rattle.bz_journal.specs.Actions.{action_in}
 pub use Rattle.bz_journal.specs.Forms.{past_history}
 pub use Rattle.bz_journal.specs.History.{History, present}
 pub use Rattle.bz_journal.specs.Keeping.{IsRefused, IsWriteOrOpen}
+pub use Rattle.bz_journal.specs.declared.past.Form.{Form}
 pub use Rattle.bz_journal_format.specs.Texts.{IsOtherVersion}
 pub use Rattle.bz_label.specs.declared.target.Target.{Target}
 pub use Rattle.bz_lex.specs.Faults.{is_of_leaves}

@@ -1,7 +1,7 @@
 -- Worked rows: what each part of a run of buildozer gives. Above a row is what is typed (in a shell), or what was done.
 use Rattle.std.specs.Prelude.{◌≡◌, ℕ, true, false, List, [], ◌∷◌, map, codes, Some, None, Result, Ok, Err}
 use Rattle.std.specs.FinMap.{get}
-use Rattle.bz_value.specs.declared.refusal.Refusal.TheVariants.{NotAList, TooFar, NoTarget}
+use Rattle.bz_value.specs.declared.refusal.Refusal.TheVariants.{Memory, NotAList, TooFar, NoTarget}
 use Rattle.bz_buildozer.specs.Words.{Folder, Requested, Usage, operand_group, stdin, fault_line, Bytes}
 use Rattle.bz_buildozer.specs.Sessions.{changed, undone, redone, Same, Printed}
 use Rattle.bz_streams.specs.declared.exit.Cut.TheVariants as c
@@ -9,7 +9,7 @@ use Rattle.bz_buildozer.specs.Found.{found_in, first_name, second_name, Opened, 
 use Rattle.bz_buildozer.specs.Opens.{opened_fresh}
 use Rattle.bz_buildozer.specs.Reported.{absent_hint, package_hint, refusal_line, operand_line, fixed_line}
 use Rattle.bz_buildozer.specs.Ending.{texts_out, writing_of, status_of}
-use Rattle.bz_buildozer.specs.Run.{Finds, reported_of, printed_by, state_after}
+use Rattle.bz_buildozer.specs.Run.{Finds, reported_of, printed_by, state_after, wanting_name}
 use Rattle.bz_buildozer.specs.Steps.{RunStep, all_steps, shows_input}
 use Rattle.bz_lex.specs.declared.fault.ReadFault.TheVariants.{NotUtf8, Unexpected}
 use Rattle.bz_command_line.specs.declared.verb.OperandFault.TheVariants.{BadTarget}
@@ -136,3 +136,6 @@ WorkedRefusals = (fault_line stdin (Unexpected 12 305) ≡ codes "<stdin>:12:305
     × (refusal_line true (codes "a/BUILD") (codes "redo") TooFar ≡ codes "buildozer: a/BUILD: redo: TooFar (61)\n")
     × (operand_line (record { operand = codes "//a::b"; fault = BadTarget }) ≡ codes "buildozer: //a::b: BadTarget (12)\n")
     × (fixed_line (codes "a/BUILD") ≡ codes "fixed a/BUILD\n")
+    -- Memory is refused: to a command; before a file of //a has its name; for standard input.
+    × (refusal_line false (codes "a/BUILD") (codes "add deps b") Memory ≡ codes "buildozer: a/BUILD: add deps b: Memory (8)\n")
+    × (wanting_name (codes "a") ≡ codes "a/BUILD: Memory\n" ∷ []) × (wanting_name (codes "-") ≡ codes "<stdin>: Memory\n" ∷ [])

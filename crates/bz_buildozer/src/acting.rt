@@ -53,10 +53,10 @@ fn open_file(workspace: &Workspace, place: usize) -> &Opened
     }
 }
 
-// Appends what a reply prints. The error: memory was refused, and nothing is appended.
+// Appends what a reply prints. The error: memory was refused for that, and nothing is appended.
 fn put_printed(reply: &Reply, printed: &mut Vec<u8>) -> Result<(), AllocError>
     ensures ok { OnOk result (printed.new.items ≡ printed.old.items ++ printed_in reply.now) }
-    ensures err { OnErr result (printed.new.items ≡ printed.old.items) }
+    ensures err { OnErr result ((printed.new.items ≡ printed.old.items) × ((text : List ℕ) × (reply.now ≡ Reply.Printed text))) }
 {
     if let Reply::Printed(text) = reply {
         printed.extend_from_slice(text.as_slice())?;
@@ -167,21 +167,21 @@ fn note<E: Sink>(run: &Run, place: usize, action: &Action<'_>, reply: &Reply, er
 }
 
 // Lists the texts of the open file of the package with this number.
-fn list_at<E: Sink>(run: &mut Run, place: usize, command: &str, err: &mut E) -> Cut
+fn list_at<E: Sink>(journals: bool, run: &mut Run, place: usize, command: &str, err: &mut E) -> Cut
     requires { IsSome (file_at place run.old.workspace) }
     ensures kinds { (result ≡ Cut.Whole) ⊎ (result ≡ Cut.Memory) }
-    ensures answers { (journals : Bool) (folder : Folder) (step : RunStep) → (journals && is_left_at place run.old.workspace) ≡ false
-        → s.action_of step.target step.request.verb ≡ None → (lines : List (List ℕ))
+    ensures answers { (folder : Folder) (step : RunStep) → (journals && is_left_at place run.old.workspace) ≡ false
+        → s.action_of step.target step.request.verb ≡ None → step.request.text ≡ command.now → (lines : List (List ℕ))
         × Answers result journals step (Some place) folder (progress_in run.old) lines folder (progress_in run.new) × ReportsLines E.Sink err.old err.new lines }
     ensures same { run.new.workspace ≡ run.old.workspace }
 {
     let alloc = *run.printed.allocator();
     let Ok(text) = open_file(&run.workspace, place).past.listing(alloc) else {
-        return refuse(false, run, place, command, Refusal::Memory, err);
+        return refuse(journals, run, place, command, Refusal::Memory, err);
     };
     match put_printed(&Reply::Printed(text), &mut run.printed) {
         Ok(()) => Cut::Whole,
-        Err(_) => refuse(false, run, place, command, Refusal::Memory, err),
+        Err(_) => refuse(journals, run, place, command, Refusal::Memory, err),
     }
 }
 
@@ -240,9 +240,13 @@ fn act<F: Files, E: Sink>(
     }
     let command = step.request.text;
     let Some(action) = action_of(&step.request.verb, step.target) else {
-        return list_at(run, place, command, err);
+        return list_at(journals, run, place, command, err);
     };
-    match run.workspace.act(journals, place, &action, command, files) {
+    let once = run.once;
+    match run
+        .workspace
+        .act(journals, place, &action, command, once, files)
+    {
         Ok(reply) => match put_printed(&reply, &mut run.printed) {
             Ok(()) => note(run, place, &action, &reply, err),
             Err(_) => refuse(journals, run, place, command, Refusal::Memory, err),

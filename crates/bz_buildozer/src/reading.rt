@@ -7,6 +7,8 @@ ghost use Rattle.bz_buildozer.specs.Found.{in_package};
 ghost use Rattle.bz_buildozer.specs.Journals.{fault_lines, of_package, of_resuming, shown_package};
 ghost use Rattle.bz_buildozer.specs.Keeps.{KeepsFolder};
 ghost use Rattle.bz_buildozer.specs.Reported.{absent_hint, package_hint};
+ghost use Rattle.bz_buildozer.specs.Run.{wanting_name};
+ghost use Rattle.bz_buildozer.specs.private.Taking.{slash_after};
 
 use crate::script::INPUT;
 use crate::used::Opened;
@@ -214,15 +216,22 @@ pub(crate) fn misplaced<'a, E: Sink>(err: &mut E, journal: &'a str, package: &'a
     )
 }
 
+// What is between the path of a package and the name of a file in it.
+fn slash_after(package: &str) -> &'static str
+    ensures { result.now ≡ slash_after «package».now }
+{
+    if package.is_empty() { "" } else { "/" }
+}
+
 /// Reports that memory was refused before a file of the package had its name. No file is open.
 pub(crate) fn unnamed<E: Sink>(err: &mut E, package: &str) -> Taken
     ensures taken { result ≡ record { file = None; cut = Cut.Memory } }
-    ensures told { (line : Bytes) × AppendsUnlessFailed (E.faults err.old) (E.faults err.new) (E.contents err.old) (E.contents err.new) line }
+    ensures told { Reports (E.faults err.old) (E.faults err.new) (E.contents err.old) (E.contents err.new) (wanting_name «package».now) }
 {
     if package == INPUT {
         return fail(err, STDIN, "Memory", Cut::Memory);
     }
-    let slash = if package.is_empty() { "" } else { "/" };
+    let slash = slash_after(package);
     report_pieces(
         err,
         &[

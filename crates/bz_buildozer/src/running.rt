@@ -1,5 +1,5 @@
 //! The steps of lines, one after the other.
-ghost use Rattle.std.specs.Prelude.{map};
+ghost use Rattle.std.specs.Prelude.{◌≡◌, ◌≤◌, length, map, true};
 ghost use Rattle.std.specs.List.{All};
 ghost use Rattle.bz_buildozer.specs.Words.{HasPath, requested_in};
 ghost use Rattle.bz_buildozer.specs.Calls.{spot, Proceeds};
@@ -24,7 +24,8 @@ pub(crate) fn run_lines<R: Source, F: Files, E: Sink>(
     files: &mut F,
     err: &mut E,
 ) -> Cut
-    requires { All (λ requested. All HasPath requested.targets.items) lines.now }
+    requires paths { All (λ requested. All HasPath requested.targets.items) lines.now }
+    requires once { run.old.once.holds ≡ true → length (all_steps (map requested_in lines.now)) ≤ 1 }
     ensures { Proceeds options.journal (AreOfInput (map requested_in lines.now)) (all_steps (map requested_in lines.now))
         (λ why world. RunsSteps why options.journal world options.keep_going (all_steps (map requested_in lines.now))) result
         (spot R.Source F.Files E.Sink run.old input.old files.old err.old) (spot R.Source F.Files E.Sink run.new input.new files.new err.new) }

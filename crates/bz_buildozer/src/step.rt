@@ -1,11 +1,12 @@
 //! Commands and targets as a session takes them.
-ghost use Rattle.std.specs.Prelude.{◌≡◌, option_map};
+ghost use Rattle.std.specs.Prelude.{◌≡◌, ◌≤◌, length, map, option_map, true};
 ghost use Rattle.std.specs.List.{list_any};
 ghost use Rattle.bz_command_line.specs.Paths.{HasPath};
 ghost use Rattle.bz_buildozer.specs.Sessions.{action_in};
 ghost use Rattle.bz_buildozer.specs.Steps as s;
 ghost use Rattle.bz_buildozer.specs.private.Shown.{targets_input_in, prints_nothing_in, shown_in};
-ghost use Rattle.bz_buildozer.specs.Steps.{is_of_input};
+ghost use Rattle.bz_buildozer.specs.Steps.{all_steps, is_of_input, steps_requested};
+ghost use Rattle.bz_buildozer.specs.Words.{requested_in};
 
 use crate::script::INPUT;
 use bz_command_line::{Request, Requested, Verb};
@@ -88,10 +89,39 @@ pub(crate) fn shows_input(lines: &[Requested<'_>]) -> bool
     lines.iter().any(|line| is_shown(line))
 }
 
+// Whether a line is one command on one target.
+fn is_one_step(line: &Requested<'_>) -> bool
+    ensures { result ≡ true → length (steps_requested (requested_in line.now)) ≤ 1 }
+{
+    if line.commands.len() != 1 {
+        return false;
+    }
+    line.targets.len() == 1
+}
+
+/// Whether a run is one step: then no action follows on the text that its action makes. Only `are_one_step` says so.
+#[derive(Clone, Copy)]
+pub(crate) struct OneStep {
+    holds: bool,
+}
+
+impl OneStep {
+    /// Whether it is.
+    pub(crate) fn holds(self) -> bool
+        ensures { result ≡ self.holds }
+    {
+        self.holds
+    }
+}
+
 /// Whether lines are one command on one target.
-pub(crate) fn are_one_step(lines: &[Requested<'_>]) -> bool {
+pub(crate) fn are_one_step(lines: &[Requested<'_>]) -> OneStep
+    ensures { result.holds ≡ true → length (all_steps (map requested_in lines.now)) ≤ 1 }
+{
     match lines {
-        [line] => line.commands.len() == 1 && line.targets.len() == 1,
-        _ => false,
+        [line] => OneStep {
+            holds: is_one_step(line),
+        },
+        _ => OneStep { holds: false },
     }
 }

@@ -6,8 +6,9 @@ ghost use Rattle.bz_files.specs.Faults.{Rises};
 ghost use Rattle.bz_buildozer.specs.Keeps.{file_left};
 ghost use Rattle.bz_buildozer.specs.Sessions.{History, Keeps, KeepsFile, action_in};
 ghost use Rattle.bz_buildozer.specs.Found.{opened_with, with_opened};
-ghost use Rattle.bz_buildozer.specs.private.ShownFiles.{opened_in, used_in};
+ghost use Rattle.bz_buildozer.specs.private.ShownFiles.{IsCourse, opened_in, used_in};
 
+use crate::step::OneStep;
 use bz_files::Files;
 use bz_items::Text;
 use bz_journal::{Action, KeepFault, Past, Reply};
@@ -52,27 +53,28 @@ impl Opened {
         }
     }
 
-    /// Does an action with a note, which is said to be the last one there or not: that changes what it takes, and not what it does. Where
-    /// journals are kept, the journal and the file are, and what became of the two is marked.
+    /// Does an action with a note, of a run of one step or of more: where it is the only one less is kept of the file, and what it does is
+    /// the same. Where journals are kept, the journal and the file are, and what became of the two is marked.
     pub(crate) fn act<F: Files>(
         &mut self,
         journals: bool,
         action: &Action<'_>,
         note: &str,
-        is_last: bool,
+        once: OneStep,
         files: &mut F,
     ) -> Result<Reply, KeepFault>
         ensures acts { (history : History) × Keeps (action_in action.now) note.now (opened_in self.old).history result history
             × (opened_in self.new ≡ file_left journals result history (opened_in self.old))
             × (journals ≡ true → KeepsFile F.Files (opened_in self.old).name (opened_in self.old).history history result files.old files.new)
             × (journals ≡ false → (files.new ≡ files.old) × IfErr result IsRefused) }
+        ensures course { once.holds ≡ false → IsCourse self.old.past → IsCourse self.new.past }
         ensures cause { IsWriteOrOpen result → Rises (F.faults files.old) (F.faults files.new) }
         ensures rest { (IsWriteOrOpen result → ⊥) → F.faults files.new ≡ F.faults files.old }
         ensures count { F.faults files.old ≤ F.faults files.new }
         ensures honest { F.honest files.new ≡ F.honest files.old }
     {
         if !journals {
-            return match self.past.act_noted(action, note, is_last) {
+            return match self.past.act_noted(action, note, once.holds()) {
                 Ok(reply) => Ok(reply),
                 Err(refusal) => Err(KeepFault::Refused(refusal)),
             };

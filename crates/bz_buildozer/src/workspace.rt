@@ -13,6 +13,7 @@ ghost use Rattle.bz_buildozer.specs.Found.{file_at, package_number, with_opened}
 use crate::opening::{open_input, open_named};
 use crate::reading::{Taken, unnamed};
 use crate::script::INPUT;
+use crate::step::OneStep;
 use crate::used::{Opened, Used, put_file};
 use bz_files::Files;
 use bz_items::{Memory, Text, at};
@@ -43,17 +44,11 @@ fn reads_input(journals: bool, package: &str) -> bool
 pub(crate) struct Workspace {
     names: IndexSet<Vec<u8>>,
     used: Vec<Used>,
-    /// Whether one action alone is done in all.
-    once: bool,
 }
 
 impl Drop for Workspace {
     fn drop(self) {
-        let Workspace {
-            names: _,
-            used: _,
-            once: _,
-        } = self;
+        let Workspace { names: _, used: _ } = self;
     }
 }
 
@@ -70,14 +65,13 @@ impl Model for Workspace {
 }
 
 impl Workspace {
-    /// No packages, of a run of one step or of any.
-    pub(crate) fn new(alloc: Global, once: bool) -> Workspace
+    /// No packages.
+    pub(crate) fn new(alloc: Global) -> Workspace
         ensures { result ≡ [] }
     {
         Workspace {
             names: IndexSet::new(alloc),
             used: Vec::new(alloc),
-            once,
         }
     }
 
@@ -184,7 +178,8 @@ impl Workspace {
         Opening { place, cut }
     }
 
-    /// Does an action with a note in the open file of the package with this number. Where journals are kept and the text is another one then, the file's journal and it are
+    /// Does an action with a note in the open file of the package with this number, as the only one of a run of one step, or as one of more.
+    /// Where journals are kept and the text is another one then, the file's journal and it are
     /// replaced. Errors: those of `Session::act_noted`, and of `Session::keep_noted` where journals are kept.
     pub(crate) fn act<F: Files>(
         &mut self,
@@ -192,6 +187,7 @@ impl Workspace {
         place: usize,
         action: &Action<'_>,
         note: &str,
+        once: OneStep,
         files: &mut F,
     ) -> Result<Reply, KeepFault>
         requires { IsSome (file_at place self.old) }
@@ -201,7 +197,6 @@ impl Workspace {
         ensures count { F.faults files.old ≤ F.faults files.new }
         ensures honest { F.honest files.new ≡ F.honest files.old }
     {
-        let once = self.once;
         match &mut self.used[place].file {
             Some(opened) => opened.act(journals, action, note, once, files),
             None => unreachable!(),

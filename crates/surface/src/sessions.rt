@@ -36,6 +36,8 @@ pub(crate) fn outcome(alloc: Global) -> Option<String> {
     let action = Action::Do(&command, &target);
     let kept: Result<Reply, KeepFault> = session.keep(&action, "BUILD", &mut files);
     let is_changed = matches!(kept, Ok(Reply::Changed));
+    let stayed: Result<Reply, Refusal> = session.act(&Action::Undo(0));
+    stayed.ok()?;
     let mut replies: Vec<Result<Reply, Refusal>> = Vec::new(alloc);
     session
         .run(

@@ -1,5 +1,7 @@
 //! Labels and file values by the names of bz_label, bz_view and bz_tidy.
-use bz_label::{Label, Target, Which, is_sorted, key_cmp, priority, same, shorten};
+use bz_label::{
+    Label, LabelFault, Target, TargetFault, Which, is_sorted, key_cmp, priority, same, shorten,
+};
 use bz_tidy::{level, tidy};
 use bz_tree::{ReadFault, Tree, parse, parse_bzl};
 use bz_view::{Expr, File, Item, Seq, SetFault, set, view};
@@ -8,8 +10,10 @@ use std::cmp::Ordering;
 
 /// Labels, a target, and the tables.
 pub(crate) fn labels(alloc: Global) -> Option<String> {
-    let label = Label::read(alloc, "p", "//a/b").ok()?;
-    let target = Target::read(alloc, "//p:all").ok()?;
+    let read: Result<Label, LabelFault> = Label::read(alloc, "p", "//a/b");
+    let label = read.ok()?;
+    let meant: Result<Target, TargetFault> = Target::read(alloc, "//p:all");
+    let target = meant.ok()?;
     let means_all = matches!(&target.which, Which::All);
     let is_less = key_cmp(b"a", b"b") == Ordering::Less;
     format!(in alloc;

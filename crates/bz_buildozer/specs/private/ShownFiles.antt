@@ -2,11 +2,17 @@
 use Rattle.std.specs.Prelude.{ℕ, List, Option, Vec, map, string_bytes}
 use Rattle.std.specs.Option.{option_map}
 use Rattle.std.specs.declared.alloc.Global.{Global}
-use Rattle.bz_buildozer.specs.Words.{Bytes, past_history}
+use Rattle.bz_buildozer.specs.Words.{Bytes, Form, past_history}
+use Rattle.bz_journal.specs.declared.past.Form.TheVariants as f
 use Rattle.bz_buildozer.specs.Found as p
 use Rattle.bz_buildozer.specs.declared.reading.Taken.{Taken}
 use Rattle.bz_buildozer.specs.declared.used.Opened.{Opened}
 use Rattle.bz_buildozer.specs.declared.used.Used.{Used}
+
+-- a course of texts, and not two texts alone
+abbrev pub IsCourse : Form → Type 0
+IsCourse (f.Course session) = Unit {0}
+IsCourse (f.Alone history) = ⊥
 
 abbrev pub opened_in : Opened → p.Opened
 opened_in file = record { name = string_bytes file.name; read = file.read; history = past_history file.past; written = file.written; left = file.left }

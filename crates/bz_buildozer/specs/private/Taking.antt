@@ -1,11 +1,11 @@
 -- What comes of reading the file of a package, or standard input.
-use Rattle.std.specs.Prelude.{◌≡◌, Bool, true, false, List, Option, None, codes}
+use Rattle.std.specs.Prelude.{◌≡◌, Bool, true, false, List, [], ◌∷◌, Option, None, codes}
 use Rattle.bz_buildozer.specs.Words.{Folder, Bytes, Reports, IsInput, stdin, Cut}
 use Rattle.bz_streams.specs.declared.exit.Cut.TheVariants as c
 use Rattle.bz_streams.specs.declared.sink.Sink.{Ghosts as SinkOf}
 use Rattle.bz_buildozer.specs.Found.{Opened}
 use Rattle.bz_buildozer.specs.Opens.{Takes}
-use Rattle.bz_buildozer.specs.Run.{AreOneLine, OpensUntil, SecondUntil, unreadable}
+use Rattle.bz_buildozer.specs.Run.{OpensUntil, SecondUntil, unreadable, wanting}
 use Rattle.bz_buildozer.specs.Steps.{input_package}
 
 -- Of a file, or of none, this is so, and the lines were printed. (Standard error before and after.)
@@ -17,13 +17,18 @@ Brings sink Is file old new = (lines : List Bytes) × Is file lines
 abbrev pub InputUntil : Cut → Option Bytes → Option Opened → List Bytes → Type 0
 InputUntil c.Whole known file lines = (text : Bytes) × IsInput known text × Takes input_package stdin text file lines
 InputUntil c.Read known file lines = (file ≡ None) × (lines ≡ unreadable stdin)
-InputUntil c.Memory known file lines = (file ≡ None) × AreOneLine lines
+InputUntil c.Memory known file lines = (file ≡ None) × (lines ≡ wanting stdin)
 InputUntil why known file lines = ⊥
 
 -- the name of a package's file below the package: the first one, or the second
 abbrev pub base_of : Bool → Bytes
 base_of false = codes "BUILD.bazel"
 base_of true = codes "BUILD"
+
+-- what is between the path of a package and the name of a file in it
+abbrev pub slash_after : Bytes → Bytes
+slash_after [] = []
+slash_after (first ∷ rest) = codes "/"
 
 -- The file of a package that has its first name, or else its second one, is opened, or that with the second one alone.
 abbrev pub NamedUntil : Bool → Cut → Bool → Folder → Bytes → Option Opened → List Bytes → Type 0

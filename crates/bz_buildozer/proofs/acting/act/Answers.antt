@@ -6,7 +6,7 @@ use Rattle.bz_value.specs.declared.refusal.Refusal.TheVariants.{Memory}
 use Rattle.bz_buildozer.specs.Calls.{ReportsLines}
 use Rattle.bz_buildozer.specs.Keeps.{KeepsAt, file_left}
 use Rattle.bz_buildozer.specs.Found.{Opened}
-use Rattle.bz_buildozer.specs.Reported.{refusal_line, unkept_line}
+use Rattle.bz_buildozer.specs.Reported.{unkept_line}
 use Rattle.bz_buildozer.specs.Run.{Answers, AreHints, Progress, reply_notes, reported_of}
 use Rattle.bz_buildozer.specs.private.Shown.{progress_in, step_in}
 use Rattle.bz_buildozer.proofs.ActSteps.{file_put, free_here, leads_by, led_to, left_answers, step_at}
@@ -28,8 +28,8 @@ returns-then-is_left_at-clause-answers g c = λ honest safe. rw (c.in-Some.is) (
 
 pub returns-in_default-action_of-clause-answers : goal.returns-in_default-action_of-clause-answers
 returns-in_default-action_of-clause-answers g c = λ honest safe. rw (c.in-Some.is)
-    (c.list_at.ensures.answers c.args.journals (g.F.Files.folder c.args.files.now) (step_in c.args.step)
-    (sym c.is_left_at.ensures ∙ c.if-is_left_at.false) (sym c.action_of.ensures ∙ ap (option_map action_in) c.in_default-action_of.is))
+    (c.list_at.ensures.answers (g.F.Files.folder c.args.files.now) (step_in c.args.step)
+    (sym c.is_left_at.ensures ∙ c.if-is_left_at.false) (sym c.action_of.ensures ∙ ap (option_map action_in) c.in_default-action_of.is) refl)
 
 pub returns-in_default-clause-keeps : goal.returns-in_default-clause-keeps
 returns-in_default-clause-keeps g c = λ kept. inl (refl, refl)
@@ -73,9 +73,8 @@ returns-in-Ok-clause-answers g c = λ honest safe. rw (c.in-Some.is) (
     let new : Opened = file_left c.args.journals (Ok c.in-Ok.reply) done.history done.file in (
       reported_of c.args.journals done.file.name c.args.step.request.now.text.now (Err Memory) [],
       unprinted_answers g.F.Files g.met.F.Files.counts_now c.args.journals target verb c.args.step.request.now.text.now c.in-Some.place (action_in c.in-Some-action_of.action) before (progress_in c.refuse.new.run)
-          c.act.new.self c.args.files.now c.act.new.files requested honest safe free c.refuse.result c.in-Ok.reply done
-          (refusal_line c.args.journals done.file.name c.args.step.request.now.text.now Memory) c.put_printed.new.printed.items
-          (wants_memory c.refuse.result c.refuse.ensures.kinds (λ whole. c.refuse.ensures.whole whole refl)) c.in-Err.ensures.err c.refuse.ensures.state,
+          c.act.new.self c.args.files.now c.act.new.files requested honest safe free c.refuse.result c.in-Ok.reply c.in-Err.ensures.err.1.0 done c.put_printed.new.printed.items
+          c.in-Err.ensures.err.1.1 (wants_memory c.refuse.result c.refuse.ensures.kinds (λ whole. c.refuse.ensures.whole whole refl)) c.in-Err.ensures.err.0 c.refuse.ensures.state,
       subst (λ (name : Bytes). ReportsLines g.E.Sink c.args.err.now c.refuse.new.err (reported_of c.args.journals name c.args.step.request.now.text.now (Err Memory) []))
           (name_left c.args.journals (Ok c.in-Ok.reply) done.history done.file)
           (c.refuse.ensures.reported new (file_put c.in-Some.place before.used c.act.new.self done.file new done.there done.kept)),

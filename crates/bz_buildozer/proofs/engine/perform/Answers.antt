@@ -1,4 +1,4 @@
-use Rattle.std.proofs.Common.{[], ◌∙◌, true≢false, inl, refl, map, subst, sym}
+use Rattle.std.proofs.Common.{[], ◌∙◌, ap, true≢false, inl, refl, map, subst, sym}
 use Rattle.std.proofs.lemmas.Bool.{and_parts}
 use Rattle.bz_command_line.specs.Shown.{requested_in}
 use Rattle.bz_buildozer.specs.Calls.{PassesBy}
@@ -6,6 +6,7 @@ use Rattle.bz_buildozer.specs.Moments.{IsMeanwhile, IsMomentOfSteps}
 use Rattle.bz_buildozer.specs.Outcome.{LinesEnd}
 use Rattle.bz_buildozer.specs.Run.{World, Progress}
 use Rattle.bz_streams.specs.declared.exit.Cut.TheVariants as cut
+use Rattle.bz_buildozer.specs.declared.step.OneStep.{OneStep}
 use Rattle.bz_buildozer.specs.private.Shown.{progress_in}
 use Rattle.bz_buildozer.specs.Steps.{all_steps, names_input}
 use Rattle.bz_buildozer.specs.Reported.{no_journal_line}
@@ -52,11 +53,11 @@ returns-clause-ends g c given =
     let state = progress_in ran.new.run in
     let neither = sym c.lacks_journal.ensures ∙ c.if-lacks_journal.false in
     let can = lines_premise is_honest options.journal lines neither given in
-    let done = ran.ensures.does can (λ kept. begins_safely (folder c.args.files.now) start c.begun-run.ensures) known (λ _. refl) in
+    let done = ran.ensures.does can (λ kept. begins_safely (folder c.args.files.now) start c.begun-run.ensures.begins) known (λ _. refl) in
     let ends = c.finish.ensures.ends (honest_still is_honest (g.F.Files.honest ran.new.files) options.journal ran.result world options.keep_going lines start done.0
-    (folder ran.new.files) state ran.ensures.honest c.begun-run.ensures done.1 can) in
+    (folder ran.new.files) state ran.ensures.honest c.begun-run.ensures.begins done.1 can) in
     lines_end g.W.Sink g.E.Sink g.F.Files options lines world start state (folder ran.new.files) done.0 ends.2 c.finish.result ran.result ends.1 ends.0
-    c.shows_input-shown.result c.args.out.now c.finish.new.out c.args.err.now ran.new.err c.finish.new.err c.finish.new.files neither c.begun-run.ensures done.1 ends.3 ends.6
+    c.shows_input-shown.result c.args.out.now c.finish.new.out c.args.err.now ran.new.err c.finish.new.err c.finish.new.files neither c.begun-run.ensures.begins done.1 ends.3 ends.6
     c.finish.ensures.status (λ whole. (c.finish.ensures.whole whole).0) (c.shows_input-shown.ensures ∙ sym (shown_by_lines c.args.lines.now)) ends.4 done.3 ends.5
 
 pub returns-clause-reads_nothing : goal.returns-clause-reads_nothing
@@ -70,7 +71,7 @@ returns-clause-moments g c kept honest =
     let files = g.F.Files in
     let folder = files.folder c.args.files.now in
     let steps = all_steps (map requested_in c.args.lines.now) in
-    let begun_is = c.begun-run.ensures in
+    let begun_is = c.begun-run.ensures.begins in
     let done = ran.ensures.safely kept honest folder (begins_safely folder (progress_in c.begun-run.result) begun_is)
     (subst (λ (from : Progress). IsMeanwhile folder from.used from.used folder) (sym begun_is) (unused_yet folder)) in
     no_more_time files.moment files.since c.args.files.now ran.new.files c.finish.new.files (IsMomentOfSteps folder steps []) (c.finish.ensures.kept kept)
@@ -79,3 +80,6 @@ returns-clause-moments g c kept honest =
 pub returns-clause-sound : goal.returns-clause-sound
 returns-clause-sound g c sound is =
     c.run_lines-cut.ensures.works sound (read_before c.finish.result.cut c.run_lines-cut.result _ c.finish.ensures.cause is)
+
+pub run_lines-cut-requires-once : goal.run_lines-cut-requires-once
+run_lines-cut-requires-once g c is = c.are_one_step.ensures (sym (ap (λ (once : OneStep). once.holds) c.begun-run.ensures.once) ∙ is)

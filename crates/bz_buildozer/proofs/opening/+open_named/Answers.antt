@@ -1,10 +1,10 @@
 use Rattle.std.proofs.Common.{◌≡◌, ◌∙◌, true, false, ap, refl, None, Err, Bor, List, ℕ, inl, option_map}
 use Rattle.bz_streams.specs.declared.exit.Cut.TheVariants as cut
 use Rattle.bz_buildozer.specs.Found.{in_package, root_above}
-use Rattle.bz_buildozer.specs.Run.{unreadable}
+use Rattle.bz_buildozer.specs.Run.{unreadable, wanting_name}
 use Rattle.bz_buildozer.specs.private.ShownFiles.{taken_in}
 use Rattle.bz_buildozer.specs.private.Taking.{NamedUntil, base_of}
-use Rattle.bz_buildozer.proofs.FailSteps.{by_name_of, fails_as, memory_named, named_until, tried_on}
+use Rattle.bz_buildozer.proofs.FailSteps.{by_name_of, fails_as, memory_named, memory_read, named_until, none_taken, tried_on}
 use Rattle.bz_buildozer.proofs.ReadSteps.{neither_opens}
 use Rattle.bz_buildozer.proofs.opening.+open_named.Goals as goal
 
@@ -22,13 +22,15 @@ returns-in-Ok-bytes_of-clause-opens g t c =
 pub returns-in-Err-Memory-clause-opens : goal.returns-in-Err-Memory-clause-opens
 returns-in-Err-Memory-clause-opens g t c =
     fails_as g.E.Sink (λ why file lines. g.F.Files.honest c.args.files.now ≡ true → NamedUntil c.args.second why c.args.journals (g.F.Files.folder c.args.files.now) c.args.package.now file lines) c.fail.result cut.Memory
-    c.args.err.now c.fail.new.err _ c.fail.ensures.taken (λ honest. memory_named c.args.second c.args.journals (g.F.Files.folder c.args.files.now) c.args.package.now _) c.fail.ensures.reported
+    c.args.err.now c.fail.new.err _ c.fail.ensures.taken
+    (λ honest. memory_read c.args.second c.args.journals (g.F.Files.folder c.args.files.now) c.args.package.now c.as_str-name.result.now
+    (c.as_str-name.ensures.value ∙ c.in-Ok.ensures ∙ ap (in_package c.args.package.now) c.base_of.ensures)) c.fail.ensures.reported
 
 pub returns-in_default-clause-opens : goal.returns-in_default-clause-opens
 returns-in_default-clause-opens g t c =
-    fails_as g.E.Sink (λ why file lines. g.F.Files.honest c.args.files.now ≡ true → NamedUntil c.args.second why c.args.journals (g.F.Files.folder c.args.files.now) c.args.package.now file lines) c.unnamed.result cut.Memory
-    c.args.err.now c.unnamed.new.err c.unnamed.ensures.told.0 c.unnamed.ensures.taken (λ honest. memory_named c.args.second c.args.journals (g.F.Files.folder c.args.files.now) c.args.package.now _)
-    c.unnamed.ensures.told.1
+    none_taken g.E.Sink (λ why file lines. g.F.Files.honest c.args.files.now ≡ true → NamedUntil c.args.second why c.args.journals (g.F.Files.folder c.args.files.now) c.args.package.now file lines) c.unnamed.result cut.Memory
+    c.args.err.now c.unnamed.new.err (wanting_name c.args.package.now) c.unnamed.ensures.taken
+    (λ honest. memory_named c.args.second c.args.journals (g.F.Files.folder c.args.files.now) c.args.package.now) c.unnamed.ensures.told
 
 pub returns-in-Ok-root_above-clause-opens : goal.returns-in-Ok-root_above-clause-opens
 returns-in-Ok-root_above-clause-opens g t c =
@@ -42,9 +44,9 @@ returns-in-Ok-root_above-clause-opens g t c =
 
 pub returns-in-Err-Absent-2-clause-opens : goal.returns-in-Err-Absent-2-clause-opens
 returns-in-Err-Absent-2-clause-opens g t c =
-    fails_as g.E.Sink (λ why file lines. g.F.Files.honest c.args.files.now ≡ true → NamedUntil c.args.second why c.args.journals (g.F.Files.folder c.args.files.now) c.args.package.now file lines) c.unnamed-in-Err-root_above.result cut.Memory
-    c.args.err.now c.unnamed-in-Err-root_above.new.err c.unnamed-in-Err-root_above.ensures.told.0 c.unnamed-in-Err-root_above.ensures.taken
-    (λ honest. memory_named c.args.second c.args.journals (g.F.Files.folder c.args.files.now) c.args.package.now _) c.unnamed-in-Err-root_above.ensures.told.1
+    none_taken g.E.Sink (λ why file lines. g.F.Files.honest c.args.files.now ≡ true → NamedUntil c.args.second why c.args.journals (g.F.Files.folder c.args.files.now) c.args.package.now file lines) c.unnamed-in-Err-root_above.result cut.Memory
+    c.args.err.now c.unnamed-in-Err-root_above.new.err (wanting_name c.args.package.now) c.unnamed-in-Err-root_above.ensures.taken
+    (λ honest. memory_named c.args.second c.args.journals (g.F.Files.folder c.args.files.now) c.args.package.now) c.unnamed-in-Err-root_above.ensures.told
 
 pub returns-in-Err-clause-opens : goal.returns-in-Err-clause-opens
 returns-in-Err-clause-opens g t c =

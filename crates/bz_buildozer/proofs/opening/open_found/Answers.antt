@@ -1,12 +1,13 @@
-use Rattle.std.proofs.Common.{◌≡◌, ◌∙◌, ap, refl, true, Some, Err, codes}
+use Rattle.std.proofs.Common.{◌≡◌, ◌∙◌, ◌∷◌, [], ap, inl, inr, refl, true, Some, Err, codes}
 use Rattle.bz_buildozer.proofs.ReadSteps.{none_beside, plain_beside, read_beside}
 use Rattle.bz_streams.specs.Reported.{named_line}
 use Rattle.bz_streams.specs.declared.exit.Cut.TheVariants as cut
 use Rattle.bz_buildozer.specs.Journals.{TakesBeside}
 use Rattle.bz_buildozer.specs.Opens.{Takes}
-use Rattle.bz_buildozer.specs.Run.{TakesUntil, unreadable}
+use Rattle.bz_buildozer.specs.Run.{TakesUntil, unreadable, wanting}
 use Rattle.bz_buildozer.specs.private.ShownFiles.{taken_in}
-use Rattle.bz_buildozer.proofs.FailSteps.{fails_as, memory_until}
+use Rattle.bz_items.specs.Characters.{Bytes}
+use Rattle.bz_buildozer.proofs.FailSteps.{fails_as, journal_there, memory_until}
 use Rattle.bz_buildozer.proofs.opening.open_found.Goals as goal
 
 pub returns-in-Ok-bytes_of-clause-takes : goal.returns-in-Ok-bytes_of-clause-takes
@@ -17,7 +18,14 @@ returns-in-Ok-bytes_of-clause-takes g c =
     (λ lines takes honest. let held = c.in-Ok-bytes_of.ensures.found honest in
     read_beside c.args.journals (g.F.Files.folder c.args.files.now) c.args.package.now c.args.name.now c.as_str-journal.result.now held.0 c.as_slice.result.now c.args.text.items
     c.in-Ok-bytes_of.bytes (taken_in opened.result) lines c.if-not-journals.false (c.as_str-journal.ensures.value ∙ c.in-Ok.ensures) c.as_slice.ensures.value held.1 held.2 takes)
-    (λ closed honest. (closed, (_, refl))) opened.ensures.whole opened.ensures.cut opened.ensures.told
+    (λ closed honest. let held = c.in-Ok-bytes_of.ensures.found honest in (
+      closed,
+      inr (inr (
+        journal_there c.args.journals (g.F.Files.folder c.args.files.now) c.args.name.now c.as_str-journal.result.now held.0 c.if-not-journals.false
+            (c.as_str-journal.ensures.value ∙ c.in-Ok.ensures) held.1,
+        ap (λ (journal : Bytes). named_line journal (codes "Memory (8)") ∷ []) (c.as_str-journal.ensures.value ∙ c.in-Ok.ensures),
+      )),
+    )) opened.ensures.whole opened.ensures.cut opened.ensures.told
 
 pub returns-in-Err-Absent-clause-takes : goal.returns-in-Err-Absent-clause-takes
 returns-in-Err-Absent-clause-takes g c =
@@ -27,7 +35,7 @@ returns-in-Err-Absent-clause-takes g c =
     (λ lines takes honest. none_beside c.args.journals (g.F.Files.folder c.args.files.now) c.args.package.now c.args.name.now c.as_str-journal.result.now c.args.text.items
     (taken_in opened.result) lines c.if-not-journals.false (c.as_str-journal.ensures.value ∙ c.in-Ok.ensures)
     (c.in-Err-Absent.ensures.absent honest (ap Err c.in-Err-Absent.field-0-is)) takes)
-    (λ closed honest. (closed, (_, refl))) opened.ensures.whole opened.ensures.cut opened.ensures.told
+    (λ closed honest. (closed, inl refl)) opened.ensures.whole opened.ensures.cut opened.ensures.told
 
 pub returns-then-not-journals-clause-takes : goal.returns-then-not-journals-clause-takes
 returns-then-not-journals-clause-takes g c =
@@ -36,18 +44,18 @@ returns-then-not-journals-clause-takes g c =
     (named_line c.args.name.now (codes "Memory")) opened.result.cut (taken_in opened.result) c.args.err.now opened.new.err
     (λ lines takes honest. plain_beside c.args.journals (g.F.Files.folder c.args.files.now) c.args.package.now c.args.name.now c.args.text.items (taken_in opened.result) lines
     c.if-not-journals.true takes)
-    (λ closed honest. (closed, (_, refl))) opened.ensures.whole opened.ensures.cut opened.ensures.told
+    (λ closed honest. (closed, inl refl)) opened.ensures.whole opened.ensures.cut opened.ensures.told
 
 pub returns-in_default-clause-takes : goal.returns-in_default-clause-takes
 returns-in_default-clause-takes g c =
     fails_as g.E.Sink (λ why file lines. g.F.Files.honest c.args.files.now ≡ true → TakesUntil why c.args.journals (g.F.Files.folder c.args.files.now) c.args.package.now c.args.name.now c.args.text.items file lines) c.fail.result
-    cut.Memory c.args.err.now c.fail.new.err _ c.fail.ensures.taken (λ honest. (refl, (_, refl))) c.fail.ensures.reported
+    cut.Memory c.args.err.now c.fail.new.err _ c.fail.ensures.taken (λ honest. (refl, inl refl)) c.fail.ensures.reported
 
 pub returns-in-Err-Memory-clause-takes : goal.returns-in-Err-Memory-clause-takes
 returns-in-Err-Memory-clause-takes g c =
     fails_as g.E.Sink (λ why file lines. g.F.Files.honest c.args.files.now ≡ true → TakesUntil why c.args.journals (g.F.Files.folder c.args.files.now) c.args.package.now c.args.name.now c.args.text.items file lines)
     c.fail-in-Err-Memory.result cut.Memory c.args.err.now c.fail-in-Err-Memory.new.err _ c.fail-in-Err-Memory.ensures.taken
-    (λ honest. (refl, (_, refl))) c.fail-in-Err-Memory.ensures.reported
+    (λ honest. (refl, inr (inl (c.if-not-journals.false, ap wanting (c.as_str-journal.ensures.value ∙ c.in-Ok.ensures))))) c.fail-in-Err-Memory.ensures.reported
 
 pub returns-in-Err-clause-takes : goal.returns-in-Err-clause-takes
 returns-in-Err-clause-takes g c =

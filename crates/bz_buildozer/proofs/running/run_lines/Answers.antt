@@ -46,7 +46,7 @@ loop-request-init g c =
 pub do_step-later-requires : goal.do_step-later-requires
 do_step-later-requires g c = all_at HasPath c.line-item.result.targets.items c.deref-target-items.result.now c.loop-target.target-index c.target-item.result
     c.deref-target-items.ensures.value c.loop-target-test.true c.target-item.is (all_at (λ (line : Requested). All HasPath line.targets.items) c.args.lines.now c.args.lines.now
-    c.loop-line.line-index c.line-item.result refl c.loop-line-test.true c.line-item.is c.requires)
+    c.loop-line.line-index c.line-item.result refl c.loop-line-test.true c.line-item.is c.requires.paths)
 
 pub returns-then-not-options : goal.returns-then-not-options
 returns-then-not-options g c =

@@ -5,6 +5,7 @@ use Rattle.bz_buildozer.specs.Keeps.{file_left}
 use Rattle.bz_buildozer.specs.Sessions.{KeepFault, Keeps, KeepsFile, action_in}
 use Rattle.bz_buildozer.specs.private.ShownFiles.{opened_in}
 use Rattle.bz_buildozer.proofs.ActSteps.{marked_written}
+use Rattle.bz_buildozer.proofs.CourseSteps.{kept_course, stays_course}
 use Rattle.bz_buildozer.proofs.used.Opened.act.Goals as goal
 
 pub returns-in-Ok-clause-acts : goal.returns-in-Ok-clause-acts
@@ -63,3 +64,23 @@ returns-in-Err-Pair-clause-acts g c =
           (subst (λ (name : Bytes). KeepsFile g.F.Files name file.history after (Err done.field-0) c.args.files.now kept.new.files) c.as_str.ensures.value done.ensures.pair)),
       (λ plain. absurd (true≢false (sym c.if-not-journals.false ∙ plain))),
     )
+
+pub returns-in-Ok-clause-course : goal.returns-in-Ok-clause-course
+returns-in-Ok-clause-course g c = stays_course (action_in c.args.action.now) c.args.note.now c.holds.result c.args.self.now.past c.act_noted.new.self (Ok c.in-Ok.reply) c.args.once
+    c.holds.ensures c.in-Ok.ensures.form
+
+pub returns-in-Err-clause-course : goal.returns-in-Err-clause-course
+returns-in-Err-clause-course g c = stays_course (action_in c.args.action.now) c.args.note.now c.holds.result c.args.self.now.past c.act_noted.new.self (Err c.in-Err.refusal) c.args.once
+    c.holds.ensures c.in-Err.ensures.form
+
+pub returns-in-Ok-keep_noted-clause-course : goal.returns-in-Ok-keep_noted-clause-course
+returns-in-Ok-keep_noted-clause-course g c = λ _. kept_course g.F.Files (action_in c.args.action.now) c.args.note.now c.as_str.result.now c.args.self.now.past c.keep_noted.new.self
+    (Ok c.in-Ok-keep_noted.reply) c.args.files.now c.keep_noted.new.files c.in-Ok-keep_noted.ensures.form
+
+pub returns-in-Err-Refused-clause-course : goal.returns-in-Err-Refused-clause-course
+returns-in-Err-Refused-clause-course g c = λ _. kept_course g.F.Files (action_in c.args.action.now) c.args.note.now c.as_str.result.now c.args.self.now.past c.keep_noted.new.self
+    (Err c.in-Err-Refused.field-0) c.args.files.now c.keep_noted.new.files c.in-Err-Refused.ensures.form
+
+pub returns-in-Err-Pair-clause-course : goal.returns-in-Err-Pair-clause-course
+returns-in-Err-Pair-clause-course g c = λ _. kept_course g.F.Files (action_in c.args.action.now) c.args.note.now c.as_str.result.now c.args.self.now.past c.keep_noted.new.self
+    (Err c.in-Err-Pair.field-0) c.args.files.now c.keep_noted.new.files c.in-Err-Pair.ensures.form

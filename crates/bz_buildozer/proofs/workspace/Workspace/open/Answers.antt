@@ -4,10 +4,10 @@ use Rattle.bz_items.specs.Characters.{Bytes}
 use Rattle.bz_buildozer.specs.Found.{Used, package_number}
 use Rattle.bz_buildozer.specs.Calls.{IsLeft}
 use Rattle.bz_buildozer.specs.Journals.{IsOpenedIn}
-use Rattle.bz_buildozer.specs.Run.{Uses, World}
+use Rattle.bz_buildozer.specs.Run.{Uses, World, wanting_name}
 use Rattle.bz_buildozer.specs.declared.reading.Taken.{Taken}
 use Rattle.bz_buildozer.specs.private.ShownFiles.{taken_in}
-use Rattle.bz_buildozer.proofs.FailSteps.{last_within, one_line, opened_until, uses_input, uses_read}
+use Rattle.bz_buildozer.proofs.FailSteps.{last_within, opened_until, uses_input, uses_read}
 use Rattle.bz_buildozer.proofs.PlaceSteps.{opened_last, place_last}
 use Rattle.bz_buildozer.proofs.workspace.Workspace.open.Goals as goal
 
@@ -24,14 +24,15 @@ returns-in-Some-clause-uses g c = λ can known left.
 
 pub returns-in_default-add-clause-uses : goal.returns-in_default-add-clause-uses
 returns-in_default-add-clause-uses g c = λ can known left.
-    let told = c.unnamed.ensures.told in
+    let none = sym (c.place.ensures ∙ ap (λ (name : Bytes). package_number name c.args.self.now) c.as_bytes.ensures.value) ∙ c.in_default.is in
+    let lines = wanting_name c.args.package.now in
     let same = c.in_default-add.ensures.err in
     let world : World = record { folder = g.F.Files.folder c.args.files.now; known = known } in (
-      told.0 ∷ [],
-      subst (λ (taken : Taken). Uses taken.cut c.args.journals world c.args.package.now c.args.self.now None (told.0 ∷ []) c.add.new.self) (sym c.unnamed.ensures.taken)
-          (refl, (told.0, refl), inl same),
+      lines,
+      subst (λ (taken : Taken). Uses taken.cut c.args.journals world c.args.package.now c.args.self.now None lines c.add.new.self) (sym c.unnamed.ensures.taken)
+          (none, refl, inl (same, refl)),
       subst (λ (used : List Used). IsLeft known used (g.R.Source.remaining c.args.input.now)) (sym same) left,
-      one_line g.E.Sink c.args.err.now c.unnamed.new.err told.0 told.1,
+      c.unnamed.ensures.told,
     )
 
 pub returns-then-reads_input-clause-uses : goal.returns-then-reads_input-clause-uses

@@ -1,0 +1,20 @@
+-- A course stays one, but where its action is said to be the last one.
+use Rattle.std.proofs.Common.{◌≡◌, ◌∙◌, Bool, true, false, true≢false, Result, sym}
+use Rattle.bz_journal.specs.Forms.{ActsIn, KeepsIn}
+use Rattle.bz_journal.specs.declared.past.Form.TheVariants as f
+use Rattle.bz_buildozer.specs.Words.{Bytes, Form, Ghosts as FilesOf}
+use Rattle.bz_buildozer.specs.Sessions.{Action, Answer, KeepFault, Reply}
+use Rattle.bz_buildozer.specs.declared.step.OneStep.{OneStep}
+use Rattle.bz_buildozer.specs.private.ShownFiles.{IsCourse}
+
+pub stays_course : (action : Action) (note : Bytes) (last : Bool) (old new : Form) (answer : Answer) (once : OneStep) → last ≡ once.holds → ActsIn last action note old answer new
+    → once.holds ≡ false → IsCourse old → IsCourse new
+stays_course action note last (f.Course s) (f.Course t) answer once said acts more course = tt
+stays_course action note last (f.Course s) (f.Alone after) answer once said acts more course = absurd (true≢false (sym acts.0 ∙ said ∙ more))
+stays_course action note last (f.Alone before) new answer once said acts more course = absurd course
+
+pub kept_course : {F : Type 0} (files : FilesOf F) (action : Action) (note file : Bytes) (old new : Form) (answer : Result Reply KeepFault) (before after : F)
+    → KeepsIn files action note file old answer new before after → IsCourse old → IsCourse new
+kept_course files action note file (f.Course s) (f.Course t) answer before after keeps course = tt
+kept_course files action note file (f.Course s) (f.Alone t) answer before after keeps course = absurd keeps
+kept_course files action note file (f.Alone s) new answer before after keeps course = absurd course
