@@ -2,32 +2,37 @@
 import itertools
 import os
 import signal
-import sys
 import tempfile
 import time
 
 from . import git, state
 from .edit import FAILED, SAME, WELL, Editor
+from .files import digest_of, given
 from .names import root_above
-from .processes import PROCESSES, Pool, Stopped, batches, end_by, in_order, program, stops
+from .processes import PROCESSES, Pool, Stopped, batches, program, stops, worked
 from .refusals import MOST_NAMES, Refusals, summary
-from .runs import LISTED, UNDONE, Runs, Unreadable, digest_of
-from .targets import line_of, lines_in, written
-from .terminal import Screen, command_line, counted
+from .running import run_as
+from .runs import LISTED, UNDONE, Runs
+from .targets import line_of, lines_in, place, written
+from .terminal import command_line, counted, shown
+from .trial import Labels, Trial
 from .undo import Moves
+from .walk import FOREIGN
 from .words import Usage, count, read
 
 NAME = "buildozer-tree"
 HELP = """usage: buildozer-tree [OPTION..] COMMAND.. TARGET..
-       buildozer-tree undo [RUN], redo [RUN], runs
+       buildozer-tree undo [RUN], redo [RUN], runs, journal TARGET..
 
 Runs buildozer on many packages, with many processes at once, in the root of the workspace that the working directory is in. A target
 may have ... for all packages below one: //a/...:all, //...:%cc_library, //a/...:x, //a/... for the rule of each package's own name.
 
   -k                  goes on after a failure
   -f FILE             reads the operands from the lines of a file, - for standard input
+  --diff              prints what would change, and leaves the files
   --stdout            prints the new texts, and leaves the files
-  --quiet             prints no lines of files that were written, and no summary
+  --labels            has print begin each line with //package:name
+  --quiet             prints no lines of files that were written; given twice, no summary either
   --journal           keeps FILE.journal beside each file, and what `undo` needs
   --types=KIND,..     takes only rules of these kinds
   --state=DIR         keeps what `undo` needs there, and not in .git
@@ -36,25 +41,32 @@ may have ... for all packages below one: //a/...:all, //...:%cc_library, //a/...
 
 undo takes back the last run with --journal in all packages that it changed, redo does it again, runs lists the last ten.
 0 something changed, 3 nothing did, 2 something failed, 1 usage."""
-FLAGS = ("-k", "--stdout", "--quiet", "--journal", "--help", "--version")
+FLAGS = ("-k", "--diff", "--stdout", "--labels", "--quiet", "--journal", "--help", "--version")
 VALUED = ("-f", "--types", "--state", "--processes")
 PASSED = ("-k", "--stdout", "--journal")
+# commands that print what no label is for
+UNLABELLED = ("print_comment", "journal")
+# options of which one is given at a time, and none with a list of journals
+UNLISTED = ("--diff", "--stdout", "--labels")
 USAGE = 1
 OF_RUNS = ("undo", "redo", "runs")
+# how many digits of a digest are listed
+DIGITS = 12
 
 
 class Request:
     """The words of a command line: options, operands, and where they are meant."""
 
     def __init__(self, words):
-        self.options, self.operands = read(words, FLAGS, VALUED)
-        self.words = words
+        self.options, self.operands = read(words, FLAGS, VALUED, repeated=("--quiet",))
+        self.words, self.line = words, command_line([NAME, *words])
         self.processes = count(self.options["--processes"], "--processes") if "--processes" in self.options else PROCESSES
         self.kinds = [kind for kind in self.options.get("--types", "").split(",") if kind]
-        self.here = os.path.realpath(os.curdir)
-        self.root = root_above(self.here) or self.here
+        self.here, self.foreign = os.path.realpath(os.curdir), []
+        self.root = root_above(self.here, self.foreign) or self.here
         self.package = "" if self.here == self.root else os.path.relpath(self.here, self.root)
         self.flags = [flag for flag in PASSED if flag in self.options]
+        self.quiet = self.options.get("--quiet", 0)
 
     def has(self, option):
         return option in self.options
@@ -62,16 +74,8 @@ class Request:
     def of_runs(self):
         """Whether the operands are a command on runs: a word of these, and a number at most."""
         word, *numbers = self.operands or [""]
-        return word in OF_RUNS and "-f" not in self.options and all(map(str.isdigit, numbers)) and len(numbers) <= (word != "runs")
-
-    def script(self):
-        """The bytes of the file of lines."""
-        file = self.options["-f"]
-        try:
-            with open(sys.stdin.fileno() if file == "-" else file, "rb") as content:
-                return content.read()
-        except OSError as error:
-            raise Usage(f"{file}: {error.strerror}") from error
+        are_numbers = all(text.isascii() and text.isdigit() for text in numbers)
+        return word in OF_RUNS and "-f" not in self.options and are_numbers and len(numbers) <= (word != "runs")
 
     def lines(self):
         """The lines of operands, and the words and standard input with which buildozer says whether they are some."""
@@ -80,15 +84,33 @@ class Request:
             return [line], (["--", *line.commands, *map(str, line.targets)], b"")
         if self.operands:
             return [], (["-f", "-", "--", *self.operands], b"")
-        text = self.script()
+        try:
+            text = given(self.options["-f"])
+        except OSError as error:
+            raise Usage(f"{self.options['-f']}: {error.strerror}") from error
         return lines_in(text, self.package), (["-f", "-"], text)
 
-    def runs(self):
-        """Where runs are kept. Raises Usage where there is no place."""
+    def lists_journals(self):
+        """Whether journals are listed for people; buildozer's own list has the same in full, with --journal."""
+        return self.operands[:1] == ["journal"] and not {"-f", "--journal", *UNLISTED} & set(self.options)
+
+    def is_trial(self):
+        """Whether nothing is written where the packages are."""
+        return self.has("--diff") or self.has("--stdout")
+
+    def check(self, lines):
+        """Raises Usage where options don't fit the operands."""
+        if sum(map(self.has, UNLISTED)) > 1:
+            raise Usage("one of --diff, --stdout and --labels at a time")
+        if self.has("--labels") and any(command.split(" ")[0] in UNLABELLED for line in lines for command in line.commands):
+            raise Usage(f"--labels is for print, and not for {' or '.join(UNLABELLED)}")
+
+    def runs(self, is_needed=True):
+        """Where runs are kept; None where there is no place, or Usage is raised where it is needed."""
         folder = state.folder_for(self.root, self.options.get("--state"))
-        if folder is None:
+        if folder is None and is_needed:
             raise Usage("what undo needs is kept in .git, and this is no repository: give --state=DIR")
-        return Runs(folder, self.root)
+        return folder and Runs(folder, self.root)
 
 
 def usage_of(path, words, text, request):
@@ -111,16 +133,22 @@ class Run:
         self.statuses, self.after = set(), {}
         self.has_printed = False
         self.plan = self.record = None
+        # the files of which a text before or after the run isn't known
+        self.unkept = []
 
     def over(self, lines):
         """Runs the commands of the lines, and gives the signal that stopped it, or None."""
         with Pool(self.request.processes) as pool:
             editor = Editor(pool, self.path, self.request.root, self.request.flags)
+            if self.request.is_trial():
+                editor = Trial(editor, self.request.has("--diff"))
+            elif self.request.has("--labels"):
+                editor = Labels(editor)
             with stops():
                 self.plan = editor.plan(lines, self.request.kinds, self.refusals)
             if self.plan.missing and not self.request.has("-k"):
                 self.rest = list(self.plan.steps)
-            elif self.request.has("--journal"):
+            elif self.request.has("--journal") and not self.request.is_trial():
                 self.edit_kept(editor)
             else:
                 self.edit(editor)
@@ -129,43 +157,44 @@ class Run:
     def edit_kept(self, editor):
         """Edits, and keeps what was there before and after it."""
         runs = self.request.runs()
-        before = {name: digest_of(os.path.join(self.request.root, name)) for name in self.plan.files().values()}
+        before = {name: digest_of(os.path.join(self.request.root, name)) for name in self.plan.files()}
         commands = sorted({command for steps in self.plan.steps.values() for line, _ in steps for command in line.commands})
-        with runs.begun(command_line([NAME, *self.request.words]), commands, before) as record:
+        with runs.begun(self.request.line, commands, before) as record:
             self.edit(editor)
-            runs.end(record, self.after)
+            self.unkept = runs.end(record, self.after)
         self.record = record if record.files else None
 
     def edit(self, editor):
-        """Edits the packages, and takes in what comes of them in their order."""
+        """Edits the packages, and takes in what comes of them in their order; a failure is the last one begun, unless -k is given."""
         steps = list(self.plan.steps.items())
-        tasks = list(batches(steps, editor.pool.processes, lambda step: step[0]))
-        left = set(range(len(tasks)))
-        for _, batch in in_order(self.watched(editor.pool, editor.pool.each(editor.batch, tasks), left, len(steps))):
-            self.take(batch)
-        self.rest += [package for number in sorted(left) for package, _ in tasks[number]]
-        self.screen.clear()
+        tasks = list(batches(steps, len(steps) if self.request.has("--labels") else editor.pool.processes, lambda step: step[0]))
 
-    def watched(self, pool, results, left, total):
-        """The same results; each moves the bar, and a failure is the last one begun, unless -k is given."""
-        done = 0
-        for number, steps, batch in results:
-            left.discard(number)
-            done += len(steps)
-            self.tried += len(steps) - len(batch.untried)
+        def batch_of(task):
+            batch = editor.batch(task)
             if batch.status == FAILED and not self.request.has("-k"):
-                pool.close()
-            self.after.update(batch.after)
-            self.screen.progress(done, total, "package")
-            yield number, steps, batch
+                editor.pool.close()
+            return batch
+
+        for task, batch in worked(editor.pool, batch_of, tasks, self.screen, "package"):
+            if batch:
+                self.tried += len(task) - len(batch.untried)
+                self.take(batch)
+            else:
+                self.rest += [package for package, _ in task]
 
     def take(self, batch):
+        self.after.update(batch.after)
         self.screen.put(batch.out)
         self.has_printed |= bool(batch.out)
         for note in batch.notes:
             self.screen.say(note)
-        for name in batch.fixed if not self.request.has("--quiet") else []:
+        if batch.lack:
+            self.refusals.notes.append(f"{NAME}: buildozer {batch.lack}")
+        for name in batch.fixed if not (self.request.quiet or self.request.is_trial()) else []:
             self.screen.say(f"fixed {name}")
+        for name, pieces in batch.texts:
+            heading = os.fsencode(f"==> {shown(name)} <==\n") if self.request.has("--stdout") and len(self.plan.steps) > 1 else b""
+            self.screen.put(heading + self.screen.coloured(pieces))
         self.fixed |= set(batch.fixed)
         self.rest += batch.untried
         self.statuses.add(batch.status)
@@ -173,7 +202,7 @@ class Run:
             self.refusals.add(package, lines)
 
     def status(self):
-        if FAILED in self.statuses or self.refusals or self.screen.is_broken:
+        if FAILED in self.statuses or self.refusals or self.unkept or self.screen.is_broken:
             return FAILED
         return WELL if WELL in self.statuses else SAME
 
@@ -181,15 +210,18 @@ class Run:
 
     def end(self, stopped):
         """Writes what was refused, the summary and how to go on, and gives the status."""
+        self.refusals.notes += [*self.plan.notes, *(FOREIGN.format(name) for name in self.request.foreign)]
         self.refusals.tell(self.screen)
+        for name in self.unkept:
+            self.screen.say(f"{name}: its text before this run, or after it, could not be read: an undo of the run says so, too")
         if self.screen.is_broken:
             self.screen.say("<stdout>: cannot write")
-        if not self.request.has("--quiet"):
+        if self.request.quiet < 2:
             self.say_summary()
         if stopped is not None:
             self.screen.say(f"stopped by {signal.Signals(stopped).name}")
         again = [package for package in self.plan.steps if package in self.refusals.lines or package in set(self.rest)]
-        if again and len(again) < len(self.plan.steps) and not self.request.has("--quiet"):
+        if again and len(again) < len(self.plan.steps) and self.request.quiet < 2:
             self.say_how(again)
         return self.status()
 
@@ -197,14 +229,27 @@ class Run:
         links = len(self.plan.links)
         if links:
             self.screen.say(f"passed over {counted(links, 'package')} whose BUILD file is a link: {', '.join(sorted(self.plan.links)[:3])}{', ..' * (links > 3)}")
-        same = 0 if self.request.has("--stdout") else self.tried - len(self.fixed) - len([one for one in self.refusals.lines if one in self.plan.steps])
-        parts = [(len(self.fixed), "fixed"), (max(same, 0), "left unchanged"), (len(self.refusals), "refused"), (len(self.rest), "not begun")]
+        same = self.tried - len(self.fixed) - len([one for one in self.refusals.lines if one in self.plan.steps])
+        does = "would change" if self.request.is_trial() else "fixed"
+        parts = [(len(self.fixed), does), (max(same, 0), "left unchanged"), (len(self.refusals), "refused"), (len(self.rest), "not begun")]
         text = summary(parts)
         # what a run that only prints has printed says all
-        if text and (not self.has_printed or self.fixed or self.refusals or self.rest):
+        is_shown = self.request.has("--stdout") and not self.refusals and not self.rest
+        if text and not is_shown and (not self.has_printed or self.fixed or self.refusals or self.rest):
             self.screen.say(text)
+        if self.request.has("--diff") and self.fixed:
+            self.screen.say("to make this edit: " + command_line([NAME, *(word for word in self.request.words if word != "--diff")]))
         if self.record:
             self.screen.say(f"this was run {self.record.number}: {NAME} undo takes it back")
+            if self.record.number == 1:
+                self.say_of_git(next(iter(self.record.files)))
+
+    def say_of_git(self, name):
+        """Writes how git ignores journals, where it doesn't yet."""
+        name += ".journal"
+        if git.own_folder(self.request.root) and not git.ignored(self.request.root, [name]):
+            file = os.path.relpath(os.path.join(self.request.root, ".gitignore"))
+            self.screen.say(f"git doesn't ignore the journals yet: printf '*.journal\\n*.bznew\\n' >> {command_line([file])}")
 
     def say_how(self, packages):
         """Writes the command line that goes on with just these packages."""
@@ -225,7 +270,7 @@ class Run:
     def options_again(self):
         """The options of the command line that goes on; the kinds are in its targets."""
         options = {name: value for name, value in self.request.options.items() if name not in ("-f", "--types")}
-        return [name if value is True else f"{name}={value}" for name, value in options.items()]
+        return [word for name, value in options.items() for word in ([name] * value if name in FLAGS else [f"{name}={value}"])]
 
 
 # ---- commands on runs
@@ -239,8 +284,32 @@ def list_runs(runs, screen):
     """Prints the last runs: the number, the time, the number of files, what became of it, and the command line."""
     for record in itertools.islice(runs.all(), LISTED):
         how = " (taken back)" if record.state == UNDONE else " (stopped)" if record.was_stopped else ""
-        screen.put(os.fsencode(f"{record.number:>4}  {when(record)}  {counted(len(record.files), 'file'):>12}{how}  {record.line}\n"))
+        line = f"{record.number:>4}  {when(record)}  {counted(len(record.files), 'file'):>12}{how}  {record.line}"
+        screen.put(os.fsencode(shown(line)) + b"\n")
     return WELL
+
+
+def list_journals(request, lines, path, screen):
+    """Prints the texts of journals: a star at the present one, its number, the beginning of the digest, when a run left it, if known, the command."""
+    runs, refusals = request.runs(is_needed=False), Refusals()
+    times = {(name, after): when(record) for record in runs.all() for name, (_, after) in record.files.items()} if runs else {}
+    with Pool(request.processes) as pool:
+        editor = Editor(pool, path, request.root, [])
+        names = [name for name in editor.plan(lines, request.kinds, refusals).files() if os.path.lexists(os.path.join(request.root, name + ".journal"))]
+        for target in [target for target in lines[0].targets if not target.is_pattern and target.package not in map(os.path.dirname, names)]:
+            refusals.add(target.package, [f"{place(target.package, 'BUILD')}: there is no journal"])
+        moves = Moves(editor, runs, screen, 0)
+        for name, texts in sorted(moves.journals(names)):
+            rows, width = [shown(name)], len(str(len(texts) - 1))
+            wide = 18 * any((name, text.digest) in times for text in texts)
+            for number, text in enumerate(texts):
+                row = f"  {'*' if text.is_present else ' '} {number:>{width}}  {text.digest[:DIGITS]}  {times.get((name, text.digest), ''):{wide}}{text.note}"
+                rows.append(shown(row).rstrip())
+            screen.put("".join(row + "\n" for row in rows).encode())
+        for name, why in moves.left.items():
+            refusals.add(name, why.split("\n"))
+        refusals.tell(screen)
+        return FAILED if refusals else SAME, pool.signal
 
 
 def move_run(request, path, screen):
@@ -248,9 +317,9 @@ def move_run(request, path, screen):
     runs = request.runs()
     if request.operands[0] == "runs":
         return list_runs(runs, screen), None
-    number = int(request.operands[1]) if request.operands[1:] else None
+    number = count(request.operands[1], "the number of a run") if request.operands[1:] else None
     with Pool(request.processes) as pool:
-        moves = Moves(Editor(pool, path, request.root, ["-k", "--journal"]), runs, screen, request.has("--quiet"))
+        moves = Moves(Editor(pool, path, request.root, []), runs, screen, request.quiet)
         status = moves.undo(number) if request.operands[0] == "undo" else moves.redo(number)
         return status, pool.signal
 
@@ -271,35 +340,26 @@ def run(words, screen):
         os.execv(path, [path, "--version"])
     if request.of_runs():
         return move_run(request, path, screen)
-    with stops():
-        lines, (operands, text) = request.lines()
-        fault = usage_of(path, operands, text, request)
-        if fault is not None:
-            screen.say(os.fsdecode(fault).rstrip("\n"))
-            return USAGE, None
-        if request.has("--journal"):
-            request.runs()
+    lines, (operands, text) = request.lines()
+    fault = usage_of(path, operands, text, request)
+    if fault is not None:
+        for line in os.fsdecode(fault).rstrip("\n").split("\n"):
+            screen.say(line)
+        return USAGE, None
+    request.check(lines)
+    if request.lists_journals():
+        return list_journals(request, lines, path, screen)
+    if request.has("--journal"):
+        request.runs()
     this = Run(request, path, screen)
     stopped = this.over(lines)
+    if this.fixed and not request.has("--journal") and not request.is_trial():
+        plain = request.runs(is_needed=False)
+        if plain:
+            plain.note_plain(request.line)
     return this.end(stopped), stopped
 
 
 def main():
     """The command; gives its status."""
-    screen = Screen()
-    try:
-        status, stopped = run(sys.argv[1:], screen)
-    except Usage as fault:
-        screen.say(f"{NAME}: {fault}")
-        screen.say(f"{NAME}: see {NAME} --help")
-        return USAGE
-    except (Unreadable, git.GitError) as fault:
-        screen.say(f"{NAME}: {fault}")
-        return FAILED
-    except Stopped as signalled:
-        status, stopped = FAILED, signalled.args[0]
-    except KeyboardInterrupt:
-        status, stopped = FAILED, signal.SIGINT
-    if stopped is not None:
-        end_by(stopped)
-    return status
+    return run_as(NAME, run, USAGE, FAILED)

@@ -1,10 +1,16 @@
 """Where is kept what a later run needs: the folder of this working tree in .git, or one that is named."""
+import contextlib
+import errno
 import os
 
 from . import git
 
 FOLDER = "kinduzar"
 REST = "rest"
+
+
+class Unreadable(Exception):
+    """What is kept cannot be read or written; the text says which file, and why."""
 
 
 def folder_for(place, named=None):
@@ -15,12 +21,21 @@ def folder_for(place, named=None):
     return own and os.path.join(own, FOLDER)
 
 
+def make_folder(folder):
+    """Makes a folder, in that of this program. A link in the place of one of both, but for one that is named, would lead where nobody means it."""
+    above = os.path.dirname(folder)
+    for each in [above] * (os.path.basename(above) == FOLDER) + [folder]:
+        if os.path.islink(each):
+            raise OSError(errno.ELOOP, "it is a link", each)
+    os.makedirs(folder, exist_ok=True)
+
+
 def write_whole(file, content):
     """Replaces a file whole: whoever reads it, also after a crash, finds one of both."""
     import tempfile  # here, as reading it would slow every run
 
     folder = os.path.dirname(file)
-    os.makedirs(folder, exist_ok=True)
+    make_folder(folder)
     handle, new = tempfile.mkstemp(prefix=".new-", dir=folder)
     try:
         with os.fdopen(handle, "wb") as written:
@@ -31,18 +46,10 @@ def write_whole(file, content):
     except BaseException:
         os.unlink(new)
         raise
-    flush(folder)
-
-
-def flush(folder):
-    """Flushes a folder, where its file system has that."""
     handle = os.open(folder, os.O_RDONLY)
-    try:
+    with contextlib.suppress(OSError):  # not each file system has that of a folder
         os.fsync(handle)
-    except OSError:
-        pass
-    finally:
-        os.close(handle)
+    os.close(handle)
 
 
 def keep(place, content, named=None):
@@ -56,9 +63,3 @@ def keep(place, content, named=None):
     except OSError:
         return None
     return min(os.path.relpath(file), file, key=len)
-
-
-def listed(names):
-    """Keeps names of files, and gives the words with which buildifier-tree takes them; None where there is no place."""
-    file = keep(os.curdir, b"".join(os.fsencode(name) + b"\0" for name in names))
-    return file and [f"--from={file}"]
