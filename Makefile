@@ -3,8 +3,9 @@
 #:
 #: make help              seconds    this list
 #: make clean             seconds    removes what was built
-#: make install           seconds    copies both programs, the commands for whole trees, their man pages, and completions
-#:                                   for bash, zsh and fish below PREFIX (/usr/local); with DESTDIR=.. below another root
+#: make install           seconds    copies both programs, the commands for whole trees, compat.sh, man pages, and
+#:                                   completions for bash, zsh and fish below PREFIX (/usr/local); with DESTDIR=.. below
+#:                                   another root
 #: make uninstall         seconds    removes exactly these
 #: make dist              seconds    packs the same, all pages and contrib/ into an archive in dist/, with its SHA-256
 #:                                   sum beside it; what is not built is built first
@@ -38,9 +39,12 @@ DESTDIR ?=
 TREES = bin/buildozer-tree bin/buildifier-tree
 MODULES = $(patsubst contrib/tree/%,share/kinduzar/%,$(wildcard contrib/tree/kinduzar_tree/*.py))
 
+# the script that takes the options of bazelbuild's programs, by the name that lines of both programs have for it
+SCRIPT = share/kinduzar/contrib/compat/compat.sh
+
 # what is installed beside the programs, in the folders where man and each shell look for it
 SHARED = $(foreach program,$(notdir $(PROGRAMS) $(TREES)),share/man/man1/$(program).1 share/bash-completion/completions/$(program) \
-    share/zsh/site-functions/_$(program) share/fish/vendor_completions.d/$(program).fish) $(MODULES)
+    share/zsh/site-functions/_$(program) share/fish/vendor_completions.d/$(program).fish) share/man/man7/kinduzar-coming.7 $(MODULES)
 
 # what the programs are made of; a second 'make' with nothing changed does nothing
 SOURCES = crates.txt $(shell find crates -name out -prune -o -path '*/must-fail' -prune -o -name README.md -o -type f -print)
@@ -73,31 +77,32 @@ bin/.shown: bin/buildozer bin/buildifier examples/BUILD
 	@bin/buildifier < examples/BUILD
 	@touch $@
 
-# pages and completions, made of docs/ each time, and the commands for whole trees; a file that would not change stays
+# pages and completions, made of docs/ each time, and what is copied from contrib/; a file that would not change stays
 share:
 	@PYTHONDONTWRITEBYTECODE=1 tools/manual.py share
 	@PYTHONDONTWRITEBYTECODE=1 tools/completions.py share
 	@for file in $(notdir $(TREES)); do install -C -D -m 755 "contrib/tree/$$file" "bin/$$file" || exit 1; done
 	@for file in $(MODULES:share/kinduzar/%=%); do install -C -D -m 644 "contrib/tree/$$file" "share/kinduzar/$$file" || exit 1; done
+	@install -C -D -m 755 "$(SCRIPT:share/kinduzar/%=%)" "$(SCRIPT)"
 
 # What make has built is installed as it is, so that nothing is built with the rights that installing takes.
 install: share
 	@for program in $(PROGRAMS); do \
 	    [ -x "$$program" ] || { echo "$$program was not found: run make first." >&2; exit 1; }; done
 	@umask 022; \
-	    for file in $(PROGRAMS) $(TREES); do install -D -m 755 "$$file" "$(DESTDIR)$(PREFIX)/$$file" || exit 1; done; \
+	    for file in $(PROGRAMS) $(TREES) $(SCRIPT); do install -D -m 755 "$$file" "$(DESTDIR)$(PREFIX)/$$file" || exit 1; done; \
 	    for file in $(SHARED); do install -D -m 644 "$$file" "$(DESTDIR)$(PREFIX)/$$file" || exit 1; done
 
 uninstall:
-	@for file in $(PROGRAMS) $(TREES) $(SHARED); do rm -f "$(DESTDIR)$(PREFIX)/$$file" || exit 1; done
-	@for folder in share/kinduzar/kinduzar_tree share/kinduzar; do \
+	@for file in $(PROGRAMS) $(TREES) $(SCRIPT) $(SHARED); do rm -f "$(DESTDIR)$(PREFIX)/$$file" || exit 1; done
+	@for folder in $(addprefix share/kinduzar/,kinduzar_tree contrib/compat contrib) share/kinduzar; do \
 	    [ ! -d "$(DESTDIR)$(PREFIX)/$$folder" ] || rmdir --ignore-fail-on-non-empty "$(DESTDIR)$(PREFIX)/$$folder" || exit 1; done
 
 # what is packed beside these: all pages, those of the crates too, so that each link leads somewhere in the archive
 PACKED = $(wildcard *.md LICENSE crates/*/README.md) .pre-commit-hooks.yaml $(shell find contrib docs -type f -not -path "*/__pycache__/*")
 
 dist: $(PROGRAMS) share
-	@PYTHONDONTWRITEBYTECODE=1 tools/archive.py dist $(PROGRAMS) $(TREES) $(SHARED) $(PACKED)
+	@PYTHONDONTWRITEBYTECODE=1 tools/archive.py dist $(PROGRAMS) $(TREES) $(SCRIPT) $(SHARED) $(PACKED)
 
 # Where four processors and the memory for four proofs are there, four run side by side; by its own estimates rt starts fewer.
 LANES = $(shell [ "$$(nproc)" -ge 4 ] && [ "$$(awk '/MemAvailable/ { print int($$2 / 1000000) }' /proc/meminfo)" -ge 18 ] && echo RT_JOBS=4)

@@ -24,7 +24,7 @@ SHARED = ["share/man/man1/{}.1", "share/bash-completion/completions/{}", "share/
 TREES = [f"{program}-tree" for program in PROGRAMS]
 MODULES = [f"share/kinduzar/kinduzar_tree/{file.name}" for file in (TOP / "contrib/tree/kinduzar_tree").glob("*.py")]
 FILES = {f"bin/{program}": 0o755 for program in PROGRAMS + TREES} | {file.format(program): 0o644 for file in SHARED for program in PROGRAMS + TREES}
-FILES |= dict.fromkeys(MODULES, 0o644)
+FILES |= dict.fromkeys([*MODULES, "share/man/man7/kinduzar-coming.7"], 0o644) | {"share/kinduzar/contrib/compat/compat.sh": 0o755}
 ODD, EVEN = b'f(name="x")\n', b'f(name = "x")\n'
 SECONDS = 600
 # how many packages the tree has that is formatted by what an archive has
