@@ -11,6 +11,8 @@
 #:                                   sum beside it; what is not built is built first
 #: make corpus FOLDER=..  seconds    reads each BUILD file below the folder, spells it back byte for byte, and formats
 #:                                   it twice
+#: make try               1-4 min    what make shows at its end, by both programs, not proved; with FILE=.. over a file of
+#:                                   your own, which stays as it is
 #: make bench             minutes    time and memory of a delete in a large file, of many commands in one run, also
 #:                                   with a journal, of a run over many packages, of one that writes many files, and of
 #:                                   reading; with FOLDER=.. of the BUILD files there
@@ -49,7 +51,7 @@ SHARED = $(foreach program,$(notdir $(PROGRAMS) $(TREES)),share/man/man1/$(progr
 # what the programs are made of; a second 'make' with nothing changed does nothing
 SOURCES = crates.txt $(shell find crates -name out -prune -o -path '*/must-fail' -prune -o -name README.md -o -type f -print)
 
-.PHONY: all help share install uninstall dist test edits bench largest shapes hostile fuzz corpus clean rt
+.PHONY: all help try share install uninstall dist test edits bench largest shapes hostile fuzz corpus clean rt
 
 all: $(PROGRAMS) share bin/.shown
 
@@ -59,6 +61,9 @@ help:
 rt:
 	@command -v rt > /dev/null || { \
 	    echo "rt was not found: install a Rattle kit (rattle-kit-13b or later) and put its bin folder on the PATH." >&2; exit 1; }
+
+try: rt
+	@tools/try.py $(if $(FILE),"$(FILE)")
 
 # One call makes both, so that what both depend on is proved once, several crates at a time.
 $(PROGRAMS) &: $(SOURCES) | rt
