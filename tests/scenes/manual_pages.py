@@ -39,6 +39,7 @@ READERS = {
 def plain(text):
     """A text of a page without the signs of its letters."""
     signs = {r"\-": "-", r"\e": "\\", r"\(aq": "'", r"\(dq": '"', r"\(ga": "`", r"\(ha": "^", r"\(ti": "~", r"\&": ""}
+    text = re.sub(r"\\\[u([0-9A-F]+)\]", lambda found: chr(int(found[1], 16)), text)
     return re.sub(r"\\f[BIR]|\\-|\\e|\\&|\\\(..", lambda found: signs.get(found[0], ""), text)
 
 
