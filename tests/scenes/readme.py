@@ -193,6 +193,16 @@ def layers(place):
     return different_from_code("crates", sorted(word for word, _ in found), sorted(uses)) + wrong
 
 
+def libraries_are_used(place):
+    """Each library that a crate's line in crates.txt names is named in its sources too, but for the parts of one (as `regex_vm` is of `regex`)."""
+    names, wrong = names_in_sources(), []
+    for line in (TOP / "crates.txt").read_text().splitlines():
+        crate, _, uses = line.partition("#")[0].partition(":")
+        own = [use for use in uses.split() if not any(use.startswith(f"{other}_") for other in uses.split())]
+        wrong += [f"{crate} does not use {use}" for use in own if use not in names[crate]]
+    return wrong
+
+
 def rows_of_the_gate(place):
     """Each crate has one row in the table of docs/internals/GATE.md, and no other row is there."""
     table = re.search(r"(?m)^\| Crate \| Functions \|.*\n\|[-|]+\|\n((?:\|.*\n)+)", (INTERNALS / "GATE.md").read_text())
@@ -338,7 +348,7 @@ def files_of_lemmas_are_there(place):
 
 
 FOUND = {name: an_example(name, block) for name, block in named_examples().items()} | examples_in_shells()
-FOUND |= named(shells_are_there, refusals, attributes, commands, examples_of_commands, rows_for_theirs, layers, rows_of_the_gate)
+FOUND |= named(shells_are_there, refusals, attributes, commands, examples_of_commands, rows_for_theirs, layers, libraries_are_used, rows_of_the_gate)
 FOUND |= named(
     pages_are_linked, readme_is_short, pages_of_crates_have_their_form, files_are_there, crates_are_there, names_are_there, definitions_are_there,
     made_of_definitions, counts_are_those_of_the_sources, calls_are_those_of_the_sources, index_has_what_is_cited, files_of_lemmas_are_there,
