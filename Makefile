@@ -142,6 +142,7 @@ hostile: $(PROGRAMS) bin/cases
 	@HOSTILE=whole tests/scenes/devices.py $(PROGRAMS)
 	@HOSTILE=whole tests/scenes/races.py $(PROGRAMS)
 	@HOSTILE=whole tests/scenes/whole_trees.py $(PROGRAMS)
+	@HOSTILE=whole tests/scenes/foreign_trees.py $(PROGRAMS)
 	@HOSTILE=whole tests/scenes/power.py $(PROGRAMS)
 	@HOSTILE=whole tests/scenes/disk_acts.py $(PROGRAMS)
 	@HOSTILE=whole tests/scenes/refusal_places.py bin/buildifier

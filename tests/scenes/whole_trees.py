@@ -21,125 +21,17 @@ import sys
 import tempfile
 import time
 
-from lib.folders import new_folder
 from lib.lines import PACKAGE_HINT
-from lib.runs import PATIENCE, environment_with
-from lib.scenes import TOP, WHOLE, Scenes, Wrong, named
+from lib.runs import PATIENCE
+from lib.scenes import WHOLE, Scenes, named
+from lib.trees import EVEN, FEW, ODD, SIGNALS, TREE, WAITING, alive, made, place, with_git
 
-TREE = TOP / "contrib" / "tree"
 COMMANDS = ("buildifier-tree", "buildozer-tree")
 # how many packages a tree has
 PACKAGES = 3000 if WHOLE else 600
-FEW = 60
-ODD, EVEN = b'f( name="x",deps=[":a"] )\n', b'f(\n    name = "x",\n    deps = [":a"],\n)\n'
 ODD_BZL, EVEN_BZL = b"def f(x):\n  return x\n", b"def f(x):\n    return x\n"
 REFUSED = b"f(\n"
-SIGNALS = (signal.SIGINT, signal.SIGTERM, signal.SIGHUP)
 ODD_NAMES = ["with space", "new\nline", "co:lon", "# reformat", "\u00fcml\u00e4ut", "bar|bar", " front", "-dash"]
-# a program that takes its time, and says which process it is; and one that waits for a file in the workspace, if it runs there
-SLOW = """#!/bin/sh
-echo $$ >> "{pids}"
-sleep {seconds}
-exec {program} "$@"
-"""
-WAITING = """#!/bin/sh
-while [ -e MODULE.bazel ] && [ ! -e go ]; do sleep 0.05; done
-exec {program} "$@"
-"""
-
-
-class Place(Wrong):
-    """A folder with a tree, and what is wrong there."""
-
-    def __init__(self, programs, folder, scratch):
-        super().__init__()
-        self.programs, self.folder, self.scratch = dict(zip(["buildozer", "buildifier"], programs)), folder, scratch
-        self.path = self.scratch / "bin"
-        self.path.mkdir()
-        for name, file in self.programs.items():
-            (self.path / name).symlink_to(file)
-        self.environment = {**environment_with(self.path), "HOME": str(self.scratch), "GIT_CEILING_DIRECTORIES": str(self.folder.parent)}
-
-    def put(self, files):
-        for name, content in files.items():
-            file = os.path.join(os.fsencode(self.folder), os.fsencode(name))
-            os.makedirs(os.path.dirname(file), exist_ok=True)
-            with open(file, "wb") as written:
-                written.write(content)
-
-    def git(self, *words):
-        identity = ["-c", "user.name=a", "-c", "user.email=a@b", "-c", "init.defaultBranch=main"]
-        subprocess.run(["git", *identity, *words], cwd=self.folder, env=self.environment, check=True, capture_output=True, timeout=PATIENCE)
-
-    def files(self):
-        """What is in each file, by its name; a link is its path. Left out are those of git, journals, and what a process that is killed leaves."""
-        found = {}
-        for folder, folders, names in os.walk(os.fsencode(self.folder)):
-            folders[:] = [name for name in folders if name != b".git"]
-            for name in (name for name in names if not name.endswith((b".journal", b".bznew"))):
-                file = os.path.join(folder, name)
-                found[os.fsdecode(os.path.relpath(file, os.fsencode(self.folder)))] = (
-                    os.readlink(file) if os.path.islink(file) else pathlib.Path(os.fsdecode(file)).read_bytes()
-                )
-        return found
-
-    def start(self, command, *words, here=".", **how):
-        pipes = {"stdin": subprocess.DEVNULL, "stdout": subprocess.PIPE, "stderr": subprocess.PIPE}
-        # where this script was started to pass over a signal, what it runs must not
-        how = {"preexec_fn": let_signals, **pipes, **how}
-        return subprocess.Popen([sys.executable, TREE / command, *words], cwd=self.folder / here, env=self.environment, **how)
-
-    def run(self, command, *words, here=".", text=None):
-        """The status, standard output, and the lines of standard error."""
-        with self.start(command, *words, here=here, stdin=subprocess.PIPE) as process:
-            out, err = process.communicate(text, timeout=PATIENCE)
-        return process.returncode, out, err.decode(errors="surrogateescape").splitlines()
-
-    def wants_files(self, what, wanted):
-        files = self.files()
-        other = [name for name in {**files, **wanted} if files.get(name) != wanted.get(name)]
-        self.expect(what, [(name, files.get(name)) for name in other[:3]], [(name, wanted.get(name)) for name in other[:3]])
-
-    def slow(self, program, seconds):
-        """Puts a program that takes its time in the place of one; gives the file with the numbers of its processes."""
-        pids = self.scratch / "pids"
-        pids.unlink(missing_ok=True)
-        self.replace(program, SLOW.format(pids=pids, seconds=seconds, program=self.programs[program]))
-        return pids
-
-    def replace(self, program, script):
-        """Puts a script in the place of a program."""
-        file = self.path / program
-        file.unlink()
-        file.write_text(script)
-        file.chmod(0o755)
-
-    def fast(self, program):
-        (self.path / program).unlink()
-        (self.path / program).symlink_to(self.programs[program])
-
-
-def let_signals():
-    for number in SIGNALS:
-        signal.signal(number, signal.SIG_DFL)
-
-
-def made(count, text=ODD):
-    """So many packages, some in one another."""
-    return {f"p{i % 40}/q{i}/BUILD{'.bazel' * (i % 3 == 0)}": text.replace(b'"x"', b'"x%d"' % i) for i in range(count)}
-
-
-def is_alive(pid):
-    """Whether a process runs; one that has ended and was not waited for doesn't."""
-    try:
-        return pathlib.Path(f"/proc/{pid}/stat").read_text().rpartition(")")[2].split()[0] != "Z"
-    except OSError:
-        return False
-
-
-def alive(pids):
-    """The processes of a file with their numbers that run."""
-    return [pid for pid in pids.read_text().split() if is_alive(pid)]
 
 
 def formatted(place, files):
@@ -170,7 +62,7 @@ def all_files_are_formatted(place):
         (place.folder / name).symlink_to(to)
     before = place.files()
     after = {**before, **formatted(place, {**files, "outer/BUILD": ODD})}
-    named = os.fsdecode(b"bytes\xff/BUILD: the name is not UTF-8")
+    named = "bytes\\xff/BUILD: the name is not UTF-8"
     status, out, err = place.run("buildifier-tree", "--mode=check")
     lines = b"".join(os.fsencode(name) + b" # reformat\n" for name in sorted({**files, "outer/BUILD": ODD}))
     place.expect("check", (status, err[:2]), (3, [named, f"{len(files) + 1:,} files would be reformatted, 2 already formatted, 1 refused"]))
@@ -372,6 +264,8 @@ def edited(place, files, commands):
 
 
 EDIT = ["set testonly True", "add deps //lib:b"]
+# so that nothing but refusals is written
+QUIET = ("--quiet", "--quiet")
 
 
 def all_packages_are_edited(place):
@@ -429,7 +323,7 @@ def names_that_no_target_has(place):
     """They are told, and the others are edited."""
     place.put({"a/BUILD": ODD, **{f"{name}/BUILD": ODD for name in ODD_NAMES}})
     place.put({os.fsdecode(b"bytes\xff/BUILD"): ODD})
-    status, _, err = place.run("buildozer-tree", "--quiet", "set size small", "//...:all")
+    status, _, err = place.run("buildozer-tree", *QUIET, "set size small", "//...:all")
     unnamed = [name for name in ODD_NAMES if any(sign in name for sign in " :|\n#")]
     place.expect("status", (status, sum("no target can name" in line for line in err)), (2, len(unnamed) + 1))
     files = place.files()
@@ -440,7 +334,7 @@ def lines_in_their_order(place):
     """A file of lines: what they do to a package is done in their order, and what is wrong in one is told with its place."""
     place.put({"MODULE.bazel": b"", **made(FEW)})
     place.put({"a/lines": b"\xef\xbb\xbfset size small|//...:all\r\n# no line\n\nset size large|//p1/...:all\nnew g after|//p1/...:all\nset kind h|//...:%g\n"})
-    place.expect("run", place.run("buildozer-tree", "--quiet", "-f", "lines", here="a"), (0, b"", []))
+    place.expect("run", place.run("buildozer-tree", *QUIET, "-f", "lines", here="a"), (0, b"", []))
     out = place.run("buildozer-tree", "print kind size", "//...:all")[1].decode().splitlines()
     in_p1 = sum(i % 40 == 1 for i in range(FEW))
     place.expect("files", (out.count("f small"), out.count("f large"), out.count("h (missing)"), len(out)), (FEW - in_p1, in_p1, in_p1, FEW + in_p1))
@@ -484,9 +378,9 @@ def changed_and_taken_back(place):
     status, _, err = place.run("buildozer-tree", "--journal", *EDIT, "//...:all")
     place.expect("edit", (status, err[-2:]), (0, [f"{len(files):,} files fixed", "this was run 1: buildozer-tree undo takes it back"]))
     after = place.files()
-    place.expect("a second edit", place.run("buildozer-tree", "--journal", "--quiet", "remove testonly", "//p1/...:all"), (0, b"", []))
+    place.expect("a second edit", place.run("buildozer-tree", "--journal", *QUIET, "remove testonly", "//p1/...:all"), (0, b"", []))
     second = place.files()
-    place.expect("undo of the second", place.run("buildozer-tree", "undo", "--quiet"), (0, b"", []))
+    place.expect("undo of the second", place.run("buildozer-tree", "undo", *QUIET), (0, b"", []))
     place.wants_files("after it", after)
     by_hand = "p2/q2/BUILD"
     place.put({by_hand: after[by_hand] + b"# by hand\n"})
@@ -497,17 +391,17 @@ def changed_and_taken_back(place):
     place.expect("undo", (status, err[-3:]), (2, wanted))
     place.wants_files("taken back", {**before, by_hand: after[by_hand] + b"# by hand\n"})
     place.put({by_hand: after[by_hand]})
-    place.expect("going on", place.run("buildozer-tree", "undo", "--quiet"), (0, b"", []))
+    place.expect("going on", place.run("buildozer-tree", "undo", *QUIET), (0, b"", []))
     place.wants_files("all taken back", before)
     place.expect("no more", place.run("buildozer-tree", "undo")[0], 2)
-    place.expect("redo", place.run("buildozer-tree", "redo", "--quiet", here="p1"), (0, b"", []))
+    place.expect("redo", place.run("buildozer-tree", "redo", *QUIET, here="p1"), (0, b"", []))
     place.wants_files("done again", after)
-    place.expect("redo of the second", place.run("buildozer-tree", "redo", "--quiet"), (0, b"", []))
+    place.expect("redo of the second", place.run("buildozer-tree", "redo", *QUIET), (0, b"", []))
     place.wants_files("both done again", second)
     place.expect("no redo", place.run("buildozer-tree", "redo")[0], 2)
     listed = place.run("buildozer-tree", "runs")[1].decode().splitlines()
     place.expect("runs", [re.sub(r" +\d+-\d+-\d+ \d+:\d+ +", " ", row) for row in listed],
-                [f"   2 {len([i for i in range(PACKAGES) if i % 40 == 1])} files  buildozer-tree --journal --quiet 'remove testonly' //p1/...:all",
+                [f"   2 {len([i for i in range(PACKAGES) if i % 40 == 1])} files  buildozer-tree --journal --quiet --quiet 'remove testonly' //p1/...:all",
                  f"   1 {len(files):,} files  {line.partition(', ')[2]}"])  # fmt: skip
 
 
@@ -525,14 +419,14 @@ def edits_stopped_and_taken_back(place):
         now = place.files()
         changed = [name for name in files if now[name] != before[name]]
         place.expect(f"{number.name}: midway", 0 < len(changed) < len(files), True)
-        place.expect(f"{number.name}: undo", place.run("buildozer-tree", "undo", "--quiet"), (0, b"", []))
+        place.expect(f"{number.name}: undo", place.run("buildozer-tree", "undo", *QUIET), (0, b"", []))
         place.wants_files(f"{number.name}: taken back", before)
-        place.expect(f"{number.name}: redo", place.run("buildozer-tree", "redo", "--quiet"), (0, b"", []))
+        place.expect(f"{number.name}: redo", place.run("buildozer-tree", "redo", *QUIET), (0, b"", []))
         place.wants_files(f"{number.name}: done again", now)
         by_others = changed[0]
         subprocess.run([place.programs["buildozer"], "--quiet", "--journal", "set size small", f"//{os.path.dirname(by_others)}:all"], cwd=place.folder, timeout=PATIENCE)
         others = place.files()[by_others]
-        place.expect(f"{number.name}: with another change", place.run("buildozer-tree", "undo", "--quiet")[0], 2)
+        place.expect(f"{number.name}: with another change", place.run("buildozer-tree", "undo", *QUIET)[0], 2)
         place.wants_files(f"{number.name}: taken back but it", {**before, by_others: others})
         for journal in place.folder.rglob("*.journal"):
             journal.unlink()
@@ -544,11 +438,11 @@ def an_undo_that_is_stopped(place):
     place.put({"MODULE.bazel": b"", **files})
     place.git("init", "-q")
     before = place.files()
-    place.run("buildozer-tree", "--journal", "--quiet", *EDIT, "//...:all")
+    place.run("buildozer-tree", "--journal", *QUIET, *EDIT, "//...:all")
     for number in (signal.SIGTERM, signal.SIGKILL):
         status, _ = stopped(place, "buildozer-tree", ["undo", "--processes=2"], "buildozer", number)
         place.expect(f"{number.name}: status", status, -number)
-    place.expect("undo", place.run("buildozer-tree", "undo", "--quiet"), (0, b"", []))
+    place.expect("undo", place.run("buildozer-tree", "undo", *QUIET), (0, b"", []))
     place.wants_files("taken back", before)
 
 
@@ -559,7 +453,7 @@ def two_edits_at_once(place):
     place.git("init", "-q")
     before = place.files()
     place.replace("buildozer", WAITING.format(program=place.programs["buildozer"]))
-    runs = [place.start("buildozer-tree", "--journal", "--quiet", "set size small", *(f"//p{i}/...:all" for i in range(40) if i % 2 == half)) for half in (0, 1)]
+    runs = [place.start("buildozer-tree", "--journal", *QUIET, "set size small", *(f"//p{i}/...:all" for i in range(40) if i % 2 == half)) for half in (0, 1)]
     records = place.folder / ".git/kinduzar/runs"
     while len(list(records.glob("*.json"))) < 2:
         time.sleep(0.01)
@@ -570,7 +464,7 @@ def two_edits_at_once(place):
         place.expect("a run", (run.communicate(timeout=PATIENCE), run.returncode), ((b"", b""), 0))
     place.fast("buildozer")
     for _ in runs:
-        place.expect("undo", place.run("buildozer-tree", "undo", "--quiet"), (0, b"", []))
+        place.expect("undo", place.run("buildozer-tree", "undo", *QUIET), (0, b"", []))
     place.wants_files("taken back", {**before, "go": b""})
 
 
@@ -578,14 +472,14 @@ def where_runs_are_kept(place):
     """In .git, in a folder that is named, and apart for each workspace; a run that changed nothing is not kept."""
     place.put({"MODULE.bazel": b"", "a/BUILD": ODD, "in/WORKSPACE": b"", "in/a/BUILD": ODD})
     place.expect("no place", place.run("buildozer-tree", "--journal", "set size small", "//a:all")[0], 1)
-    place.expect("a named one", place.run("buildozer-tree", "--state=kept", "--journal", "--quiet", "set size small", "//a:all"), (0, b"", []))
-    place.expect("its undo", place.run("buildozer-tree", "--state", "kept", "undo", "--quiet"), (0, b"", []))
+    place.expect("a named one", place.run("buildozer-tree", "--state=kept", "--journal", *QUIET, "set size small", "//a:all"), (0, b"", []))
+    place.expect("its undo", place.run("buildozer-tree", "--state", "kept", "undo", *QUIET), (0, b"", []))
     place.git("init", "-q")
-    place.expect("nothing changed", place.run("buildozer-tree", "--journal", "--quiet", "remove none", "//a:all"), (3, b"", []))
+    place.expect("nothing changed", place.run("buildozer-tree", "--journal", *QUIET, "remove none", "//a:all"), (3, b"", []))
     place.expect("no runs", place.run("buildozer-tree", "runs"), (0, b"", []))
-    place.expect("within", place.run("buildozer-tree", "--journal", "--quiet", "set size small", "//a:all", here="in/a"), (0, b"", []))
+    place.expect("within", place.run("buildozer-tree", "--journal", *QUIET, "set size small", "//a:all", here="in/a"), (0, b"", []))
     place.expect("of the outer one", place.run("buildozer-tree", "undo")[0], 2)
-    place.expect("of the inner one", place.run("buildozer-tree", "undo", "--quiet", here="in"), (0, b"", []))
+    place.expect("of the inner one", place.run("buildozer-tree", "undo", *QUIET, here="in"), (0, b"", []))
     place.expect("files", [place.files()[name] for name in ("a/BUILD", "in/a/BUILD")], [ODD, ODD])
     records = place.folder / ".git/kinduzar/runs"
     (records / "000009.json").write_text("{")
@@ -609,33 +503,13 @@ def sources_are_of_python_3_9(place):
     place.expect("left beside them", sorted(TREE.rglob("*")), before)
 
 
-@contextlib.contextmanager
-def place(programs):
-    with new_folder() as folder, tempfile.TemporaryDirectory() as scratch:
-        tree = pathlib.Path(folder, "tree")
-        tree.mkdir()
-        yield Place(programs, tree, pathlib.Path(scratch))
-
-
-def with_git(scene):
-    """A scene that needs git, of which is said where there is none."""
-
-    def tried(place):
-        if not shutil.which("git"):
-            SCENES.say(f"{scene.__name__} was not run: there is no git")
-            return
-        scene(place)
-
-    return tried
-
-
 TREES = named(
     all_files_are_formatted, paths_and_usage, refusals_are_sorted, differences, only_what_changed, a_process_that_is_killed, formats_stopped_and_run_again,
     slow_processes_are_ended, two_formats_at_once, on_a_terminal, a_closed_output, all_packages_are_edited, targets_mean_packages, names_that_no_target_has,
     lines_in_their_order, notes_are_no_refusals, failures_end_a_run, changed_and_taken_back, edits_stopped_and_taken_back, an_undo_that_is_stopped, two_edits_at_once, where_runs_are_kept,
     sources_are_of_python_3_9,
 )  # fmt: skip
-SCENES = Scenes(__file__, {name: with_git(scene) for name, scene in TREES.items()}, place=place)
+SCENES = Scenes(__file__, {name: with_git(scene, lambda what: SCENES.say(what)) for name, scene in TREES.items()}, place=place)
 
 if __name__ == "__main__":
     SCENES.main()

@@ -2,19 +2,15 @@
 import dataclasses
 import os
 
-from .names import BUILD_NAMES, build_file
-from .processes import batches
-from .refusals import by_name, without_notes
-from .runs import digest_of
-from .targets import Target, of_kinds, packages_below, written
+from .files import MOST_TEXT, content, digest_of
+from .names import BUILD_NAMES, build_file, files_among
+from .processes import NOT_RUN, batches
+from .refusals import by_name, lines_of, without_notes
+from .targets import Target, of_kinds, packages_below, place, written
+from .terminal import shown
 
 WELL, FAILED, SAME = 0, 2, 3
 UNNAMED = "no target can name this package"
-
-
-def place(package, name):
-    """The name of a file of a package, from the root."""
-    return f"{package}/{name}" if package else name
 
 
 class Plan:
@@ -23,8 +19,8 @@ class Plan:
     def __init__(self, root, refusals):
         self.root, self.refusals = root, refusals
         self.steps, self.links, self.below = {}, set(), {}
-        # the patterns that mean nothing
-        self.missing = []
+        # the patterns that mean nothing, and what is noted of others
+        self.missing, self.notes = [], []
 
     def add(self, line, target):
         """A line's commands are for a target too."""
@@ -34,15 +30,16 @@ class Plan:
         steps[-1][1].append(target)
 
     def meant_by(self, pattern):
-        """The targets that a pattern means; a package that no target can name, and a pattern that means none, are refused."""
+        """The targets that a pattern means; what cannot be read, a package that no target can name, and a pattern that means none, are refused."""
         if pattern.front not in self.below:
             self.below[pattern.front] = packages_below(self.root, pattern.front)
         packages = self.below[pattern.front]
         self.links |= set(packages.links)
-        for package in packages.unnamed:
-            if package not in self.refusals.lines:
-                self.refusals.add(package, [f"{place(package, build_file(os.path.join(self.root, package)) or 'BUILD')}: {UNNAMED}"])
-        if not packages.named and not packages.unnamed:
+        refused = {name: f"{name}: {why}" for name, why in packages.closed.items()}
+        refused.update({name: f"{place(name, build_file(os.path.join(self.root, name)) or 'BUILD')}: {UNNAMED}" for name in packages.unnamed})
+        for name in [name for name in refused if name not in self.refusals.lines]:
+            self.refusals.add(name, [refused[name]])
+        if not packages.named and not refused:
             self.lack(pattern, "there is no package")
         # the root package has no rule that a target without a colon would mean
         return [Target(package, pattern.which) for package in packages.named if package or pattern.which is not None]
@@ -53,9 +50,8 @@ class Plan:
         self.refusals.add(pattern.package, [f"{pattern}: {what}"])
 
     def files(self):
-        """The name of each package's file, where there is one."""
-        there = {package: build_file(os.path.join(self.root, package)) for package in self.steps}
-        return {package: place(package, name) for package, name in there.items() if name}
+        """The names of the files that may be each package's, of which one that cannot be opened leaves the turn to the next."""
+        return [place(package, name) for package in self.steps for name in files_among(os.path.join(self.root, package), BUILD_NAMES)]
 
 
 @dataclasses.dataclass
@@ -70,6 +66,9 @@ class Batch:
     untried: list = dataclasses.field(default_factory=list)
     status: int = WELL
     after: dict = dataclasses.field(default_factory=dict)
+    # why no process could be started; and what is shown of files, each with its name
+    lack: str = ""
+    texts: list = dataclasses.field(default_factory=list)
 
 
 class Editor:
@@ -86,12 +85,25 @@ class Editor:
     def having(self, targets):
         """Those of the targets, one a package, by which some rule is meant, or whose file refuses to say so."""
         lacking = set()
-        for _, batch, ended in self.pool.each(self.printed, list(batches(targets, self.pool.processes, str))):
+        likely = [target for target in targets if self.may_have(target)]
+        for _, batch, ended in self.pool.each(self.printed, list(batches(likely, self.pool.processes, package_of))):
+            err = set(lines_of(ended.err))
             for target in batch:
-                lines = {f"buildozer: {place(target.package, name)}: print kind: NoTarget (41)" for name in BUILD_NAMES}
-                if lines & set(os.fsdecode(ended.err).split("\n")):
+                lines = {f"buildozer: {shown(place(target.package, name))}: print kind: NoTarget (41)" for name in BUILD_NAMES}
+                if lines & err:
                     lacking.add(target.package)
-        return [target for target in targets if target.package not in lacking]
+        return [target for target in likely if target.package not in lacking]
+
+    def may_have(self, target):
+        """Whether a package's file may have what a target means: of a rule that is named, whether its name is there, or what may spell it."""
+        name = target.package.rpartition("/")[2] if target.which is None else target.which
+        if name.startswith(("%", "__pkg__")):
+            return True
+        try:
+            text = content(os.path.join(self.root, target.package, build_file(os.path.join(self.root, target.package)) or ""), MOST_TEXT)
+        except OSError:
+            return True
+        return os.fsencode(name) in text or b"\\" in text
 
     def printed(self, targets):
         return self.call(["-k"], ["print kind"], targets)
@@ -112,12 +124,19 @@ class Editor:
             for target in line.targets:
                 meant = plan.meant_by(target) if target.is_pattern else [target]
                 if target.is_pattern and line.looks_at_rules() and not target.may_mean_none() and meant:
-                    meant = self.having(meant)
-                    if not meant:
-                        plan.lack(target, "no package has such a rule")
+                    meant = self.had(plan, target, meant)
                 for one in self.of_kinds(meant, kinds) if kinds else meant:
                     plan.add(line, one)
         return plan
+
+    def had(self, plan, pattern, meant):
+        """Of the targets that a pattern means those by which some rule is meant."""
+        found = self.having(meant)
+        if not found:
+            plan.lack(pattern, "no package has such a rule")
+        elif pattern.which is None and len(found) * 10 < len(meant):
+            plan.notes.append(f"{pattern}: {len(found):,} of {len(meant):,} packages have a rule of their own name; {pattern}:all means all rules")
+        return found
 
     # ---- one batch
 
@@ -126,10 +145,12 @@ class Editor:
         ended = self.edited(steps)
         packages = [package for package, _ in steps]
         done = Batch(ended.out, status=ended.status)
+        if ended.status == NOT_RUN:
+            return Batch(untried=packages, status=FAILED, lack=ended.how())
         done.notes, err = without_notes(ended.err)
         for package in packages:
             for name in (place(package, name) for name in BUILD_NAMES):
-                is_there, err = without_line(err, b"fixed " + os.fsencode(name))
+                is_there, err = without_line(err, b"fixed " + os.fsencode(shown(name)))
                 done.fixed += [name] * is_there
         self.add_refused(done, packages, err)
         changed = done.fixed
@@ -140,19 +161,21 @@ class Editor:
         return done
 
     def edited(self, steps):
-        """Runs buildozer: with words where all is of a command line, else with a file of lines."""
+        """Runs buildozer: with words where all is of a command line, and the system takes so many, else with a file of lines."""
         line = steps[0][1][0][0]
+        pairs = [pair for _, pairs in steps for pair in pairs]
+        texts = [written(line, targets) for line, targets in pairs]
         if not line.number:
-            return self.call(self.flags, line.commands, [target for _, pairs in steps for _, targets in pairs for target in targets])
-        text = "".join(written(line, targets) for _, pairs in steps for line, targets in pairs)
-        return self.pool.call([self.path, *self.flags, "-f", "-"], os.fsencode(text), self.root)
+            ended = self.call(self.flags, line.commands, [target for _, targets in pairs for target in targets])
+            if ended.status != NOT_RUN or not all(texts):
+                return ended
+        return self.pool.call([self.path, *self.flags, "-f", "-"], os.fsencode("".join(texts)), self.root)
 
     def add_refused(self, done, packages, err):
         """Adds what was refused; without -k a refusal ends the run, so what comes after it was not tried."""
         fronts = {}
         for package in packages:
-            for name in (place(package, name) for name in BUILD_NAMES):
-                fronts.update({os.fsencode(front): package for front in (f"{name}:", f"{name}.journal:", f"buildozer: {name}:")})
+            fronts.update(dict.fromkeys(fronts_of(place(package, name) for name in BUILD_NAMES), package))
         for package, lines in by_name(err, fronts).items():
             done.refused.setdefault(packages[0] if package is None else package, []).extend(lines)
         ends = [package for package, lines in done.refused.items() if "--journal" in self.flags or not all_unwritten(lines)]
@@ -168,6 +191,15 @@ class Editor:
             return
         for package in packages:
             done.refused.setdefault(package, []).append(f"{place(package, 'BUILD')}: buildozer {ended.how()}")
+
+
+def package_of(target):
+    return target.package
+
+
+def fronts_of(names):
+    """How buildozer's lines on files begin."""
+    return [os.fsencode(front) for name in map(shown, names) for front in (f"{name}:", f"{name}.journal:", f"buildozer: {name}:")]
 
 
 def all_unwritten(lines):

@@ -1,10 +1,18 @@
-"""What git says of a folder: which files it knows, which it ignores, and which have changed."""
+"""What git says of a folder: which files it knows, which it ignores, and which have changed. A repository may come from others, with its
+configuration: what that would run in these calls is not run."""
+import hashlib
 import os
 import subprocess
+
+from . import files
 
 # in a hook these say where the repository of the hook is, which need not be the one of the folder
 LOCAL = ("GIT_DIR", "GIT_WORK_TREE", "GIT_INDEX_FILE", "GIT_PREFIX", "GIT_OBJECT_DIRECTORY", "GIT_COMMON_DIR")
 NO_REPOSITORY = b"not a git repository"
+# a repository's own program that watches its files, its hooks, and a folder of files that is a repository without saying so
+SAFE = ("-c", "core.fsmonitor=false", "-c", f"core.hooksPath={os.devnull}", "-c", "safe.bareRepository=explicit")
+# nothing is written, and no object that is missing is fetched, by a program that the repository names
+QUIET = {"LC_ALL": "C", "GIT_OPTIONAL_LOCKS": "0", "GIT_NO_LAZY_FETCH": "1", "GIT_ALLOW_PROTOCOL": "none"}
 
 
 class GitError(Exception):
@@ -12,15 +20,14 @@ class GitError(Exception):
 
 
 def environment():
-    rest = {name: value for name, value in os.environ.items() if name not in LOCAL}
-    return {**rest, "LC_ALL": "C", "GIT_OPTIONAL_LOCKS": "0"}
+    return {**{name: value for name, value in os.environ.items() if name not in LOCAL}, **QUIET}
 
 
 def begun(folder, *words, stdin=subprocess.DEVNULL):
     """Starts git in a folder, so that others may run beside it; None where there is no git."""
     how = {"stdin": stdin, "stdout": subprocess.PIPE, "stderr": subprocess.PIPE, "env": environment()}
     try:
-        return subprocess.Popen(["git", "-C", folder, *words], **how)
+        return subprocess.Popen(["git", "-C", folder, *SAFE, *words], **how)
     except FileNotFoundError:
         return None
 
@@ -38,7 +45,7 @@ def ended(process, given=None):
     if process.returncode > 1 or (process.returncode and err):
         if NO_REPOSITORY in err:
             return None
-        raise GitError(os.fsdecode(err).strip() or f"git {process.args[3]} ended with {process.returncode}")
+        raise GitError(os.fsdecode(err).strip() or f"git ended with {process.returncode}")
     return process.returncode, out
 
 
@@ -74,13 +81,28 @@ def ignored(folder, names):
 
 
 def changed_since(folder, revision):
-    """The names, from a folder, of the files below it that differ from a revision, those that git doesn't know yet among them; None where
-    there is no repository."""
-    new = call(folder, "ls-files", "-z", "--others", "--exclude-standard")
-    if new is None:
+    """A function that says of the name of a file below a folder whether the file differs from a revision, or is new there; None where there
+    is no repository. git's own comparison with files would run the filters that a configuration names, so the files are read here."""
+    if ".." in revision:
+        new = call(folder, "ls-files", "-z", "--others", "--exclude-standard")
+        differing = new and call(folder, "diff", "-z", "--name-only", "--relative", "--no-renames", "--diff-filter=d", "--ignore-submodules=all", revision, "--")
+        return differing and {*names_in(differing[1]), *names_in(new[1])}.__contains__
+    listing = call(folder, "ls-tree", "-r", "-z", revision, "--", ".")
+    if listing is None:
         return None
-    differing = call(folder, "diff", "-z", "--name-only", "--relative", "--no-renames", "--diff-filter=d", revision, "--")
-    return names_in(differing[1]) + names_in(new[1])
+    rows = [row.partition("\t") for row in names_in(listing[1])]
+    there = {name: kind.split()[2] for kind, _, name in rows}
+    return lambda name: name not in there or is_other(os.path.join(folder, name), there[name])
+
+
+def is_other(file, number):
+    """Whether a file is another one than the object of a number, its line ends aside, or cannot be read."""
+    try:
+        text = files.content(file, files.MOST_TEXT)
+    except OSError:
+        return True
+    kind = hashlib.sha1 if len(number) == 40 else hashlib.sha256
+    return all(kind(b"blob %d\0" % len(each) + each).hexdigest() != number for each in (text, text.replace(b"\r\n", b"\n")))
 
 
 def own_folder(folder):

@@ -33,20 +33,44 @@ def is_text(name):
     return True
 
 
+def files_among(folder, names):
+    """Those of these names that a folder has as files, or as links to some."""
+    return [name for name in names if os.path.isfile(os.path.join(folder, name))]
+
+
 def is_root(folder):
-    return any(os.path.isfile(os.path.join(folder, name)) for name in ROOT_NAMES)
+    return bool(files_among(folder, ROOT_NAMES))
 
 
-def root_above(folder):
-    """The nearest root of a workspace among a folder and those that it is in; None where there is none."""
-    while not is_root(folder):
+def folders_above(folder):
+    """A folder and those that it is in, the nearest first."""
+    while True:
+        yield folder
         above = os.path.dirname(folder)
         if above == folder:
-            return None
+            return
         folder = above
-    return folder
+
+
+def is_own(folder, name):
+    """Whether the user, or root, has put a file there, or the folder is inside of a repository of git of the user."""
+    if os.lstat(os.path.join(folder, name)).st_uid in (0, os.geteuid()):
+        return True
+    found = next((above for above in folders_above(folder) if os.path.lexists(os.path.join(above, ".git"))), None)
+    return found is not None and os.lstat(os.path.join(found, ".git")).st_uid == os.geteuid()
+
+
+def root_above(folder, foreign):
+    """The nearest root of a workspace among a folder and those that it is in; None where there is none. Above the folder what another user
+    has put there makes none, and is added to `foreign`."""
+    for above in folders_above(folder):
+        names = files_among(above, ROOT_NAMES)
+        if names and (above == folder or any(is_own(above, name) for name in names)):
+            return above
+        foreign += [os.path.join(above, name) for name in names[:1]]
+    return None
 
 
 def build_file(folder):
     """The name of the file that makes a folder a package, as buildozer finds it; None where it is no package."""
-    return next((name for name in BUILD_NAMES if os.path.isfile(os.path.join(folder, name))), None)
+    return next(iter(files_among(folder, BUILD_NAMES)), None)

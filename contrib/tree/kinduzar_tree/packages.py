@@ -2,32 +2,37 @@
 import itertools
 import os
 import signal
-import sys
 import tempfile
 import time
 
 from . import git, state
 from .edit import FAILED, SAME, WELL, Editor
+from .files import digest_of, given
 from .names import root_above
-from .processes import PROCESSES, Pool, Stopped, batches, end_by, in_order, program, stops
+from .processes import PROCESSES, Pool, Stopped, batches, in_order, program, stops
 from .refusals import MOST_NAMES, Refusals, summary
-from .runs import LISTED, UNDONE, Runs, Unreadable, digest_of
-from .targets import line_of, lines_in, written
-from .terminal import Screen, command_line, counted
+from .running import run_as
+from .runs import LISTED, UNDONE, Runs
+from .targets import line_of, lines_in, place, written
+from .terminal import command_line, counted, shown
+from .trial import Labels, Trial
 from .undo import Moves
+from .walk import FOREIGN
 from .words import Usage, count, read
 
 NAME = "buildozer-tree"
 HELP = """usage: buildozer-tree [OPTION..] COMMAND.. TARGET..
-       buildozer-tree undo [RUN], redo [RUN], runs
+       buildozer-tree undo [RUN], redo [RUN], runs, journal TARGET..
 
 Runs buildozer on many packages, with many processes at once, in the root of the workspace that the working directory is in. A target
 may have ... for all packages below one: //a/...:all, //...:%cc_library, //a/...:x, //a/... for the rule of each package's own name.
 
   -k                  goes on after a failure
   -f FILE             reads the operands from the lines of a file, - for standard input
+  --diff              prints what would change, and leaves the files
   --stdout            prints the new texts, and leaves the files
-  --quiet             prints no lines of files that were written, and no summary
+  --labels            has print begin each line with //package:name
+  --quiet             prints no lines of files that were written; given twice, no summary either
   --journal           keeps FILE.journal beside each file, and what `undo` needs
   --types=KIND,..     takes only rules of these kinds
   --state=DIR         keeps what `undo` needs there, and not in .git
@@ -36,25 +41,32 @@ may have ... for all packages below one: //a/...:all, //...:%cc_library, //a/...
 
 undo takes back the last run with --journal in all packages that it changed, redo does it again, runs lists the last ten.
 0 something changed, 3 nothing did, 2 something failed, 1 usage."""
-FLAGS = ("-k", "--stdout", "--quiet", "--journal", "--help", "--version")
+FLAGS = ("-k", "--diff", "--stdout", "--labels", "--quiet", "--journal", "--help", "--version")
 VALUED = ("-f", "--types", "--state", "--processes")
 PASSED = ("-k", "--stdout", "--journal")
+# commands that print what no label is for
+UNLABELLED = ("print_comment", "journal")
+# options that a list of journals doesn't take
+UNLISTED = ("--diff", "--stdout", "--labels")
 USAGE = 1
 OF_RUNS = ("undo", "redo", "runs")
+# how many digits of a digest are listed
+DIGITS = 12
 
 
 class Request:
     """The words of a command line: options, operands, and where they are meant."""
 
     def __init__(self, words):
-        self.options, self.operands = read(words, FLAGS, VALUED)
+        self.options, self.operands = read(words, FLAGS, VALUED, repeated=("--quiet",))
         self.words = words
         self.processes = count(self.options["--processes"], "--processes") if "--processes" in self.options else PROCESSES
         self.kinds = [kind for kind in self.options.get("--types", "").split(",") if kind]
-        self.here = os.path.realpath(os.curdir)
-        self.root = root_above(self.here) or self.here
+        self.here, self.foreign = os.path.realpath(os.curdir), []
+        self.root = root_above(self.here, self.foreign) or self.here
         self.package = "" if self.here == self.root else os.path.relpath(self.here, self.root)
         self.flags = [flag for flag in PASSED if flag in self.options]
+        self.quiet = self.options.get("--quiet", 0)
 
     def has(self, option):
         return option in self.options
@@ -62,16 +74,8 @@ class Request:
     def of_runs(self):
         """Whether the operands are a command on runs: a word of these, and a number at most."""
         word, *numbers = self.operands or [""]
-        return word in OF_RUNS and "-f" not in self.options and all(map(str.isdigit, numbers)) and len(numbers) <= (word != "runs")
-
-    def script(self):
-        """The bytes of the file of lines."""
-        file = self.options["-f"]
-        try:
-            with open(sys.stdin.fileno() if file == "-" else file, "rb") as content:
-                return content.read()
-        except OSError as error:
-            raise Usage(f"{file}: {error.strerror}") from error
+        are_numbers = all(text.isascii() and text.isdigit() for text in numbers)
+        return word in OF_RUNS and "-f" not in self.options and are_numbers and len(numbers) <= (word != "runs")
 
     def lines(self):
         """The lines of operands, and the words and standard input with which buildozer says whether they are some."""
@@ -80,8 +84,28 @@ class Request:
             return [line], (["--", *line.commands, *map(str, line.targets)], b"")
         if self.operands:
             return [], (["-f", "-", "--", *self.operands], b"")
-        text = self.script()
+        try:
+            text = given(self.options["-f"])
+        except OSError as error:
+            raise Usage(f"{self.options['-f']}: {error.strerror}") from error
         return lines_in(text, self.package), (["-f", "-"], text)
+
+    def lists_journals(self):
+        """Whether journals are listed for people; buildozer's own list has the same in full, with --journal."""
+        return self.operands[:1] == ["journal"] and not {"-f", "--journal", *UNLISTED} & set(self.options)
+
+    def is_trial(self):
+        """Whether nothing is written where the packages are."""
+        return self.has("--diff") or self.has("--stdout")
+
+    def check(self, lines):
+        """Raises Usage where options don't fit the operands."""
+        if self.has("--diff") and self.has("--stdout"):
+            raise Usage("--diff beside --stdout")
+        if self.has("--labels") and self.is_trial():
+            raise Usage("--labels beside --diff or --stdout")
+        if self.has("--labels") and any(command.split(" ")[0] in UNLABELLED for line in lines for command in line.commands):
+            raise Usage(f"--labels is for print, and not for {' or '.join(UNLABELLED)}")
 
     def runs(self):
         """Where runs are kept. Raises Usage where there is no place."""
@@ -89,6 +113,16 @@ class Request:
         if folder is None:
             raise Usage("what undo needs is kept in .git, and this is no repository: give --state=DIR")
         return Runs(folder, self.root)
+
+    def line(self):
+        """The command line, as records have it."""
+        return command_line([NAME, *self.words])
+
+    def note_plain(self):
+        """Keeps that this run has no journal, where there is a place for it."""
+        folder = state.folder_for(self.root, self.options.get("--state"))
+        if folder is not None:
+            Runs(folder, self.root).note_plain(self.line())
 
 
 def usage_of(path, words, text, request):
@@ -101,6 +135,10 @@ def usage_of(path, words, text, request):
     return ended.err.replace(b"<stdin>:", os.fsencode(file) + b":") if ended.status == USAGE else None
 
 
+def package_of(step):
+    return step[0]
+
+
 class Run:
     """A run of buildozer over packages."""
 
@@ -111,16 +149,22 @@ class Run:
         self.statuses, self.after = set(), {}
         self.has_printed = False
         self.plan = self.record = None
+        # the files of which a text before or after the run isn't known
+        self.unkept = []
 
     def over(self, lines):
         """Runs the commands of the lines, and gives the signal that stopped it, or None."""
         with Pool(self.request.processes) as pool:
             editor = Editor(pool, self.path, self.request.root, self.request.flags)
+            if self.request.is_trial():
+                editor = Trial(editor, self.request.has("--diff"))
+            elif self.request.has("--labels"):
+                editor = Labels(editor)
             with stops():
                 self.plan = editor.plan(lines, self.request.kinds, self.refusals)
             if self.plan.missing and not self.request.has("-k"):
                 self.rest = list(self.plan.steps)
-            elif self.request.has("--journal"):
+            elif self.request.has("--journal") and not self.request.is_trial():
                 self.edit_kept(editor)
             else:
                 self.edit(editor)
@@ -129,17 +173,17 @@ class Run:
     def edit_kept(self, editor):
         """Edits, and keeps what was there before and after it."""
         runs = self.request.runs()
-        before = {name: digest_of(os.path.join(self.request.root, name)) for name in self.plan.files().values()}
+        before = {name: digest_of(os.path.join(self.request.root, name)) for name in self.plan.files()}
         commands = sorted({command for steps in self.plan.steps.values() for line, _ in steps for command in line.commands})
-        with runs.begun(command_line([NAME, *self.request.words]), commands, before) as record:
+        with runs.begun(self.request.line(), commands, before) as record:
             self.edit(editor)
-            runs.end(record, self.after)
+            self.unkept = runs.end(record, self.after)
         self.record = record if record.files else None
 
     def edit(self, editor):
         """Edits the packages, and takes in what comes of them in their order."""
         steps = list(self.plan.steps.items())
-        tasks = list(batches(steps, editor.pool.processes, lambda step: step[0]))
+        tasks = list(batches(steps, len(steps) if self.request.has("--labels") else editor.pool.processes, package_of))
         left = set(range(len(tasks)))
         for _, batch in in_order(self.watched(editor.pool, editor.pool.each(editor.batch, tasks), left, len(steps))):
             self.take(batch)
@@ -164,8 +208,13 @@ class Run:
         self.has_printed |= bool(batch.out)
         for note in batch.notes:
             self.screen.say(note)
-        for name in batch.fixed if not self.request.has("--quiet") else []:
+        if batch.lack:
+            self.refusals.notes.append(f"{NAME}: buildozer {batch.lack}")
+        for name in batch.fixed if not (self.request.quiet or self.request.is_trial()) else []:
             self.screen.say(f"fixed {name}")
+        for name, pieces in batch.texts:
+            heading = os.fsencode(f"==> {shown(name)} <==\n") if self.request.has("--stdout") and len(self.plan.steps) > 1 else b""
+            self.screen.put(heading + self.screen.coloured(pieces))
         self.fixed |= set(batch.fixed)
         self.rest += batch.untried
         self.statuses.add(batch.status)
@@ -173,7 +222,7 @@ class Run:
             self.refusals.add(package, lines)
 
     def status(self):
-        if FAILED in self.statuses or self.refusals or self.screen.is_broken:
+        if FAILED in self.statuses or self.refusals or self.unkept or self.screen.is_broken:
             return FAILED
         return WELL if WELL in self.statuses else SAME
 
@@ -181,15 +230,18 @@ class Run:
 
     def end(self, stopped):
         """Writes what was refused, the summary and how to go on, and gives the status."""
+        self.refusals.notes += [*self.plan.notes, *(FOREIGN.format(name) for name in self.request.foreign)]
         self.refusals.tell(self.screen)
+        for name in self.unkept:
+            self.screen.say(f"{name}: its text before this run, or after it, could not be read: an undo of the run says so, too")
         if self.screen.is_broken:
             self.screen.say("<stdout>: cannot write")
-        if not self.request.has("--quiet"):
+        if self.request.quiet < 2:
             self.say_summary()
         if stopped is not None:
             self.screen.say(f"stopped by {signal.Signals(stopped).name}")
         again = [package for package in self.plan.steps if package in self.refusals.lines or package in set(self.rest)]
-        if again and len(again) < len(self.plan.steps) and not self.request.has("--quiet"):
+        if again and len(again) < len(self.plan.steps) and self.request.quiet < 2:
             self.say_how(again)
         return self.status()
 
@@ -197,14 +249,27 @@ class Run:
         links = len(self.plan.links)
         if links:
             self.screen.say(f"passed over {counted(links, 'package')} whose BUILD file is a link: {', '.join(sorted(self.plan.links)[:3])}{', ..' * (links > 3)}")
-        same = 0 if self.request.has("--stdout") else self.tried - len(self.fixed) - len([one for one in self.refusals.lines if one in self.plan.steps])
-        parts = [(len(self.fixed), "fixed"), (max(same, 0), "left unchanged"), (len(self.refusals), "refused"), (len(self.rest), "not begun")]
+        same = self.tried - len(self.fixed) - len([one for one in self.refusals.lines if one in self.plan.steps])
+        does = "would change" if self.request.is_trial() else "fixed"
+        parts = [(len(self.fixed), does), (max(same, 0), "left unchanged"), (len(self.refusals), "refused"), (len(self.rest), "not begun")]
         text = summary(parts)
         # what a run that only prints has printed says all
-        if text and (not self.has_printed or self.fixed or self.refusals or self.rest):
+        is_shown = self.request.has("--stdout") and not self.refusals and not self.rest
+        if text and not is_shown and (not self.has_printed or self.fixed or self.refusals or self.rest):
             self.screen.say(text)
+        if self.request.has("--diff") and self.fixed:
+            self.screen.say("to make this edit: " + command_line([NAME, *(word for word in self.request.words if word != "--diff")]))
         if self.record:
             self.screen.say(f"this was run {self.record.number}: {NAME} undo takes it back")
+            if self.record.number == 1:
+                self.say_of_git(next(iter(self.record.files)))
+
+    def say_of_git(self, name):
+        """Writes how git ignores journals, where it doesn't yet."""
+        name += ".journal"
+        if git.own_folder(self.request.root) and not git.ignored(self.request.root, [name]):
+            file = os.path.relpath(os.path.join(self.request.root, ".gitignore"))
+            self.screen.say(f"git doesn't ignore the journals yet: printf '*.journal\\n*.bznew\\n' >> {command_line([file])}")
 
     def say_how(self, packages):
         """Writes the command line that goes on with just these packages."""
@@ -225,7 +290,7 @@ class Run:
     def options_again(self):
         """The options of the command line that goes on; the kinds are in its targets."""
         options = {name: value for name, value in self.request.options.items() if name not in ("-f", "--types")}
-        return [name if value is True else f"{name}={value}" for name, value in options.items()]
+        return [word for name, value in options.items() for word in ([name] * value if name in FLAGS else [f"{name}={value}"])]
 
 
 # ---- commands on runs
@@ -239,8 +304,38 @@ def list_runs(runs, screen):
     """Prints the last runs: the number, the time, the number of files, what became of it, and the command line."""
     for record in itertools.islice(runs.all(), LISTED):
         how = " (taken back)" if record.state == UNDONE else " (stopped)" if record.was_stopped else ""
-        screen.put(os.fsencode(f"{record.number:>4}  {when(record)}  {counted(len(record.files), 'file'):>12}{how}  {record.line}\n"))
+        line = f"{record.number:>4}  {when(record)}  {counted(len(record.files), 'file'):>12}{how}  {record.line}"
+        screen.put(os.fsencode(shown(line)) + b"\n")
     return WELL
+
+
+def times_of(runs):
+    """When a run left a text in a file, where that is known: by the file's name and the text's digest."""
+    return {(name, after): when(record) for record in runs.all() for name, (_, after) in record.files.items() if after} if runs else {}
+
+
+def list_journals(request, lines, path, screen):
+    """Prints the texts of the journals of packages: a star at the one that the file holds, the number, the beginning of the digest, when a run left
+    it, where that is known, and the command."""
+    folder, refusals = state.folder_for(request.root, request.options.get("--state")), Refusals()
+    times = times_of(folder and Runs(folder, request.root))
+    with Pool(request.processes) as pool:
+        editor = Editor(pool, path, request.root, [])
+        names = [name for name in editor.plan(lines, request.kinds, refusals).files() if os.path.lexists(os.path.join(request.root, name + ".journal"))]
+        for target in [target for target in lines[0].targets if not target.is_pattern and not any(name.startswith(place(target.package, "BUILD")) for name in names)]:
+            refusals.add(target.package, [f"{place(target.package, 'BUILD')}: there is no journal"])
+        moves = Moves(editor, None, screen, 0)
+        for name, texts in sorted(moves.journals(names)):
+            width, has_times = len(str(len(texts) - 1)), any((name, text.digest) in times for text in texts)
+            rows = [name]
+            for number, text in enumerate(texts):
+                time_of = f"{times.get((name, text.digest), ''):16}  " if has_times else ""
+                rows.append(f"  {'*' if text.is_present else ' '} {number:>{width}}  {text.digest[:DIGITS]}  {time_of}{text.note}".rstrip())
+            screen.put("".join(shown(row) + "\n" for row in rows).encode())
+    for name, why in moves.left.items():
+        refusals.add(name, why.split("\n"))
+    refusals.tell(screen)
+    return FAILED if refusals else SAME if names else WELL
 
 
 def move_run(request, path, screen):
@@ -248,9 +343,9 @@ def move_run(request, path, screen):
     runs = request.runs()
     if request.operands[0] == "runs":
         return list_runs(runs, screen), None
-    number = int(request.operands[1]) if request.operands[1:] else None
+    number = count(request.operands[1], "the number of a run") if request.operands[1:] else None
     with Pool(request.processes) as pool:
-        moves = Moves(Editor(pool, path, request.root, ["-k", "--journal"]), runs, screen, request.has("--quiet"))
+        moves = Moves(Editor(pool, path, request.root, []), runs, screen, request.quiet)
         status = moves.undo(number) if request.operands[0] == "undo" else moves.redo(number)
         return status, pool.signal
 
@@ -271,35 +366,24 @@ def run(words, screen):
         os.execv(path, [path, "--version"])
     if request.of_runs():
         return move_run(request, path, screen)
-    with stops():
-        lines, (operands, text) = request.lines()
-        fault = usage_of(path, operands, text, request)
-        if fault is not None:
-            screen.say(os.fsdecode(fault).rstrip("\n"))
-            return USAGE, None
-        if request.has("--journal"):
-            request.runs()
+    lines, (operands, text) = request.lines()
+    fault = usage_of(path, operands, text, request)
+    if fault is not None:
+        for line in os.fsdecode(fault).rstrip("\n").split("\n"):
+            screen.say(line)
+        return USAGE, None
+    request.check(lines)
+    if request.lists_journals():
+        return list_journals(request, lines, path, screen), None
+    if request.has("--journal"):
+        request.runs()
     this = Run(request, path, screen)
     stopped = this.over(lines)
+    if this.fixed and not request.has("--journal") and not request.is_trial():
+        request.note_plain()
     return this.end(stopped), stopped
 
 
 def main():
     """The command; gives its status."""
-    screen = Screen()
-    try:
-        status, stopped = run(sys.argv[1:], screen)
-    except Usage as fault:
-        screen.say(f"{NAME}: {fault}")
-        screen.say(f"{NAME}: see {NAME} --help")
-        return USAGE
-    except (Unreadable, git.GitError) as fault:
-        screen.say(f"{NAME}: {fault}")
-        return FAILED
-    except Stopped as signalled:
-        status, stopped = FAILED, signalled.args[0]
-    except KeyboardInterrupt:
-        status, stopped = FAILED, signal.SIGINT
-    if stopped is not None:
-        end_by(stopped)
-    return status
+    return run_as(NAME, run, USAGE, FAILED)

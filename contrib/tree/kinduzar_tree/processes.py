@@ -2,26 +2,36 @@
 import contextlib
 import os
 import queue
+import resource
 import signal
 import subprocess
 import sys
 import threading
+import time
+
+from .files import PAUSE, SCARCE, TRIES
 
 # the signals that stop a run
 SIGNALS = (signal.SIGINT, signal.SIGTERM, signal.SIGHUP)
 # how many seconds the processes have, after the first such signal, to finish the files that they have begun
 GRACE = 2.0
-# what a shell gives for a program that cannot be run
-NOT_RUN = 126
+# the status of a process that could not be started
+NOT_RUN = 256
 # a batch has at most so many files, and so many bytes of names
 MOST_FILES = 32
 MOST_BYTES = 96_000
+# how many files a process takes of those that this one may have open, and how many it keeps for itself
+FILES, OWN_FILES = 9, 12
 # the disk gives more than the processors: while one process waits for a flush, others go on
 PROCESSES = min(8 * (os.cpu_count() or 1), 64)
 
 
 class Stopped(BaseException):
     """A signal came where nothing was running; the argument is its number."""
+
+
+class Scarce(Exception):
+    """The system has no room for one more process, beside those that run."""
 
 
 class Ended:
@@ -32,6 +42,8 @@ class Ended:
 
     def how(self):
         """How a process ended that had no status to end with."""
+        if self.status == NOT_RUN:
+            return f"could not be started: {os.fsdecode(self.err)}"
         return f"ended by {signal.Signals(-self.status).name}" if self.status < 0 else f"ended with {self.status}"
 
 
@@ -46,7 +58,13 @@ def program(name):
     return shutil.which(name)
 
 
-def batches(things, processes, name):
+def room_beside(words):
+    """How many bytes of names a process may be given beside some words: a half of what the system has left for them."""
+    taken = sum(len(os.fsencode(word)) + 9 for word in [*words, *os.environ, *os.environ.values()])
+    return min(MOST_BYTES, (os.sysconf("SC_ARG_MAX") - taken) // 2)
+
+
+def batches(things, processes, name, room=MOST_BYTES):
     """Cuts a list into runs of neighbours, each for one process: so many that all processes have some, none too long. A thing of which
     the name (a function of it) has a sign that the lines of the programs use too is alone, so that its lines cannot be another's."""
     most = max(1, min(MOST_FILES, -(-len(things) // (4 * processes))))
@@ -54,7 +72,7 @@ def batches(things, processes, name):
     for thing in things:
         text = name(thing)
         odd = is_odd(text)
-        if batch and (odd or len(batch) >= most or size + len(text) > MOST_BYTES):
+        if batch and (odd or len(batch) >= most or size + len(text) > room):
             yield batch
             batch, size = [], 0
         batch.append(thing)
@@ -71,14 +89,18 @@ def is_odd(name):
 
 
 class Pool:
-    """Some processes at once."""
+    """Some processes at once: as many as the system has room for, of those that are wanted. Each is waited for by a thread of its own."""
 
     def __init__(self, processes):
-        self.processes = processes
+        files = resource.getrlimit(resource.RLIMIT_NOFILE)[0]
+        self.processes = processes if files == resource.RLIM_INFINITY else max(1, min(processes, (files - OWN_FILES) // FILES))
         self.signal = None
         self.is_closed = self.is_ending = False
         self.running = set()
         self.handlers = {}
+        # the threads, how many take tasks, and of each whether it has started a process; and what they work at
+        self.threads, self.taking, self.own, self.lock = [], 0, threading.local(), threading.Lock()
+        self.shared = None
 
     def __enter__(self):
         """From here on a signal lets the processes finish, and a second one ends them; one that is ignored stays so."""
@@ -100,7 +122,10 @@ class Pool:
         self.signal = number
         timer = threading.Timer(GRACE, self.end)
         timer.daemon = True
-        timer.start()
+        try:
+            timer.start()
+        except RuntimeError:  # the system has no thread for it
+            self.end()
 
     def close(self):
         """No further task is begun."""
@@ -115,17 +140,48 @@ class Pool:
     def call(self, words, text=b"", folder=None):
         """Runs a program with this on its standard input, and gives how it ended. It has a session of its own, so that a signal
         of the terminal reaches this process alone."""
-        pipes = {"stdin": subprocess.PIPE if text else subprocess.DEVNULL, "stdout": subprocess.PIPE, "stderr": subprocess.PIPE}
+        pipes = {"stdin": subprocess.PIPE if text else subprocess.DEVNULL, "stdout": subprocess.PIPE, "stderr": subprocess.PIPE, "env": {**os.environ, "LC_ALL": "C"}}
         try:
-            process = subprocess.Popen(words, cwd=folder, start_new_session=True, **pipes)
+            process = self.started(words, cwd=folder, start_new_session=True, **pipes)
         except OSError as error:
-            return Ended(NOT_RUN, b"", f"{words[0]}: {error.strerror}\n".encode())
-        self.running.add(process)
+            return Ended(NOT_RUN, b"", error.strerror.encode())
         if self.is_ending:
             end_group(process)
         out, err = process.communicate(text or None)
         self.running.discard(process)
         return Ended(process.returncode, out, err)
+
+    def started(self, words, **how):
+        """Starts a process, and then one more thread. Where the system has no room for it this waits as long as others run, and then a while;
+        a thread that has started none yet gives its task back (Scarce)."""
+        left = TRIES
+        while True:
+            try:
+                process = subprocess.Popen(words, **how)
+                break
+            except OSError as error:
+                left = TRIES if self.running else left - 1
+                if error.errno not in SCARCE or not left or self.is_ending:
+                    raise
+                if self.taking > 1 and not getattr(self.own, "has_started", False):
+                    raise Scarce from error
+            time.sleep(PAUSE)
+        self.running.add(process)
+        self.own.has_started = True
+        self.grow()
+        return process
+
+    def grow(self):
+        """Has one more thread take tasks, where there are some, and the system has it."""
+        with self.lock:
+            if self.shared and self.taking < self.processes and not self.shared[1].empty():
+                self.threads.append(threading.Thread(target=self.take))
+                self.taking += 1
+                try:
+                    self.threads[-1].start()
+                except RuntimeError:
+                    self.threads.pop()
+                    self.taking -= 1
 
     def each(self, work, tasks):
         """Calls `work` with each task, some at once, and yields each task with what came of it, as soon as it is there, by the number of
@@ -133,12 +189,14 @@ class Pool:
         pending, results = queue.SimpleQueue(), queue.SimpleQueue()
         for task in enumerate(tasks):
             pending.put(task)
-        workers = [threading.Thread(target=self.take, args=(work, pending, results)) for _ in range(self.processes)]
-        for worker in workers:
-            worker.start()
-        ended = 0
+        self.shared, self.threads, ended = (work, pending, results), [], 0
+        self.grow()
         try:
-            while ended < len(workers):
+            while ended < len(self.threads) or not (pending.empty() or self.is_closed):
+                if ended == len(self.threads):  # none could be started, or the last one gave its task back
+                    self.threads.append(None)
+                    self.taking += 1
+                    self.take()
                 result = results.get()
                 if result is None:
                     ended += 1
@@ -148,21 +206,26 @@ class Pool:
                     yield result
         finally:
             self.close()
-            for worker in workers:
-                worker.join()
-            self.is_closed = self.signal is not None
+            for thread in filter(None, self.threads):
+                thread.join()
+            self.shared, self.is_closed = None, self.signal is not None
 
-    def take(self, work, pending, results):
+    def take(self):
         """What a thread does: it takes tasks until there are none."""
+        work, pending, results = self.shared
         try:
             while not self.is_closed:
                 number, task = pending.get_nowait()
                 results.put((number, task, work(task)))
         except queue.Empty:
             pass
+        except Scarce:
+            pending.put((number, task))
         except BaseException as error:  # it is raised again where the results are read
             results.put(error)
         finally:
+            with self.lock:
+                self.taking -= 1
             results.put(None)
 
 

@@ -1,7 +1,7 @@
 """What the programs wrote to standard error, by the file that each line is about."""
 import os
 
-from .terminal import command_line, counted
+from .terminal import command_line, counted, shown
 
 # the command line that goes on has at most so many names; more go into a file
 MOST_NAMES = 20
@@ -22,6 +22,10 @@ def by_name(err, fronts):
     return found
 
 
+def lines_of(err):
+    return [os.fsdecode(line) for line in err.split(b"\n")[:-1]]
+
+
 def without_notes(err):
     """The lines of standard error that only note something of what was done, and all others."""
     lines = err.splitlines(keepends=True)
@@ -33,19 +37,23 @@ class Refusals:
     """What was refused, by the name of the file."""
 
     def __init__(self):
-        self.lines = {}
+        # the lines on each, what is noted beside, and whether something could not be read
+        self.lines, self.notes, self.is_unread = {}, [], False
 
     def __len__(self):
         return len(self.lines)
 
-    def add(self, name, lines):
+    def add(self, name, lines, is_unread=False):
         self.lines.setdefault(name, []).extend(lines)
+        self.is_unread |= is_unread
 
     def tell(self, screen):
         """Writes them, sorted by the names."""
         for name in sorted(self.lines):
             for line in self.lines[name]:
                 screen.say(line)
+        for note in dict.fromkeys(self.notes):
+            screen.say(note)
 
 
 def summary(parts):
@@ -59,7 +67,10 @@ def summary(parts):
 
 
 def go_on(screen, words, names, written):
-    """Writes the command line that goes on with just these names: with the names, or where they are many with what `written` gives, the
-    words that read them from a file that it has written, or None where it cannot."""
-    words_of_names = None if len(names) <= MOST_NAMES else written(names)
+    """Writes the command line that goes on with just these names: with the names, or where they are many, or odd, with what `written` gives,
+    the words that read them from a file that it has written, or None where it cannot."""
+    is_odd = any(shown(name) != name for name in names)
+    words_of_names = written(names) if len(names) > MOST_NAMES or is_odd else None
+    if not words_of_names and any(name.startswith("-") for name in names):
+        words = [*words, "--"]
     screen.say("to go on with just these: " + command_line([*words, *(words_of_names or names)]))

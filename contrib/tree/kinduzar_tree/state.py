@@ -1,10 +1,15 @@
 """Where is kept what a later run needs: the folder of this working tree in .git, or one that is named."""
+import errno
 import os
 
 from . import git
 
 FOLDER = "kinduzar"
 REST = "rest"
+
+
+class Unreadable(Exception):
+    """What is kept cannot be read or written; the text says which file, and why."""
 
 
 def folder_for(place, named=None):
@@ -15,12 +20,22 @@ def folder_for(place, named=None):
     return own and os.path.join(own, FOLDER)
 
 
+def make_folder(folder):
+    """Makes a folder in that of this program, and this one first. A link in the place of one of both would lead to where nobody means it, but for
+    a folder that is named."""
+    above = os.path.dirname(folder)
+    for each in [above] * (os.path.basename(above) == FOLDER) + [folder]:
+        if os.path.islink(each):
+            raise OSError(errno.ELOOP, "it is a link", each)
+    os.makedirs(folder, exist_ok=True)
+
+
 def write_whole(file, content):
     """Replaces a file whole: whoever reads it, also after a crash, finds one of both."""
     import tempfile  # here, as reading it would slow every run
 
     folder = os.path.dirname(file)
-    os.makedirs(folder, exist_ok=True)
+    make_folder(folder)
     handle, new = tempfile.mkstemp(prefix=".new-", dir=folder)
     try:
         with os.fdopen(handle, "wb") as written:

@@ -101,29 +101,33 @@ def may_be_named(package):
 
 @dataclasses.dataclass
 class Packages:
-    """The packages of a workspace below some package, the names of those that no target can name, and those of which the file is a
-    link."""
+    """The packages of a workspace below some package, the names of those that no target can name, those of which the file is a link, what
+    could not be read, with why, and what other users have put above it as a root."""
 
-    named: list
-    unnamed: list
-    links: list
+    named: list = dataclasses.field(default_factory=list)
+    unnamed: list = dataclasses.field(default_factory=list)
+    links: list = dataclasses.field(default_factory=list)
+    closed: dict = dataclasses.field(default_factory=dict)
 
 
 def packages_below(root, front):
     """The packages at and below one, without those of workspaces in it."""
     folder = os.path.join(root, front)
-    if not os.path.isdir(folder):
-        return Packages([], [], [])
+    if not os.path.isdir(folder) or front and inside(front, root):
+        return Packages()
     found = walk.below(folder, is_package_or_root)
-    roots = walk.roots_in([*found.files, *found.links]) - {""}
-    if front and inside(front, root):
-        return Packages([], [], [])
-    within = walk.within_one_of(roots)
+    within = walk.within_one_of((walk.roots_in([*found.files, *found.links]) - {""}).__contains__)
     there = {os.path.dirname(name) for name in [*found.files, *found.links] if os.path.basename(name) in BUILD_NAMES and not within(name)}
     links = {name for name in there if os.path.islink(os.path.join(folder, name, build_file(os.path.join(folder, name)) or ""))}
-    names = {"/".join(filter(None, [front, name])) for name in there - links}
+    names = {place(front, name) for name in there - links}
     named = sorted(name for name in names if may_be_named(name))
-    return Packages(named, sorted(names - set(named)), sorted("/".join(filter(None, [front, name])) for name in links))
+    closed = {place(front, name): why for name, why in found.closed.items() if not within(name)}
+    return Packages(named, sorted(names - set(named)), sorted(place(front, name) for name in links), closed)
+
+
+def place(package, name):
+    """A name below a package, from the root."""
+    return "/".join(filter(None, [package, name]))
 
 
 def inside(front, root):

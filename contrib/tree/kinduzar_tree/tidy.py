@@ -1,15 +1,16 @@
 """buildifier-tree: formats, checks or compares the BUILD files below folders."""
-import contextlib
 import os
 import signal
 import stat
-import sys
 
 from . import git, state, walk
+from .difference import difference
+from .files import MOST_TEXT, content, given
 from .names import is_formatted, is_formatted_or_bzl, is_text
-from .processes import PROCESSES, Pool, Stopped, batches, end_by, in_order, program, stops
-from .refusals import Refusals, by_name, go_on, summary
-from .terminal import Screen
+from .processes import NOT_RUN, PROCESSES, Pool, batches, in_order, program, room_beside
+from .refusals import Refusals, by_name, go_on, lines_of, summary
+from .running import STOPPED, run_as
+from .terminal import shown
 from .words import Usage, count, read
 
 NAME = "buildifier-tree"
@@ -67,38 +68,35 @@ def files_at(path, wanted, revision, refusals):
         refusals.add(path, [f"{path}: cannot open"])
         return []
     if not stat.S_ISDIR(row.st_mode):
-        return [(path, os.lstat(path))] if revision is None or is_changed(path, revision) else []
+        folder, name = os.path.split(path)
+        return [(path, os.lstat(path))] if revision is None or changes(folder or os.curdir, revision)(name) else []
     found = walk.below(path, wanted)
-    for name in found.closed:
-        refusals.add(shown(path, name), [f"{shown(path, name)}: cannot open"])
+    refusals.notes += [walk.FOREIGN.format(name) for name in found.foreign]
+    for name, why in found.closed.items():
+        refusals.add(joined(path, name), [f"{joined(path, name)}: {why}"], is_unread=True)
     files = found.files
     if revision is not None:
-        changed = changed_names(path, revision)
-        files = {name: row for name, row in files.items() if name in changed}
-    return [(shown(path, name), row) for name, row in files.items()]
+        is_changed, is_apart = changes(path, revision), walk.within_one_of(found.inner.__contains__)
+        files = {name: row for name, row in files.items() if not is_apart(name) and is_changed(name)}
+    return [(joined(path, name), row) for name, row in files.items()]
 
 
-def shown(path, name):
+def joined(path, name):
     """The name that is shown for a file below a path."""
-    return name if path == os.curdir else os.path.join(path, name)
+    return name if path == os.curdir and name else os.path.join(path, name) if name else path
 
 
-def changed_names(folder, revision):
-    changed = git.changed_since(folder, revision)
-    if changed is None:
+def changes(folder, revision):
+    is_changed = git.changed_since(folder, revision)
+    if is_changed is None:
         raise Usage(f"--diff-from: {folder} is in no repository of git")
-    return set(changed)
-
-
-def is_changed(path, revision):
-    return os.path.basename(path) in changed_names(os.path.dirname(path) or os.curdir, revision)
+    return is_changed
 
 
 def listed_in(file):
     """The names in a file: ended by NUL bytes where there is one, else a line each."""
     try:
-        with open(sys.stdin.fileno() if file == "-" else file, "rb") as content:
-            text = content.read()
+        text = given(file)
     except OSError as error:
         raise Usage(f"{file}: {error.strerror}") from error
     return [os.fsdecode(name) for name in text.split(b"\0" if b"\0" in text else b"\n") if name]
@@ -113,6 +111,8 @@ class Batch:
 
     def __init__(self):
         self.out, self.differing, self.refused, self.statuses, self.rest = [], [], {}, set(), []
+        # why no process could be started
+        self.lack = ""
 
 
 class Formatter:
@@ -134,11 +134,15 @@ class Formatter:
 
     def add(self, done, names):
         ended = self.run("fix" if self.mode == "fix" else "check", names)
+        if ended.status == NOT_RUN:
+            done.rest += names
+            done.lack = ended.how()
+            return
         if ended.status not in TRIED:
             self.add_alone(done, names, ended)
             return
         done.statuses.add(ended.status)
-        refused = by_name(ended.err, {os.fsencode(f"{name}:"): name for name in names})
+        refused = by_name(ended.err, {os.fsencode(f"{shown(name)}:"): name for name in names})
         done.refused.update({name or names[0]: lines for name, lines in refused.items()})
         done.differing += self.rewritten(names) if self.mode == "fix" else told(ended.out, names)
         if self.mode == "check":
@@ -156,8 +160,7 @@ class Formatter:
                 self.add(done, [name])
         else:
             done.statuses.add(UNREAD)
-            lines = [os.fsdecode(line) for line in ended.err.splitlines()]
-            done.refused[names[0]] = [*lines, f"{names[0]}: buildifier {ended.how()}"]
+            done.refused[names[0]] = [*lines_of(ended.err), f"{names[0]}: buildifier {ended.how()}"]
 
     def rewritten(self, names):
         """The files that are others than before: each was replaced."""
@@ -166,8 +169,15 @@ class Formatter:
     def compare(self, done):
         """Adds what formatting would change."""
         for name in done.differing:
-            with contextlib.suppress(OSError), open(name, "rb") as file:
-                done.out.append((name, file.read(), self.run("print_if_changed", [name]).out))
+            try:
+                old, ended = content(name, MOST_TEXT), self.run("print_if_changed", [name])
+            except OSError:
+                ended = None
+            # one that is gone, or is as it is to be, by now
+            if ended and ended.status in TRIED:
+                done.out += [difference(self.pool, name, name, old, ended.out)] if ended.out or not old.strip() else []
+            else:
+                done.refused[name] = [f"{name}: cannot open"]
 
 
 def is_other(name, before):
@@ -189,25 +199,6 @@ def told(out, names):
     return found
 
 
-def difference(name, old, new):
-    """The lines of a unified difference."""
-    import difflib  # here, as reading it would slow every run
-
-    # a name with a space is ended by a tab, as patch reads it
-    label = f"{name}\t" if any(sign.isspace() for sign in name) else name
-    return [ended(os.fsencode(line)) for line in difflib.unified_diff(split_lines(old), split_lines(new), label, label)]
-
-
-def split_lines(text):
-    """Lines with their ends, where only a newline is one."""
-    pieces = os.fsdecode(text).split("\n")
-    return [piece + "\n" for piece in pieces[:-1]] + pieces[-1:] * bool(pieces[-1])
-
-
-def ended(line):
-    return line if line.endswith(b"\n") else line + b"\n\\ No newline at end of file\n"
-
-
 # ---- the run
 
 
@@ -225,7 +216,7 @@ class Run:
         """Formats the files, and gives the signal that stopped it, or None."""
         with Pool(min(self.processes(), max(len(files), 1))) as pool:
             formatter = Formatter(pool, path, self.options, files)
-            tasks = list(batches(list(files), pool.processes, str))
+            tasks = list(batches(list(files), pool.processes, str, room_beside(formatter.words)))
             left = set(range(len(tasks)))
             for names, batch in in_order(self.watched(pool.each(formatter.batch, tasks), left, len(files))):
                 self.take(names, batch)
@@ -250,10 +241,13 @@ class Run:
         self.same += len(set(names) - set(batch.differing) - set(batch.refused) - set(batch.rest))
         self.statuses |= batch.statuses
         self.rest += batch.rest
+        if batch.lack:
+            self.refusals.notes.append(f"{NAME}: buildifier {batch.lack}")
+            self.statuses.add(UNREAD)
         for name, lines in batch.refused.items():
             self.refusals.add(name, lines)
         for piece in batch.out:
-            self.screen.put(piece if isinstance(piece, bytes) else self.screen.coloured(difference(*piece)))
+            self.screen.put(piece if isinstance(piece, bytes) else self.screen.coloured(piece))
 
     def end(self, stopped):
         """Writes what was refused, the summary, and how to go on; gives the status."""
@@ -262,9 +256,9 @@ class Run:
             self.screen.say("<stdout>: cannot write")
         if "--quiet" not in self.options:
             self.screen.say(self.summary())
-        again = sorted(self.refusals.lines)
+        again = sorted({*self.refusals.lines, *self.rest})
         if stopped is not None:
-            self.screen.say(f"stopped by {signal.Signals(stopped).name}; the same command goes on")
+            self.screen.say(STOPPED.format(signal.Signals(stopped).name))
         elif again and self.differing + self.same and "--quiet" not in self.options:
             go_on(self.screen, [NAME, *self.words()], again, state.listed)
         return self.status()
@@ -280,7 +274,7 @@ class Run:
         return [f"{name}={self.options[name]}" for name in kept if name in self.options]
 
     def status(self):
-        if UNREAD in self.statuses or self.screen.is_broken or any(is_unread(lines) for lines in self.refusals.lines.values()):
+        if UNREAD in self.statuses or self.screen.is_broken or self.refusals.is_unread or any(map(is_unread, self.refusals.lines.values())):
             return UNREAD
         if self.refusals:
             return REFUSED
@@ -291,18 +285,25 @@ def is_unread(lines):
     return any(line.endswith((": cannot open", ": cannot write", "not UTF-8")) for line in lines)
 
 
-def check_words(options):
+def check_words(options, operands):
     for name, known in (("--mode", MODES), ("--type", TYPES)):
         if options.get(name, known[0]) not in known:
             raise Usage(f"no {name[2:]}: {options[name]}; there are {', '.join(known)}")
     if options.get("--diff-from", "HEAD").startswith("-"):
         raise Usage(f"--diff-from: no revision: {options['--diff-from']}")
+    if not operands and "--from" not in options and is_given():
+        raise Usage("standard input is a file: for that text buildifier < FILE, for the working directory buildifier-tree .")
+
+
+def is_given():
+    """Whether standard input is a file of which nothing was read yet."""
+    row = os.fstat(0)
+    return stat.S_ISREG(row.st_mode) and row.st_size > 0 and os.lseek(0, 0, os.SEEK_CUR) == 0
 
 
 def paths_of(options, operands):
     if "--from" in options:
-        operands = [*operands, *listed_in(options["--from"])]
-        return operands
+        return [*operands, *listed_in(options["--from"])]
     return operands or [os.curdir]
 
 
@@ -317,31 +318,14 @@ def run(words, screen):
         raise Usage("buildifier is neither beside this command nor on the PATH")
     if "--version" in options:
         os.execv(path, [path, "--version"])
-    check_words(options)
+    check_words(options, operands)
     this = Run(options, screen)
     this.processes()
-    with stops():
-        files = files_of(paths_of(options, operands), options, this.refusals)
+    files = files_of(paths_of(options, operands), options, this.refusals)
     stopped = this.over(files, path)
     return this.end(stopped), stopped
 
 
 def main():
     """The command; gives its status."""
-    screen = Screen()
-    try:
-        status, stopped = run(sys.argv[1:], screen)
-    except Usage as fault:
-        screen.say(f"{NAME}: {fault}")
-        screen.say(f"{NAME}: see {NAME} --help")
-        return USAGE
-    except git.GitError as fault:
-        screen.say(f"{NAME}: git: {fault}")
-        return UNREAD
-    except Stopped as signalled:
-        status, stopped = UNREAD, signalled.args[0]
-    except KeyboardInterrupt:
-        status, stopped = UNREAD, signal.SIGINT
-    if stopped is not None:
-        end_by(stopped)
-    return status
+    return run_as(NAME, run, USAGE, UNREAD)

@@ -1,30 +1,35 @@
 """Finds the files below folders.
 
 In a repository of git these are the files that git knows, and new ones that it doesn't ignore; elsewhere all. Links to folders are not
-followed, files that are links are kept apart, and what a workspace's .bazelignore names is left out. What is named itself is
+followed, files that are links are kept apart, and what a workspace leaves aside for Bazel is left out. What is named itself is
 taken, whoever ignores it.
 """
 import os
 import stat
 
 from . import git
+from .ignored import Ignored, Unread
 from .names import ROOT_NAMES, root_above
 
-IGNORE = ".bazelignore"
 FOLDER, UNNOTED = os.O_RDONLY | os.O_DIRECTORY | os.O_CLOEXEC, getattr(os, "O_NOATIME", 0)
+UNOPENED, FOREIGN = "cannot open", "{}: passed over as the root of a workspace, since it is another user's"
 
 
 class Found:
-    """What is below a folder, by names from there: files, files that are links, and folders that cannot be read."""
+    """What is below a folder, by names from there: files, files that are links, what cannot be read, with why, and repositories of git
+    of their own; and what other users have put above it as the root of a workspace."""
 
     def __init__(self):
-        self.files, self.links, self.closed = {}, [], []
+        self.files, self.links, self.closed, self.inner, self.foreign = {}, [], {}, set(), []
 
     def add(self, folder, name):
         """Takes a file in, with what the system says of it; one that is gone, or that is no file, is passed over."""
         try:
             row = os.lstat(os.path.join(folder, name))
+        except FileNotFoundError:
+            return
         except OSError:
+            self.closed[name] = UNOPENED
             return
         if stat.S_ISREG(row.st_mode):
             self.files[name] = row
@@ -33,15 +38,23 @@ class Found:
 
 
 def below(folder, wanted):
-    """What is below a folder, of files whose last name is wanted (a function of it)."""
+    """What is below a folder, of files whose last name is wanted (a function of it). Where git refuses to speak of a repository further down
+    that one is closed."""
     found = Found()
     pending = [""]
     while pending:
         front = pending.pop()
-        names, inner = walked(os.path.join(folder, front), found, front, wanted)
+        try:
+            names, inner = walked(os.path.join(folder, front), found, front, wanted)
+        except git.GitError as fault:
+            if not front:
+                raise
+            found.closed[front] = f"git: {fault}"
+            continue
         for name in names:
             found.add(folder, os.path.join(front, name))
         pending += [os.path.join(front, name) for name in inner]
+        found.inner |= {os.path.join(front, name) for name in inner}
     return without_ignored(folder, found)
 
 
@@ -57,7 +70,7 @@ def walked(folder, found, front, wanted):
             try:
                 rows = rows_of(os.path.join(folder, here))
             except OSError:
-                found.closed.append(os.path.join(front, here))
+                found.closed[os.path.join(front, here)] = UNOPENED
                 continue
             if here and any(name == ".git" for name, _ in rows):
                 inner.append(here)
@@ -95,17 +108,7 @@ def rows_of(folder):
         os.close(place)
 
 
-# ---- what .bazelignore names
-
-
-def ignored_by(root):
-    """The folders that the .bazelignore of a workspace names, from its root."""
-    try:
-        with open(os.path.join(root, IGNORE), encoding="utf-8", errors="surrogateescape") as file:
-            lines = [line.strip() for line in file]
-    except OSError:
-        return []
-    return [os.path.normpath(line) for line in lines if line and not line.startswith("#")]
+# ---- what a workspace leaves aside
 
 
 def roots_in(names):
@@ -114,28 +117,46 @@ def roots_in(names):
 
 
 def without_ignored(folder, found):
-    """The same without what is below a folder that a .bazelignore names, of a workspace there or of the one that it is in."""
+    """The same without what a workspace there, or the one that it is in, leaves aside; and without a workspace of which that cannot be read."""
     real = os.path.realpath(folder)
-    named = {os.path.normpath(os.path.join(root, name)) for root in roots_in(found.files) for name in ignored_by(os.path.join(folder, root))}
-    above = root_above(real)
-    if above:
-        named |= {os.path.relpath(os.path.join(above, name), real) for name in ignored_by(above)}
-    # one that the folder itself is in is passed over
-    named = {name for name in named if name != os.curdir and not name.startswith(os.pardir)}
-    if named:
-        within = within_one_of(named)
+    above = root_above(real, found.foreign)
+    front = os.path.relpath(real, above) if above else ""
+    tests = [rule_of(folder, root, "", found) for root in sorted(roots_in(found.files))]
+    if above and above != real:
+        tests.append(rule_of(folder, os.path.relpath(above, real), front, found))
+    tests = list(filter(None, tests))
+    if tests:
+        within = within_one_of(lambda name: any(test(name) for test in tests))
         found.files = {name: row for name, row in found.files.items() if not within(name)}
         found.links = [name for name in found.links if not within(name)]
     return found
 
 
-def within_one_of(folders):
-    """A function that says whether a file is below one of these folders."""
-    known = {"": False}
+def rule_of(folder, root, front, found):
+    """A function that says which folders the workspace of a root leaves aside, `front` being the name of this folder from a root above it;
+    None where it leaves none aside."""
+    try:
+        rule = Ignored(os.path.join(folder, root))
+    except Unread as fault:
+        found.closed[os.path.join(root, fault.args[0])] = UNOPENED
+        return lambda name: front or name == root or not root
+    if front:
+        return lambda name: bool(name) and rule.has(os.path.join(front, name))
+    inner = root and f"{root}/"
+    return (lambda name: name.startswith(inner) and rule.has(name[len(inner) :])) if rule.names or rule.patterns else None
+
+
+def within_one_of(is_one):
+    """A function that says whether a file is below a folder that is one of some (a function of its name)."""
+    known = {"": bool(is_one(""))}
 
     def is_below(folder):
-        if folder not in known:
-            known[folder] = folder in folders or is_below(os.path.dirname(folder))
+        passed = []
+        while folder not in known and not is_one(folder):
+            passed.append(folder)
+            folder = os.path.dirname(folder)
+        known.setdefault(folder, True)
+        known.update(dict.fromkeys(passed, known[folder]))
         return known[folder]
 
     return lambda name: is_below(os.path.dirname(name))

@@ -5,9 +5,9 @@ class Usage(Exception):
     """The words are none of this command; the text says why."""
 
 
-def read(words, flags, valued):
-    """The options, by their names with the dashes, and the operands. `flags` take no value and are True where they are given;
-    `valued` take one, in the same word after `=` or in the next one; for an option of one letter, in the next one or in the same."""
+def read(words, flags, valued, repeated=()):
+    """The options, by their names with the dashes, and the operands. `flags` take no value, and have how often they are given, which is
+    once but for those that may be repeated; `valued` take one, in the same word after `=` or in the next one; for an option of one letter, in the next one or in the same."""
     options, operands, rest = {}, [], list(words)
     while rest:
         word = rest.pop(0)
@@ -17,12 +17,12 @@ def read(words, flags, valued):
             operands.append(word)
             continue
         name, value, more = split(word)
-        if name in options:
+        if name in options and name not in repeated:
             raise Usage(f"{name} is given twice")
         if name in flags:
             if value is not None:
                 raise Usage(f"{name} has no value")
-            options[name] = True
+            options[name] = options.get(name, 0) + 1
             rest[:0] = more
         elif name in valued:
             value = value if value is not None else more[0][1:] if more else rest.pop(0) if rest else None
@@ -49,6 +49,6 @@ def nearest(name, known):
 
 def count(text, what):
     """A number of at least one."""
-    if not (text.isascii() and text.isdigit() and int(text)):
+    if not (text.isascii() and text.isdigit() and len(text) < 10 and int(text)):
         raise Usage(f"{what} is a number from 1, and not '{text}'")
     return int(text)

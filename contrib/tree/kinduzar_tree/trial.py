@@ -1,0 +1,89 @@
+"""Runs of buildozer that write nothing where the packages are: over copies of their files, and with the rules' labels before what `print` prints."""
+import dataclasses
+import os
+import re
+import tempfile
+
+from .difference import difference
+from .edit import Editor
+from .files import MOST_TEXT, content
+from .names import BUILD_NAMES, files_among
+from .targets import place
+
+# a field that no rule has, before what a line of a rule begins with: the line where the rule begins, and its name
+MARK = "__label__"
+RECORD = re.compile(rb"\(missing\) (\d+) (.*?) \(missing\)(?: (.*))?", re.DOTALL)
+PLAIN_NAME = re.compile(rb"[^\s\"'(\[{]+")
+
+
+class Trial(Editor):
+    """buildozer over copies: what it would write is shown, as a difference or whole."""
+
+    def __init__(self, editor, is_compared):
+        super().__init__(editor.pool, editor.path, editor.root, [flag for flag in editor.flags if flag != "--stdout"])
+        self.is_compared = is_compared
+
+    def batch(self, steps):
+        with tempfile.TemporaryDirectory() as folder:
+            old = {name: text for package, _ in steps for name, text in self.copied(package, folder)}
+            done = Editor(self.pool, self.path, folder, self.flags).batch(steps)
+            new = {name: content(os.path.join(folder, name), MOST_TEXT) for name in done.fixed}
+        done.texts = [(name, self.compared(name, old[name], text) if self.is_compared else [text]) for name, text in new.items()]
+        return done
+
+    def copied(self, package, folder):
+        """Copies what a run may read of a package; yields its files. What cannot be read is not there, and refused as such."""
+        here, there = os.path.join(self.root, package), os.path.join(folder, package)
+        for name in files_among(here, BUILD_NAMES) if os.pardir not in package.split("/") else []:
+            os.makedirs(there, exist_ok=True)
+            for each in [name] + [f"{name}.journal"] * ("--journal" in self.flags):
+                try:
+                    text = content(os.path.join(here, each), MOST_TEXT)
+                except OSError:
+                    continue
+                with open(os.path.join(there, each), "wb") as copy:
+                    copy.write(text)
+                yield place(package, each), text
+
+    def compared(self, name, old, new):
+        return difference(self.pool, name, os.path.join(self.root, name), old, new)
+
+
+class Labels(Editor):
+    """buildozer where only one package is in each batch, and `print` says of which rule each line is."""
+
+    def __init__(self, editor):
+        super().__init__(editor.pool, editor.path, editor.root, editor.flags)
+
+    def edited(self, steps):
+        package, pairs = steps[0]
+        ended = super().edited([(package, [(marked(line), targets) for line, targets in pairs])])
+        for line, _ in pairs:
+            for command in filter(is_print, line.commands):
+                ended.err = ended.err.replace(os.fsencode(with_mark(command)), os.fsencode(command))
+        ended.out = with_labels(os.fsencode(package), ended.out)
+        return ended
+
+
+def is_print(command):
+    return command.split(" ")[0] == "print"
+
+
+def with_mark(command):
+    return f"print {MARK} startline name {MARK} {command[6:] or 'name kind'}"
+
+
+def marked(line):
+    return dataclasses.replace(line, commands=[with_mark(command) if is_print(command) else command for command in line.commands])
+
+
+def with_labels(package, out):
+    """The lines that `print` printed of a package, each after the label of its rule; one without a plain name is meant by its line."""
+    lines, label = [], b""
+    for line in out.split(b"\n")[:-1]:
+        record = RECORD.fullmatch(line)
+        if record:
+            label = b"//%s:%s " % (package, record[2] if PLAIN_NAME.fullmatch(record[2]) else b"%" + record[1])
+            line = record[3] or b""
+        lines.append(label + line + b"\n")
+    return b"".join(lines)
