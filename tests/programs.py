@@ -27,7 +27,6 @@ from scenes import (
     bazel, building, contrib, devices, disk_acts, edited_packages, failing_calls, foreign_trees, formatted_files, fuzz, hostile_texts, install,
     journals, killed, manual_pages, power, races, readme, refusal_places, refused_memory_calls, refused_memory_runs, sessions, shell_completions,
     whole_trees,
-    manual_pages, power, races, readme, refusal_places, refused_memory_calls, refused_memory_runs, sessions, shell_completions, whole_trees,
 )  # fmt: skip
 
 # what rt try writes: after a heading of its name each run's standard output, and before its result its standard error
