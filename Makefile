@@ -23,7 +23,7 @@
 #: make hostile           15 min     all of hostile use: torn, deep and made texts, torn and forged journals, killed
 #:                                   runs, refused memory, failing calls and devices, runs beside one another, and a
 #:                                   loss of power
-#: make                   21-40 min  proves and builds both programs, leaves them in bin/, and shows a first run;
+#: make                   21-42 min  proves and builds both programs, leaves them in bin/, and shows a first run;
 #:                                   JOBS=N sets how many processors that takes; KEEP=yes keeps what was proved of each
 #:                                   function, for whoever changes the sources
 #: make test              46-76 min  the tests: runs of the programs (tests/), every proof from nothing, the edits that
