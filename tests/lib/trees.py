@@ -69,7 +69,7 @@ class Place(Wrong):
         pipes = {"stdin": subprocess.DEVNULL, "stdout": subprocess.PIPE, "stderr": subprocess.PIPE}
         # where this script was started to pass over a signal, what it runs must not
         how = {"preexec_fn": let_signals, **pipes, **how}
-        return subprocess.Popen([sys.executable, TREE / command, *words], cwd=self.folder / here, env=self.environment, **how)
+        return subprocess.Popen([sys.executable, "-IS", TREE / command, *words], cwd=self.folder / here, env=self.environment, **how)
 
     def run(self, command, *words, here=".", text=None, **how):
         """The status, standard output, and the lines of standard error."""

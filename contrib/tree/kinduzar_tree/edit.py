@@ -1,8 +1,7 @@
 """Runs buildozer over packages: a package always in one process, with its commands and targets in their order."""
-import dataclasses
 import os
 
-from .files import MOST_TEXT, content, digest_of
+from .files import digest_of
 from .names import BUILD_NAMES, build_file, files_among
 from .processes import NOT_RUN, batches
 from .refusals import by_name, lines_of, without_notes
@@ -54,21 +53,13 @@ class Plan:
         return [place(package, name) for package in self.steps for name in files_among(os.path.join(self.root, package), BUILD_NAMES)]
 
 
-@dataclasses.dataclass
 class Batch:
-    """What came of some packages: standard output, what was noted, the files that were written, what was refused by package, the packages
-    that were not tried, the status, and of the files that were written, or may have been, the digests after it."""
+    """What came of some packages: standard output, what was noted, the files that were written, with the digests after it, also of those that may
+    have been, what is shown of them, what was refused by package, the packages that were not tried, and why, if no process could be started."""
 
-    out: bytes = b""
-    notes: list = dataclasses.field(default_factory=list)
-    fixed: list = dataclasses.field(default_factory=list)
-    refused: dict = dataclasses.field(default_factory=dict)
-    untried: list = dataclasses.field(default_factory=list)
-    status: int = WELL
-    after: dict = dataclasses.field(default_factory=dict)
-    # why no process could be started; and what is shown of files, each with its name
-    lack: str = ""
-    texts: list = dataclasses.field(default_factory=list)
+    def __init__(self, status, out=b"", untried=(), lack=""):
+        self.status, self.out, self.notes, self.fixed, self.after, self.texts, self.refused = status, out, [], [], {}, [], {}
+        self.untried, self.lack = list(untried), lack
 
 
 class Editor:
@@ -80,39 +71,27 @@ class Editor:
     def call(self, flags, commands, targets):
         return self.pool.call([self.path, *flags, "--", *commands, *map(str, targets)], folder=self.root)
 
+    def kinds_of(self, targets):
+        return self.call(["-k"], ["print kind"], targets)
+
     # ---- which packages have what a pattern means
 
     def having(self, targets):
         """Those of the targets, one a package, by which some rule is meant, or whose file refuses to say so."""
         lacking = set()
-        likely = [target for target in targets if self.may_have(target)]
-        for _, batch, ended in self.pool.each(self.printed, list(batches(likely, self.pool.processes, package_of))):
+        for _, batch, ended in self.pool.each(self.kinds_of, list(batches(targets, self.pool.processes, package_of))):
             err = set(lines_of(ended.err))
             for target in batch:
                 lines = {f"buildozer: {shown(place(target.package, name))}: print kind: NoTarget (41)" for name in BUILD_NAMES}
                 if lines & err:
                     lacking.add(target.package)
-        return [target for target in likely if target.package not in lacking]
-
-    def may_have(self, target):
-        """Whether a package's file may have what a target means: of a rule that is named, whether its name is there, or what may spell it."""
-        name = target.package.rpartition("/")[2] if target.which is None else target.which
-        if name.startswith(("%", "__pkg__")):
-            return True
-        try:
-            text = content(os.path.join(self.root, target.package, build_file(os.path.join(self.root, target.package)) or ""), MOST_TEXT)
-        except OSError:
-            return True
-        return os.fsencode(name) in text or b"\\" in text
-
-    def printed(self, targets):
-        return self.call(["-k"], ["print kind"], targets)
+        return [target for target in targets if target.package not in lacking]
 
     def of_kinds(self, targets, kinds):
         """The targets that mean, of these targets, the rules of some kinds."""
         known = {number: of_kinds(target, kinds) for number, target in enumerate(targets)}
         unknown = [(number, target) for number, target in enumerate(targets) if known[number] is None]
-        for _, (number, target), ended in self.pool.each(lambda one: self.printed([one[1]]), unknown):
+        for _, (number, target), ended in self.pool.each(lambda one: self.kinds_of([one[1]]), unknown):
             found = set(os.fsdecode(ended.out).split())
             known[number] = [target] if found & set(kinds) or ended.err else []
         return [target for number in range(len(targets)) for target in known[number]]
@@ -144,9 +123,9 @@ class Editor:
         """Edits some packages, each with its steps."""
         ended = self.edited(steps)
         packages = [package for package, _ in steps]
-        done = Batch(ended.out, status=ended.status)
+        done = Batch(ended.status, ended.out)
         if ended.status == NOT_RUN:
-            return Batch(untried=packages, status=FAILED, lack=ended.how())
+            return Batch(FAILED, untried=packages, lack=ended.how())
         done.notes, err = without_notes(ended.err)
         for package in packages:
             for name in (place(package, name) for name in BUILD_NAMES):
@@ -178,7 +157,7 @@ class Editor:
             fronts.update(dict.fromkeys(fronts_of(place(package, name) for name in BUILD_NAMES), package))
         for package, lines in by_name(err, fronts).items():
             done.refused.setdefault(packages[0] if package is None else package, []).extend(lines)
-        ends = [package for package, lines in done.refused.items() if "--journal" in self.flags or not all_unwritten(lines)]
+        ends = [package for package, lines in done.refused.items() if "--journal" in self.flags or not all(line.endswith(": cannot write") for line in lines)]
         if ends and "-k" not in self.flags:
             at = max(map(packages.index, ends))
             done.untried = packages[at + 1 :]
@@ -200,10 +179,6 @@ def package_of(target):
 def fronts_of(names):
     """How buildozer's lines on files begin."""
     return [os.fsencode(front) for name in map(shown, names) for front in (f"{name}:", f"{name}.journal:", f"buildozer: {name}:")]
-
-
-def all_unwritten(lines):
-    return all(line.endswith(": cannot write") for line in lines)
 
 
 def without_line(text, line):

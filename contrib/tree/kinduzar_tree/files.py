@@ -14,9 +14,8 @@ SCARCE, TRIES, PAUSE = (errno.EAGAIN, errno.ENOMEM, errno.EMFILE, errno.ENFILE),
 UNREAD = "unread"
 
 
-class TooLong(OSError):
-    def __init__(self, name, most):
-        super().__init__(errno.EFBIG, f"it has more than {most:,} bytes", name)
+def too_long(name, most):
+    return OSError(errno.EFBIG, f"it has more than {most:,} bytes", name)
 
 
 def opened(name, flags=0):
@@ -39,7 +38,7 @@ def pieces(name, most, flags=0):
         while piece := os.read(place, PIECE):
             left -= len(piece)
             if left < 0:
-                raise TooLong(name, most)
+                raise too_long(name, most)
             yield piece
     finally:
         os.close(place)
@@ -70,5 +69,5 @@ def given(name):
     with open(place, "rb", closefd=place > 0) as file:
         text = file.read(MOST_OTHER + 1)
     if len(text) > MOST_OTHER:
-        raise TooLong(name, MOST_OTHER)
+        raise too_long(name, MOST_OTHER)
     return text

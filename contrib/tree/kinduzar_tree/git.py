@@ -1,5 +1,4 @@
-"""What git says of a folder: which files it knows, which it ignores, and which have changed. A repository may come from others, with its
-configuration: what that would run in these calls is not run."""
+"""What git says of a folder: the files that it knows, ignores, and that have changed; what a repository's own configuration would run is not run."""
 import hashlib
 import os
 import subprocess
@@ -19,13 +18,10 @@ class GitError(Exception):
     """git is there and refuses to answer; the text is its own."""
 
 
-def environment():
-    return {**{name: value for name, value in os.environ.items() if name not in LOCAL}, **QUIET}
-
-
 def begun(folder, *words, stdin=subprocess.DEVNULL):
     """Starts git in a folder, so that others may run beside it; None where there is no git."""
-    how = {"stdin": stdin, "stdout": subprocess.PIPE, "stderr": subprocess.PIPE, "env": environment()}
+    environment = {**{name: value for name, value in os.environ.items() if name not in LOCAL}, **QUIET}
+    how = {"stdin": stdin, "stdout": subprocess.PIPE, "stderr": subprocess.PIPE, "env": environment}
     try:
         return subprocess.Popen(["git", "-C", folder, *SAFE, *words], **how)
     except FileNotFoundError:
@@ -33,8 +29,7 @@ def begun(folder, *words, stdin=subprocess.DEVNULL):
 
 
 def ended(process, given=None):
-    """The status and standard output of git, which may be given something as its standard input; None where there is no git or no repository.
-    Raises GitError on any other fault."""
+    """The status and standard output of git, which may be given an input; None where there is no git or no repository. Other faults are GitErrors."""
     if process is None:
         return None
     try:

@@ -1,5 +1,4 @@
-"""The folders that a workspace has Bazel leave aside: those that .bazelignore names, and those that the patterns of ignore_directories in
-REPO.bazel mean."""
+"""The folders that a workspace has Bazel leave aside, by its .bazelignore, and by the patterns of ignore_directories in its REPO.bazel."""
 import os
 import re
 

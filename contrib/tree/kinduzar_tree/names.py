@@ -9,19 +9,9 @@ WHOLE_NAMES = {*BUILD_NAMES, *ROOT_NAMES, "WORKSPACE.bzlmod"}
 ENDINGS = (".BUILD", ".BUILD.bazel", ".MODULE.bazel")
 
 
-def is_package_or_root(name):
-    """Whether a file of this name makes its folder a package or a workspace."""
-    return name in BUILD_NAMES or name in ROOT_NAMES
-
-
-def is_formatted(name):
+def is_formatted(name, with_bzl):
     """Whether buildifier-tree takes files of this name, where nothing else is said of it."""
-    return name in WHOLE_NAMES or name.endswith(ENDINGS)
-
-
-def is_formatted_or_bzl(name):
-    """The same with .bzl files, as --bzl has it."""
-    return is_formatted(name) or name.endswith(".bzl")
+    return name in WHOLE_NAMES or name.endswith(ENDINGS) or with_bzl and name.endswith(".bzl")
 
 
 def is_text(name):
@@ -36,10 +26,6 @@ def is_text(name):
 def files_among(folder, names):
     """Those of these names that a folder has as files, or as links to some."""
     return [name for name in names if os.path.isfile(os.path.join(folder, name))]
-
-
-def is_root(folder):
-    return bool(files_among(folder, ROOT_NAMES))
 
 
 def folders_above(folder):
@@ -61,8 +47,7 @@ def is_own(folder, name):
 
 
 def root_above(folder, foreign):
-    """The nearest root of a workspace among a folder and those that it is in; None where there is none. Above the folder what another user
-    has put there makes none, and is added to `foreign`."""
+    """The nearest root of a workspace at or above a folder; None where there is none. Another user's, above it, is none, and added to `foreign`."""
     for above in folders_above(folder):
         names = files_among(above, ROOT_NAMES)
         if names and (above == folder or any(is_own(above, name) for name in names)):

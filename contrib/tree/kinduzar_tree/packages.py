@@ -9,7 +9,7 @@ from . import git, state
 from .edit import FAILED, SAME, WELL, Editor
 from .files import digest_of, given
 from .names import root_above
-from .processes import PROCESSES, Pool, Stopped, batches, in_order, program, stops
+from .processes import PROCESSES, Pool, Stopped, batches, program, stops, worked
 from .refusals import MOST_NAMES, Refusals, summary
 from .running import run_as
 from .runs import LISTED, UNDONE, Runs
@@ -46,7 +46,7 @@ VALUED = ("-f", "--types", "--state", "--processes")
 PASSED = ("-k", "--stdout", "--journal")
 # commands that print what no label is for
 UNLABELLED = ("print_comment", "journal")
-# options that a list of journals doesn't take
+# options of which one is given at a time, and none with a list of journals
 UNLISTED = ("--diff", "--stdout", "--labels")
 USAGE = 1
 OF_RUNS = ("undo", "redo", "runs")
@@ -59,7 +59,7 @@ class Request:
 
     def __init__(self, words):
         self.options, self.operands = read(words, FLAGS, VALUED, repeated=("--quiet",))
-        self.words = words
+        self.words, self.line = words, command_line([NAME, *words])
         self.processes = count(self.options["--processes"], "--processes") if "--processes" in self.options else PROCESSES
         self.kinds = [kind for kind in self.options.get("--types", "").split(",") if kind]
         self.here, self.foreign = os.path.realpath(os.curdir), []
@@ -100,29 +100,17 @@ class Request:
 
     def check(self, lines):
         """Raises Usage where options don't fit the operands."""
-        if self.has("--diff") and self.has("--stdout"):
-            raise Usage("--diff beside --stdout")
-        if self.has("--labels") and self.is_trial():
-            raise Usage("--labels beside --diff or --stdout")
+        if sum(map(self.has, UNLISTED)) > 1:
+            raise Usage("one of --diff, --stdout and --labels at a time")
         if self.has("--labels") and any(command.split(" ")[0] in UNLABELLED for line in lines for command in line.commands):
             raise Usage(f"--labels is for print, and not for {' or '.join(UNLABELLED)}")
 
-    def runs(self):
-        """Where runs are kept. Raises Usage where there is no place."""
+    def runs(self, is_needed=True):
+        """Where runs are kept; None where there is no place, or Usage is raised where it is needed."""
         folder = state.folder_for(self.root, self.options.get("--state"))
-        if folder is None:
+        if folder is None and is_needed:
             raise Usage("what undo needs is kept in .git, and this is no repository: give --state=DIR")
-        return Runs(folder, self.root)
-
-    def line(self):
-        """The command line, as records have it."""
-        return command_line([NAME, *self.words])
-
-    def note_plain(self):
-        """Keeps that this run has no journal, where there is a place for it."""
-        folder = state.folder_for(self.root, self.options.get("--state"))
-        if folder is not None:
-            Runs(folder, self.root).note_plain(self.line())
+        return folder and Runs(folder, self.root)
 
 
 def usage_of(path, words, text, request):
@@ -133,10 +121,6 @@ def usage_of(path, words, text, request):
             raise Stopped(pool.signal)
     file = request.options.get("-f", "")
     return ended.err.replace(b"<stdin>:", os.fsencode(file) + b":") if ended.status == USAGE else None
-
-
-def package_of(step):
-    return step[0]
 
 
 class Run:
@@ -175,35 +159,31 @@ class Run:
         runs = self.request.runs()
         before = {name: digest_of(os.path.join(self.request.root, name)) for name in self.plan.files()}
         commands = sorted({command for steps in self.plan.steps.values() for line, _ in steps for command in line.commands})
-        with runs.begun(self.request.line(), commands, before) as record:
+        with runs.begun(self.request.line, commands, before) as record:
             self.edit(editor)
             self.unkept = runs.end(record, self.after)
         self.record = record if record.files else None
 
     def edit(self, editor):
-        """Edits the packages, and takes in what comes of them in their order."""
+        """Edits the packages, and takes in what comes of them in their order; a failure is the last one begun, unless -k is given."""
         steps = list(self.plan.steps.items())
-        tasks = list(batches(steps, len(steps) if self.request.has("--labels") else editor.pool.processes, package_of))
-        left = set(range(len(tasks)))
-        for _, batch in in_order(self.watched(editor.pool, editor.pool.each(editor.batch, tasks), left, len(steps))):
-            self.take(batch)
-        self.rest += [package for number in sorted(left) for package, _ in tasks[number]]
-        self.screen.clear()
+        tasks = list(batches(steps, len(steps) if self.request.has("--labels") else editor.pool.processes, lambda step: step[0]))
 
-    def watched(self, pool, results, left, total):
-        """The same results; each moves the bar, and a failure is the last one begun, unless -k is given."""
-        done = 0
-        for number, steps, batch in results:
-            left.discard(number)
-            done += len(steps)
-            self.tried += len(steps) - len(batch.untried)
+        def batch_of(task):
+            batch = editor.batch(task)
             if batch.status == FAILED and not self.request.has("-k"):
-                pool.close()
-            self.after.update(batch.after)
-            self.screen.progress(done, total, "package")
-            yield number, steps, batch
+                editor.pool.close()
+            return batch
+
+        for task, batch in worked(editor.pool, batch_of, tasks, self.screen, "package"):
+            if batch:
+                self.tried += len(task) - len(batch.untried)
+                self.take(batch)
+            else:
+                self.rest += [package for package, _ in task]
 
     def take(self, batch):
+        self.after.update(batch.after)
         self.screen.put(batch.out)
         self.has_printed |= bool(batch.out)
         for note in batch.notes:
@@ -309,33 +289,27 @@ def list_runs(runs, screen):
     return WELL
 
 
-def times_of(runs):
-    """When a run left a text in a file, where that is known: by the file's name and the text's digest."""
-    return {(name, after): when(record) for record in runs.all() for name, (_, after) in record.files.items() if after} if runs else {}
-
-
 def list_journals(request, lines, path, screen):
-    """Prints the texts of the journals of packages: a star at the one that the file holds, the number, the beginning of the digest, when a run left
-    it, where that is known, and the command."""
-    folder, refusals = state.folder_for(request.root, request.options.get("--state")), Refusals()
-    times = times_of(folder and Runs(folder, request.root))
+    """Prints the texts of journals: a star at the present one, its number, the beginning of the digest, when a run left it, if known, the command."""
+    runs, refusals = request.runs(is_needed=False), Refusals()
+    times = {(name, after): when(record) for record in runs.all() for name, (_, after) in record.files.items()} if runs else {}
     with Pool(request.processes) as pool:
         editor = Editor(pool, path, request.root, [])
         names = [name for name in editor.plan(lines, request.kinds, refusals).files() if os.path.lexists(os.path.join(request.root, name + ".journal"))]
-        for target in [target for target in lines[0].targets if not target.is_pattern and not any(name.startswith(place(target.package, "BUILD")) for name in names)]:
+        for target in [target for target in lines[0].targets if not target.is_pattern and target.package not in map(os.path.dirname, names)]:
             refusals.add(target.package, [f"{place(target.package, 'BUILD')}: there is no journal"])
-        moves = Moves(editor, None, screen, 0)
+        moves = Moves(editor, runs, screen, 0)
         for name, texts in sorted(moves.journals(names)):
-            width, has_times = len(str(len(texts) - 1)), any((name, text.digest) in times for text in texts)
-            rows = [name]
+            rows, width = [shown(name)], len(str(len(texts) - 1))
+            wide = 18 * any((name, text.digest) in times for text in texts)
             for number, text in enumerate(texts):
-                time_of = f"{times.get((name, text.digest), ''):16}  " if has_times else ""
-                rows.append(f"  {'*' if text.is_present else ' '} {number:>{width}}  {text.digest[:DIGITS]}  {time_of}{text.note}".rstrip())
-            screen.put("".join(shown(row) + "\n" for row in rows).encode())
-    for name, why in moves.left.items():
-        refusals.add(name, why.split("\n"))
-    refusals.tell(screen)
-    return FAILED if refusals else SAME if names else WELL
+                row = f"  {'*' if text.is_present else ' '} {number:>{width}}  {text.digest[:DIGITS]}  {times.get((name, text.digest), ''):{wide}}{text.note}"
+                rows.append(shown(row).rstrip())
+            screen.put("".join(row + "\n" for row in rows).encode())
+        for name, why in moves.left.items():
+            refusals.add(name, why.split("\n"))
+        refusals.tell(screen)
+        return FAILED if refusals else SAME, pool.signal
 
 
 def move_run(request, path, screen):
@@ -374,13 +348,15 @@ def run(words, screen):
         return USAGE, None
     request.check(lines)
     if request.lists_journals():
-        return list_journals(request, lines, path, screen), None
+        return list_journals(request, lines, path, screen)
     if request.has("--journal"):
         request.runs()
     this = Run(request, path, screen)
     stopped = this.over(lines)
     if this.fixed and not request.has("--journal") and not request.is_trial():
-        request.note_plain()
+        plain = request.runs(is_needed=False)
+        if plain:
+            plain.note_plain(request.line)
     return this.end(stopped), stopped
 
 

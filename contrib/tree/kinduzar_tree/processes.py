@@ -71,7 +71,7 @@ def batches(things, processes, name, room=MOST_BYTES):
     batch, size = [], 0
     for thing in things:
         text = name(thing)
-        odd = is_odd(text)
+        odd = not text.isprintable() or ":" in text or "#" in text or text != text.strip()
         if batch and (odd or len(batch) >= most or size + len(text) > room):
             yield batch
             batch, size = [], 0
@@ -82,10 +82,6 @@ def batches(things, processes, name, room=MOST_BYTES):
             batch, size = [], 0
     if batch:
         yield batch
-
-
-def is_odd(name):
-    return not name.isprintable() or ":" in name or "#" in name or name != name.strip()
 
 
 class Pool:
@@ -150,6 +146,13 @@ class Pool:
         out, err = process.communicate(text or None)
         self.running.discard(process)
         return Ended(process.returncode, out, err)
+
+    def difference(self, name, file, new):
+        """The lines of a unified difference between a file and a text, under the name that is shown: by diff, whose time grows with the lines."""
+        # a name with a space is ended by a tab, as patch reads it, and one with a newline must not end the line
+        label = name.replace("\n", "\\n") + "\t" * any(sign.isspace() for sign in name)
+        *lines, last = self.call(["diff", "-a", "-u", "-L", label, "-L", label, "--", os.path.abspath(file), "-"], new).out.split(b"\n")
+        return [line + b"\n" for line in lines] + [last] * bool(last)
 
     def started(self, words, **how):
         """Starts a process, and then one more thread. Where the system has no room for it this waits as long as others run, and then a while;
@@ -235,15 +238,18 @@ def end_group(process):
         os.killpg(process.pid, signal.SIGTERM)
 
 
-def in_order(results):
-    """Yields results by the number of their task, each as soon as all before it are there; at the end those that are left."""
-    kept, wanted = {}, 0
-    for number, task, result in results:
-        kept[number] = (task, result)
+def worked(pool, work, tasks, screen, thing):
+    """Yields each task, a list of things, with what came of it as soon as all before it are there, and None where it was not begun; moves the bar."""
+    kept, wanted, done, total = {}, 0, 0, sum(map(len, tasks))
+    for number, task, result in pool.each(work, tasks):
+        done += len(task)
+        screen.progress(done, total, thing)
+        kept[number] = result
         while wanted in kept:
-            yield kept.pop(wanted)
+            yield tasks[wanted], kept.pop(wanted)
             wanted += 1
-    yield from (kept[number] for number in sorted(kept))
+    screen.clear()
+    yield from ((tasks[number], kept.get(number)) for number in range(wanted, len(tasks)))
 
 
 @contextlib.contextmanager

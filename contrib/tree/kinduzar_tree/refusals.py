@@ -1,6 +1,7 @@
 """What the programs wrote to standard error, by the file that each line is about."""
 import os
 
+from .state import keep
 from .terminal import command_line, counted, shown
 
 # the command line that goes on has at most so many names; more go into a file
@@ -47,6 +48,9 @@ class Refusals:
         self.lines.setdefault(name, []).extend(lines)
         self.is_unread |= is_unread
 
+    def has_end(self, *ends):
+        return any(line.endswith(ends) for lines in self.lines.values() for line in lines)
+
     def tell(self, screen):
         """Writes them, sorted by the names."""
         for name in sorted(self.lines):
@@ -57,8 +61,7 @@ class Refusals:
 
 
 def summary(parts):
-    """A line of what came of how many files: numbers with the words that are after them. Parts of none are left out, and the first that
-    is there says what is counted."""
+    """A line of what came of how many files: numbers, each with the words after it; parts of none are left out, and the first one says 'files'."""
     there = [(number, told) for number, told in parts if number]
     texts = [f"{number:,} {told}" for number, told in there]
     if there:
@@ -66,11 +69,9 @@ def summary(parts):
     return ", ".join(texts)
 
 
-def go_on(screen, words, names, written):
-    """Writes the command line that goes on with just these names: with the names, or where they are many, or odd, with what `written` gives,
-    the words that read them from a file that it has written, or None where it cannot."""
+def go_on(screen, words, names):
+    """Writes the command line that goes on with just these names: with the names, or where they are many, or odd, with a file of them."""
     is_odd = any(shown(name) != name for name in names)
-    words_of_names = written(names) if len(names) > MOST_NAMES or is_odd else None
-    if not words_of_names and any(name.startswith("-") for name in names):
-        words = [*words, "--"]
-    screen.say("to go on with just these: " + command_line([*words, *(words_of_names or names)]))
+    file = keep(os.curdir, b"".join(os.fsencode(name) + b"\0" for name in names)) if len(names) > MOST_NAMES or is_odd else None
+    dashes = ["--"] * any(name.startswith("-") for name in names)
+    screen.say("to go on with just these: " + command_line([*words, *([f"--from={file}"] if file else [*dashes, *names])]))

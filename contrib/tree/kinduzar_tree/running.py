@@ -1,4 +1,5 @@
 """How a command runs from its words to its status, whatever fails."""
+import os
 import signal
 import sys
 
@@ -12,8 +13,9 @@ STOPPED = "stopped by {}; the same command goes on"
 
 
 def run_as(name, run, usage, failed):
-    """Runs a command, a function of its words and of the screen that gives its status and the signal that stopped it; gives the status, or
-    those of a usage error and of what failed."""
+    """Runs a command, a function of its words and of the screen that gives its status and the signal that stopped it; gives the status."""
+    if sys.getfilesystemencoding() != "utf-8":  # so that names mean the same in each locale
+        os.execv(sys.executable, [sys.executable, "-ISX", "utf8", *sys.argv])
     screen = Screen()
     try:
         with stops():

@@ -32,8 +32,7 @@ LATEST = 1 << 36
 
 @dataclasses.dataclass
 class Record:
-    """A run. Files are by their names from the root of the workspace; each has the digests before and after, each None while it isn't
-    known."""
+    """A run. Files are by their names from the root of the workspace; each has the digests before and after, None while one isn't known."""
 
     number: int
     root: str
@@ -74,10 +73,6 @@ def is_inside(name):
 
 def is_pair(pair):
     return type(pair) is list and len(pair) == 2 and all(digest is None or type(digest) is str and DIGEST.fullmatch(digest) for digest in pair)
-
-
-def known(digest):
-    return None if digest == UNREAD else digest
 
 
 class Runs:
@@ -188,12 +183,12 @@ class Runs:
     # ---- a run with one
 
     @contextlib.contextmanager
-    def begun(self, line, commands, before):
+    def begun(self, line, commands, texts):
         """Writes the record of a run that begins, with the texts before it, and holds its lock; yields the record."""
         with contextlib.ExitStack() as stack:
             with self.lock():
                 number = max(self.numbers(), default=0) + 1
-                record = Record(number, self.root, line, commands, {name: [known(digest), None] for name, digest in before.items()}, time=time.time())
+                record = Record(number, self.root, line, commands, {name: [None if before == UNREAD else before, None] for name, before in texts.items()}, time=time.time())
                 stack.enter_context(self.held(number))
                 self.write(record)
             yield record
@@ -202,7 +197,7 @@ class Runs:
         """Writes the record of a run that has ended, with the texts of the files that it changed, or may have; a run that changed none leaves
         none. Gives the names of those of which a text isn't known."""
         changed = {name: digest for name, digest in after.items() if digest is not None and name in record.files and digest != record.files[name][0]}
-        record.files = {name: [record.files[name][0], known(digest)] for name, digest in sorted(changed.items())}
+        record.files = {name: [record.files[name][0], None if after == UNREAD else after] for name, after in sorted(changed.items())}
         if not record.files:
             self.forget(record.number)
             return []

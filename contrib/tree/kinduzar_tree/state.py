@@ -1,4 +1,5 @@
 """Where is kept what a later run needs: the folder of this working tree in .git, or one that is named."""
+import contextlib
 import errno
 import os
 
@@ -21,8 +22,7 @@ def folder_for(place, named=None):
 
 
 def make_folder(folder):
-    """Makes a folder in that of this program, and this one first. A link in the place of one of both would lead to where nobody means it, but for
-    a folder that is named."""
+    """Makes a folder, in that of this program. A link in the place of one of both, but for one that is named, would lead where nobody means it."""
     above = os.path.dirname(folder)
     for each in [above] * (os.path.basename(above) == FOLDER) + [folder]:
         if os.path.islink(each):
@@ -46,18 +46,10 @@ def write_whole(file, content):
     except BaseException:
         os.unlink(new)
         raise
-    flush(folder)
-
-
-def flush(folder):
-    """Flushes a folder, where its file system has that."""
     handle = os.open(folder, os.O_RDONLY)
-    try:
+    with contextlib.suppress(OSError):  # not each file system has that of a folder
         os.fsync(handle)
-    except OSError:
-        pass
-    finally:
-        os.close(handle)
+    os.close(handle)
 
 
 def keep(place, content, named=None):
@@ -71,9 +63,3 @@ def keep(place, content, named=None):
     except OSError:
         return None
     return min(os.path.relpath(file), file, key=len)
-
-
-def listed(names):
-    """Keeps names of files, and gives the words with which buildifier-tree takes them; None where there is no place."""
-    file = keep(os.curdir, b"".join(os.fsencode(name) + b"\0" for name in names))
-    return file and [f"--from={file}"]

@@ -3,11 +3,12 @@
 A pattern is a target of which the package ends with `...`. It means the package before that and all below it which have a BUILD file and
 are in the same workspace, sorted by name.
 """
+import collections
 import dataclasses
 import os
 
 from . import walk
-from .names import BUILD_NAMES, build_file, is_package_or_root, is_root, is_text
+from .names import BUILD_NAMES, ROOT_NAMES, build_file, files_among, is_text
 from .words import Usage
 
 DOTS = "..."
@@ -99,23 +100,16 @@ def may_be_named(package):
     return is_text(package) and not any(sign in package for sign in " :\n\r|\0") and not package.startswith("#")
 
 
-@dataclasses.dataclass
-class Packages:
-    """The packages of a workspace below some package, the names of those that no target can name, those of which the file is a link, what
-    could not be read, with why, and what other users have put above it as a root."""
-
-    named: list = dataclasses.field(default_factory=list)
-    unnamed: list = dataclasses.field(default_factory=list)
-    links: list = dataclasses.field(default_factory=list)
-    closed: dict = dataclasses.field(default_factory=dict)
+# The packages below one, those that no target can name, those of which the file is a link, and what could not be read, with why.
+Packages = collections.namedtuple("Packages", "named unnamed links closed")
 
 
 def packages_below(root, front):
     """The packages at and below one, without those of workspaces in it."""
     folder = os.path.join(root, front)
     if not os.path.isdir(folder) or front and inside(front, root):
-        return Packages()
-    found = walk.below(folder, is_package_or_root)
+        return Packages([], [], [], {})
+    found = walk.below(folder, lambda name: name in BUILD_NAMES or name in ROOT_NAMES)
     within = walk.within_one_of((walk.roots_in([*found.files, *found.links]) - {""}).__contains__)
     there = {os.path.dirname(name) for name in [*found.files, *found.links] if os.path.basename(name) in BUILD_NAMES and not within(name)}
     links = {name for name in there if os.path.islink(os.path.join(folder, name, build_file(os.path.join(folder, name)) or ""))}
@@ -133,7 +127,7 @@ def place(package, name):
 def inside(front, root):
     """Whether a package is in a workspace below the root."""
     parts = front.split("/")
-    return any(is_root(os.path.join(root, *parts[:end])) for end in range(1, len(parts) + 1))
+    return any(files_among(os.path.join(root, *parts[:end]), ROOT_NAMES) for end in range(1, len(parts) + 1))
 
 
 # ---- kinds

@@ -41,26 +41,19 @@ def quoted(word):
     return "$'" + "".join(chr(byte) if 32 <= byte < 127 and byte not in b"'\\" else f"\\{byte:03o}" for byte in os.fsencode(word)) + "'"
 
 
-def hold_places():
-    """Gives each of the three standard places that is closed something that is empty or cannot be written, so that no file gets its number."""
-    for place, flags in enumerate((os.O_RDONLY, os.O_RDONLY, os.O_WRONLY)):
-        try:
-            os.fstat(place)
-        except OSError:
-            os.open(os.devnull, flags)
-
-
-def is_terminal(place):
-    return os.isatty(place) and os.environ.get("TERM") not in (None, "", "dumb")
-
-
 class Screen:
     """Both outputs. What is on standard output may be read by a program, all else goes to standard error."""
 
     def __init__(self):
-        hold_places()
-        self.has_bar = is_terminal(ERR)
-        self.has_colours = is_terminal(OUT) and not os.environ.get("NO_COLOR")
+        # one of the three that is closed becomes what is empty or cannot be written, so that no file gets its number
+        for place, flags in enumerate((os.O_RDONLY, os.O_RDONLY, os.O_WRONLY)):
+            try:
+                os.fstat(place)
+            except OSError:
+                os.open(os.devnull, flags)
+        can_move = os.environ.get("TERM") not in (None, "", "dumb")
+        self.has_bar = can_move and os.isatty(ERR)
+        self.has_colours = can_move and os.isatty(OUT) and not os.environ.get("NO_COLOR")
         self.full, self.empty = "█░" if "UTF-8" in (getattr(sys.stderr, "encoding", None) or "").upper() else "#."
         self.bar = b""
         self.last = 0.0

@@ -3,11 +3,10 @@ import os
 import signal
 import stat
 
-from . import git, state, walk
-from .difference import difference
+from . import git, walk
 from .files import MOST_TEXT, content, given
-from .names import is_formatted, is_formatted_or_bzl, is_text
-from .processes import NOT_RUN, PROCESSES, Pool, batches, in_order, program, room_beside
+from .names import is_formatted, is_text
+from .processes import NOT_RUN, PROCESSES, Pool, batches, program, room_beside, worked
 from .refusals import Refusals, by_name, go_on, lines_of, summary
 from .running import STOPPED, run_as
 from .terminal import shown
@@ -37,18 +36,18 @@ MODES, TYPES = ("fix", "check", "diff"), ("auto", "build", "bzl")
 USAGE, UNREAD, REFUSED, DIFFERS, WELL = 2, 3, 1, 4, 0
 # what a run of buildifier that has tried all of its files ends with
 TRIED = (WELL, REFUSED, UNREAD, DIFFERS)
+# how lines end on what could not be tried
+UNTRIED = (": cannot open", ": cannot write", "not UTF-8")
 
 
 # ---- which files
 
 
 def files_of(paths, options, refusals):
-    """The files to be formatted, each once, by the name that is shown, with what the system said of it, sorted; what is no file or folder is
-    added to the refusals."""
-    wanted = is_formatted_or_bzl if "--bzl" in options else is_formatted
+    """The files to be formatted, each once, by the name that is shown, with what the system said of it, sorted; what can't be read is refused."""
     files, seen = {}, set()
     for path in paths:
-        for name, row in files_at(path, wanted, options.get("--diff-from"), refusals):
+        for name, row in files_at(path, lambda name: is_formatted(name, "--bzl" in options), options.get("--diff-from"), refusals):
             # below one path no file is met twice
             place = name if len(paths) == 1 else os.path.join(os.path.realpath(os.path.dirname(name) or "."), os.path.basename(name))
             if place not in seen:
@@ -175,7 +174,7 @@ class Formatter:
                 ended = None
             # one that is gone, or is as it is to be, by now
             if ended and ended.status in TRIED:
-                done.out += [difference(self.pool, name, name, old, ended.out)] if ended.out or not old.strip() else []
+                done.out += [self.pool.difference(name, name, ended.out)] if ended.out or not old.strip() else []
             else:
                 done.refused[name] = [f"{name}: cannot open"]
 
@@ -211,30 +210,19 @@ class Run:
         self.differing = self.same = 0
         self.statuses = set()
         self.rest = []
+        self.processes = count(options["--processes"], "--processes") if "--processes" in options else PROCESSES
 
     def over(self, files, path):
         """Formats the files, and gives the signal that stopped it, or None."""
-        with Pool(min(self.processes(), max(len(files), 1))) as pool:
+        with Pool(min(self.processes, max(len(files), 1))) as pool:
             formatter = Formatter(pool, path, self.options, files)
             tasks = list(batches(list(files), pool.processes, str, room_beside(formatter.words)))
-            left = set(range(len(tasks)))
-            for names, batch in in_order(self.watched(pool.each(formatter.batch, tasks), left, len(files))):
-                self.take(names, batch)
-            self.rest += [name for number in sorted(left) for name in tasks[number]]
-            self.screen.clear()
+            for names, batch in worked(pool, formatter.batch, tasks, self.screen, "file"):
+                if batch:
+                    self.take(names, batch)
+                else:
+                    self.rest += names
             return pool.signal
-
-    def processes(self):
-        return count(self.options["--processes"], "--processes") if "--processes" in self.options else PROCESSES
-
-    def watched(self, results, left, total):
-        """The same results; each moves the bar."""
-        done = 0
-        for number, names, batch in results:
-            left.discard(number)
-            done += len(names)
-            self.screen.progress(done, total, "file")
-            yield number, names, batch
 
     def take(self, names, batch):
         self.differing += len(set(batch.differing) - set(batch.refused))
@@ -260,7 +248,7 @@ class Run:
         if stopped is not None:
             self.screen.say(STOPPED.format(signal.Signals(stopped).name))
         elif again and self.differing + self.same and "--quiet" not in self.options:
-            go_on(self.screen, [NAME, *self.words()], again, state.listed)
+            go_on(self.screen, [NAME, *self.words()], again)
         return self.status()
 
     def summary(self):
@@ -274,15 +262,11 @@ class Run:
         return [f"{name}={self.options[name]}" for name in kept if name in self.options]
 
     def status(self):
-        if UNREAD in self.statuses or self.screen.is_broken or self.refusals.is_unread or any(map(is_unread, self.refusals.lines.values())):
+        if UNREAD in self.statuses or self.screen.is_broken or self.refusals.is_unread or self.refusals.has_end(*UNTRIED):
             return UNREAD
         if self.refusals:
             return REFUSED
         return DIFFERS if self.differing and self.mode != "fix" else WELL
-
-
-def is_unread(lines):
-    return any(line.endswith((": cannot open", ": cannot write", "not UTF-8")) for line in lines)
 
 
 def check_words(options, operands):
@@ -291,20 +275,10 @@ def check_words(options, operands):
             raise Usage(f"no {name[2:]}: {options[name]}; there are {', '.join(known)}")
     if options.get("--diff-from", "HEAD").startswith("-"):
         raise Usage(f"--diff-from: no revision: {options['--diff-from']}")
-    if not operands and "--from" not in options and is_given():
-        raise Usage("standard input is a file: for that text buildifier < FILE, for the working directory buildifier-tree .")
-
-
-def is_given():
-    """Whether standard input is a file of which nothing was read yet."""
     row = os.fstat(0)
-    return stat.S_ISREG(row.st_mode) and row.st_size > 0 and os.lseek(0, 0, os.SEEK_CUR) == 0
-
-
-def paths_of(options, operands):
-    if "--from" in options:
-        return [*operands, *listed_in(options["--from"])]
-    return operands or [os.curdir]
+    has_text = stat.S_ISREG(row.st_mode) and row.st_size > 0 and os.lseek(0, 0, os.SEEK_CUR) == 0
+    if has_text and not operands and "--from" not in options:
+        raise Usage("standard input is a file: for that text buildifier < FILE, for the working directory buildifier-tree .")
 
 
 def run(words, screen):
@@ -320,8 +294,8 @@ def run(words, screen):
         os.execv(path, [path, "--version"])
     check_words(options, operands)
     this = Run(options, screen)
-    this.processes()
-    files = files_of(paths_of(options, operands), options, this.refusals)
+    paths = [*operands, *listed_in(options["--from"])] if "--from" in options else operands or [os.curdir]
+    files = files_of(paths, options, this.refusals)
     stopped = this.over(files, path)
     return this.end(stopped), stopped
 

@@ -4,11 +4,9 @@ import os
 import re
 import tempfile
 
-from .difference import difference
 from .edit import Editor
 from .files import MOST_TEXT, content
 from .names import BUILD_NAMES, files_among
-from .targets import place
 
 # a field that no rule has, before what a line of a rule begins with: the line where the rule begins, and its name
 MARK = "__label__"
@@ -25,14 +23,16 @@ class Trial(Editor):
 
     def batch(self, steps):
         with tempfile.TemporaryDirectory() as folder:
-            old = {name: text for package, _ in steps for name, text in self.copied(package, folder)}
+            for package, _ in steps:
+                self.copy(package, folder)
             done = Editor(self.pool, self.path, folder, self.flags).batch(steps)
             new = {name: content(os.path.join(folder, name), MOST_TEXT) for name in done.fixed}
-        done.texts = [(name, self.compared(name, old[name], text) if self.is_compared else [text]) for name, text in new.items()]
+        compared = self.pool.difference if self.is_compared else lambda name, file, text: [text]
+        done.texts = [(name, compared(name, os.path.join(self.root, name), text)) for name, text in new.items()]
         return done
 
-    def copied(self, package, folder):
-        """Copies what a run may read of a package; yields its files. What cannot be read is not there, and refused as such."""
+    def copy(self, package, folder):
+        """Copies what a run may read of a package; what cannot be read is not there, and refused as such."""
         here, there = os.path.join(self.root, package), os.path.join(folder, package)
         for name in files_among(here, BUILD_NAMES) if os.pardir not in package.split("/") else []:
             os.makedirs(there, exist_ok=True)
@@ -43,10 +43,6 @@ class Trial(Editor):
                     continue
                 with open(os.path.join(there, each), "wb") as copy:
                     copy.write(text)
-                yield place(package, each), text
-
-    def compared(self, name, old, new):
-        return difference(self.pool, name, os.path.join(self.root, name), old, new)
 
 
 class Labels(Editor):

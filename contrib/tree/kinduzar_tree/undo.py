@@ -2,13 +2,12 @@
 text and the one on the other side. A file that is at neither stays as it is, and is named.
 """
 import collections
-import dataclasses
 import os
 import re
 
 from .edit import FAILED, SAME, WELL, fronts_of
 from .files import UNREAD, digest_of
-from .processes import NOT_RUN, batches, in_order, room_beside
+from .processes import NOT_RUN, batches, room_beside, worked
 from .refusals import by_name, summary
 from .runs import DONE, UNDONE
 from .state import Unreadable
@@ -18,21 +17,9 @@ ENTRY = re.compile(rb"([* ]) (\d+) ([0-9a-f]{64})(?: (.*))?", re.DOTALL)
 Text = collections.namedtuple("Text", "is_present digest note")
 
 
-@dataclasses.dataclass
-class Way:
-    """How a run is gone through: the command, the words for it, which digest of a file is the one to start at, and the state that comes."""
-
-    command: str
-    start: int
-    told: str
-    state: str
-
-    @property
-    def goal(self):
-        return 1 - self.start
-
-
-BACK, AGAIN = Way("undo", 1, "taken back", UNDONE), Way("redo", 0, "done again", DONE)
+# How a run is gone through: the command, which digest of a file is the one to start at and which the goal, the words for it, and the state that comes.
+Way = collections.namedtuple("Way", "command start goal told state")
+BACK, AGAIN = Way("undo", 1, 0, "taken back", UNDONE), Way("redo", 0, 1, "done again", DONE)
 
 
 def texts_in(out):
@@ -53,8 +40,8 @@ def present(texts):
 
 
 def steps_between(texts, start, goal, is_down):
-    """How many steps lead from the present text of a journal, which must be the one to start at, to the nearest one that is the goal, less than
-    none for an undo, with the notes of these steps; None where there is no such text. Texts further down are looked at first, or those further up."""
+    """How many steps lead from the present text, which must be the one to start at, to the nearest goal, looked for in one direction and then in the
+    other, with the notes of these steps; less than none for an undo, None where there is no goal."""
     at = present(texts)
     if at is None or texts[at].digest != start:
         return None
@@ -71,8 +58,7 @@ def presents(lists):
 
 
 def listed(name, lines, count):
-    """How many times a file's texts were listed, of how often that was to be: of one that can't be opened never, and not after a write that
-    failed."""
+    """How often a file's texts were listed, of this many times: of one that can't be opened never, and not after a write that failed."""
     if any(line.startswith((f"{name}:", f"{name}.journal:")) and not line.endswith(": cannot write") for line in lines):
         return 0
     return 1 if f"{name}: cannot write" in lines else count
@@ -219,33 +205,28 @@ class Moves:
 
     def go(self, record, way, plan):
         """Goes the steps, and looks at what each file holds then."""
-        pool, done = self.editor.pool, 0
-        by_steps = {}
+        pool, by_steps = self.editor.pool, {}
         for name, steps in sorted(plan.items()):
             by_steps.setdefault(steps, []).append(name)
         tasks = [batch for names in by_steps.values() for batch in self.cut(names)]
-        for names, whys in in_order(pool.each(lambda batch: self.stepped(batch, way, record, plan), tasks)):
-            done += len(names)
-            self.screen.progress(done, len(plan), "file")
-            for name in names:
+        for names, whys in worked(pool, lambda batch: self.stepped(batch, way, record, plan), tasks, self.screen, "file"):
+            for name in names if whys is not None else []:
                 if name not in whys and digest_of(self.path(name)) == record.files[name][way.goal]:
                     self.moved += 1
                     if not self.quiet:
                         self.screen.say(f"fixed {name}")
                 else:
                     self.leave(name, whys.get(name, "it is at another text"))
-        self.screen.clear()
 
     def stepped(self, names, way, record, plan):
-        """Goes the steps of files, which are the same for each, and gives why one did not. What the step began at is listed by the same process:
-        where another run has changed the file since it was looked at, it was that run's text, and what was taken of it is given back."""
+        """Goes the steps of files, the same for each, and gives why one did not. The same process lists what each began and ended at: where that shows
+        that another run has changed a file since it was looked at, what was taken of that run is given back."""
         steps, whys = plan[names[0]], {}
         for name, (lists, lines) in self.listings(names, ["journal", spelled(steps), "journal"]).items():
             digests = presents(lists)
-            if digests and digests[0] != record.files[name][way.start]:
-                whys[name] = "another run has changed it meanwhile"
-                if digests[-1] != digests[0] or len(digests) == 1 and digest_of(self.path(name)) != digests[0]:
-                    whys[name] += self.given_back(name, -steps, digests[0])
+            last = digests[-1] if len(digests) > 1 else digest_of(self.path(name))
+            if digests and (digests[0] != record.files[name][way.start] or last not in (digests[0], record.files[name][way.goal])):
+                whys[name] = "another run has changed it meanwhile" + (self.given_back(name, -steps, digests[0]) if last != digests[0] else "")
             elif lines or len(digests) < 2:
                 whys[name] = "\n".join(lines) or "it is not known what came of it"
         return whys

@@ -16,8 +16,7 @@ UNOPENED, FOREIGN = "cannot open", "{}: passed over as the root of a workspace, 
 
 
 class Found:
-    """What is below a folder, by names from there: files, files that are links, what cannot be read, with why, and repositories of git
-    of their own; and what other users have put above it as the root of a workspace."""
+    """What is below a folder: files, files that are links, what can't be read, with why, repositories; and roots of other users' above it."""
 
     def __init__(self):
         self.files, self.links, self.closed, self.inner, self.foreign = {}, [], {}, set(), []
@@ -26,10 +25,8 @@ class Found:
         """Takes a file in, with what the system says of it; one that is gone, or that is no file, is passed over."""
         try:
             row = os.lstat(os.path.join(folder, name))
-        except FileNotFoundError:
-            return
-        except OSError:
-            self.closed[name] = UNOPENED
+        except OSError as error:
+            self.closed.update({} if isinstance(error, FileNotFoundError) else {name: UNOPENED})
             return
         if stat.S_ISREG(row.st_mode):
             self.files[name] = row
@@ -38,8 +35,7 @@ class Found:
 
 
 def below(folder, wanted):
-    """What is below a folder, of files whose last name is wanted (a function of it). Where git refuses to speak of a repository further down
-    that one is closed."""
+    """What is below a folder, of files whose last name is wanted (a function of it); a repository of which git refuses to speak is closed."""
     found = Found()
     pending = [""]
     while pending:
@@ -121,20 +117,16 @@ def without_ignored(folder, found):
     real = os.path.realpath(folder)
     above = root_above(real, found.foreign)
     front = os.path.relpath(real, above) if above else ""
-    tests = [rule_of(folder, root, "", found) for root in sorted(roots_in(found.files))]
-    if above and above != real:
-        tests.append(rule_of(folder, os.path.relpath(above, real), front, found))
-    tests = list(filter(None, tests))
-    if tests:
-        within = within_one_of(lambda name: any(test(name) for test in tests))
-        found.files = {name: row for name, row in found.files.items() if not within(name)}
-        found.links = [name for name in found.links if not within(name)]
+    roots = [(root, "") for root in sorted(roots_in(found.files))] + ([(os.path.relpath(above, real), front)] if above not in (None, real) else [])
+    tests = list(filter(None, (rule_of(folder, *root, found) for root in roots)))
+    within = within_one_of(lambda name: any(test(name) for test in tests))
+    found.files = {name: row for name, row in found.files.items() if not within(name)}
+    found.links = [name for name in found.links if not within(name)]
     return found
 
 
 def rule_of(folder, root, front, found):
-    """A function that says which folders the workspace of a root leaves aside, `front` being the name of this folder from a root above it;
-    None where it leaves none aside."""
+    """A function that says which folders the workspace of a root leaves aside; `front` is the name of this folder from a root above it."""
     try:
         rule = Ignored(os.path.join(folder, root))
     except Unread as fault:

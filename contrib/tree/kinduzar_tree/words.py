@@ -30,7 +30,8 @@ def read(words, flags, valued, repeated=()):
                 raise Usage(f"{name} needs a value")
             options[name] = value
         else:
-            raise Usage(f"there is no option {name}" + nearest(word.partition("=")[0], [*flags, *valued]))
+            meant = f"-{word.partition('=')[0]}"
+            raise Usage(f"there is no option {name}" + f": did you mean {meant}?" * (meant in (*flags, *valued)))
     return options, operands
 
 
@@ -40,11 +41,6 @@ def split(word):
         name, equals, value = word.partition("=")
         return name, value if equals else None, []
     return word[:2], None, [f"-{word[2:]}"] if word[2:] else []
-
-
-def nearest(name, known):
-    """What is meant where an option with two dashes was given one."""
-    return f": did you mean -{name}?" if f"-{name}" in known else ""
 
 
 def count(text, what):
