@@ -3,13 +3,16 @@
 #:
 #: make help              seconds    this list
 #: make clean             seconds    removes what was built
-#: make install           seconds    copies both programs, the commands for whole trees, their man pages, and completions
-#:                                   for bash, zsh and fish below PREFIX (/usr/local); with DESTDIR=.. below another root
+#: make install           seconds    copies both programs, the commands for whole trees, compat.sh, man pages, and
+#:                                   completions for bash, zsh and fish below PREFIX (/usr/local); with DESTDIR=.. below
+#:                                   another root
 #: make uninstall         seconds    removes exactly these
 #: make dist              seconds    packs the same, all pages and contrib/ into an archive in dist/, with its SHA-256
 #:                                   sum beside it; what is not built is built first
 #: make corpus FOLDER=..  seconds    reads each BUILD file below the folder, spells it back byte for byte, and formats
 #:                                   it twice
+#: make try               1-4 min    what make shows at its end, by both programs, not proved; with FILE=.. over a file of
+#:                                   your own, which stays as it is
 #: make bench             minutes    time and memory of a delete in a large file, of many commands in one run, also
 #:                                   with a journal, of a run over many packages, of one that writes many files, and of
 #:                                   reading; with FOLDER=.. of the BUILD files there
@@ -20,7 +23,7 @@
 #: make hostile           15 min     all of hostile use: torn, deep and made texts, torn and forged journals, killed
 #:                                   runs, refused memory, failing calls and devices, runs beside one another, and a
 #:                                   loss of power
-#: make                   21-40 min  proves and builds both programs, leaves them in bin/, and shows a first run;
+#: make                   21-42 min  proves and builds both programs, leaves them in bin/, and shows a first run;
 #:                                   JOBS=N sets how many processors that takes; KEEP=yes keeps what was proved of each
 #:                                   function, for whoever changes the sources
 #: make test              46-76 min  the tests: runs of the programs (tests/), every proof from nothing, the edits that
@@ -38,14 +41,17 @@ DESTDIR ?=
 TREES = bin/buildozer-tree bin/buildifier-tree
 MODULES = $(patsubst contrib/tree/%,share/kinduzar/%,$(wildcard contrib/tree/kinduzar_tree/*.py))
 
+# the script that takes the options of bazelbuild's programs, by the name that lines of both programs have for it
+SCRIPT = share/kinduzar/contrib/compat/compat.sh
+
 # what is installed beside the programs, in the folders where man and each shell look for it
 SHARED = $(foreach program,$(notdir $(PROGRAMS) $(TREES)),share/man/man1/$(program).1 share/bash-completion/completions/$(program) \
-    share/zsh/site-functions/_$(program) share/fish/vendor_completions.d/$(program).fish) $(MODULES)
+    share/zsh/site-functions/_$(program) share/fish/vendor_completions.d/$(program).fish) share/man/man7/kinduzar-coming.7 $(MODULES)
 
 # what the programs are made of; a second 'make' with nothing changed does nothing
 SOURCES = crates.txt $(shell find crates -name out -prune -o -path '*/must-fail' -prune -o -name README.md -o -type f -print)
 
-.PHONY: all help share install uninstall dist test edits bench largest shapes hostile fuzz corpus clean rt
+.PHONY: all help try share install uninstall dist test edits bench largest shapes hostile fuzz corpus clean rt
 
 all: $(PROGRAMS) share bin/.shown
 
@@ -55,6 +61,9 @@ help:
 rt:
 	@command -v rt > /dev/null || { \
 	    echo "rt was not found: install a Rattle kit (rattle-kit-13b or later) and put its bin folder on the PATH." >&2; exit 1; }
+
+try: rt
+	@tools/try.py $(if $(FILE),"$(FILE)")
 
 # One call makes both, so that what both depend on is proved once, several crates at a time.
 $(PROGRAMS) &: $(SOURCES) | rt
@@ -73,31 +82,32 @@ bin/.shown: bin/buildozer bin/buildifier examples/BUILD
 	@bin/buildifier < examples/BUILD
 	@touch $@
 
-# pages and completions, made of docs/ each time, and the commands for whole trees; a file that would not change stays
+# pages and completions, made of docs/ each time, and what is copied from contrib/; a file that would not change stays
 share:
 	@PYTHONDONTWRITEBYTECODE=1 tools/manual.py share
 	@PYTHONDONTWRITEBYTECODE=1 tools/completions.py share
 	@for file in $(notdir $(TREES)); do install -C -D -m 755 "contrib/tree/$$file" "bin/$$file" || exit 1; done
 	@for file in $(MODULES:share/kinduzar/%=%); do install -C -D -m 644 "contrib/tree/$$file" "share/kinduzar/$$file" || exit 1; done
+	@install -C -D -m 755 "$(SCRIPT:share/kinduzar/%=%)" "$(SCRIPT)"
 
 # What make has built is installed as it is, so that nothing is built with the rights that installing takes.
 install: share
 	@for program in $(PROGRAMS); do \
 	    [ -x "$$program" ] || { echo "$$program was not found: run make first." >&2; exit 1; }; done
 	@umask 022; \
-	    for file in $(PROGRAMS) $(TREES); do install -D -m 755 "$$file" "$(DESTDIR)$(PREFIX)/$$file" || exit 1; done; \
+	    for file in $(PROGRAMS) $(TREES) $(SCRIPT); do install -D -m 755 "$$file" "$(DESTDIR)$(PREFIX)/$$file" || exit 1; done; \
 	    for file in $(SHARED); do install -D -m 644 "$$file" "$(DESTDIR)$(PREFIX)/$$file" || exit 1; done
 
 uninstall:
-	@for file in $(PROGRAMS) $(TREES) $(SHARED); do rm -f "$(DESTDIR)$(PREFIX)/$$file" || exit 1; done
-	@for folder in share/kinduzar/kinduzar_tree share/kinduzar; do \
+	@for file in $(PROGRAMS) $(TREES) $(SCRIPT) $(SHARED); do rm -f "$(DESTDIR)$(PREFIX)/$$file" || exit 1; done
+	@for folder in $(addprefix share/kinduzar/,kinduzar_tree contrib/compat contrib) share/kinduzar; do \
 	    [ ! -d "$(DESTDIR)$(PREFIX)/$$folder" ] || rmdir --ignore-fail-on-non-empty "$(DESTDIR)$(PREFIX)/$$folder" || exit 1; done
 
 # what is packed beside these: all pages, those of the crates too, so that each link leads somewhere in the archive
 PACKED = $(wildcard *.md LICENSE crates/*/README.md) .pre-commit-hooks.yaml $(shell find contrib docs -type f -not -path "*/__pycache__/*")
 
 dist: $(PROGRAMS) share
-	@PYTHONDONTWRITEBYTECODE=1 tools/archive.py dist $(PROGRAMS) $(TREES) $(SHARED) $(PACKED)
+	@PYTHONDONTWRITEBYTECODE=1 tools/archive.py dist $(PROGRAMS) $(TREES) $(SCRIPT) $(SHARED) $(PACKED)
 
 # Where four processors and the memory for four proofs are there, four run side by side; by its own estimates rt starts fewer.
 LANES = $(shell [ "$$(nproc)" -ge 4 ] && [ "$$(awk '/MemAvailable/ { print int($$2 / 1000000) }' /proc/meminfo)" -ge 18 ] && echo RT_JOBS=4)

@@ -24,8 +24,9 @@ import time
 import names
 from lib.scenes import TOP
 from scenes import (
-    bazel, contrib, devices, disk_acts, edited_packages, failing_calls, foreign_trees, formatted_files, fuzz, hostile_texts, install, journals, killed,
-    manual_pages, power, races, readme, refusal_places, refused_memory_calls, refused_memory_runs, sessions, shell_completions, whole_trees,
+    bazel, building, contrib, devices, disk_acts, edited_packages, failing_calls, foreign_trees, formatted_files, fuzz, hostile_texts, install,
+    journals, killed, manual_pages, power, races, readme, refusal_places, refused_memory_calls, refused_memory_runs, sessions, shell_completions,
+    whole_trees,
 )  # fmt: skip
 
 # what rt try writes: after a heading of its name each run's standard output, and before its result its standard error
@@ -52,6 +53,7 @@ SCRIPTS = [
     ("pages for man", manual_pages, []),
     ("public names", names, []),
     ("completions in shells", shell_completions, ["buildozer"]),
+    ("trying and building", building, []),
     ("installing and packing", install, ["buildozer", "buildifier"]),
     ("runs beside a plain list of texts", sessions, ["buildozer"]),
     ("runs that keep journals", journals, ["buildozer"]),

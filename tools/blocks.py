@@ -4,8 +4,10 @@ import pathlib
 import re
 
 TOP = pathlib.Path(__file__).resolve().parent.parent
-# the pages of reference: the programs' own, what they refuse, and what differs from others
-REFERENCE = ["docs/buildozer.md", "docs/buildifier.md", "docs/refusals.md", "docs/COMING.md"]
+# the page on what differs from others
+COMING = ["docs/COMING.md"]
+# the pages of reference: the programs' own, what they refuse, and that one
+REFERENCE = ["docs/buildozer.md", "docs/buildifier.md", "docs/refusals.md", *COMING]
 # that of the commands for whole trees
 OF_TREES = ["contrib/tree/README.md"]
 CODE = re.compile(r"`([^`]+)`")

@@ -3,9 +3,9 @@
 
     tools/build.py PROGRAM..
 
-A line is printed for each crate that is done, with how many of all are done and the minutes since the start. Crates that are proved are
-kept in their folders out/, so a run that was interrupted goes on after these, and one over unchanged sources proves nothing.
-The first proof that fails ends the run, and the last line names its crate.
+A line is printed for each crate that is done, with how many of all are done, the minutes since the start, and about how many are left
+(tools/plan.py). Crates that are proved are kept in their folders out/, so a run that was interrupted goes on after these, and one over
+unchanged sources proves nothing. The first proof that fails ends the run, and the last line names its crate.
 
 A crate is proved when all that it depends on is, by rt lib in a copy of the crates (tools/crates.py), of which there is one for
 each crate that is proved at a time; what came of it is put into the crate's own folder. Where several can be proved, the one
@@ -20,7 +20,6 @@ earlier check kept such work.
 """
 import contextlib
 import ctypes
-import functools
 import hashlib
 import os
 import pathlib
@@ -32,7 +31,8 @@ import sys
 import tempfile
 import time
 
-from crates import TOP, below, copy_sources, libraries_of, take_library
+from crates import TOP, below, copy_sources, take_library
+from plan import Plan
 
 # rt, where a library that it builds holds its statements alone
 RT_STATEMENTS = str(TOP / "tools" / "rt_statements.py")
@@ -41,18 +41,10 @@ MEMORY = 3_500_000_000
 PROVED = re.compile(r"^logic=proved ", re.MULTILINE)
 # what rt run says when a program is proved and built
 RUNS = "rt: running out/"
-# with how many jobs a proof is made at most: each of them reads much of the same, and a fifth makes a proof hardly shorter
-MOST_JOBS = 4
-# with which part of the most work above any crate one can wait
-WAITS = 0.6
 # how often it is looked whether a proof has ended, in seconds
 PAUSE = 0.2
 # whether what was proved of each function is kept
 KEEPS = os.environ.get("KEEP") == "yes"
-# what a crate costs whatever is in it, as bytes of its code: a crate takes about 4 seconds for a thousand of them, and 50 more
-CRATE = 13_000
-# how many bytes of proofs cost what a byte of code does
-PROOFS = 4
 # what starts a proof that takes only what others leave of the processors
 ASIDE = ("nice", "-n", "10")
 # by this option of prctl, PR_SET_CHILD_SUBREAPER, what an ended rt leaves becomes a child of this run
@@ -73,11 +65,12 @@ class Progress:
     def __init__(self, count):
         self.count, self.done, self.start = count, 0, time.monotonic()
 
-    def tell(self, crate, what):
+    def tell(self, crate, what, seconds_left):
         self.done += 1
-        minutes = int((time.monotonic() - self.start) / 60)
+        minutes, left = int((time.monotonic() - self.start) / 60), round(seconds_left / 60)
         unit = "minute" if minutes == 1 else "minutes"
-        print(f"{crate} {what}, {self.done} of {self.count}, {minutes} {unit}", flush=True)
+        rest = f", about {left} left" if left else ", less than one left" if seconds_left else ""
+        print(f"{crate} {what}, {self.done} of {self.count}, {minutes} {unit}{rest}", flush=True)
 
 
 def room():
@@ -92,11 +85,6 @@ def processors():
     if asked.isdigit():
         return max(int(asked), 1)
     return max(min(len(os.sched_getaffinity(0)), room()), 1)
-
-
-def sources(crate, kind):
-    """How many bytes a crate has in its folder of this name."""
-    return sum(file.stat().st_size for file in (TOP / "crates" / crate / kind).rglob("*") if file.is_file())
 
 
 def content(file):
@@ -118,8 +106,8 @@ def sum_of_libraries(crate, libraries, top):
 class Proof:
     """A crate that is being proved, or a program that is being built, in a copy of all crates."""
 
-    def __init__(self, crate, copy, jobs, libraries, can_wait):
-        self.crate, self.copy, self.jobs, self.can_wait = crate, copy, jobs, can_wait
+    def __init__(self, turn, copy, libraries):
+        self.turn, self.crate, self.copy, crate = turn, turn.crate, copy, turn.crate
         self.folder, self.kept = copy / "crates" / crate, TOP / "crates" / crate / "out"
         for library in below(crate, libraries):
             take_library(library, TOP, copy)
@@ -129,14 +117,14 @@ class Proof:
             self.kept.rename(self.folder / "out")
         self.drop_misfit(sum_of_libraries(crate, libraries, copy))
         has_kept = KEEPS or (self.folder / "out" / "incremental").exists()
-        command = ["rt" if has_kept else RT_STATEMENTS, "lib", "--jobs", str(jobs)]
+        command = ["rt" if has_kept else RT_STATEMENTS, "lib", "--jobs", str(turn.jobs)]
         if is_program(crate):
-            command = ["rt", "run", "--jobs", str(jobs), "--", *content(self.folder / "args").decode().splitlines()]
+            command = ["rt", "run", "--jobs", str(turn.jobs), "--", *content(self.folder / "args").decode().splitlines()]
         self.output, self.said = tempfile.TemporaryFile(), tempfile.TemporaryFile()
         with tempfile.TemporaryFile() as given:
             given.write(content(self.folder / "stdin"))
             given.seek(0)
-            self.run = subprocess.Popen([*ASIDE * can_wait, *command], cwd=self.folder, stdin=given, stdout=self.output, stderr=self.said)
+            self.run = subprocess.Popen([*ASIDE * turn.can_wait, *command], cwd=self.folder, stdin=given, stdout=self.output, stderr=self.said)
 
     def drop_misfit(self, found):
         """Removes the library of an earlier run where it was built over other libraries than those that are found here. Statements fit
@@ -167,14 +155,14 @@ class Proof:
             self.look_at_run(output, said)
         elif self.run.returncode:
             raise NotDone(self.crate, "NOT PROVED", output.decode(errors="replace") + said)
-        is_new = PROVED.search(output.decode(errors="replace") + said)
-        if is_new and not is_program(self.crate):
+        self.is_new = bool(PROVED.search(output.decode(errors="replace") + said))
+        if self.is_new and not is_program(self.crate):
             (self.folder / "out" / "rlib" / "over").write_text(self.over)
         self.put_back()
         if is_program(self.crate):
             install(self.crate)
             return "built"
-        return "proved" if is_new else "was proved before"
+        return "proved" if self.is_new else "was proved before"
 
     def look_at_run(self, output, said):
         """Sees that a program was built, and that it wrote what it should."""
@@ -196,31 +184,6 @@ def install(program):
     made.replace(TOP / "bin" / program)
 
 
-class Plan:
-    """Which crates are left, and how much work is above each."""
-
-    def __init__(self, programs):
-        self.libraries = libraries_of()
-        unknown = [name for name in programs if name not in self.libraries]
-        if unknown or not programs:
-            raise SystemExit(f"tools/build.py PROGRAM..; crates.txt names no program {', '.join(unknown)}")
-        needed = [crate for program in programs for crate in [*below(program, self.libraries), program]]
-        self.left = list(dict.fromkeys(needed))
-        self.above = {crate: [other for other in self.left if crate in self.libraries[other]] for crate in self.left}
-        self.done = set()
-
-    @functools.cache
-    def work(self, crate):
-        """What a crate costs, and the longest row of crates that follow one another above it, as bytes of code."""
-        own = sources(crate, "src") + sources(crate, "proofs") // PROOFS
-        return CRATE + own + max(map(self.work, self.above[crate]), default=0)
-
-    def ready(self):
-        """The crates all of whose libraries are done, the one with the most work first."""
-        ready = [crate for crate in self.left if self.done.issuperset(self.libraries[crate])]
-        return sorted(ready, key=self.work, reverse=True)
-
-
 @contextlib.contextmanager
 def copies(count):
     """Folders beside the repository with copies of the crates, which go when the block ends."""
@@ -232,36 +195,27 @@ def copies(count):
         yield made
 
 
-def start_ready(plan, running, free, at_once):
-    """Starts what there are processors for. The crate with the most work above it, of those that run and are ready, gets those that the
-    others leave, up to MOST_JOBS; any other gets one, since each further job takes processor time of its own. A crate with less than
-    WAITS of that work above it can wait: the others don't count it, since it takes what they leave, and one of it is never too many."""
-    ready = plan.ready()
-    most = max(map(plan.work, [*ready, *(proof.crate for proof in running)]), default=0)
-    urgent = [crate for crate in ready if plan.work(crate) >= WAITS * most]
-    for place, crate in enumerate(ready):
-        can_wait = crate not in urgent
-        taken = sum(proof.jobs for proof in running if can_wait or not proof.can_wait)
-        is_first = all(plan.work(proof.crate) <= plan.work(crate) for proof in running)
-        if not free or (taken >= at_once + can_wait and not is_first):
-            continue
-        jobs = max(min(at_once - taken - len(urgent[place + 1 :]), MOST_JOBS), 1) if is_first else 1
-        plan.left.remove(crate)
-        running.append(Proof(crate, free.pop(), jobs, plan.libraries, can_wait))
+def is_kept(crate):
+    """Whether an earlier run has left what a crate is proved or built for, which may be of no use any more."""
+    out = TOP / "crates" / crate / "out"
+    return (out / crate).exists() if is_program(crate) else (out / "rlib" / "stamp").exists()
 
 
-def prove_all(plan, at_once, progress):
-    running = []
-    with copies(at_once) as free:
+def prove_all(plan, progress):
+    running, looked = [], time.monotonic()
+    with copies(plan.processors) as free:
         try:
             while plan.left or running:
-                start_ready(plan, running, free, at_once)
+                running += [Proof(turn, free.pop(), plan.libraries) for turn in plan.start([proof.turn for proof in running])]
                 time.sleep(PAUSE)
+                before, looked = looked, time.monotonic()
+                plan.advance([proof.turn for proof in running], looked - before)
                 for proof in [proof for proof in running if proof.has_ended()]:
-                    progress.tell(proof.crate, proof.finish())
-                    plan.done.add(proof.crate)
+                    word = proof.finish()
                     running.remove(proof)
                     free.append(proof.copy)
+                    plan.end(proof.turn, proof.is_new)
+                    progress.tell(proof.crate, word, plan.seconds_left([proof.turn for proof in running]))
         finally:
             for proof in running:
                 proof.end()
@@ -277,11 +231,12 @@ def main():
     # An end that is requested ends what was started too.
     signal.signal(signal.SIGTERM, lambda *_: sys.exit(143))
     ctypes.CDLL(None).prctl(ADOPTS, 1)
-    plan, at_once = Plan(sys.argv[1:]), processors()
+    plan = Plan(sys.argv[1:], processors())
+    plan.kept.update(filter(is_kept, plan.left))
     progress = Progress(len(plan.left))
-    print(f"{progress.count} crates, on {at_once} processors", flush=True)
+    print(f"{progress.count} crates, on {plan.processors} processors", flush=True)
     try:
-        prove_all(plan, at_once, progress)
+        prove_all(plan, progress)
     except NotDone as failure:
         print(failure.said, end="", file=sys.stderr)
         print(failure, file=sys.stderr)

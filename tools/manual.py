@@ -1,20 +1,20 @@
 #!/usr/bin/env python3
 """Makes the pages buildozer.1 and buildifier.1, in the macros of man, from pages of docs/: buildozer.md, buildifier.md, refusals.md and
-the section of COMING.md on what differs; and buildozer-tree.1 and buildifier-tree.1 from contrib/tree/README.md. What a page says is in
-these alone; here is only where each block of them goes.
+the section of COMING.md on what differs; buildozer-tree.1 and buildifier-tree.1 from contrib/tree/README.md; and kinduzar-coming.7, which is
+COMING.md as a whole. What a page says is in these alone; here is only where each block of them goes.
 
 The paragraphs become the description, the examples the examples, each table a section of its own. An example stays in the
 description where the paragraph above it ends with a colon. Of the tables of refusals and of other lines the page of a program
 leaves out what only the other one says.
 
-    tools/manual.py FOLDER        puts the pages into FOLDER/man/man1; a page that is there and would not change stays
+    tools/manual.py FOLDER        puts the pages into FOLDER/man/man1 and man7; a page that is there and would not change stays
 """
 import pathlib
 import re
 import sys
 import textwrap
 
-from blocks import CODE, OF_TREES, REFERENCE, Example, Paragraph, Points, Table, sections
+from blocks import CODE, COMING, OF_TREES, REFERENCE, Example, Paragraph, Points, Table, sections
 from version import version
 
 PROGRAMS = ["buildozer", "buildifier"]
@@ -26,10 +26,13 @@ TABLES = {"Mode": "OPTIONS", "Type": "OPTIONS", "Option": "OPTIONS", "Command": 
 # what is before each row's name
 FRONTS = {"Mode": "--mode=", "Type": "--type="}
 # the column after the name is printed without its header where that says only what the table is for
-UNTOLD = ("What", "Their", "Means", "When")
+UNTOLD = ("What", "Their", "Means", "When", "Here", "For example")
 REFUSALS, DIFFERENCES = "Refusals and other lines on standard error", "What differs from bazelbuild's tools"
 LIMITS = "Limits"
-DOCUMENTS = "docs/COMING.md compares the tools table by table. The documents that this page names are in the archive and beside the sources."
+# the page that COMING.md is, with what it does
+COMPARES, COMPARED = "kinduzar-coming", "what bazelbuild's buildozer and buildifier do otherwise"
+DOCUMENTS = f"{COMPARES}(7), which is docs/COMING.md, compares the tools table by table. The documents that this page names are in the archive, and "
+DOCUMENTS += "beside the sources; contrib/compat/compat.sh is installed below share/kinduzar/, too."
 # sections that are whole ones of a page too
 WHOLE = {
     "buildozer": ["When a command is refused", "Undo across runs"],
@@ -66,8 +69,8 @@ def form(code):
 
 def inline(text, code=bold):
     """A text in which some is between marks of code. Of a link its text stays, since a page of man leads nowhere."""
-    pieces = CODE.split(text.replace("**", ""))
-    return "".join(code(piece) if at % 2 else written(LINK.sub(r"\1", piece), SIGNS) for at, piece in enumerate(pieces))
+    pieces = CODE.split(text)
+    return "".join(code(piece) if at % 2 else written(LINK.sub(r"\1", piece.replace("**", "")), SIGNS) for at, piece in enumerate(pieces))
 
 
 def guarded(line):
@@ -102,8 +105,8 @@ def row(header, cells):
     name, *remarks = re.split(r"[:;] ", name, maxsplit=1) if header[0] == "Attributes" else [name]
     lines = [".TP", inline(name, form), *(line for remark in remarks for line in filled(sentence(remark)))]
     for title, cell in zip(header[named:], cells[named:]):
-        told = cell if title.startswith(UNTOLD) else f"{title}: {cell}"
-        lines += [".br"] * (len(lines) > 2) + filled(told if title == "Example" else sentence(told))
+        told = cell if not title or title.startswith(UNTOLD) else f"{title}: {cell}"
+        lines += [*[".br"] * (len(lines) > 2), *filled(told if title == "Example" else sentence(told))] if cell else []
     return lines
 
 
@@ -150,24 +153,37 @@ def sorted_blocks(program, found):
     return {**parts, **whole, "LIMITS": found.get(LIMITS, []), "COMPATIBILITY": found.get(DIFFERENCES, [])}
 
 
-def page(program, found):
+def page(name, part, does, parts):
+    """A page of a part of the manual, of the lines of each of its sections."""
     word, day = version()
+    others = ", ".join(rf"\fB{other}\fR({at})" for other, at in [*((other, 1) for other in [*PROGRAMS, *TREES]), (COMPARES, 7)] if other != name)
+    lines = [
+        r'.\" Made by tools/manual.py from docs/.',
+        f'.TH {name.upper()} {part} {day} "kinduzar {written(word, CODE_SIGNS)}" "{"User Commands" if part == 1 else "Miscellanea"}"',
+        ".SH NAME", rf"{name} \- {does}",
+    ]  # fmt: skip
+    for title, told in {**parts, "SEE ALSO": [others, ".PP", *filled(DOCUMENTS)]}.items():
+        lines += [f".SH {title}", *told] if told else []
+    # a paragraph right after the heading of a section is one by itself
+    return re.sub(r"(?m)^(\.SH .*\n)\.PP\n", r"\1", "\n".join(lines) + "\n")
+
+
+def section_lines(blocks):
+    return [line for block in blocks for line in block_lines(block)]
+
+
+def page_of_program(program, found):
     synopsis = CODE.search(found[program][0].text)[1]
     # a dot within a word, such as that of .bzl, ends no sentence
     does = re.split(r"[;.](?:\s|$)", CODE.sub("", found[program][0].text, count=1))[0].strip()
-    others = ", ".join(rf"\fB{other}\fR(1)" for other in [*PROGRAMS, *TREES] if other != program)
-    lines = [
-        r'.\" Made by tools/manual.py from docs/.',
-        f'.TH {program.upper()} 1 {day} "kinduzar {written(word, CODE_SIGNS)}" "User Commands"',
-        ".SH NAME", rf"{program} \- {does}",
-        ".SH SYNOPSIS", form(synopsis),
-    ]  # fmt: skip
-    for title, blocks in sorted_blocks(program, found).items():
-        if blocks:
-            lines += [f".SH {title}", *(line for block in blocks for line in block_lines(block))]
-    lines += [".SH SEE ALSO", others, ".PP", *filled(DOCUMENTS)]
-    # a paragraph right after the heading of a section is one by itself
-    return re.sub(r"(?m)^(\.SH .*\n)\.PP\n", r"\1", "\n".join(lines) + "\n")
+    parts = {title: section_lines(blocks) for title, blocks in sorted_blocks(program, found).items()}
+    return page(program, 1, does, {"SYNOPSIS": [form(synopsis)], **parts})
+
+
+def page_that_compares():
+    (_, first), *others = sections(COMING).items()
+    parts = {"DESCRIPTION": first} | {title.upper(): blocks for title, blocks in others}
+    return page(COMPARES, 7, written(COMPARED, SIGNS), {title: section_lines(blocks) for title, blocks in parts.items()})
 
 
 def put(file, text):
@@ -184,7 +200,8 @@ def main():
     for programs, pages in ((PROGRAMS, REFERENCE), (TREES, OF_TREES)):
         found = sections(pages)
         for program in programs:
-            put(pathlib.Path(sys.argv[1], "man", "man1", f"{program}.1"), page(program, found))
+            put(pathlib.Path(sys.argv[1], "man", "man1", f"{program}.1"), page_of_program(program, found))
+    put(pathlib.Path(sys.argv[1], "man", "man7", f"{COMPARES}.7"), page_that_compares())
 
 
 if __name__ == "__main__":

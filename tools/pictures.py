@@ -10,6 +10,7 @@ In the first picture each crate is above all that it depends on. A line goes to 
 through a library in between. A line that passes by rows has a bend in each of them, and bends and crates are brought into an order in
 which few lines cross. Below a crate's name are the crates of others that it names.
 """
+import functools
 import re
 import sys
 from html import escape
@@ -19,7 +20,9 @@ from crates import TOP, below, libraries_of
 
 PAPER, INK, FAINT, LINE = "#fbfaf7", "#222222", "#6b6b6b", "#8a93a0"
 LIBRARY, PROGRAM, MARKED = "#e4edf7", "#f6e6cf", "#cfe8d5"
-WIDE, HIGH, ACROSS, DOWN, MARGIN = 104, 34, 20, 40, 24
+HIGH, ACROSS, DOWN, MARGIN = 34, 20, 40, 24
+# how large the name of a crate is, and those below it; no font in which they are shown has wider letters in the mean than this part of that
+NAME, BELOW, LETTER = 12, 8, 0.62
 BEND = 10
 ROUNDS = 40
 
@@ -115,8 +118,25 @@ def ordered(levels, lower, upper):
     return best
 
 
+def named_by_others():
+    """For each crate what it names that is no crate of the repository, nor a part of what it names (as `regex_vm` is of `regex`)."""
+    ours, found = libraries_of(), {}
+    for line in (TOP / "crates.txt").read_text().splitlines():
+        name, _, uses = line.partition("#")[0].partition(":")
+        others = [use for use in uses.split() if use not in ours]
+        found[name.strip()] = [use for use in others if not any(use.startswith(other + "_") for other in others)]
+    return found
+
+
+@functools.cache
+def wide():
+    """How wide the boxes of the crates are, so that no name leaves its own."""
+    lengths = [max(len(name) * NAME, len(" ".join(others)) * BELOW) for name, others in named_by_others().items()]
+    return 2 * round(max(lengths) * LETTER / 2 + 4)
+
+
 def width_of(one):
-    return WIDE if isinstance(one, str) else BEND
+    return wide() if isinstance(one, str) else BEND
 
 
 def spread(level, wanted):
@@ -134,7 +154,7 @@ def places(levels, lower, upper):
     """The middle of each one, from left to right."""
     across = {}
     for level in levels:
-        across.update(spread(level, {one: at * (WIDE + ACROSS) for at, one in enumerate(level)}))
+        across.update(spread(level, {one: at * (wide() + ACROSS) for at, one in enumerate(level)}))
     for turn in range(ROUNDS):
         for level in levels if turn % 2 else reversed(levels):
             near = {one: [*lower.get(one, []), *upper.get(one, [])] for one in level}
@@ -163,21 +183,11 @@ def line_through(chain, across, height_of):
 
 def crate(name, x, y, others, is_program):
     """A crate, with those of others that it names below its own name."""
-    drawn = [box(x - WIDE // 2, y, WIDE, HIGH, PROGRAM if is_program else LIBRARY)]
-    drawn.append(words(x, y + (15 if others else 21), name))
+    drawn = [box(x - wide() // 2, y, wide(), HIGH, PROGRAM if is_program else LIBRARY)]
+    drawn.append(words(x, y + (15 if others else 21), name, font_size=NAME))
     if others:
-        drawn.append(words(x, y + 28, " ".join(others), font_size=9, fill=FAINT))
+        drawn.append(words(x, y + 28, " ".join(others), font_size=BELOW, fill=FAINT))
     return drawn
-
-
-def named_by_others():
-    """For each crate what it names that is no crate of the repository, nor a part of what it names (as `regex_vm` is of `regex`)."""
-    ours, found = libraries_of(), {}
-    for line in (TOP / "crates.txt").read_text().splitlines():
-        name, _, uses = line.partition("#")[0].partition(":")
-        others = [use for use in uses.split() if use not in ours]
-        found[name.strip()] = [use for use in others if not any(use.startswith(other + "_") for other in others)]
-    return found
 
 
 def layers():
@@ -217,10 +227,10 @@ STRIDE = 186
 
 
 def a_text(number, x, y, is_present):
-    """A text of a history: the present one is the tree that the session keeps, the others are kept as steps only."""
+    """A text of a history: the present one is the file's, kept as a tree, the others are kept as steps only."""
     if is_present:
         drawn = [box(x - 40, y, 80, 44, MARKED, stroke="#2f7d4a", stroke_width=2)]
-        drawn += [words(x, y + 18, f"text {number}"), words(x, y + 34, "the tree", font_size=11, fill=FAINT)]
+        drawn += [words(x, y + 18, f"text {number}"), words(x, y + 34, "the file", font_size=11, fill=FAINT)]
         drawn.append(shape("path", d=f"M {x - 7} {y - 16} L {x + 7} {y - 16} L {x} {y - 4} Z", fill="#2f7d4a"))
         return [*drawn, words(x, y - 21, "cursor", font_size=11, fill="#2f7d4a")]
     drawn = [box(x - 40, y, 80, 44, PAPER, stroke_dasharray="4 3")]
@@ -249,26 +259,26 @@ def a_history(y, title, remark, texts, cursor, marked):
 
 HISTORIES = [
     (
-        "After three commands, each of which changed the text",
+        "After three commands, each of which changed the file",
         [
-            "The session keeps one tree, that of the text at the cursor. A step holds the parts in which its two texts differ:",
-            "those of the earlier text where it is before the cursor, those of the later one where it is after it.",
+            "Text 0 is the file as it was. undo goes one text back, redo one forward, byte for byte; undo 3 leads to text 0.",
+            "Only the text at the cursor is kept whole, as a tree. A step holds the parts in which its two texts differ.",
         ],
         (4, 3, None),
     ),
     (
         "After undo",
         [
-            "The parts that step 3 held and those at their places in the tree have changed sides. The tree is that of text 2",
-            "again, byte for byte, and step 3 holds what redo needs. undo 2 goes on with step 2 in the same way.",
+            "The file is text 2 again, byte for byte, and redo leads to text 3. The parts that step 3 held and those at",
+            "their places in the tree have changed sides, so step 3 holds what redo needs. The next undo is by step 2.",
         ],
         (4, 2, 3),
     ),
     (
         "After another command",
         [
-            "The steps after the cursor are gone, so redo has nothing to go to. A new step holds the parts of text 2 that",
-            "differ in the new text 3. A command that prints, or changes nothing, moves nothing.",
+            "The texts after the cursor are gone, so redo has nothing to go to. A command that prints, or changes nothing,",
+            "adds no text. The new step holds the parts of text 2 that differ in the new text 3.",
         ],
         (4, 3, 3),
     ),

@@ -13,7 +13,7 @@ while [ "$count" -gt 0 ]; do
     case $1 in -- | - | '' | [!-]*) break ;; esac
     option=${1#-} option=${option#-} count=$((count - 1))
     shift
-    case $program:$option in buildozer:f | buildozer:root_dir | buildozer:numio | buildozer:types | buildifier:mode | buildifier:type | buildifier:path)
+    case $program:$option in buildozer:f | buildozer:root_dir | buildozer:numio | buildozer:P | buildozer:types | buildifier:mode | buildifier:type | buildifier:path)
         [ "$count" -gt 0 ] || { echo "compat.sh: $program: -$option has no value" >&2; exit "$usage"; }
         option="$option=$1" count=$((count - 1))
         shift ;;
@@ -24,7 +24,7 @@ while [ "$count" -gt 0 ]; do
         buildozer:f=[!/-]*) set -- "$@" -f "$PWD/${option#f=}" ;;
         buildozer:f=*) set -- "$@" -f "${option#f=}" ;;
         buildozer:root_dir=*) root=${option#root_dir=} ;;
-        buildozer:numio=* | buildozer:shorten_labels | buildozer:delete_with_comments | buildozer:eol-comments=false | buildifier:lint=off) ;;
+        buildozer:numio=* | buildozer:P=* | buildozer:shorten_labels | buildozer:delete_with_comments | buildozer:eol-comments=false | buildifier:lint=off) ;;
         buildozer:types=*) set -- "$@" "--$option"; tree=-tree ;;
         buildifier:r) tree=-tree ;;
         buildifier:d | buildifier:mode=diff) set -- "$@" --mode=diff; tree=-tree diff=yes ;;

@@ -39,7 +39,7 @@ COMPAT = [
     (["buildifier", "-lint=fix", "."], "", (2, "compat.sh: buildifier has no -lint=fix here\n")),
     (["buildifier", "-mode"], "", (2, "compat.sh: buildifier: -mode has no value\n")),
     (["buildozer", "-root_dir", "sub", "-stdout", "-f", "my lines"], "", (0, 'f(\n    name = "\u00e9",\n    size = "small",\n)\n')),
-    (["buildozer", "-k", "-numio=200", "print name", "-:all"], ODD, (3, "\u00e9\n")),
+    (["buildozer", "-k", "-numio=200", "-P", "8", "print name", "-:all"], ODD, (3, "\u00e9\n")),
     (["buildozer", "-root_dir", "sub", "-types=f,g", "print kind", "//app:all"], "", (3, "f\n")),
     (["buildozer", "print kind", "//sub/...:all"], "", (3, "f\n")),
     (["buildozer", "-output_json", "print name", "-:all"], ODD, (1, "compat.sh: buildozer has no -output_json here\n")),

@@ -24,7 +24,7 @@ SHARED = ["share/man/man1/{}.1", "share/bash-completion/completions/{}", "share/
 TREES = [f"{program}-tree" for program in PROGRAMS]
 MODULES = [f"share/kinduzar/kinduzar_tree/{file.name}" for file in (TOP / "contrib/tree/kinduzar_tree").glob("*.py")]
 FILES = {f"bin/{program}": 0o755 for program in PROGRAMS + TREES} | {file.format(program): 0o644 for file in SHARED for program in PROGRAMS + TREES}
-FILES |= dict.fromkeys(MODULES, 0o644)
+FILES |= dict.fromkeys([*MODULES, "share/man/man7/kinduzar-coming.7"], 0o644) | {"share/kinduzar/contrib/compat/compat.sh": 0o755}
 ODD, EVEN = b'f(name="x")\n', b'f(name = "x")\n'
 SECONDS = 600
 # how many packages the tree has that is formatted by what an archive has
@@ -41,7 +41,7 @@ class Copy:
     """A copy of the folder, with built programs."""
 
     def __init__(self, built, path):
-        self.path, self.top, self.root = path, path / "top", path / "a root"
+        self.built, self.path, self.top, self.root = built, path, path / "top", path / "a root"
         (self.top / "bin").mkdir(parents=True)
         (self.top / VERSIONED).parent.mkdir(parents=True)
         shutil.copy(TOP / VERSIONED, self.top / VERSIONED)
@@ -63,6 +63,7 @@ class Copy:
         """The status and both outputs, as one, of a command in the copy."""
         environment = {name: value for name, value in os.environ.items() if not name.startswith(("MAKE", "MFLAGS", "GIT_"))}
         own = {"PATH": f"{self.path}{os.pathsep}{environment['PATH']}", "GIT_CONFIG_GLOBAL": os.devnull, "GIT_CONFIG_NOSYSTEM": "1"}
+        own["GIT_COMMITTER_DATE"] = "@0 +0000"
         how = {"stdout": subprocess.PIPE, "stderr": subprocess.STDOUT, "text": True, "timeout": SECONDS, "umask": umask}
         run = subprocess.run(words, cwd=self.top, env={**environment, **own}, **how)
         return run.returncode, run.stdout
@@ -174,6 +175,22 @@ def packed(copy):
     return wrong + ["a second archive is another one"] * (archive.read_bytes() != content)
 
 
+def the_same_from_anywhere(copy):
+    """Of one commit comes one archive, whatever the folder, the rights that new files have, and the times of the files."""
+    if not shutil.which("git"):
+        SCENES.say("not packed in two folders: there is no git")
+        return []
+    sums, wrong = [], []
+    for here, umask, seconds in ((copy, 0o022, 0), (Copy(copy.built, copy.path / "another folder"), 0o077, 10**8)):
+        for file in (here.top / "docs").rglob("*.md"):
+            os.utime(file, (seconds, seconds))
+        for words in (["init", "-q"], ["add", "README.md", "docs", "crates"], ["commit", "-qm", "one", "--date=@0 +0000"]):
+            wrong += different(words[0], here.git(*words), (0, ""))
+        wrong += different("dist", here.make("dist", umask=umask)[0], 0)
+        sums.append([file.read_text() for file in (here.top / "dist").glob("*.sha256")])
+    return wrong + different("sums", sums[1], sums[0]) + ["no sum"] * (len(sums[0]) != 1)
+
+
 def called_by_a_version(copy):
     """By the version that the programs print, and the module of Bazel has; in git by the commit too where it has no tag of that name, and by
     what was changed since."""
@@ -230,7 +247,8 @@ def asks_for_no_later_library(copy):
 
 
 INSTALLING = named(
-    installed, installed_elsewhere, taken_away, not_built, packed, called_by_a_version, runs_with_libraries_alone, asks_for_no_later_library,
+    installed, installed_elsewhere, taken_away, not_built, packed, the_same_from_anywhere, called_by_a_version, runs_with_libraries_alone,
+    asks_for_no_later_library,
 )  # fmt: skip
 SCENES = Scenes(__file__, INSTALLING, place=in_folder(Copy, tempfile.TemporaryDirectory))
 

@@ -1,6 +1,7 @@
 #!/usr/bin/env python3
 """Makes the pages buildozer.1 and buildifier.1, and those of the commands for whole trees, and looks in them for all that the code has: each
-command, option, mode, status and refusal must be there as an entry. Where `man` or `mandoc` is there, it must read the pages without a warning.
+command, option, mode, status and refusal must be there as an entry; and kinduzar-coming.7, which must have each section, row and example of
+docs/COMING.md. Where `man` or `mandoc` is there, it must read the pages without a warning.
 
     tests/scenes/manual_pages.py
 """
@@ -12,7 +13,7 @@ import subprocess
 import sys
 import tempfile
 
-from lib.pages import CRATES, TREES, refusals_of_code, texts_in
+from lib.pages import CODE, CRATES, TREES, examples, refusals_of_code, texts_in
 from lib.scenes import TOP, Scenes, named
 
 sys.path.append(str(TOP / "contrib" / "tree"))
@@ -24,6 +25,8 @@ STATUSES = {"buildozer": ("buildozer", "bz_buildozer"), "buildifier": ("buildifi
 OPTIONS = {"buildozer": "bz_command_line/specs/App.antt", "buildifier": "bz_buildifier/specs/Modes.antt"}
 # the modules of the commands for whole trees
 OF_TREES = {"buildozer-tree": packages, "buildifier-tree": tidy}
+# the page of man that a page of docs/ is as a whole
+COMING, COMPARES = TOP / "docs" / "COMING.md", "kinduzar-coming"
 # refusals of a text; buildifier reports them all, and of the others those of a formatted text
 OF_TEXTS, OF_FORMATTED = range(1, 9), (21, 22)
 READERS = {
@@ -36,6 +39,7 @@ READERS = {
 def plain(text):
     """A text of a page without the signs of its letters."""
     signs = {r"\-": "-", r"\e": "\\", r"\(aq": "'", r"\(dq": '"', r"\(ga": "`", r"\(ha": "^", r"\(ti": "~", r"\&": ""}
+    text = re.sub(r"\\\[u([0-9A-F]+)\]", lambda found: chr(int(found[1], 16)), text)
     return re.sub(r"\\f[BIR]|\\-|\\e|\\&|\\\(..", lambda found: signs.get(found[0], ""), text)
 
 
@@ -50,7 +54,8 @@ class Pages:
         subprocess.run([TOP / "tools" / "manual.py", self.folder], check=True, timeout=60)
 
     def file(self, program):
-        return self.folder / "man" / "man1" / f"{program}.1"
+        part = 7 if program == COMPARES else 1
+        return self.folder / "man" / f"man{part}" / f"{program}.{part}"
 
     def entries(self, program, *sections):
         """The name of each entry of a list in these sections of a page."""
@@ -129,13 +134,24 @@ def refusals(pages):
     return wrong + missing("buildifier", few, pages.entries("buildifier", "REFUSALS"))
 
 
+def what_differs(pages):
+    """Each section, each name in a row and each line of an example of the page is in that of man."""
+    text, made = COMING.read_text(), pages.file(COMPARES).read_text()
+    titles = [f".SH {title.upper()}" for title in re.findall(r"(?m)^## (.*)", text)]
+    names = [name for row in re.findall(r"(?m)^\| (.*?) \|", text) for name in CODE.findall(row)]
+    entries = "\n".join(re.findall(r"(?m)^\.TP\n(.*)", plain(made)))
+    lines = [line for example in examples(COMING) for line in example.splitlines()]
+    wrong = missing("sections", titles, made.splitlines()) + missing("rows", names, entries)
+    return wrong + missing("lines of examples", lines, plain(made).splitlines())
+
+
 def readers_warn_of_nothing(pages):
     wrong = []
     for reader, command in READERS.items():
         if not shutil.which(reader):
             SCENES.say(f"not run with {reader}, which is not there")
             continue
-        for program in [*STATUSES, *OF_TREES]:
+        for program in [*STATUSES, *OF_TREES, COMPARES]:
             run = subprocess.run([*command, pages.file(program)], stdout=subprocess.PIPE, stderr=subprocess.PIPE, text=True, timeout=60)
             told = (run.stderr + (run.stdout if reader == "mandoc" else "")).splitlines()
             wrong += [f"{reader}: {program}: {run.returncode}: {told[:3]}"] * bool(told or run.returncode)
@@ -143,7 +159,7 @@ def readers_warn_of_nothing(pages):
 
 
 def a_page_that_would_not_change_stays(pages):
-    files = [pages.file(program) for program in STATUSES]
+    files = [pages.file(program) for program in [*STATUSES, COMPARES]]
     before = [(file.read_text(), file.stat().st_mtime_ns) for file in files]
     pages.make()
     again = [file.name for file, (text, time) in zip(files, before) if file.stat().st_mtime_ns != time and file.read_text() == text]
@@ -164,8 +180,8 @@ def pages():
 
 
 MANUAL = named(
-    commands, options, options_of_trees, words_of_options, statuses, refusals, readers_warn_of_nothing, a_page_that_would_not_change_stays,
-    no_point_begins_with_an_option,
+    commands, options, options_of_trees, words_of_options, statuses, refusals, what_differs, readers_warn_of_nothing,
+    a_page_that_would_not_change_stays, no_point_begins_with_an_option,
 )  # fmt: skip
 SCENES = Scenes(__file__, MANUAL, pages)
 

@@ -26,11 +26,12 @@ from lib.pages import (
 from lib.scenes import PROCESSORS, TOP, Scenes, named
 
 sys.path.append(str(TOP / "tools"))
+import counts
 import definitions
 from crates import libraries_of
 
 # how many lines README has at most, and how many bytes the page of a crate
-LINES, BYTES = 170, 16_500
+LINES, BYTES = 175, 16_500
 # the sections of the page of a crate, of which it has some, in this order
 SECTIONS = ["Definitions", "Proved", "Only tested", "Neither proved nor tested", "Decisions"]
 GIT = re.compile(r"^\$ (?:.*[ ;|&(])?git ", re.MULTILINE)
@@ -56,6 +57,10 @@ THEIRS = {
         -mode=print_if_changed -multi_diff -path -r -tables -type=auto -type=build -type=bzl -type=default -type=module -type=workspace -v
         -version -warnings""",
 }
+# a function, by its indent, with what is between its name and the end of its body; and a line of a picture of calls, in which it may be named
+# with its type and its crate
+FUNCTION = re.compile(r"(?ms)^( *)(?:pub(?:\(\w+\))? )?fn (\w+)\b(.*?)^\1}$")
+CALLED = re.compile(r"( +)(?:\w+::)?(\w+)(?: \((\w+)\))?")
 # a row of a crate's definitions: names, the files of specs/ that have them
 OF_SPECS = re.compile(r"(?m)^\| ([^|]*`[^|]*) \| ([A-Z]\w*(?:, [A-Z]\w*)*) \|")
 # what a line of specs/ defines: a definition, a field or constructors, by the names before what it takes or its type
@@ -188,6 +193,16 @@ def layers(place):
     return different_from_code("crates", sorted(word for word, _ in found), sorted(uses)) + wrong
 
 
+def libraries_are_used(place):
+    """Each library that a crate's line in crates.txt names is named in its sources too, but for the parts of one (as `regex_vm` is of `regex`)."""
+    names, wrong = names_in_sources(), []
+    for line in (TOP / "crates.txt").read_text().splitlines():
+        crate, _, uses = line.partition("#")[0].partition(":")
+        own = [use for use in uses.split() if not any(use.startswith(f"{other}_") for other in uses.split())]
+        wrong += [f"{crate} does not use {use}" for use in own if use not in names[crate]]
+    return wrong
+
+
 def rows_of_the_gate(place):
     """Each crate has one row in the table of docs/internals/GATE.md, and no other row is there."""
     table = re.search(r"(?m)^\| Crate \| Functions \|.*\n\|[-|]+\|\n((?:\|.*\n)+)", (INTERNALS / "GATE.md").read_text())
@@ -283,6 +298,37 @@ def made_of_definitions(place):
     return [f"{page} is not what tools/definitions.py makes: run it" for page in stale]
 
 
+def counts_are_those_of_the_sources(place):
+    """The counts of docs/internals/GATE.md are those that the tool makes now."""
+    page = counts.PAGE.read_text()
+    stale = "docs/internals/GATE.md is not what tools/counts.py makes: run it"
+    return [stale] * (counts.renewed(page) != page) + ["no sentence has the sums"] * (not counts.SUMS.search(page))
+
+
+def functions_of(crate):
+    """The texts of the functions of a crate, by their names."""
+    found = {}
+    for file in (CRATES / crate / "src").rglob("*.rt"):
+        for _, name, text in FUNCTION.findall(file.read_text()):
+            found.setdefault(name, []).append(text)
+    return found
+
+
+def calls_are_those_of_the_sources(place):
+    """In the way of a command on docs/internals/ARCHITECTURE.md each function is called by what it is indented under."""
+    page, wrong, stack = (INTERNALS / "ARCHITECTURE.md").read_text(), [], []
+    lines = re.search(r"call by call;.*\n\n((?: {4}.*\n)+)", page)[1].splitlines()
+    for indent, name, crate in (CALLED.match(line).groups() for line in lines):
+        while stack and len(stack[-1][0]) >= len(indent):
+            stack.pop()
+        crate = crate or stack[-1][2]
+        above = functions_of(stack[-1][2]).get(stack[-1][1], []) if stack else [f"{name}("]
+        wrong += [f"{stack[-1][1]} doesn't call {name}" for _ in above[:1] if not any(re.search(rf"\b{name}(?:::<[^>]*>)?\(", text) for text in above)]
+        wrong += [f"{crate} has no {name}"] * (name not in functions_of(crate))
+        stack.append((indent, name, crate))
+    return wrong
+
+
 def index_has_what_is_cited(place):
     """Each definition that a contract cites by its name is in docs/internals/DEFINITIONS.md, whatever the tool finds."""
     texts = [file.read_text() for file in CRATES.glob("bz_*/src/*.rt")]
@@ -302,10 +348,10 @@ def files_of_lemmas_are_there(place):
 
 
 FOUND = {name: an_example(name, block) for name, block in named_examples().items()} | examples_in_shells()
-FOUND |= named(shells_are_there, refusals, attributes, commands, examples_of_commands, rows_for_theirs, layers, rows_of_the_gate)
+FOUND |= named(shells_are_there, refusals, attributes, commands, examples_of_commands, rows_for_theirs, layers, libraries_are_used, rows_of_the_gate)
 FOUND |= named(
     pages_are_linked, readme_is_short, pages_of_crates_have_their_form, files_are_there, crates_are_there, names_are_there, definitions_are_there,
-    made_of_definitions, index_has_what_is_cited, files_of_lemmas_are_there,
+    made_of_definitions, counts_are_those_of_the_sources, calls_are_those_of_the_sources, index_has_what_is_cited, files_of_lemmas_are_there,
 )  # fmt: skip
 SCENES = Scenes(__file__, FOUND, place=on_path, lanes=PROCESSORS)
 

@@ -1,4 +1,4 @@
--- LegalBuild by nodes and legal by the list of leaves are the same.
+-- Legal by nodes and legal by the list of leaves are the same.
 use Rattle.std.proofs.Common.{◌≡◌, ℕ, zero, suc, Bool, true, false, List, [], ◌∷◌, ◌++◌, ◌⊎◌, inl, inr, if◌then◌else◌, refl, sym, subst, ◌↔◌}
 use Rattle.bz_token.specs.declared.class.Class.{Class}
 use Rattle.bz_token.specs.declared.class.Class.TheVariants as c

@@ -1,4 +1,4 @@
--- LegalBuild trees by their parts.
+-- Legal trees by their parts.
 use Rattle.std.proofs.Common.{◌≡◌, ℕ, suc, ◌≤◌, max, Bool, true, List, [], ◌∷◌, ◌++◌, inl, inr, sym, ap, subst, ◌∙◌, arith}
 use Rattle.std.specs.List.{AllByRecursion}
 use Rattle.bz_grammar.specs.declared.tree.Node.{Node}

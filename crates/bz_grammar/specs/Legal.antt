@@ -1,4 +1,4 @@
--- LegalBuild trees, and what a text reads as.
+-- Legal trees, and what a text reads as.
 use Rattle.std.specs.Prelude.{◌≡◌, ℕ, ◌≤◌, ◌<◌, true, List, [], length}
 use Rattle.std.specs.List.{AllByRecursion}
 use Rattle.bz_lex.specs.declared.leaf.Leaf.{Leaf}
