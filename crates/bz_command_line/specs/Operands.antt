@@ -15,7 +15,7 @@ use Rattle.bz_command_syntax.specs.declared.command.Operation.{Operation}
 use Rattle.bz_command_syntax.specs.declared.fault.CommandFault.{CommandFault}
 use Rattle.bz_command_syntax.specs.declared.fault.CommandFault.TheVariants as c
 use Rattle.bz_command_line.specs.declared.{verb.Verb.Verb, verb.OperandFault.OperandFault}
-use Rattle.bz_command_line.specs.declared.verb.Verb.TheVariants.{Do, Undo, Redo, Journal}
+use Rattle.bz_command_line.specs.declared.verb.Verb.TheVariants.{Do, Undo, Redo, Journal, Format}
 use Rattle.bz_command_line.specs.declared.verb.OperandFault.TheVariants.{Memory, BadTarget, Command}
 
 abbrev pub begins_with : Bytes → Bytes → Bool
@@ -29,7 +29,7 @@ is_target operand = not (list_any (λ byte. byte == space) operand) && (has_colo
 abbrev pub operand_target : Bytes → Result Target OperandFault
 operand_target text = ok_or (target_in text) BadTarget
 
--- ---- `undo`, `redo` and `journal`
+-- ---- `undo`, `redo`, `journal` and `format`, which no rule is looked at for
 
 -- a count of steps: decimal, from 1 to 4,294,967,295
 abbrev pub count_of : Bytes → Option ℕ
@@ -41,18 +41,19 @@ steps_of [] = Ok 1
 steps_of (count ∷ []) = ok_or (count_of count) (Command c.Arguments)
 steps_of (count ∷ argument ∷ more) = Err (Command c.Arguments)
 
--- `journal` takes nothing.
-abbrev pub journal_of : List Bytes → Result Verb OperandFault
-journal_of [] = Ok Journal
-journal_of (argument ∷ more) = Err (Command c.Arguments)
+-- `journal` and `format` take nothing.
+abbrev pub without_words : Verb → List Bytes → Result Verb OperandFault
+without_words verb [] = Ok verb
+without_words verb (argument ∷ more) = Err (Command c.Arguments)
 
 -- what the one that these words begin with reads in the others, where they begin with one
-abbrev pub history_verb_in : List Bytes → Option (Result Verb OperandFault)
-history_verb_in [] = None
-history_verb_in (name ∷ arguments) =
+abbrev pub file_verb_in : List Bytes → Option (Result Verb OperandFault)
+file_verb_in [] = None
+file_verb_in (name ∷ arguments) =
     if bytes_eq name (codes "undo") then Some (result_map_both Undo (λ fault. fault) (steps_of arguments))
     else (if bytes_eq name (codes "redo") then Some (result_map_both Redo (λ fault. fault) (steps_of arguments))
-    else (if bytes_eq name (codes "journal") then Some (journal_of arguments) else None))
+    else (if bytes_eq name (codes "journal") then Some (without_words Journal arguments)
+    else (if bytes_eq name (codes "format") then Some (without_words Format arguments) else None)))
 
 -- ---- commands
 
@@ -63,10 +64,10 @@ of_command fault = Command fault
 abbrev pub by_command : Result Operation CommandFault → Result Verb OperandFault
 by_command read = result_map_both Do of_command read
 
--- what the words of a text request: `undo`, `redo` or `journal`, else a command on the rules of a target; the flag: the text is not too long
+-- what the words of a text request: `undo`, `redo`, `journal` or `format`, else a command on the rules of a target; the flag: the text is not too long
 abbrev pub verb_in : Bool → List Bytes → Result Verb OperandFault
 verb_in fits words =
-    option_map_or (λ verb. if fits then verb else Err (Command c.Arguments)) (history_verb_in words) (by_command (command_in fits words))
+    option_map_or (λ verb. if fits then verb else Err (Command c.Arguments)) (file_verb_in words) (by_command (command_in fits words))
 
 abbrev pub verb_of : Bytes → Result Verb OperandFault
 verb_of text = verb_in (nat_le (length text) text_limit) (words_of text)

@@ -5,7 +5,7 @@ use Rattle.bz_command_syntax.specs.Faults as c
 use Rattle.bz_command_syntax.specs.Printing as p
 use Rattle.bz_command_line.specs.declared.{verb.OperandFault.OperandFault, verb.Verb.Verb}
 use Rattle.bz_command_line.specs.declared.verb.OperandFault.TheVariants.{Memory, BadTarget, Command}
-use Rattle.bz_command_line.specs.declared.verb.Verb.TheVariants.{Do, Undo, Redo, Journal}
+use Rattle.bz_command_line.specs.declared.verb.Verb.TheVariants.{Do, Undo, Redo, Journal, Format}
 
 -- a command that prints
 abbrev pub prints : Verb → Bool
@@ -13,6 +13,7 @@ prints (Do command) = p.prints command
 prints (Undo count) = false
 prints (Redo count) = false
 prints Journal = true
+prints Format = false
 
 -- the table of refusals: names
 abbrev pub operand_fault_name : OperandFault → Bytes

@@ -14,7 +14,7 @@ use Rattle.bz_command_line.specs.Reported.{operand_line}
 use Rattle.bz_command_line.specs.Script.{byte_order_mark, script_of}
 use Rattle.bz_command_line.specs.declared.{verb.OperandFault.OperandFault, verb.Verb.Verb}
 use Rattle.bz_command_line.specs.declared.verb.OperandFault.TheVariants.{BadTarget, Command}
-use Rattle.bz_command_line.specs.declared.verb.Verb.TheVariants.{Do, Undo, Journal}
+use Rattle.bz_command_line.specs.declared.verb.Verb.TheVariants.{Do, Undo, Journal, Format}
 
 -- options between operands, and an operand after two dashes; a file of lines in the same word as `-k`; operands beside one, which are
 -- reported first; a journal beside standard output; a repeated option
@@ -43,11 +43,15 @@ deleted name = record { commands = request (Do (w.Rule wr.Delete)) (codes "delet
 abbrev refused : Bytes → OperandFault → Usage
 refused operand fault = of_operand (record { operand = operand; fault = fault })
 
--- commands and targets mixed, each in order; the first refused operand
+-- commands and targets mixed, each in order; the first refused operand; a word after `format`
 abbrev Groups : Type 0
-Groups = (operand_group (codes "//a:x" ∷ codes "undo 007" ∷ codes "a:y" ∷ codes " journal " ∷ [])
-    ≡ Ok (record { commands = request (Undo 7) (codes "undo 007") ∷ request Journal (codes " journal ") ∷ []; targets = meant (codes "x") ∷ meant (codes "y") ∷ [] }))
+Groups = (operand_group (codes "//a:x" ∷ codes "undo 007" ∷ codes "a:y" ∷ codes " journal " ∷ codes "format" ∷ [])
+    ≡ Ok (record {
+      commands = request (Undo 7) (codes "undo 007") ∷ request Journal (codes " journal ") ∷ request Format (codes "format") ∷ [];
+      targets = meant (codes "x") ∷ meant (codes "y") ∷ [];
+    }))
     × (operand_group (codes "//a:" ∷ codes "grow" ∷ []) ≡ Err (refused (codes "//a:") BadTarget))
+    × (operand_group (codes "format //a:x" ∷ codes "//a:x" ∷ []) ≡ Err (refused (codes "format //a:x") (Command Arguments)))
 
 -- a byte order mark, a comment, an empty line, carriage returns, and a last line without its newline
 abbrev Lines : Type 0

@@ -4,7 +4,7 @@ ghost use Rattle.bz_label.specs.Pieces.{has_slash, has_colon};
 ghost use Rattle.bz_command_syntax.specs.Commands.{row_named};
 ghost use Rattle.bz_command_syntax.specs.Proper.{AreUtf8};
 ghost use Rattle.bz_streams.specs.Near.{nearest};
-ghost use Rattle.bz_command_line.specs.Operands.{verb_of, of_command, count_of, history_verb_in, steps_of};
+ghost use Rattle.bz_command_line.specs.Operands.{verb_of, of_command, count_of, file_verb_in, steps_of};
 ghost use Rattle.bz_command_line.specs.Hints.{verb_forms, fix_names, did_you_mean, target_hint, name_hint, is_fix, near_word, words_end, form_end, form_hint, words_hint, hint_for};
 ghost use Rattle.bz_command_line.specs.Refused.{IsPatternFault};
 ghost use Rattle.bz_command_line.specs.Shown.{refused_in};
@@ -27,6 +27,8 @@ pub enum Verb {
     Redo(u32),
     /// The texts of the file are listed.
     Journal,
+    /// The file is formatted.
+    Format,
 }
 
 impl Drop for Verb {
@@ -36,6 +38,7 @@ impl Drop for Verb {
             Verb::Undo(_) => {}
             Verb::Redo(_) => {}
             Verb::Journal => {}
+            Verb::Format => {}
         }
     }
 }
@@ -47,7 +50,7 @@ impl Verb {
     {
         match self {
             Verb::Do(command) => command.prints(),
-            Verb::Undo(_) | Verb::Redo(_) => false,
+            Verb::Undo(_) | Verb::Redo(_) | Verb::Format => false,
             Verb::Journal => true,
         }
     }
@@ -128,9 +131,9 @@ fn read_steps(arguments: &[Text]) -> Result<u32, OperandFault>
     }
 }
 
-// What `undo`, `redo` or `journal` reads, where the words begin with one of them.
-fn history_verb_in(words: &[Text]) -> Option<Result<Verb, OperandFault>>
-    ensures { result ≡ history_verb_in words.now }
+// What `undo`, `redo`, `journal` or `format` reads, where the words begin with one of them.
+fn file_verb_in(words: &[Text]) -> Option<Result<Verb, OperandFault>>
+    ensures { result ≡ file_verb_in words.now }
 {
     let (name, arguments) = words.split_first()?;
     match name.as_slice() {
@@ -138,6 +141,10 @@ fn history_verb_in(words: &[Text]) -> Option<Result<Verb, OperandFault>>
         b"redo" => Some(read_steps(arguments).map(|count| Verb::Redo(count))),
         b"journal" => match arguments {
             [] => Some(Ok(Verb::Journal)),
+            _ => Some(Err(WRONG_ARGUMENTS)),
+        },
+        b"format" => match arguments {
+            [] => Some(Ok(Verb::Format)),
             _ => Some(Err(WRONG_ARGUMENTS)),
         },
         _ => None,
@@ -163,7 +170,7 @@ pub(crate) fn read_verb(alloc: Global, text: &str) -> Result<Verb, OperandFault>
         return Err(OperandFault::Memory);
     };
     let fits = text.len() <= TEXT_LIMIT;
-    match history_verb_in(&words) {
+    match file_verb_in(&words) {
         Some(verb) if fits => verb,
         Some(_) => Err(WRONG_ARGUMENTS),
         None => match Command::of_words(words, fits) {
@@ -229,7 +236,7 @@ fn name_hint(alloc: Global, name: &str) -> Result<String, AllocError>
         return joined(alloc, HELP_HINT, "", "");
     }
     let mut names = Vec::from_slice(alloc, COMMAND_NAMES)?;
-    names.extend_from_slice(&["undo", "redo", "journal"])?;
+    names.extend_from_slice(&["undo", "redo", "journal", "format"])?;
     let near = nearest(alloc, name, &names)?;
     did_you_mean(alloc, near, target_hint(name))
 }
@@ -271,6 +278,7 @@ fn forms_of(name: &str) -> Option<&'static str>
         "undo" => Some("'undo [N]'"),
         "redo" => Some("'redo [N]'"),
         "journal" => Some("'journal'"),
+        "format" => Some("'format'"),
         _ => command_form(name),
     }
 }

@@ -7,7 +7,7 @@ pub returns : goal.returns
 unfolding clap_on_literals digits
 returns c = (
   (refl, refl, refl, refl, refl),
-  (refl, refl),
+  (refl, refl, refl),
   refl,
   (refl, refl, refl, refl, refl),
   (refl, refl, refl, refl),
