@@ -87,6 +87,7 @@ new cc_test z
 new cc_library a.b before x
 new native.cc_test w after y
 new f x
+format
 delete
 set deps :y
 set deps //-:a :b

@@ -102,6 +102,8 @@ FIXED = [
      "fix unusedLoads|undo|fix movePackageToTop|fix|undo 2|redo|fix|undo|undo|fix|fix|undo"),
     ("a file of no text", "no text", "-:__pkg__", "new f x|undo|print|new g y|new_load a b|undo 2|redo 2|undo|delete|redo"),
     ("a file of comments", "comments alone", "-:all", "delete|new f x|undo|redo|fix|new_load a b|undo 2|undo"),
+    ("a format is a step", "tabs and spaces", "-:none -:x", "format|undo|redo|format|set size small|undo 2|redo|print name deps|format"),
+    ("a format after others", "many on a line", "-:all", "set size small|undo|format|print startline|undo|redo|format|delete|undo 2"),
     ("two targets in turn", "rules that are alike", "-:x -:y", "set size small|undo|redo|add deps :c|print deps size|undo"),
     ("a rule that goes under a target", "rules that are alike", "-:%1", "delete|delete|undo|delete|undo 2|redo|print name kind startline"),
     ("a name that changes under a target", "laid out", "-:x", "set name z|set size small|undo|set name z|redo|print|undo"),

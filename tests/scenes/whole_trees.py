@@ -22,6 +22,7 @@ import tempfile
 import time
 
 from lib.lines import PACKAGE_HINT
+from lib.odd_texts import TEXTS
 from lib.runs import PATIENCE
 from lib.scenes import WHOLE, Scenes, named
 from lib.trees import EVEN, FEW, ODD, SIGNALS, TREE, WAITING, alive, made, place, with_git
@@ -405,6 +406,19 @@ def changed_and_taken_back(place):
                  f"   1 {len(files):,} files  {line.partition(', ')[2]}"])  # fmt: skip
 
 
+def formatted_and_taken_back(place):
+    """Each package by `format`, as buildifier leaves it, whether it has the rule or not; and taken back byte for byte."""
+    files = {**made(PACKAGES), **{f"odd/t{number}/BUILD": text for number, text in enumerate(TEXTS.values())}}
+    place.put({"MODULE.bazel": b"", ".gitignore": b"*.journal\n", **files})
+    place.git("init", "-q")
+    before = place.files()
+    place.expect("format", place.run("buildozer-tree", "--journal", "--quiet", "format", "//...:none"), (0, b"", []))
+    place.wants_files("formatted", {**before, **formatted(place, files)})
+    place.expect("again", place.run("buildozer-tree", "--journal", "--quiet", "format", "//...:all"), (3, b"", []))
+    place.expect("undo", place.run("buildozer-tree", "undo", "--quiet"), (0, b"", []))
+    place.wants_files("taken back", before)
+
+
 def edits_stopped_and_taken_back(place):
     """By each signal, and killed: what the run did is taken back, byte for byte, also with a file changed by others since."""
     files = made(PACKAGES // 2)
@@ -506,7 +520,7 @@ def sources_are_of_python_3_9(place):
 TREES = named(
     all_files_are_formatted, paths_and_usage, refusals_are_sorted, differences, only_what_changed, a_process_that_is_killed, formats_stopped_and_run_again,
     slow_processes_are_ended, two_formats_at_once, on_a_terminal, a_closed_output, all_packages_are_edited, targets_mean_packages, names_that_no_target_has,
-    lines_in_their_order, notes_are_no_refusals, failures_end_a_run, changed_and_taken_back, edits_stopped_and_taken_back, an_undo_that_is_stopped, two_edits_at_once, where_runs_are_kept,
+    lines_in_their_order, notes_are_no_refusals, failures_end_a_run, changed_and_taken_back, formatted_and_taken_back, edits_stopped_and_taken_back, an_undo_that_is_stopped, two_edits_at_once, where_runs_are_kept,
     sources_are_of_python_3_9,
 )  # fmt: skip
 SCENES = Scenes(__file__, {name: with_git(scene, lambda what: SCENES.say(what)) for name, scene in TREES.items()}, place=place)
