@@ -4,7 +4,7 @@ use Rattle.std.specs.List.{flat_map, list_any}
 use Rattle.bz_buildozer.specs.Words.{Bytes, Target, Requested, Request, prints, Verb}
 use Rattle.bz_buildozer.specs.Sessions.{Action}
 use Rattle.bz_buildozer.specs.Sessions as a
-use Rattle.bz_command_line.specs.declared.verb.Verb.TheVariants.{Do, Undo, Redo, Journal}
+use Rattle.bz_command_line.specs.declared.verb.Verb.TheVariants.{Do, Undo, Redo, Journal, Format}
 
 -- a command on one target
 pub record RunStep : Type 0 where
@@ -27,6 +27,7 @@ action_of target (Do operation) = Some (a.Do operation target)
 action_of target (Undo count) = Some (a.Undo count)
 action_of target (Redo count) = Some (a.Redo count)
 action_of target Journal = None
+action_of target Format = Some a.Format
 
 -- the package that means standard input
 abbrev pub input_package : Bytes

@@ -146,7 +146,7 @@ fn refuse_action<E: Sink>(
     let cut = refuse(journals, run, place, step.request.text, refusal, err);
     match &step.request.verb {
         Verb::Do(command) => help(run, place, command, step.target, refusal, err),
-        Verb::Undo(_) | Verb::Redo(_) | Verb::Journal => cut,
+        Verb::Undo(_) | Verb::Redo(_) | Verb::Journal | Verb::Format => cut,
     }
 }
 

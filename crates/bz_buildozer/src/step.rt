@@ -29,6 +29,7 @@ pub(crate) fn action_of<'a>(verb: &'a Verb, target: &'a Target) -> Option<Action
         Verb::Undo(count) => Some(Action::Undo(*count)),
         Verb::Redo(count) => Some(Action::Redo(*count)),
         Verb::Journal => None,
+        Verb::Format => Some(Action::Format),
     }
 }
 
