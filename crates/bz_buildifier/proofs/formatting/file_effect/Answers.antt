@@ -48,7 +48,7 @@ returns-in-Ok-rewrite-clause-step g c = λ honest.
     let once = c.in-Ok.ensures.honest ∙ honest in
     let effect = r.output_effect [] 0 in
     let rewrites : Rewrites name c.deref-then-is_rewritten.result.now c.as_slice-then-is_rewritten.result.now (g.F.Files.folder c.read_most.new.self) effect after =
-    inl (refl, c.in-Ok-rewrite.ensures.held once, c.in-Ok-rewrite.ensures.replaced once) in (
+    inl (refl, c.in-Ok-rewrite.ensures.rewrites.held once, c.in-Ok-rewrite.ensures.rewrites.replaced once) in (
       effect,
       rewritten text new file.0 file.1 differs (same_rewrites name text _ new _ before _ after effect c.deref-then-is_rewritten.ensures.value c.as_slice-then-is_rewritten.ensures (c.in-Ok.ensures.same honest) rewrites),
       refl,
@@ -70,7 +70,7 @@ returns-in-Err-rewrite-clause-step g c = λ honest.
     let once = c.in-Ok.ensures.honest ∙ honest in
     let effect = r.unwritten name in
     let rewrites : Rewrites name c.deref-then-is_rewritten.result.now c.as_slice-then-is_rewritten.result.now (g.F.Files.folder c.read_most.new.self) effect after =
-    inr (refl, c.in-Err-rewrite.ensures.untouched once, c.in-Err-rewrite.ensures.either once) in (
+    inr (refl, c.in-Err-rewrite.ensures.rewrites.untouched once, c.in-Err-rewrite.ensures.rewrites.either once) in (
       effect,
       rewritten text new file.0 file.1 differs (same_rewrites name text _ new _ before _ after effect c.deref-then-is_rewritten.ensures.value c.as_slice-then-is_rewritten.ensures (c.in-Ok.ensures.same honest) rewrites),
       c.fail.ensures.effect,

@@ -22,7 +22,7 @@ returns-clause-writes g c plain either whole =
     (c.in-Ok.ensures.1 ∙ ap (λ (held : List ℕ). held ++ present file.history) c.new-text.ensures.items)))
     (subst (λ (name : List ℕ). writes name file.read text) c.as_str-name.ensures.value
     (subst (λ (read : List ℕ). writes c.as_str-name.result.now read text) c.as_slice.ensures
-    (subst (writes c.as_str-name.result.now c.as_slice.result.now) c.deref.ensures.value (c.in-Ok-rewrite.ensures.held honest, c.in-Ok-rewrite.ensures.replaced honest))))
+    (subst (writes c.as_str-name.result.now c.as_slice.result.now) c.deref.ensures.value (c.in-Ok-rewrite.ensures.rewrites.held honest, c.in-Ok-rewrite.ensures.rewrites.replaced honest))))
 
 pub returns-in_default-put_file-clause-memory : goal.returns-in_default-put_file-clause-memory
 returns-in_default-put_file-clause-memory g c = λ is. (
@@ -54,6 +54,6 @@ returns-in_default-rewrite-clause-unwritten g c = λ is.
         subst (λ (name : List ℕ). AppendsUnlessFailed (g.E.Sink.faults c.args.err.now) (g.E.Sink.faults c.fail-in_default-rewrite.new.err) (g.E.Sink.contents c.args.err.now)
             (g.E.Sink.contents c.fail-in_default-rewrite.new.err) (named_line name (codes "cannot write"))) c.as_str-name.ensures.value c.fail-in_default-rewrite.ensures.reported,
         (λ honest. unwritten_as before after file.name c.as_str-name.result.now file.read c.as_slice.result.now text c.deref.result.now c.as_str-name.ensures.value
-            c.as_slice.ensures c.deref.ensures.value (c.in_default-rewrite.ensures.either honest) (c.in_default-rewrite.ensures.untouched honest)),
+            c.as_slice.ensures c.deref.ensures.value (c.in_default-rewrite.ensures.rewrites.either honest) (c.in_default-rewrite.ensures.rewrites.untouched honest)),
       ),
     )
