@@ -1,8 +1,8 @@
 #!/usr/bin/env python3
-"""Runs the examples of README.md and of the other pages, and compares the tables of the pages of reference, the picture of the crates and
-the index of definitions with the code. README.md must be short and have a link to each page, and docs/internals/PROVED.md one to the
-page of each crate; docs/COMING.md has a row for each command and option of bazelbuild's tools; links lead somewhere, and files, crates and
-names of the sources that pages name are there.
+"""Runs the examples of README.md and of the other pages, and compares the tables of the pages of reference, the picture of the crates, the calls
+of a command, the counts of the gate and the index of definitions with the code. README.md must be short and have a link to each page, and
+docs/internals/PROVED.md one to the page of each crate; docs/COMING.md has a row for each command and option of bazelbuild's tools; links lead
+somewhere, and files, crates and names of the sources that pages name are there.
 
 The pages are README.md, those beside it, those of docs/ and docs/internals/, of contrib/ and of each crate. A block of code in which lines
 begin with `$` is an example: its commands run one after the other, in a folder of the block's own that is empty at first, with both
