@@ -240,6 +240,24 @@ def on_a_terminal(place):
     place.expect("no terminal", b"\x1b" in place.run("buildifier-tree", "--mode=diff")[1], False)
 
 
+def the_bar_is_below_lines(place):
+    """After each line that is written while the run goes on the bar is there again."""
+    place.put({"MODULE.bazel": b"", **made(FEW)})
+    place.slow("buildozer", 0.05)
+    end, other = pty.openpty()
+    place.environment["TERM"] = "xterm"
+    with place.start("buildozer-tree", "--processes=1", "set size small", "//...:all", stderr=other) as run:
+        os.close(other)
+        shown = b""
+        with contextlib.suppress(OSError):
+            while piece := os.read(end, 65536):
+                shown += piece
+        run.wait(timeout=PATIENCE)
+    os.close(end)
+    bars = re.findall(rb"fixed [^\r\n]*\r\n[^\r\n]*\d+/60 packages", shown)
+    place.expect("bars", (run.returncode, len(bars) > FEW // 3, f"{FEW} files fixed".encode() in shown.rpartition(b"\x1b[K")[2]), (0, True, True))
+
+
 def a_closed_output(place):
     """What cannot be written to it is told, and ends the run with 3."""
     place.put(made(FEW))
@@ -500,6 +518,139 @@ def where_runs_are_kept(place):
     place.expect("a torn record", place.run("buildozer-tree", "undo")[0], 2)
 
 
+# ---- edits that are looked at, and what is said of them
+
+
+def edits_that_are_looked_at(place):
+    """What would change is shown, as a difference that patch applies or as whole texts, and nothing is written; the line below makes the edit."""
+    files = made(FEW)
+    place.put({"MODULE.bazel": b"", **files})
+    place.git("init", "-q")
+    names, after = sorted(files, key=os.path.dirname), edited(place, files, EDIT)
+    before = {str(file): file.stat().st_mtime_ns for file in place.folder.rglob("*")}
+    status, out, err = place.run("buildozer-tree", "--diff", "--journal", *EDIT, "//...:all")
+    line = "to make this edit: buildozer-tree --journal 'set testonly True' 'add deps //lib:b' //...:all"
+    place.expect("a difference", (status, re.findall(rb"(?m)^--- (.*)$", out), err), (0, [os.fsencode(name) for name in names], [f"{FEW} files would change", line]))
+    whole = b"".join(b"==> %s <==\n%s" % (os.fsencode(name), after[name]) for name in names)
+    place.expect("texts", place.run("buildozer-tree", "--stdout", *EDIT, "//...:all"), (0, whole, []))
+    place.expect("one text", place.run("buildozer-tree", "--stdout", *EDIT, "//p1/q1:all"), (0, after["p1/q1/BUILD"], []))
+    place.expect("what is there", {str(file): file.stat().st_mtime_ns for file in place.folder.rglob("*")}, before)
+    if shutil.which("patch"):
+        subprocess.run(["patch", "-p0", "-s"], cwd=place.folder, input=out, check=True, timeout=PATIENCE)
+        place.wants_files("patched", {"MODULE.bazel": b"", **after})
+        place.put(files)
+    place.expect("the line", place.run(*shlex.split(line.partition(": ")[2]))[0], 0)
+    place.wants_files("made", {"MODULE.bazel": b"", **after})
+    place.expect("an undo", (lambda run: (run[0], run[1].count(b"--- ")))(place.run("buildozer-tree", "--diff", "--journal", "undo", "//...:all")), (0, FEW))
+    refused = place.run("buildozer-tree", "--diff", "-k", "rename none some", "set size small", "//p1/...:all", "//z:all")
+    place.expect("a refusal", (refused[0], refused[1].count(b"--- "), "z/BUILD: cannot open" in refused[2]), (2, len([i for i in range(FEW) if i % 40 == 1]), True))
+    place.wants_files("at last", {"MODULE.bazel": b"", **after})
+
+
+def labels_of_lines(place):
+    """Each line that print prints says of which rule it is, also one of several, and of rules without a plain name."""
+    text = b'f(name="x",d={"a":"b","c":"d"})\ng(name="y"+"z")\nh(1)\n'
+    place.put({"MODULE.bazel": b"", "BUILD": text, "a/b/BUILD": text, "c/BUILD": b"f(\n"})
+    rows = [["x x f"], ['%2 "y" + "z" g'], ["%3 (missing) h"]]
+    lines = "".join(f"//{package}:{row}\n" for package in ("", "a/b") for (row,) in rows)
+    status, out, err = place.run("buildozer-tree", "-k", "--labels", "print", "//...:all")
+    place.expect("names and kinds", (status, out.decode(), err[0]), (2, lines, "c/BUILD:2:1: Unexpected"))
+    wanted = '//a/b:x {\n//a/b:x     "a": "b",\n//a/b:x     "c": "d",\n//a/b:x }\n//a/b:%2 (missing)\n//a/b:%3 (missing)\n'
+    place.expect("several lines", place.run("buildozer-tree", "--labels", "print d", "//a/...:all")[1].decode(), wanted)
+    place.expect("a refusal", place.run("buildozer-tree", "--labels", "print d", "//a/b:none")[2][0], "buildozer: a/b/BUILD: print d: NoTarget (41)")
+    for words in (["--labels", "print_comment", "//:x"], ["--labels", "--diff", "print", "//:x"], ["--diff", "--stdout", "delete", "//:x"]):
+        place.expect(f"{words}", place.run("buildozer-tree", *words)[0], 1)
+
+
+def what_is_not_said(place):
+    """One --quiet leaves the summary, two leave neither; a package of ten with a rule of its own name is noted."""
+    place.put({"MODULE.bazel": b"", **made(20), "p1/x/BUILD": ODD})
+    place.expect("one", place.run("buildozer-tree", "--quiet", "set size small", "//...:all"), (0, b"", ["21 files fixed"]))
+    place.expect("two", place.run("buildozer-tree", *QUIET, "set size large", "//...:all"), (0, b"", []))
+    note = "//...: 1 of 21 packages have a rule of their own name; //...:all means all rules"
+    place.expect("few rules", place.run("buildozer-tree", "set size medium", "//..."), (0, b"", ["fixed p1/x/BUILD", note, "1 file fixed"]))
+
+
+def a_run_without_a_journal(place):
+    """After it an undo says so, and takes a number alone; after a further run with one it does without."""
+    place.put({"MODULE.bazel": b"", **made(4)})
+    place.git("init", "-q")
+    place.run("buildozer-tree", "set size small", "//p1/...:all")
+    place.expect("none before", place.run("buildozer-tree", "undo")[2][0], "buildozer-tree: undo: the last run kept no journal: buildozer-tree 'set size small' //p1/...:all")
+    before = place.files()
+    place.run("buildozer-tree", "--journal", "set size large", "//...:all")
+    place.run("buildozer-tree", "set timeout long", "//p1/...:all")
+    wanted = ["buildozer-tree: undo: the last run kept no journal: buildozer-tree 'set timeout long' //p1/...:all",
+              "buildozer-tree: to take back the run before it: buildozer-tree undo 1 (buildozer-tree --journal 'set size large' //...:all)"]  # fmt: skip
+    place.expect("undo", place.run("buildozer-tree", "undo"), (2, b"", wanted))
+    place.run("buildozer-tree", "remove timeout", "//p1/...:all")
+    place.expect("by its number", place.run("buildozer-tree", "undo", "1", *QUIET), (0, b"", []))
+    place.wants_files("taken back", before)
+    place.run("buildozer-tree", "--journal", "set size medium", "//p2/...:all")
+    place.expect("a further one", place.run("buildozer-tree", "undo", *QUIET)[0], 0)
+
+
+def journals_that_git_knows(place):
+    """The first run with --journal says how git ignores them, where it doesn't; that line does."""
+    place.put({"MODULE.bazel": b"", **made(4)})
+    place.git("init", "-q")
+    line = place.run("buildozer-tree", "--journal", "set size small", ":all", here="p1/q1")[2][-1]
+    place.expect("the line", line, "git doesn't ignore the journals yet: printf '*.journal\\n*.bznew\\n' >> ../../.gitignore")
+    place.expect("a second run", place.run("buildozer-tree", "--journal", "set size small", "//p2/...:all")[2][-1], "this was run 2: buildozer-tree undo takes it back")
+    subprocess.run(["sh", "-c", line.partition(": ")[2]], cwd=place.folder / "p1/q1", check=True, timeout=PATIENCE)
+    new = subprocess.run(["git", "status", "--porcelain", "-uall"], cwd=place.folder, env=place.environment, capture_output=True, timeout=PATIENCE).stdout.decode()
+    place.expect("what git has", [row for row in new.splitlines() if "journal" in row], [])
+
+
+def journals_for_people(place):
+    """Aligned, with the beginning of the digest, and with the time where a run has left a text; buildozer's own list is as it was."""
+    place.put({"MODULE.bazel": b"", "a/BUILD": ODD, "b/BUILD": ODD})
+    place.git("init", "-q")
+    place.run("buildozer-tree", *QUIET, "--journal", "set size small", "//a:all")
+    words = [place.programs["buildozer"], "--journal", "--quiet", *(f"set size s{i}" for i in range(9)), "undo", "//a:all"]
+    subprocess.run(words, cwd=place.folder, check=True, timeout=PATIENCE)
+    status, out, err = place.run("buildozer-tree", "journal", "//...:all", here="a")
+    rows = [re.sub(rb"[0-9a-f]{12}", b"D", re.sub(rb"\d{4}-\d\d-\d\d \d\d:\d\d", b"WHEN            ", row)) for row in out.splitlines()]
+    place.expect("listed", (status, len(rows), rows[0], rows[2], rows[10:], err), (3, 12, b"a/BUILD", b"     1  D  WHEN              set size small",
+                 [b"  *  9  D                    set size s7", b"    10  D                    set size s8"], []))  # fmt: skip
+    place.expect("none", place.run("buildozer-tree", "journal", "//b:all"), (2, b"", ["b/BUILD: there is no journal"]))
+    own = subprocess.run([place.programs["buildozer"], "--journal", "journal", "//a:all"], cwd=place.folder, capture_output=True, timeout=PATIENCE)
+    place.expect("buildozer's own", place.run("buildozer-tree", "--journal", "journal", "//a:all")[1], own.stdout)
+
+
+COUNTING = """#!/bin/sh
+echo >> "{pids}"
+exec {program} "$@"
+"""
+
+
+def processes_for_names(place):
+    """A name costs no process for each package: about as many as all rules, to look which packages have it, and as many to edit these."""
+    place.put({"MODULE.bazel": b"", **made(PACKAGES, ODD + b'g(name="here")\n')})
+    counts = place.scratch / "counts"
+    place.replace("buildozer", COUNTING.format(pids=counts, program=place.programs["buildozer"]))
+    found = []
+    for target in ("//...:all", "//...:here", "//...:x1"):
+        counts.write_text("")
+        place.expect(target, place.run("buildozer-tree", "--processes=2", "print kind", target)[0], 3)
+        found.append(counts.read_text().count("\n"))
+    place.expect("processes", (found[1] <= 2 * found[0], found[2] <= found[0] + 2), (True, True))
+
+
+def a_text_on_standard_input(place):
+    """It is refused where no path is named, so that no folder is formatted in its place."""
+    place.put({"a/BUILD": ODD, "b/BUILD": ODD})
+    line = "buildifier-tree: standard input is a file: for that text buildifier < FILE, for the working directory buildifier-tree ."
+    with open(place.folder / "a/BUILD") as text:
+        place.expect("a text", place.run("buildifier-tree", stdin=text), (2, b"", [line, "buildifier-tree: see buildifier-tree --help"]))
+    place.wants_files("files", {"a/BUILD": ODD, "b/BUILD": ODD})
+    with open(place.folder / "a/BUILD") as text:
+        place.expect("with a path", place.run("buildifier-tree", "b", stdin=text), (0, b"", ["1 file reformatted"]))
+    (place.folder / "none").touch()
+    with open(place.folder / "none") as text:
+        place.expect("no text", place.run("buildifier-tree", stdin=text), (0, b"", ["1 file reformatted, 1 left unchanged"]))
+
+
 # ---- both
 
 
@@ -519,8 +670,9 @@ def sources_are_of_python_3_9(place):
 
 TREES = named(
     all_files_are_formatted, paths_and_usage, refusals_are_sorted, differences, only_what_changed, a_process_that_is_killed, formats_stopped_and_run_again,
-    slow_processes_are_ended, two_formats_at_once, on_a_terminal, a_closed_output, all_packages_are_edited, targets_mean_packages, names_that_no_target_has,
+    slow_processes_are_ended, two_formats_at_once, on_a_terminal, the_bar_is_below_lines, a_closed_output, all_packages_are_edited, targets_mean_packages, names_that_no_target_has,
     lines_in_their_order, notes_are_no_refusals, failures_end_a_run, changed_and_taken_back, formatted_and_taken_back, edits_stopped_and_taken_back, an_undo_that_is_stopped, two_edits_at_once, where_runs_are_kept,
+    edits_that_are_looked_at, labels_of_lines, what_is_not_said, a_run_without_a_journal, journals_that_git_knows, journals_for_people, processes_for_names, a_text_on_standard_input,
     sources_are_of_python_3_9,
 )  # fmt: skip
 SCENES = Scenes(__file__, {name: with_git(scene, lambda what: SCENES.say(what)) for name, scene in TREES.items()}, place=place)

@@ -43,6 +43,13 @@ class Plan:
         # the root package has no rule that a target without a colon would mean
         return [Target(package, pattern.which) for package in packages.named if package or pattern.which is not None]
 
+    def count(self, pattern, found, meant):
+        """Says of a pattern where none or few of the packages that it means have such a rule."""
+        if not found:
+            self.lack(pattern, "no package has such a rule")
+        elif pattern.which is None and found * 10 < meant:
+            self.notes.append(f"{pattern}: {found:,} of {meant:,} packages have a rule of their own name; {pattern}:all means all rules")
+
     def lack(self, pattern, what):
         """A pattern means nothing, which is refused."""
         self.missing.append(pattern)
@@ -55,11 +62,12 @@ class Plan:
 
 class Batch:
     """What came of some packages: standard output, what was noted, the files that were written, with the digests after it, also of those that may
-    have been, what is shown of them, what was refused by package, the packages that were not tried, and why, if no process could be started."""
+    have been, what is shown of them, what was refused by package, the packages that were not tried, and why, if no process could be started, and
+    those that lack the rule that is meant."""
 
     def __init__(self, status, out=b"", untried=(), lack=""):
         self.status, self.out, self.notes, self.fixed, self.after, self.texts, self.refused = status, out, [], [], {}, [], {}
-        self.untried, self.lack = list(untried), lack
+        self.untried, self.lack, self.lacking = list(untried), lack, []
 
 
 class Editor:
@@ -67,6 +75,7 @@ class Editor:
 
     def __init__(self, pool, path, root, flags):
         self.pool, self.path, self.root, self.flags = pool, path, root, flags
+        self.only = None  # the one pattern of a run of one command, of which each package says by itself whether it has such a rule
 
     def call(self, flags, commands, targets):
         return self.pool.call([self.path, *flags, "--", *commands, *map(str, targets)], folder=self.root)
@@ -99,22 +108,23 @@ class Editor:
     def plan(self, lines, kinds, refusals):
         """What the lines mean in which package."""
         plan = Plan(self.root, refusals)
+        if [len(line.commands) * len(line.targets) for line in lines] == [1] and not kinds and lines[0].targets[0].names_rules(lines[0]):
+            self.only, self.flags = lines[0].targets[0], [*self.flags, "-k"] if "-k" not in self.flags else self.flags
         for line in lines:
             for target in line.targets:
                 meant = plan.meant_by(target) if target.is_pattern else [target]
-                if target.is_pattern and line.looks_at_rules() and not target.may_mean_none() and meant:
+                if target.names_rules(line) and meant:
                     meant = self.had(plan, target, meant)
                 for one in self.of_kinds(meant, kinds) if kinds else meant:
                     plan.add(line, one)
         return plan
 
     def had(self, plan, pattern, meant):
-        """Of the targets that a pattern means those by which some rule is meant."""
+        """Of the targets that a pattern means those by which some rule is meant, or all, where that is seen in the run."""
+        if pattern is self.only:
+            return meant
         found = self.having(meant)
-        if not found:
-            plan.lack(pattern, "no package has such a rule")
-        elif pattern.which is None and len(found) * 10 < len(meant):
-            plan.notes.append(f"{pattern}: {len(found):,} of {len(meant):,} packages have a rule of their own name; {pattern}:all means all rules")
+        plan.count(pattern, len(found), len(meant))
         return found
 
     # ---- one batch
@@ -132,6 +142,10 @@ class Editor:
                 is_there, err = without_line(err, b"fixed " + os.fsencode(shown(name)))
                 done.fixed += [name] * is_there
         self.add_refused(done, packages, err)
+        if self.only:
+            done.lacking = [package for package, lines in done.refused.items() if lines[0].endswith(": NoTarget (41)")]
+            done.refused = {package: lines for package, lines in done.refused.items() if package not in done.lacking}
+            done.status = done.status if done.refused or not done.lacking else WELL if done.fixed else SAME
         changed = done.fixed
         if ended.status not in (WELL, FAILED, SAME):
             self.add_odd(done, packages, ended)

@@ -44,14 +44,11 @@ undo takes back the last run with --journal in all packages that it changed, red
 FLAGS = ("-k", "--diff", "--stdout", "--labels", "--quiet", "--journal", "--help", "--version")
 VALUED = ("-f", "--types", "--state", "--processes")
 PASSED = ("-k", "--stdout", "--journal")
-# commands that print what no label is for
+# commands that print what no label is for; options of which one is given at a time, and none with a list of journals
 UNLABELLED = ("print_comment", "journal")
-# options of which one is given at a time, and none with a list of journals
 UNLISTED = ("--diff", "--stdout", "--labels")
 USAGE = 1
 OF_RUNS = ("undo", "redo", "runs")
-# how many digits of a digest are listed
-DIGITS = 12
 
 
 class Request:
@@ -129,7 +126,7 @@ class Run:
     def __init__(self, request, path, screen):
         self.request, self.path, self.screen = request, path, screen
         self.refusals = Refusals()
-        self.fixed, self.tried, self.rest = set(), 0, []
+        self.fixed, self.tried, self.lacking, self.rest = set(), 0, 0, []
         self.statuses, self.after = set(), {}
         self.has_printed = False
         self.plan = self.record = None
@@ -139,11 +136,8 @@ class Run:
     def over(self, lines):
         """Runs the commands of the lines, and gives the signal that stopped it, or None."""
         with Pool(self.request.processes) as pool:
-            editor = Editor(pool, self.path, self.request.root, self.request.flags)
-            if self.request.is_trial():
-                editor = Trial(editor, self.request.has("--diff"))
-            elif self.request.has("--labels"):
-                editor = Labels(editor)
+            kind = Trial if self.request.is_trial() else Labels if self.request.has("--labels") else Editor
+            editor = kind(pool, self.path, self.request.root, self.request.flags)
             with stops():
                 self.plan = editor.plan(lines, self.request.kinds, self.refusals)
             if self.plan.missing and not self.request.has("-k"):
@@ -177,10 +171,13 @@ class Run:
 
         for task, batch in worked(editor.pool, batch_of, tasks, self.screen, "package"):
             if batch:
-                self.tried += len(task) - len(batch.untried)
+                self.tried += len(task) - len(batch.untried) - len(batch.lacking)
+                self.lacking += len(batch.lacking)
                 self.take(batch)
             else:
                 self.rest += [package for package, _ in task]
+        if editor.only and not self.rest:
+            self.plan.count(editor.only, len(steps) - self.lacking, len(steps))
 
     def take(self, batch):
         self.after.update(batch.after)
@@ -303,7 +300,7 @@ def list_journals(request, lines, path, screen):
             rows, width = [shown(name)], len(str(len(texts) - 1))
             wide = 18 * any((name, text.digest) in times for text in texts)
             for number, text in enumerate(texts):
-                row = f"  {'*' if text.is_present else ' '} {number:>{width}}  {text.digest[:DIGITS]}  {times.get((name, text.digest), ''):{wide}}{text.note}"
+                row = f"  {'*' if text.is_present else ' '} {number:>{width}}  {text.digest[:12]}  {times.get((name, text.digest), ''):{wide}}{text.note}"
                 rows.append(shown(row).rstrip())
             screen.put("".join(row + "\n" for row in rows).encode())
         for name, why in moves.left.items():

@@ -158,21 +158,15 @@ class Runs:
         text = json.dumps({"version": VERSION, **dataclasses.asdict(record)}, indent=0).encode()
         if len(text) > files.MOST_OTHER:
             raise Unreadable(f"{self.file(record.number)}: it would have more than {files.MOST_OTHER:,} bytes: take fewer packages at once")
-        self.put(self.file(record.number), text)
-
-    def put(self, file, text):
-        try:
-            state.write_whole(file, text)
-        except OSError as error:
-            raise Unreadable(f"{file}: {error.strerror}") from error
+        state.write_whole(self.file(record.number), text)
 
     # ---- a run without a journal
 
     def note_plain(self, line):
         """Keeps that a run has changed files and kept no journal, if that can be."""
         row = {"root": self.root, "after": max(self.numbers(), default=0), "line": line, "time": int(time.time())}
-        with contextlib.suppress(Unreadable):
-            self.put(os.path.join(self.folder, PLAIN), json.dumps(row).encode())
+        with contextlib.suppress(OSError):
+            state.write_whole(os.path.join(self.folder, PLAIN), json.dumps(row).encode())
 
     def plain_since(self, number):
         """The command line of the last run that kept no journal, where it was after the run of a number; else None."""

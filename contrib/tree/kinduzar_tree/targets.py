@@ -37,6 +37,10 @@ class Target:
         """The package before the dots."""
         return self.package[: -len(DOTS)].rstrip("/")
 
+    def names_rules(self, line):
+        """Whether it is a pattern of which a line wants rules that a package may lack."""
+        return self.is_pattern and line.looks_at_rules() and not self.may_mean_none()
+
     def may_mean_none(self):
         return self.which in MAY_MEAN_NONE or (self.which or "").startswith("%") and not self.which[1:].isdigit()
 

@@ -17,17 +17,15 @@ PLAIN_NAME = re.compile(rb"[^\s\"'(\[{]+")
 class Trial(Editor):
     """buildozer over copies: what it would write is shown, as a difference or whole."""
 
-    def __init__(self, editor, is_compared):
-        super().__init__(editor.pool, editor.path, editor.root, [flag for flag in editor.flags if flag != "--stdout"])
-        self.is_compared = is_compared
-
     def batch(self, steps):
         with tempfile.TemporaryDirectory() as folder:
             for package, _ in steps:
                 self.copy(package, folder)
-            done = Editor(self.pool, self.path, folder, self.flags).batch(steps)
+            editor = Editor(self.pool, self.path, folder, [flag for flag in self.flags if flag != "--stdout"])
+            editor.only = self.only
+            done = editor.batch(steps)
             new = {name: content(os.path.join(folder, name), MOST_TEXT) for name in done.fixed}
-        compared = self.pool.difference if self.is_compared else lambda name, file, text: [text]
+        compared = (lambda name, file, text: [text]) if "--stdout" in self.flags else self.pool.difference
         done.texts = [(name, compared(name, os.path.join(self.root, name), text)) for name, text in new.items()]
         return done
 
@@ -47,9 +45,6 @@ class Trial(Editor):
 
 class Labels(Editor):
     """buildozer where only one package is in each batch, and `print` says of which rule each line is."""
-
-    def __init__(self, editor):
-        super().__init__(editor.pool, editor.path, editor.root, editor.flags)
 
     def edited(self, steps):
         package, pairs = steps[0]
