@@ -176,7 +176,7 @@ class Run:
                 self.take(batch)
             else:
                 self.rest += [package for package, _ in task]
-        if editor.only and not self.rest:
+        if editor.only and steps and not self.rest:
             self.plan.count(editor.only, len(steps) - self.lacking, len(steps))
 
     def take(self, batch):
