@@ -68,7 +68,7 @@ class Pages:
 
 
 def commands_of_code():
-    return texts_in("bz_command_syntax/specs/Commands.antt", "commands") + texts_in("bz_command_line/specs/Operands.antt", r"history_verb_in \(.*")
+    return texts_in("bz_command_syntax/specs/Commands.antt", "commands") + texts_in("bz_command_line/specs/Operands.antt", r"file_verb_in \(.*")
 
 
 def options_of_code(program):

@@ -155,7 +155,7 @@ def commands(place):
     """Each command has a row, and no other, with its forms; these begin with its name."""
     forms = sorted({form for row in rows_of("Command") for form in CODE.findall(row[0])})
     told = {form.split()[0] for form in forms}
-    known = texts_in("bz_command_syntax/specs/Commands.antt", "commands") + texts_in("bz_command_line/specs/Operands.antt", r"history_verb_in \(.*")
+    known = texts_in("bz_command_syntax/specs/Commands.antt", "commands") + texts_in("bz_command_line/specs/Operands.antt", r"file_verb_in \(.*")
     return different_from_code("commands", sorted(told), sorted(set(known))) + different_from_code("forms of commands", forms, forms_of_code())
 
 
