@@ -251,9 +251,9 @@ module _ (journals : Bool) (world : World) (number : Option ℕ) (lines : List B
     (λ closed. let still = subst AreClosed (sym same) closed in (at ∙ ap (option_map (λ (_ : Opened). place)) (closed_at place after still), still)),
   )
   used_again c.Whole before used (place, inr (none, last, opens), at) = absurd (used none)
-  used_again c.Memory before used (none, wants) = absurd (used none)
+  used_again c.Memory before used (none, gone, wants) = absurd (used none)
   used_again c.Read before used (plain, is, none, at, told, new) = absurd (used none)
-  used_again c.Files before used (none, opened) = absurd (used none)
+  used_again c.Files before used (none, inside, opened) = absurd (used none)
   used_again c.Write before used uses = absurd uses
 
   one_used : (file : Option Opened) → after ≡ record { «package» = input_package; file = file } ∷ [] → IsUsed after

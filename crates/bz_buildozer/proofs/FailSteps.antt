@@ -8,7 +8,7 @@ use Rattle.bz_buildozer.specs.Words.{Bytes, Folder, journal_name, Cut, limit, fi
 use Rattle.bz_buildozer.specs.Sessions.{History, Pair}
 use Rattle.bz_streams.specs.declared.exit.Cut.TheVariants as c
 use Rattle.bz_streams.specs.declared.sink.Sink.{Ghosts as SinkOf}
-use Rattle.bz_buildozer.specs.Found.{IsNameOf, PackagesFound, found_in, found_second, second_name, Opened, Used, file_at, opened_with, first_name, in_package, package_number, with_opened}
+use Rattle.bz_buildozer.specs.Found.{IsNameOf, PackagesFound, found_at, found_in, found_second, second_name, Opened, Used, file_at, opened_with, first_name, in_package, package_number, with_opened}
 use Rattle.bz_buildozer.specs.Journals.{IsOpenedIn, JournalFault, OpensBeside, TakesBeside, file_of_journal, journal_beside, lines_of_journal}
 use Rattle.bz_buildozer.specs.Keeps.{after_keeping, file_after, left_out}
 use Rattle.bz_buildozer.specs.Run.{FindsUntil, IsInFolder, LeavesUnkept, OpensUntil, SecondUntil, Answers, AnswersIn, Does, Finds, Progress, RunsSteps, TakesUntil, Uses, UsesWhole, World, ends_run, unreadable, wanting, wanting_name}
@@ -201,6 +201,15 @@ first_until c.Files journals current name front text folder now file lines is he
 first_until c.Memory journals current name front text folder now file lines is held cut same takes =
     inr (inr (inr (found_until c.Memory journals current name (first_name current) front text folder now file lines is held same (λ is. absurd (cc is)) takes)))
 first_until _ journals current name front text folder now file lines is held cut same takes = absurd takes
+
+-- Where the first file isn't there, what comes of the second one is what comes of both.
+pub absent_until : (why : Cut) (journals : Bool) (folder : Folder) (current : Bytes) (file : Option Opened) (lines : List Bytes) → get folder (first_name current) ≡ None
+    → SecondUntil why journals folder current file lines → OpensUntil why journals folder current file lines
+absent_until c.Whole journals folder current file lines gone opens =
+    subst (λ (found : Option Bytes). OpensBeside journals folder current (found_at (first_name current) found (found_second folder current)) file lines) (sym gone) opens
+absent_until c.Files journals folder current file lines gone opens = inr (inl (gone, opens))
+absent_until c.Memory journals folder current file lines gone opens = inr (inl (gone, opens))
+absent_until _ journals folder current file lines gone opens = absurd opens
 
 pub named_until : (second : Bool) (why : Cut) (journals : Bool) (current name front text : Bytes) (folder now : Folder) (file : Option Opened) (lines : List Bytes)
     → name ≡ in_package current (base_of second) → get folder name ≡ Some text → front ≡ take (limit + 1) text → now ≡ folder

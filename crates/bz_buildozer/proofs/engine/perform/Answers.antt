@@ -81,5 +81,5 @@ pub returns-clause-sound : goal.returns-clause-sound
 returns-clause-sound g c sound is =
     c.run_lines-cut.ensures.works sound (read_before c.finish.result.cut c.run_lines-cut.result _ c.finish.ensures.cause is)
 
-pub run_lines-cut-requires-once : goal.run_lines-cut-requires-once
-run_lines-cut-requires-once g c is = c.are_one_step.ensures (sym (ap (λ (once : OneStep). once.holds) c.begun-run.ensures.once) ∙ is)
+pub run_lines-cut-requires-clause-once : goal.run_lines-cut-requires-clause-once
+run_lines-cut-requires-clause-once g c is = c.are_one_step.ensures (sym (ap (λ (once : OneStep). once.holds) c.begun-run.ensures.once) ∙ is)

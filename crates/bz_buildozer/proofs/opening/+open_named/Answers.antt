@@ -1,10 +1,12 @@
-use Rattle.std.proofs.Common.{◌≡◌, ◌∙◌, true, false, ap, refl, None, Err, Bor, List, ℕ, inl, option_map}
+use Rattle.std.proofs.Common.{◌≡◌, ◌∙◌, true, false, ap, refl, subst, None, Err, Bor, List, ℕ, inl, option_map}
+use Rattle.std.specs.FinMap.{get}
 use Rattle.bz_streams.specs.declared.exit.Cut.TheVariants as cut
 use Rattle.bz_buildozer.specs.Found.{in_package, root_above}
-use Rattle.bz_buildozer.specs.Run.{unreadable, wanting_name}
+use Rattle.bz_buildozer.specs.Run.{SecondUntil, unreadable, wanting_name}
+use Rattle.bz_buildozer.specs.Words.{Folder}
 use Rattle.bz_buildozer.specs.private.ShownFiles.{taken_in}
 use Rattle.bz_buildozer.specs.private.Taking.{NamedUntil, base_of}
-use Rattle.bz_buildozer.proofs.FailSteps.{by_name_of, fails_as, memory_named, memory_read, named_until, none_taken, tried_on}
+use Rattle.bz_buildozer.proofs.FailSteps.{absent_until, by_name_of, fails_as, memory_named, memory_read, named_until, none_taken, tried_on}
 use Rattle.bz_buildozer.proofs.ReadSteps.{neither_opens}
 use Rattle.bz_buildozer.proofs.opening.+open_named.Goals as goal
 
@@ -42,6 +44,23 @@ returns-in-Ok-root_above-clause-opens g t c =
     (c.in-Err-Absent.ensures.absent honest (ap Err c.in-Err-Absent.field-0-is))
     (c.as_deref.ensures.value ∙ c.in-Ok-root_above.ensures (c.bytes_of.ensures.honest ∙ honest) ∙ ap root_above (c.bytes_of.ensures.folder honest)))) c.fail_absent.ensures.reported
 
+pub returns-in-Err-Absent-clause-opens : goal.returns-in-Err-Absent-clause-opens
+returns-in-Err-Absent-clause-opens g t c =
+    let read = c.in-Err-Absent.ensures in
+    let journals = c.args.journals in
+    let current = c.args.package.now in
+    let folder = g.F.Files.folder c.args.files.now in
+    let second = c.open_named in
+    let named = c.as_str-name.ensures.value ∙ c.in-Ok.ensures ∙ ap (in_package current) (c.base_of.ensures ∙ ap base_of c.if-not-second.true) in
+    let done = second.ensures.opens in (
+      done.0,
+      (λ honest. by_name_of c.args.second false second.result.cut journals folder current (taken_in second.result) done.0 c.if-not-second.true
+      (absent_until second.result.cut journals folder current (taken_in second.result) done.0
+      (subst (λ (name : List ℕ). get folder name ≡ None) named (read.absent honest (ap Err c.in-Err-Absent.field-0-is)))
+      (subst (λ (now : Folder). SecondUntil second.result.cut journals now current (taken_in second.result) done.0) (read.folder honest) (done.1 (read.honest ∙ honest))))),
+      done.2,
+    )
+
 pub returns-in-Err-Absent-2-clause-opens : goal.returns-in-Err-Absent-2-clause-opens
 returns-in-Err-Absent-2-clause-opens g t c =
     none_taken g.E.Sink (λ why file lines. g.F.Files.honest c.args.files.now ≡ true → NamedUntil c.args.second why c.args.journals (g.F.Files.folder c.args.files.now) c.args.package.now file lines) c.unnamed-in-Err-root_above.result cut.Memory
@@ -53,7 +72,7 @@ returns-in-Err-clause-opens g t c =
     fails_as g.E.Sink (λ why file lines. g.F.Files.honest c.args.files.now ≡ true → NamedUntil c.args.second why c.args.journals (g.F.Files.folder c.args.files.now) c.args.package.now file lines) c.fail-in-Err.result cut.Files
     c.args.err.now c.fail-in-Err.new.err _ c.fail-in-Err.ensures.taken
     (λ honest. by_name_of c.args.second true cut.Files c.args.journals (g.F.Files.folder c.args.files.now) c.args.package.now None _ c.if-second.true
-    (refl, inl (ap unreadable (c.as_str-name.ensures.value ∙ c.in-Ok.ensures ∙ ap (in_package c.args.package.now) (c.base_of.ensures ∙ ap base_of c.if-second.true))))) c.fail-in-Err.ensures.reported
+    (inl (refl, ap unreadable (c.as_str-name.ensures.value ∙ c.in-Ok.ensures ∙ ap (in_package c.args.package.now) (c.base_of.ensures ∙ ap base_of c.if-second.true))))) c.fail-in-Err.ensures.reported
 
 pub returns-clause-opens : goal.returns-clause-opens
 returns-clause-opens g t c =
