@@ -10,6 +10,7 @@ pub use Rattle.bz_command_line.specs.declared.line.Options.{Options}
 pub use Rattle.bz_command_line.specs.declared.verb.Verb.{Verb}
 pub use Rattle.bz_edit.specs.declared.edit.Edit.{Edit}
 pub use Rattle.bz_files.specs.Folder.{Elapses, Folder, IsAside, IsReplacing, new_name, SameBut, with_file}
+pub use Rattle.bz_files.specs.Orders.{ReadsRegular}
 pub use Rattle.bz_files.specs.declared.files.Files.{Ghosts}
 pub use Rattle.bz_grammar.specs.Faults.{IsFaultOf}
 pub use Rattle.bz_grammar.specs.Legal.{Accepted, Reads}

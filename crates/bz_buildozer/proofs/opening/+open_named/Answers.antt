@@ -55,9 +55,9 @@ returns-in-Err-Absent-clause-opens g t c =
     let done = second.ensures.opens in (
       done.0,
       (λ honest. by_name_of c.args.second false second.result.cut journals folder current (taken_in second.result) done.0 c.if-not-second.true
-      (absent_until second.result.cut journals folder current (taken_in second.result) done.0
-      (subst (λ (name : List ℕ). get folder name ≡ None) named (read.absent honest (ap Err c.in-Err-Absent.field-0-is)))
-      (subst (λ (now : Folder). SecondUntil second.result.cut journals now current (taken_in second.result) done.0) (read.folder honest) (done.1 (read.honest ∙ honest))))),
+          (absent_until second.result.cut journals folder current (taken_in second.result) done.0
+          (subst (λ (name : List ℕ). get folder name ≡ None) named (read.absent honest (ap Err c.in-Err-Absent.field-0-is)))
+          (subst (λ (now : Folder). SecondUntil second.result.cut journals now current (taken_in second.result) done.0) (read.folder honest) (done.1 (read.honest ∙ honest))))),
       done.2,
     )
 
