@@ -375,15 +375,15 @@ def notes_are_no_refusals(place):
 
 def failures_end_a_run(place):
     """Without -k no further package is begun; with it all are. What failed and what is left can be gone on with."""
-    place.put({"MODULE.bazel": b"", **made(FEW), "p1/bad/BUILD": REFUSED, "p0/bad/BUILD": REFUSED})
+    place.put({"MODULE.bazel": b"", **made(FEW), "p1/bad/BUILD": REFUSED, "p2/bad/BUILD": REFUSED})
     status, _, err = place.run("buildozer-tree", "--processes=1", "set size small", "//...:all")
     place.expect("status", (status, err[-2].endswith("not begun"), err[-1].startswith("to go on with just these: buildozer-tree ")), (2, True, True))
     done = sum(b"size" in text for text in place.files().values())
-    place.put({"p0/bad/BUILD": ODD})
+    place.put({"p1/bad/BUILD": ODD})
     words = shlex.split(err[-1].partition(": ")[2])
     status, _, err = place.run(words[0], "-k", *words[1:])
     count = FEW + 1 - done
-    wanted = ["p1/bad/BUILD:2:1: Unexpected", "    ", "    ^ the end of the file", "    inside the '(' at 1:2", f"{count} files fixed, 1 refused", "to go on with just these: buildozer-tree -k --processes=1 'set size small' //p1/bad:all"]
+    wanted = ["p2/bad/BUILD:2:1: Unexpected", "    ", "    ^ the end of the file", "    inside the '(' at 1:2", f"{count} files fixed, 1 refused", "to go on with just these: buildozer-tree -k --processes=1 'set size small' //p2/bad:all"]
     place.expect("going on", (status, err[count:]), (2, wanted))
     place.expect("files", sum(b"size" in text for text in place.files().values()), FEW + 1)
 
