@@ -430,10 +430,10 @@ def formatted_and_taken_back(place):
     place.put({"MODULE.bazel": b"", ".gitignore": b"*.journal\n", **files})
     place.git("init", "-q")
     before = place.files()
-    place.expect("format", place.run("buildozer-tree", "--journal", "--quiet", "format", "//...:none"), (0, b"", []))
+    place.expect("format", place.run("buildozer-tree", "--journal", *QUIET, "format", "//...:none"), (0, b"", []))
     place.wants_files("formatted", {**before, **formatted(place, files)})
-    place.expect("again", place.run("buildozer-tree", "--journal", "--quiet", "format", "//...:all"), (3, b"", []))
-    place.expect("undo", place.run("buildozer-tree", "undo", "--quiet"), (0, b"", []))
+    place.expect("again", place.run("buildozer-tree", "--journal", *QUIET, "format", "//...:all"), (3, b"", []))
+    place.expect("undo", place.run("buildozer-tree", "undo", *QUIET), (0, b"", []))
     place.wants_files("taken back", before)
 
 
