@@ -104,7 +104,7 @@ module _ (grammar : Grammar) where
       let f : Form = made kind ps [] [] false false no_comments in
       form_proper_by (value_shape grammar) here f fits (subst (λ (g : Frame). in_frame g (AsRowBy (value_shape grammar) here f) (AsSequenceBy (value_shape grammar) here f) (AsCompoundBy (value_shape grammar) f)) (sym is) (parts, tt, refl, refl, λ e. absurd (true≢false (sym e))))
 
-  list_new : (items : List Expr) → AreOf grammar s.test items → IsNew (list_of items)
+  pub list_new : (items : List Expr) → AreOf grammar s.test items → IsNew (list_of items)
   list_new items h = record {
     proper = λ here.
         form_proper_by (value_shape grammar) here (record { kind = k.List; parts = []; seq = record { items = items; end = []; split = false }; open_break = false; comments = no_comments })
@@ -154,7 +154,7 @@ module _ (grammar : Grammar) where
   pub kind_function : (kind : Bytes) → IsKind kind → IsFunction grammar (function_of kind)
   kind_function kind h = names_function (slice_split (λ byte. nat_eq byte full_stop) kind) (split_full kind) (kind_pieces kind h)
 
-  call_new : (function argument : Expr) → IsFunction grammar function → IsItem grammar s.argument argument → IsNew (sequence k.Call (function ∷ []) (argument ∷ []))
+  pub call_new : (function argument : Expr) → IsFunction grammar function → IsItem grammar s.argument argument → IsNew (sequence k.Call (function ∷ []) (argument ∷ []))
   call_new function argument f a = record {
     proper = λ here.
         form_proper_by (value_shape grammar) here (record { kind = k.Call; parts = function ∷ []; seq = record { items = argument ∷ []; end = []; split = false }; open_break = false; comments = no_comments })

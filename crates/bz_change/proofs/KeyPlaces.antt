@@ -1,12 +1,12 @@
 -- The places of the keys of entries, while entries are put to them, and the entries of chosen keys.
 use Rattle.std.proofs.Common.{◌≡◌, true, List, [], ◌∷◌, refl, sym, ap, ◌∙◌, ℕ, false, subst, ◌<◌, ◌≤◌, ◌+◌, ◌||◌, take, drop, zero, suc, Bool, ◌++◌, length, get_or, set, cond, arith, true≢false}
-use Rattle.std.specs.Prelude.{None, Vec, Option, Some, bytes_eq, is_some, slice_get}
+use Rattle.std.specs.Prelude.{None, Vec, Option, Some, bytes_eq, is_some, slice_get, slice_set}
 use Rattle.bz_grammar.specs.declared.kind.Kind.TheVariants as k
-use Rattle.bz_change.specs.Words.{Expr, Bytes, Entry, string_of, mark, is_text, on_first_that}
+use Rattle.bz_change.specs.Words.{Expr, Bytes, Entry, list_of, string_of, strings_added, with_strings, mark, is_text, on_first_that}
 use Rattle.bz_rule.specs.Values.{has_kind, parts_of, with_parts, on_third}
 use Rattle.bz_rule.proofs.ProperChanges.{by_case}
 use Rattle.bz_attribute.proofs.FormsAgain.{both, if_true, parts_kind, parts_filled, if_false, if_either}
-use Rattle.bz_change.specs.Dicts.{key_in, key_of, has_some_key, has_key, entry_made, entry_changed, entry_put, entries_put}
+use Rattle.bz_change.specs.Dicts.{on_entry, value_again, list_put, entry_with, key_in, key_of, has_some_key, has_key, entry_made, entry_changed, entry_put, entries_put}
 use Rattle.std.specs.List.{list_any, position, position_from}
 use Rattle.std.specs.Option.{option_map_or, option_or}
 use Rattle.std.specs.declared.alloc.Global.{Global}
@@ -26,9 +26,9 @@ use Rattle.bz_attribute.proofs.KeySets.{equal_texts, text_cmp, or_none as or_fal
 use Rattle.bz_attribute.specs.Sets.{texts_of}
 use Rattle.bz_change.specs.private.Outcomes.{place_at, AreIndexed}
 use Rattle.std.proofs.lemmas.Iterator.Adapters.{position_from-zero}
-use Rattle.bz_attribute.proofs.ArgumentPlaces.{IsFirst, is_first, none_passes, changed_there}
+use Rattle.bz_attribute.proofs.ArgumentPlaces.{IsFirst, is_first, none_passes, changed_there, changed_nowhere}
 use Rattle.bz_change.specs.declared.dicts.Change.{Change}
-use Rattle.bz_change.specs.declared.dicts.Change.TheVariants.{Add, Set}
+use Rattle.bz_change.specs.declared.dicts.Change.TheVariants.{Add, Set, Select}
 
 -- ---- an entry with another value has its key
 
@@ -38,14 +38,18 @@ third_key change (x ∷ []) = refl
 third_key change (x ∷ y ∷ []) = refl
 third_key change (x ∷ y ∷ z ∷ rest) = refl
 
-pub key_kept : (change : Change) (current name : Bytes) (entry : Entry) (x : Expr) → key_of (entry_changed change current name entry x) ≡ key_of x
-key_kept Add current name entry x = refl
-key_kept Set current name entry x =
-    let new : List Expr = on_third (λ old. string_of current name entry.value) (parts_of x) in
+pub value_key : (change : Expr → Expr) (x : Expr) → key_of (on_entry change x) ≡ key_of x
+value_key change x =
+    let new : List Expr = on_third change (parts_of x) in
     by_case (λ (y : Expr). key_of y ≡ key_of x) (has_kind k.Entry x) (with_parts new x) x
     (λ is. if_true (has_kind k.Entry (with_parts new x)) (key_in (parts_of (with_parts new x))) None (parts_kind k.Entry new x ∙ is)
-    ∙ (ap key_in (parts_filled k.Entry new x is) ∙ (third_key (λ old. string_of current name entry.value) (parts_of x) ∙ sym (if_true (has_kind k.Entry x) (key_in (parts_of x)) None is))))
+    ∙ (ap key_in (parts_filled k.Entry new x is) ∙ (third_key change (parts_of x) ∙ sym (if_true (has_kind k.Entry x) (key_in (parts_of x)) None is))))
     (λ is. refl)
+
+pub key_kept : (change : Change) (current name : Bytes) (entry : Entry) (x : Expr) → key_of (entry_changed change current name entry x) ≡ key_of x
+key_kept Add current name entry x = refl
+key_kept Set current name entry x = value_key (λ old. string_of current name entry.value) x
+key_kept Select current name entry x = value_key (value_again current name entry.value) x
 
 -- ---- the entries of chosen keys
 
@@ -132,15 +136,15 @@ first_same test (x ∷ xs) = if_either (test x) (x ∷ xs) (x ∷ on_first_that 
 
 pub added_again : (current name : Bytes) (entry : Entry) (items : List Expr) → list_any (has_key entry.key) items ≡ true → entry_put Add current name entry items ≡ items
 added_again current name entry items h =
-    if_true (list_any (has_key entry.key) items) (on_first_that (has_key entry.key) (λ x. x) items) (items ++ entry_made current name entry ∷ []) h ∙ first_same (has_key entry.key) items
+    if_true (list_any (has_key entry.key) items) (on_first_that (has_key entry.key) (λ x. x) items) (items ++ entry_made Add current name entry ∷ []) h ∙ first_same (has_key entry.key) items
 
 module _ (change : Change) (current name : Bytes) (entry : Entry) (places : BTreeMap (Vec ℕ Global) ℕ) (items : List Expr) (all : AreIndexed places items) where
   where_found : (found : Option ℕ) → place_at places entry.key ≡ found → found ≡ position (has_key entry.key) items
   where_found found is = sym (position_from-zero (has_key entry.key) items ∙ (sym (all entry.key) ∙ is))
 
-  pub entry_absent : place_at places entry.key ≡ None → items ++ entry_made current name entry ∷ [] ≡ entry_put change current name entry items
+  pub entry_absent : place_at places entry.key ≡ None → items ++ entry_made change current name entry ∷ [] ≡ entry_put change current name entry items
   entry_absent none =
-      sym (if_false (list_any (has_key entry.key) items) (on_first_that (has_key entry.key) (entry_changed change current name entry) items) (items ++ entry_made current name entry ∷ [])
+      sym (if_false (list_any (has_key entry.key) items) (on_first_that (has_key entry.key) (entry_changed change current name entry) items) (items ++ entry_made change current name entry ∷ [])
       (list_any_none (has_key entry.key) items (none_passes (has_key entry.key) items (where_found None none)).all))
 
   module _ (at : ℕ) (is_there : place_at places entry.key ≡ Some at) where
@@ -150,19 +154,15 @@ module _ (change : Change) (current name : Bytes) (entry : Entry) (places : BTre
     there : list_any (has_key entry.key) items ≡ true
     there = list_any_at (has_key entry.key) items at (mark []) first.within (first.passes (mark []))
 
-    pub entry_kept : change ≡ Add → items ≡ entry_put change current name entry items
-    entry_kept same = sym (ap (λ (own : Change). entry_put own current name entry items) same ∙ added_again current name entry items there)
-
-    pub entry_set : change ≡ Set → (x new : Expr) → slice_get items at ≡ Some x → new ≡ entry_changed Set current name entry x → (set items at new ≡ entry_put change current name entry items) × AreIndexed places (set items at new)
-    entry_set same x new read set_new =
-        let made : new ≡ entry_changed change current name entry x = set_new ∙ ap (λ (own : Change). entry_changed own current name entry x) (sym same) in (
-          changed_there (has_key entry.key) (entry_changed change current name entry) items at x new (where_found (Some at) is_there) read made
-              ∙ sym (if_true (list_any (has_key entry.key) items) (on_first_that (has_key entry.key) (entry_changed change current name entry) items) (items ++ entry_made current name entry ∷ []) there),
-          λ key.
-              all key
-              ∙ sym (place_set (has_key key) 0 items at new x
-              (ap (has_key key) made ∙ (ap (is_text key) (key_kept change current name entry x) ∙ ap (has_key key) (sym (get_or_from_slice_get items at x x read))))),
-        )
+    pub entry_set : (x new : Expr) → slice_get items at ≡ Some x → new ≡ entry_changed change current name entry x → (set items at new ≡ entry_put change current name entry items) × AreIndexed places (set items at new)
+    entry_set x new read made = (
+      changed_there (has_key entry.key) (entry_changed change current name entry) items at x new (where_found (Some at) is_there) read made
+          ∙ sym (if_true (list_any (has_key entry.key) items) (on_first_that (has_key entry.key) (entry_changed change current name entry) items) (items ++ entry_made change current name entry ∷ []) there),
+      λ key.
+          all key
+          ∙ sym (place_set (has_key key) 0 items at new x
+          (ap (has_key key) made ∙ (ap (is_text key) (key_kept change current name entry x) ∙ ap (has_key key) (sym (get_or_from_slice_get items at x x read))))),
+    )
 
 -- what is put of the entries that are left
 pub put_next : (change : Change) (current name : Bytes) (entries : List Entry) (i : ℕ) (entry : Entry) (items new all : List Expr) → i < length entries → entry ≡ get_or entries i entry
@@ -171,3 +171,36 @@ put_next change current name entries i entry items new all within is made before
     ap (entries_put change current name (drop (i + 1) entries)) made
     ∙ (ap (λ (x : Entry). entries_put change current name (x ∷ drop (i + 1) entries) items) is
     ∙ (ap (λ (xs : List Entry). entries_put change current name xs items) (sym (drop_more entries i entry within)) ∙ before))
+
+-- ---- the first entry of a key, with another value
+
+pub entry_there : (key : Bytes) (change : Expr → Expr) (items read : List Expr) (at : ℕ) (x new : Expr) → Some at ≡ position (has_key key) read → read ≡ items → slice_get items at ≡ Some x → new ≡ on_entry change x
+    → slice_set items at new ≡ on_first_that (has_key key) (on_entry change) items
+entry_there key change items read at x new found same there made =
+    changed_there (has_key key) (on_entry change) items at x new (found ∙ ap (position (has_key key)) same) there made
+
+pub entry_nowhere : (key : Bytes) (change : Expr → Expr) (items read : List Expr) → None ≡ position (has_key key) read → read ≡ items → items ≡ on_first_that (has_key key) (on_entry change) items
+entry_nowhere key change items read none same = changed_nowhere (has_key key) (on_entry change) items (none ∙ ap (position (has_key key)) same)
+
+-- whether the key is there, by the place of its first entry
+any_by_place : (key : Bytes) (items : List Expr) (found : Option ℕ) → found ≡ position (has_key key) items → list_any (has_key key) items ≡ is_some found
+any_by_place key items None none = list_any_none (has_key key) items (none_passes (has_key key) items none).all
+any_by_place key items (Some at) found =
+    let first = is_first (has_key key) items at (mark []) found in
+    list_any_at (has_key key) items at (mark []) first.within (first.passes (mark []))
+
+module _ (current name key : Bytes) (words : List Bytes) (items read : List Expr) (found : Option ℕ) (at : found ≡ position (has_key key) read) (same : read ≡ items) where
+  is_there : list_any (has_key key) items ≡ is_some found
+  is_there = any_by_place key items found (at ∙ ap (position (has_key key)) same)
+
+  abbrev changed_list : List Expr
+  changed_list = on_first_that (has_key key) (on_entry (with_strings current name words)) items
+
+  abbrev further : List Expr
+  further = items ++ entry_with key (list_of (strings_added current name words [])) ∷ []
+
+  pub key_there : is_some found ≡ true → on_first_that (has_key key) (on_entry (with_strings current name words)) items ≡ list_put current name key words items
+  key_there some = sym (if_true (list_any (has_key key) items) changed_list further (is_there ∙ some))
+
+  pub key_nowhere : is_some found ≡ false → items ++ entry_with key (list_of (strings_added current name words [])) ∷ [] ≡ list_put current name key words items
+  key_nowhere none = sym (if_false (list_any (has_key key) items) changed_list further (is_there ∙ none))

@@ -8,13 +8,13 @@ use Rattle.std.proofs.lemmas.List.Folds.{list_any-append}
 use Rattle.bz_token.specs.declared.class.Class.TheVariants as c
 use Rattle.bz_grammar.specs.declared.kind.Kind.TheVariants as k
 use Rattle.bz_value.specs.declared.value.Expr.{Expr, items_hidden-the_row-Expr-0}
-use Rattle.bz_change.specs.Words.{Bytes, Entry, is_escaped, quoted_of, is_nonempty, attribute, is_text, is_empty, Arguments, by_value, on_first_that, with_value, with_new, without, token, mark, string_of}
+use Rattle.bz_change.specs.Words.{Bytes, Entry, is_escaped, quoted_of, is_nonempty, attribute, is_text, is_empty, Arguments, by_value, on_first_that, with_value, with_new, without, token, mark}
 use Rattle.bz_rule.specs.Values.{has_kind, items_of, on_items, with_items}
 use Rattle.bz_rule.proofs.ProperChanges.{by_test, by_case}
 use Rattle.bz_value.specs.declared.refusal.Refusal.TheVariants.{NotADict}
 use Rattle.bz_change.specs.declared.dicts.Change.{Change}
 use Rattle.bz_change.specs.declared.dicts.Change.TheVariants.{Add, Set}
-use Rattle.bz_change.specs.Dicts.{key_in, key_of, has_key, has_some_key, entry_made, entry_changed, entry_put, entries_put, without_entries, dict_of, on_dict, with_dict_left, dict_remove}
+use Rattle.bz_change.specs.Dicts.{entry_with, value_made, key_in, key_of, has_key, has_some_key, entry_made, entry_changed, entry_put, entries_put, without_entries, dict_of, on_dict, with_dict_left, dict_remove}
 use Rattle.bz_change.specs.Laws.{are_keys, has_keys, have_plain_keys, keys_of, EntriesAddedAgain, EntriesAddedAreThere, EntriesSetAreThere, EntriesRemovedAgain}
 use Rattle.bz_attribute.proofs.ArgumentForms.{any_same}
 use Rattle.bz_attribute.proofs.AttributesAgain.{by_there, by_absent, same_made, with_value_same, node_parts, attribute_new, without_new, attribute_changed}
@@ -25,10 +25,10 @@ use Rattle.bz_change.proofs.KeyPlaces.{added_again, key_kept}
 
 -- ---- by the value of the attribute
 
-abbrev dict_there : Bytes → (List Expr → List Expr) → List Expr → Expr → Arguments
+abbrev pub dict_there : Bytes → (List Expr → List Expr) → List Expr → Expr → Arguments
 dict_there name change xs value = if has_kind k.Dict value then Ok (with_value name (on_items k.Dict change value) xs) else Err NotADict
 
-dict_items : (xs : List Expr) → items_of (dict_of xs) ≡ xs
+pub dict_items : (xs : List Expr) → items_of (dict_of xs) ≡ xs
 dict_items xs = items_hidden-the_row-Expr-0 xs
 
 -- ---- keys that are there
@@ -51,12 +51,13 @@ adding_again current name entries xs value own h =
 -- ---- the keys of new entries
 
 -- the key of a new entry is there
-made_key : (current name : Bytes) (entry : Entry) → IsPlain entry.key → has_key entry.key (entry_made current name entry) ≡ true
-made_key current name entry plain =
-    let key : Expr = token c.String (quoted_of entry.key) in
-    let read : key_of (entry_made current name entry) ≡ Some entry.key =
-    ap key_in (node_parts k.Entry (key ∷ mark (codes ":") ∷ string_of current name entry.value ∷ [])) ∙ body_quoted entry.key plain in
-    ap (λ (found : Option Bytes). is_text entry.key found) read ∙ equal_self entry.key
+pub new_key : (key : Bytes) (value : Expr) → IsPlain key → has_key key (entry_with key value) ≡ true
+new_key key value plain =
+    let read : key_of (entry_with key value) ≡ Some key = ap key_in (node_parts k.Entry (token c.String (quoted_of key) ∷ mark (codes ":") ∷ value ∷ [])) ∙ body_quoted key plain in
+    ap (λ (found : Option Bytes). is_text key found) read ∙ equal_self key
+
+made_key : (change : Change) (current name : Bytes) (entry : Entry) → IsPlain entry.key → has_key entry.key (entry_made change current name entry) ≡ true
+made_key change current name entry plain = new_key entry.key (value_made change current name entry.value) plain
 
 -- an entry of this key is there
 abbrev IsThere : Bytes → List Expr → Type 0
@@ -65,11 +66,9 @@ IsThere key items = list_any (has_key key) items ≡ true
 there_before : (key : Bytes) (items more : List Expr) → IsThere key items → IsThere key (items ++ more)
 there_before key items more h = list_any-append (has_key key) items more ∙ or_left (list_any (has_key key) items) (list_any (has_key key) more) h
 
-there_last : (current name : Bytes) (entry : Entry) (items : List Expr) → IsPlain entry.key → IsThere entry.key (items ++ entry_made current name entry ∷ [])
-there_last current name entry items plain =
-    list_any-append (has_key entry.key) items (entry_made current name entry ∷ [])
-    ∙ or_right (list_any (has_key entry.key) items) (has_key entry.key (entry_made current name entry) || false)
-    (or_left (has_key entry.key (entry_made current name entry)) false (made_key current name entry plain))
+pub there_last : (key : Bytes) (items : List Expr) (new : Expr) → has_key key new ≡ true → IsThere key (items ++ new ∷ [])
+there_last key items new h =
+    list_any-append (has_key key) items (new ∷ []) ∙ or_right (list_any (has_key key) items) (has_key key new || false) (or_left (has_key key new) false h)
 
 -- each entry that is put in takes no key away, and its own key is there then
 module _ (change : Change) (current name : Bytes) where
@@ -81,13 +80,13 @@ module _ (change : Change) (current name : Bytes) where
 
   stays : (entry : Entry) (items : List Expr) (key : Bytes) → IsThere key items → IsThere key (entry_put change current name entry items)
   stays entry items key h =
-      by_test (IsThere key) (list_any (has_key entry.key) items) (changed entry items) (items ++ entry_made current name entry ∷ [])
-      (changed_same entry items key ∙ h) (there_before key items (entry_made current name entry ∷ []) h)
+      by_test (IsThere key) (list_any (has_key entry.key) items) (changed entry items) (items ++ entry_made change current name entry ∷ [])
+      (changed_same entry items key ∙ h) (there_before key items (entry_made change current name entry ∷ []) h)
 
   comes : (entry : Entry) (items : List Expr) → IsPlain entry.key → IsThere entry.key (entry_put change current name entry items)
   comes entry items plain =
-      by_case (IsThere entry.key) (list_any (has_key entry.key) items) (changed entry items) (items ++ entry_made current name entry ∷ [])
-      (λ h. changed_same entry items entry.key ∙ h) (λ h. there_last current name entry items plain)
+      by_case (IsThere entry.key) (list_any (has_key entry.key) items) (changed entry items) (items ++ entry_made change current name entry ∷ [])
+      (λ h. changed_same entry items entry.key ∙ h) (λ h. there_last entry.key items (entry_made change current name entry) (made_key change current name entry plain))
 
   all_stay : (entries : List Entry) (items : List Expr) (key : Bytes) → IsThere key items → IsThere key (entries_put change current name entries items)
   all_stay [] items key h = h
@@ -152,9 +151,9 @@ all_some : (current name : Bytes) (keys : List Bytes) (entries : List Entry) (it
 all_some current name keys [] items plain f a = a
 all_some current name keys (entry ∷ entries) items plain f a =
     let p = and_parts (not (list_any is_escaped entry.key)) (have_plain_keys entries) plain in
-    let new : Expr = entry_made current name entry in
+    let new : Expr = entry_made Add current name entry in
     let own : HasSome keys new =
-    f new (or_left (has_key entry.key new) (has_some_key (keys_of entries) new) (made_key current name entry (not-true (list_any is_escaped entry.key) p.0))) in
+    f new (or_left (has_key entry.key new) (has_some_key (keys_of entries) new) (made_key Add current name entry (not-true (list_any is_escaped entry.key) p.0))) in
     all_some current name keys entries (entry_put Add current name entry items) p.1
     (λ x h. f x (or_right (has_key entry.key x) (has_some_key (keys_of entries) x) h))
     (by_test (AllByRecursion (HasSome keys)) (list_any (has_key entry.key) items) (on_first_that (has_key entry.key) (λ x. x) items) (items ++ new ∷ [])

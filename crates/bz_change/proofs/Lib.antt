@@ -1,5 +1,6 @@
 pub mod KeyPlaces
 pub mod LawDicts
+pub mod LawLists
 pub mod LawRenaming
 pub mod ProperCommands
 pub mod ProperDicts

@@ -28,7 +28,7 @@ use Rattle.bz_attribute.proofs.ProperAttributes.{AreArguments, Made, Keeps, of_v
 
 -- ---- what is set
 
-constant_name : (word : Bytes) → is_constant word ≡ true → IsLexeme c.Name word
+pub constant_name : (word : Bytes) → is_constant word ≡ true → IsLexeme c.Name word
 constant_name word h = elim (or_cases (bytes_eq word (codes "True")) (bytes_eq word (codes "False") || bytes_eq word (codes "None")) h) [
   | inl a ↦ subst (IsLexeme c.Name) (sym (equal_texts word (codes "True") a)) ((identifiers_are_names (codes "True")).0 refl)
   | inr b ↦ elim (or_cases (bytes_eq word (codes "False")) (bytes_eq word (codes "None")) b) [
@@ -41,7 +41,7 @@ each_digit : (word : Bytes) → list_all is_ascii_digit word ≡ true → Each i
 each_digit [] h = tt
 each_digit (byte ∷ word) h = let w = and_parts (is_ascii_digit byte) (list_all is_ascii_digit word) h in (w.0, each_digit word w.1)
 
-digits : (word : Bytes) → is_decimal word ≡ true → IsDigits word
+pub digits : (word : Bytes) → is_decimal word ≡ true → IsDigits word
 digits [] h = absurd (true≢false (sym h))
 digits (byte ∷ word) h = let w = and_parts (nat_lt 0 (length (byte ∷ word))) (list_all is_ascii_digit (byte ∷ word)) h in each_digit (byte ∷ word) w.1
 

@@ -9,10 +9,10 @@ use Rattle.std.proofs.lemmas.Bool.{eq-eqb}
 use Rattle.std.proofs.lemmas.List.Folds.{list_any_at, list_any_none}
 use Rattle.bz_attribute.proofs.ArgumentPlaces as places
 use Rattle.bz_attribute.proofs.FormsAgain.{attribute_any, if_false}
-use Rattle.bz_change.specs.Changes.{is_token, are_tokens, rename}
+use Rattle.bz_change.specs.Changes.{each_same, rename}
 
-pub tokens_beside : (tokens items : List Expr) → length tokens ≡ length items → list_all (λ pair. is_token pair.0 pair.1) (zip tokens items) ≡ are_tokens tokens items
-tokens_beside tokens items same = sym (ap (λ (b : Bool). b && list_all (λ pair. is_token pair.0 pair.1) (zip tokens items)) (eq-eqb (length tokens) (length items) same))
+pub each_beside : (test : Expr → Expr → Bool) (xs ys : List Expr) → length xs ≡ length ys → list_all (λ pair. test pair.0 pair.1) (zip xs ys) ≡ each_same test xs ys
+each_beside test xs ys same = sym (ap (λ (b : Bool). b && list_all (λ pair. test pair.0 pair.1) (zip xs ys)) (eq-eqb (length xs) (length ys) same))
 
 pub attribute_there : (name : Bytes) (xs read : List Expr) (i : ℕ) → Some i ≡ position (is_attribute name) read → read ≡ xs → has_attribute name xs ≡ true
 attribute_there name xs read i at same =

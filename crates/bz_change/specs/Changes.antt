@@ -32,12 +32,13 @@ abbrev pub is_token : Expr → Expr → Bool
 is_token (Token t) x = has_class t.class x && bytes_eq (text_of x) t.text
 is_token (Form' kind s parts s' items end split open_break comments) x = false
 
-abbrev pub are_tokens : List Expr → List Expr → Bool
-are_tokens xs items = nat_eq (length xs) (length items) && list_all (λ pair. is_token pair.0 pair.1) (zip xs items)
+-- as many, and each the same as the one beside it
+abbrev pub each_same : (Expr → Expr → Bool) → List Expr → List Expr → Bool
+each_same same xs ys = nat_eq (length xs) (length ys) && list_all (λ pair. same pair.0 pair.1) (zip xs ys)
 
 -- the value differs from what is set, a token or a list of tokens, only in comments and flags
 abbrev pub is_set : Expr → Expr → Bool
-is_set new value = if has_kind k.List new then has_kind k.List value && are_tokens (items_of new) (items_of value) else is_token new value
+is_set new value = if has_kind k.List new then has_kind k.List value && each_same is_token (items_of new) (items_of value) else is_token new value
 
 abbrev pub set : Bytes → Bytes → List Bytes → List Expr → Arguments
 set current name words arguments =

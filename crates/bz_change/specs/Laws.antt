@@ -1,10 +1,10 @@
 -- Laws of the commands on dicts.
-use Rattle.std.specs.Prelude.{◌≡◌, Bool, true, false, not, ◌&&◌, List, Some, Ok, map}
+use Rattle.std.specs.Prelude.{◌≡◌, ◌≤◌, ℕ, Bool, true, false, not, ◌&&◌, List, Some, Ok, map}
 use Rattle.std.specs.List.{list_any, list_all}
 use Rattle.std.specs.Option.{option_map_or}
 use Rattle.bz_grammar.specs.declared.kind.Kind.TheVariants as k
-use Rattle.bz_change.specs.Words.{Bytes, Expr, Entry, is_escaped, is_nonempty, attribute, has_kind, items_of, has_attribute}
-use Rattle.bz_change.specs.Dicts.{has_key, dict_add, dict_set, dict_remove}
+use Rattle.bz_change.specs.Words.{Bytes, Expr, Entry, amount, attribute, become_plain, has_attribute, has_kind, is_escaped, is_nonempty, items_of, one_if, total}
+use Rattle.bz_change.specs.Dicts.{dict_add, dict_list_add, dict_remove, dict_set, has_key, set_select}
 
 -- an entry has the key of each of these
 abbrev pub are_keys : List Entry → List Expr → Bool
@@ -48,3 +48,21 @@ EntriesRemovedAgain =
     (current name : Bytes) (entries : List Entry) (arguments new : List Expr)
     → has_attribute name arguments ≡ false → is_nonempty entries ≡ true → have_plain_keys entries ≡ true → dict_add current name entries arguments ≡ Ok new
     → dict_remove name (keys_of entries) new ≡ Ok arguments
+
+-- Values that are added to the list of a key once more are there already. Where key and values become strings that are plain.
+abbrev pub ListAddedTwice : Type 0
+ListAddedTwice =
+    (current name key : Bytes) (words : List Bytes) (arguments new : List Expr)
+    → list_any is_escaped key ≡ false → become_plain words ≡ true → dict_list_add current name key words arguments ≡ Ok new
+    → dict_list_add current name key words new ≡ Ok new
+
+-- how often a comment occurs in these
+abbrev pub times_in : Bytes → List Expr → ℕ
+times_in text exprs = total (amount (one_if text)) exprs
+
+-- A `select` takes no comment away where the attribute was absent.
+abbrev pub SelectKeepsComments : Type 0
+SelectKeepsComments =
+    (current name : Bytes) (entries : List Entry) (arguments new : List Expr)
+    → has_attribute name arguments ≡ false → set_select current name entries arguments ≡ Ok new
+    → (text : Bytes) → times_in text arguments ≤ times_in text new

@@ -1,6 +1,6 @@
 //! Facts about the definitions, for readers: the functions do nothing.
 ghost use Rattle.bz_change.specs.Changes.{RenamedBack};
-ghost use Rattle.bz_change.specs.Laws.{EntriesAddedAgain, EntriesAddedAreThere, EntriesSetAreThere, EntriesRemovedAgain};
+ghost use Rattle.bz_change.specs.Laws.{EntriesAddedAgain, EntriesAddedAreThere, EntriesSetAreThere, EntriesRemovedAgain, ListAddedTwice, SelectKeepsComments};
 
 /// Renaming there and back gives the arguments before.
 #[tactic(auto, using(crate::proofs::LawRenaming::renamed_back))]
@@ -30,4 +30,16 @@ pub fn set_entries_are_there()
 #[tactic(auto, using(crate::proofs::LawDicts::removing_again))]
 pub fn removing_entries_again()
     ensures { EntriesRemovedAgain }
+{}
+
+/// Adding values to the list of a key twice is adding them once.
+#[tactic(auto, using(crate::proofs::LawLists::added_twice))]
+pub fn adding_to_a_list_again()
+    ensures { ListAddedTwice }
+{}
+
+/// A `select` in the place of no value takes no comment away.
+#[tactic(auto, using(crate::proofs::LawLists::select_keeps))]
+pub fn selects_keep_comments()
+    ensures { SelectKeepsComments }
 {}

@@ -3,11 +3,12 @@
 
 mod dicts;
 mod laws;
+mod selects;
 mod whole;
 
 pub use dicts::change_dicts;
 pub use laws::{
-    added_entries_are_there, adding_entries_again, removing_entries_again, renamed_back,
-    set_entries_are_there,
+    added_entries_are_there, adding_entries_again, adding_to_a_list_again, removing_entries_again,
+    renamed_back, selects_keep_comments, set_entries_are_there,
 };
 pub use whole::change_attributes;

@@ -5,7 +5,7 @@ ghost use Rattle.std.specs.Option.{option_copied, option_map_or};
 ghost use Rattle.std.specs.Char.{is_ascii_digit};
 ghost use Rattle.bz_grammar.specs.declared.kind.Kind.TheVariants as kinds;
 ghost use Rattle.bz_change.specs.Words.{attribute, on_first, on_row, with_text, is_other_attribute};
-ghost use Rattle.bz_change.specs.Changes.{attributes_changed, setting, is_token, are_tokens, is_set, set, remove, rename};
+ghost use Rattle.bz_change.specs.Changes.{attributes_changed, each_same, is_set, is_token, remove, rename, set, setting, single_setting};
 ghost use Rattle.bz_change.specs.private.Outcomes.{IsOutcome};
 
 use bz_attribute::{
@@ -28,21 +28,27 @@ fn are_digits(word: &[u8]) -> bool
     word.iter().all(u8::is_ascii_digit)
 }
 
+/// What `set` makes of one word where the attribute is no list attribute: a token.
+pub(crate) fn single_setting(slot: Slot<'_>, word: &[u8]) -> Result<Expr, Memory>
+    ensures { IfOk result (λ new. new ≡ single_setting slot.entry.current.now slot.entry.attribute.now word.now) }
+{
+    if word == b"True".as_slice() || word == b"False".as_slice() || word == b"None".as_slice() {
+        return new_token(slot.alloc, Class::Name, word);
+    }
+    if !word.is_empty() && are_digits(word) {
+        return new_token(slot.alloc, Class::Number, word);
+    }
+    string_of(slot, word)
+}
+
 /// What `set` makes of these words in an attribute: a token, or a list of strings.
-fn setting_of(slot: Slot<'_>, words: &[Text]) -> Result<Expr, Memory>
+pub(crate) fn setting_of(slot: Slot<'_>, words: &[Text]) -> Result<Expr, Memory>
     ensures { IfOk result (λ new. new ≡ setting slot.entry.current.now slot.entry.attribute.now words.now) }
 {
     if let [word] = words
         && !is_list_attribute(slot.attribute)
     {
-        let word = word.as_slice();
-        if word == b"True".as_slice() || word == b"False".as_slice() || word == b"None".as_slice() {
-            return new_token(slot.alloc, Class::Name, word);
-        }
-        if !word.is_empty() && are_digits(word) {
-            return new_token(slot.alloc, Class::Number, word);
-        }
-        return string_of(slot, word);
+        return single_setting(slot, word.as_slice());
     }
     let mut strings = Vec::with_capacity(slot.alloc, words.len())?;
     for word in words {
@@ -61,26 +67,32 @@ fn is_token(new: &Expr, x: &Expr) -> bool
     x.class == new.class && x.text.as_slice() == new.text.as_slice()
 }
 
-/// Whether each item is the token beside it.
-fn each_is_token(tokens: &[Expr], items: &[Expr]) -> bool
-    ensures { result ≡ list_all (λ pair. is_token pair.0 pair.1) (zip tokens.now items.now) }
+/// Whether each expression is the token beside it.
+fn each_is_token(tokens: &[Expr], exprs: &[Expr]) -> bool
+    ensures { result ≡ list_all (λ pair. is_token pair.0 pair.1) (zip tokens.now exprs.now) }
 {
     tokens
         .iter()
-        .zip(items)
+        .zip(exprs)
         .all(|(token, x)| is_token(token, x))
 }
 
+/// The same, and they are as many.
+#[tactic(auto, using(crate::proofs::SettingsTexts::each_beside))]
+pub(crate) fn are_tokens(tokens: &[Expr], exprs: &[Expr]) -> bool
+    ensures { result ≡ each_same is_token tokens.now exprs.now }
+{
+    tokens.len() == exprs.len() && each_is_token(tokens, exprs)
+}
+
 /// Whether the value differs from what is set only in comments and flags.
-#[tactic(auto, using(crate::proofs::SettingsTexts::tokens_beside))]
-fn is_set(new: &Expr, value: &Expr) -> bool
+pub(crate) fn is_set(new: &Expr, value: &Expr) -> bool
     ensures { result ≡ is_set new.now value.now }
 {
     if !has_kind(Kind::List, new) {
         return is_token(new, value);
     }
-    let (tokens, items) = (items_of(new), items_of(value));
-    has_kind(Kind::List, value) && tokens.len() == items.len() && each_is_token(tokens, items)
+    has_kind(Kind::List, value) && are_tokens(items_of(new), items_of(value))
 }
 
 /// The attribute's value becomes these words.

@@ -3,8 +3,6 @@ use Rattle.std.proofs.Common.{◌≡◌, ℕ, false, List, [], ◌∷◌, get_or
 use Rattle.std.specs.Prelude.{IfOk}
 use Rattle.std.specs.Option.{option_and_then}
 use Rattle.bz_command.specs.Words.{Bytes, Operation}
-use Rattle.bz_command_syntax.specs.Words.{is_nonempty}
-use Rattle.bz_command_syntax.specs.Identifiers.{is_identifier}
 use Rattle.bz_command_syntax.specs.Commands as c
 use Rattle.bz_command_syntax.specs.declared.command.Operation.TheVariants as w
 use Rattle.bz_command_syntax.specs.declared.command.RuleOperation.TheVariants as wr
@@ -54,10 +52,14 @@ set_if_absent_listed words =
 
 remove_listed : (words : List Bytes) → ReadsAsListed (row_at 5) (c.remove_of words)
 remove_listed [] = tt
-remove_listed (attribute ∷ values) =
-    by_test (ReadsAsListed (row_at 5)) (is_nonempty values) _ _
-    (made_listed (row_at 5) (λ name. w.Value (wv.Remove name values)) (c.given (is_identifier attribute) attribute) (λ _. (refl, refl, refl, refl)))
-    (made_listed (row_at 5) (λ attributes. w.Attribute (wa.Remove attributes)) (c.attributes_of attribute) (λ _. (refl, refl, refl, refl)))
+remove_listed (attribute ∷ []) = made_listed (row_at 5) (λ attributes. w.Attribute (wa.Remove attributes)) (c.attributes_of attribute) (λ _. (refl, refl, refl, refl))
+remove_listed (attribute ∷ value ∷ values) =
+    made_listed (row_at 5) (λ attributes. w.Value (wv.Remove attributes (value ∷ values))) (c.attributes_of attribute) (λ _. (refl, refl, refl, refl))
+
+set_select_listed : (words : List Bytes) → ReadsAsListed (row_at 18) (c.set_select_of words)
+set_select_listed words =
+    by_test (ReadsAsListed (row_at 18)) (c.begins_with_kind words) _ _ tt
+    (made_listed (row_at 18) (λ parts. w.Dict (wd.Select parts.0 parts.1)) (c.attribute_pairs words) (λ _. (refl, refl, refl, refl)))
 
 -- ---- the table
 
@@ -69,18 +71,23 @@ commands_are_listed =
     (listed (row_at 3) set_if_absent_listed
     (listed (row_at 4) (form_listed (row_at 4) (λ parts. w.Value (wv.Add parts.0 parts.1)) c.attribute_values (λ _. (refl, refl, refl, refl)))
     (listed (row_at 5) remove_listed
-    (listed (row_at 6) (form_listed (row_at 6) (λ parts. w.Value (wv.Replace parts.0 parts.1 parts.2)) c.attributes_words (λ _. (refl, refl, refl, refl)))
-    (listed (row_at 7) (form_listed (row_at 7) (λ parts. w.Value (wv.Substitute parts.0 parts.1 parts.2)) c.attributes_words (λ _. (refl, refl, refl, refl)))
-    (listed (row_at 8) (form_listed (row_at 8) (λ parts. w.Value (wv.Move parts.0 parts.1 parts.2)) c.moved_values (λ _. (refl, refl, refl, refl)))
-    (listed (row_at 9) (form_listed (row_at 9) (λ parts. w.Attribute (wa.Rename parts.0 parts.1)) c.two_attributes (λ _. (refl, refl, refl, refl)))
-    (listed (row_at 10) (form_listed (row_at 10) (λ parts. w.Attribute (wa.Copy parts.0 parts.1)) c.attribute_word (λ _. (refl, refl, refl, refl)))
-    (listed (row_at 11) (form_listed (row_at 11) (λ parts. w.Attribute (wa.CopyNoOverwrite parts.0 parts.1)) c.attribute_word (λ _. (refl, refl, refl, refl)))
-    (listed (row_at 12) (form_listed (row_at 12) (λ parts. w.Dict (wd.Add parts.0 parts.1)) c.dict_entries (λ _. (refl, refl, refl, refl)))
-    (listed (row_at 13) (form_listed (row_at 13) (λ parts. w.Dict (wd.Set parts.0 parts.1)) c.dict_entries (λ _. (refl, refl, refl, refl)))
-    (listed (row_at 14) (form_listed (row_at 14) (λ parts. w.Dict (wd.Remove parts.0 parts.1)) c.attribute_values (λ _. (refl, refl, refl, refl)))
-    (listed (row_at 15) (form_listed (row_at 15) (λ parts. w.Load (wl.New parts.0 parts.1)) c.path_symbols (λ _. (refl, refl, refl, refl)))
-    (listed (row_at 16) (form_listed (row_at 16) (λ parts. w.Comment (wc.Add parts.0 parts.1)) (λ words. option_and_then c.host_text (c.split_last words)) (λ _. (refl, refl, refl, refl)))
-    (listed (row_at 17) (form_listed (row_at 17) (λ host. w.Comment (wc.Print host)) c.host_of (λ _. (refl, refl, refl, refl)))
-    (listed (row_at 18) (form_listed (row_at 18) (λ host. w.Comment (wc.Remove host)) c.host_of (λ _. (refl, refl, refl, refl)))
-    (listed (row_at 19) (form_listed (row_at 19) (λ fixes. w.Load (wl.Fix fixes)) c.fixes_of (λ _. (refl, refl, refl, refl)))
-    (listed (row_at 20) (form_listed (row_at 20) (λ fields. w.Print fields) c.fields_of (λ _. (refl, refl, refl, refl))) tt))))))))))))))))))))
+    (listed (row_at 6) (form_listed (row_at 6) (λ parts. w.Value (wv.RemoveIfEqual parts.0 parts.1)) c.attribute_word (λ _. (refl, refl, refl, refl)))
+    (listed (row_at 7) (form_listed (row_at 7) (λ parts. w.Value (wv.Replace parts.0 parts.1 parts.2)) c.attributes_words (λ _. (refl, refl, refl, refl)))
+    (listed (row_at 8) (form_listed (row_at 8) (λ parts. w.Value (wv.Substitute parts.0 parts.1 parts.2)) c.attributes_words (λ _. (refl, refl, refl, refl)))
+    (listed (row_at 9) (form_listed (row_at 9) (λ parts. w.Value (wv.Move parts.0 parts.1 parts.2)) c.moved_values (λ _. (refl, refl, refl, refl)))
+    (listed (row_at 10) (form_listed (row_at 10) (λ parts. w.Attribute (wa.Rename parts.0 parts.1)) c.two_attributes (λ _. (refl, refl, refl, refl)))
+    (listed (row_at 11) (form_listed (row_at 11) (λ parts. w.Attribute (wa.Copy parts.0 parts.1)) c.attribute_word (λ _. (refl, refl, refl, refl)))
+    (listed (row_at 12) (form_listed (row_at 12) (λ parts. w.Attribute (wa.CopyNoOverwrite parts.0 parts.1)) c.attribute_word (λ _. (refl, refl, refl, refl)))
+    (listed (row_at 13) (form_listed (row_at 13) (λ parts. w.Dict (wd.Add parts.0 parts.1)) c.dict_entries (λ _. (refl, refl, refl, refl)))
+    (listed (row_at 14) (form_listed (row_at 14) (λ parts. w.Dict (wd.Set parts.0 parts.1)) c.dict_entries (λ _. (refl, refl, refl, refl)))
+    (listed (row_at 15) (form_listed (row_at 15) (λ parts. w.Dict (wd.Remove parts.0 parts.1)) c.attribute_values (λ _. (refl, refl, refl, refl)))
+    (listed (row_at 16) (form_listed (row_at 16) (λ parts. w.Dict (wd.ReplaceIfEqual parts.0 parts.1 parts.2 parts.3)) c.key_words (λ _. (refl, refl, refl, refl)))
+    (listed (row_at 17) (form_listed (row_at 17) (λ parts. w.Dict (wd.ListAdd parts.0 parts.1 parts.2)) c.key_values (λ _. (refl, refl, refl, refl)))
+    (listed (row_at 18) set_select_listed
+    (listed (row_at 19) (form_listed (row_at 19) (λ parts. w.Load (wl.New parts.0 parts.1)) c.path_symbols (λ _. (refl, refl, refl, refl)))
+    (listed (row_at 20) (form_listed (row_at 20) (λ parts. w.Load (wl.Substitute parts.0 parts.1)) c.two_words (λ _. (refl, refl, refl, refl)))
+    (listed (row_at 21) (form_listed (row_at 21) (λ parts. w.Comment (wc.Add parts.0 parts.1)) (λ words. option_and_then c.host_text (c.split_last words)) (λ _. (refl, refl, refl, refl)))
+    (listed (row_at 22) (form_listed (row_at 22) (λ host. w.Comment (wc.Print host)) c.host_of (λ _. (refl, refl, refl, refl)))
+    (listed (row_at 23) (form_listed (row_at 23) (λ host. w.Comment (wc.Remove host)) c.host_of (λ _. (refl, refl, refl, refl)))
+    (listed (row_at 24) (form_listed (row_at 24) (λ fixes. w.Load (wl.Fix fixes)) c.fixes_of (λ _. (refl, refl, refl, refl)))
+    (listed (row_at 25) (form_listed (row_at 25) (λ fields. w.Print fields) c.fields_of (λ _. (refl, refl, refl, refl))) tt)))))))))))))))))))))))))

@@ -24,12 +24,12 @@ use Rattle.bz_rule.proofs.ProperChanges.{by_test, by_case}
 use Rattle.bz_value.specs.declared.refusal.Refusal.TheVariants.{NoTarget, NoAttribute, AttributeExists, NotAList, NoSource, NameTaken}
 use Rattle.bz_attribute.specs.Attributes.{is_attribute, has_attribute, is_other_attribute, on_first_that, on_value, with_value, with_new, put}
 use Rattle.bz_change.specs.Changes.{setting, is_set, set, set_if_absent, rename, copy, copy_no_overwrite}
-use Rattle.bz_list.specs.Changes.{with_items_added, add, in_value, in_attributes, replaced_item, replace, with_body, substituted_item, substitute}
+use Rattle.bz_list.specs.Changes.{strings_added, with_items_added, add, in_value, in_attributes, replaced_item, replace, with_body, substituted_item, substitute}
 use Rattle.bz_command.specs.Effect.{NewItem, with_arguments, made_of, on_rule, on_arguments, with_item_first, on_meant, new_rule_place, with_rule, source, on_rules, on_statement, meant}
 use Rattle.bz_command_syntax.specs.declared.command.Host.TheVariants.{Rule, Attribute, Item as ItemHost}
-use Rattle.bz_change.specs.Dicts.{dict_add}
-use Rattle.bz_change.proofs.ProperDicts.{dict_add_grows}
-use Rattle.bz_load.proofs.LawComments.{amount_answered, new_load_same, put_total}
+use Rattle.bz_change.specs.Dicts.{dict_add, dict_list_add, dict_replace_if_equal}
+use Rattle.bz_change.proofs.ProperDicts.{dict_add_grows, dict_list_add_grows, dict_replace_if_equal_grows}
+use Rattle.bz_load.proofs.LawComments.{amount_answered, new_load_same, put_total, substitute_load_same}
 use Rattle.bz_comment.proofs.LawBack.{own_grows, comment_grows}
 use Rattle.bz_command.specs.Laws.{keeps_comments, CommentsStay}
 use Rattle.bz_command.proofs.ProperEffects.{effect_by}
@@ -40,7 +40,7 @@ use Rattle.bz_attribute.proofs.AttributesAgain.{of_found}
 use Rattle.bz_attribute.proofs.FormsAgain.{if_false, made}
 use Rattle.bz_attribute.proofs.Grown.{itself, in_turn, both_at_most, Grows, map_grows, first_grows, first_that_grows}
 use Rattle.bz_attribute.proofs.GrownArguments.{text_grows, on_row_grows, on_lists_grows, on_value_grows, more_grows, plus_grows, with_value_grows, inserted_grows, Grown}
-use Rattle.bz_list.proofs.LawAdded.{grown, strings_for}
+use Rattle.bz_list.proofs.LawAdded.{grown}
 
 module _ (number : Bytes → ℕ) where
   abbrev whole : Expr → ℕ
@@ -210,13 +210,18 @@ module _ (number : Bytes → ℕ) where
   rules_keep (w.Attribute (wa.Rename from to)) current marks items h = by_arguments (rename from to) (rename_keeps from to) marks items
   rules_keep (w.Attribute (wa.CopyNoOverwrite name rule)) current marks items h =
       by_arguments (copy_no_overwrite name (source name rule items)) (copy_keeps name (source name rule items)) marks items
-  rules_keep (w.Value (wv.Add name words)) current marks items h = by_arguments (add current name words) (added_keeps name (strings_for current name words)) marks items
+  rules_keep (w.Value (wv.Add name words)) current marks items h = by_arguments (add current name words) (added_keeps name (strings_added current name words)) marks items
   rules_keep (w.Value (wv.Replace attributes old new)) current marks items h = by_arguments (replace current attributes old new) (replace_keeps current attributes old new) marks items
   rules_keep (w.Value (wv.Substitute attributes pattern template)) current marks items h =
       by_arguments (substitute current attributes pattern template) (substitute_keeps current attributes pattern template) marks items
   rules_keep (w.Dict (wd.Add name entries)) current marks items h = by_arguments (dict_add current name entries) (dict_add_grows number current name entries) marks items
+  rules_keep (w.Dict (wd.ReplaceIfEqual name key old new)) current marks items h =
+      by_arguments (dict_replace_if_equal current name key old new) (dict_replace_if_equal_grows number current name key old new) marks items
+  rules_keep (w.Dict (wd.ListAdd name key words)) current marks items h = by_arguments (dict_list_add current name key words) (dict_list_add_grows number current name key words) marks items
   rules_keep (w.Load (wl.New path symbols)) current marks items h =
       subst (λ n. total size items ≤ n) (sym (new_load_same number path symbols items)) (itself (total size items))
+  rules_keep (w.Load (wl.Substitute pattern template)) current marks items h =
+      subst (λ n. total size items ≤ n) (sym (substitute_load_same number pattern template items)) (itself (total size items))
   rules_keep (w.Comment (wc.Add Rule text)) current marks items h = meant_keeps (λ item. Ok (on_statement (with_comment text) item)) (statement_keeps text) marks items
   rules_keep (w.Comment (wc.Add (Attribute name) text)) current marks items h = by_arguments (comment current (Attribute name) text) (comment_grows number current (Attribute name) text) marks items
   rules_keep (w.Comment (wc.Add (ItemHost name word) text)) current marks items h = by_arguments (comment current (ItemHost name word) text) (comment_grows number current (ItemHost name word) text) marks items

@@ -14,6 +14,7 @@ use Rattle.bz_command_syntax.specs.declared.command.AttributeOperation.TheVarian
 use Rattle.bz_command_syntax.specs.declared.command.ValueOperation.TheVariants as wv
 use Rattle.bz_command_syntax.specs.declared.command.DictOperation.TheVariants as wd
 use Rattle.bz_command_syntax.specs.declared.command.LoadOperation.TheVariants as wl
+use Rattle.bz_command_syntax.specs.declared.command.Attributes.TheVariants as attributes_of
 use Rattle.bz_command_syntax.specs.declared.command.CommentOperation.TheVariants as wc
 use Rattle.bz_rule.proofs.ProperChanges.{by_test, by_case}
 use Rattle.bz_rule.proofs.ProperArguments.{attribute_value}
@@ -21,11 +22,11 @@ use Rattle.bz_rule.proofs.ProperItems.{IsValue}
 use Rattle.bz_rule.proofs.ProperRules.{RuleItem, rule_item, on_statement}
 use Rattle.bz_command.specs.Effect.{is_rule, meant, may_mean_none, printed_rules, kept, lacks_rules, on_statement as statement_with, NewItem, with_arguments, with_function, made_of, on_rule, on_arguments, with_item_first, on_meant, unmarked, new_rule_place, rule_arguments, with_rule, on_one, on_each, on_rules, effect, source, source_of}
 use Rattle.bz_change.specs.Changes.{set, set_if_absent, remove, rename, copy, copy_no_overwrite}
-use Rattle.bz_list.specs.Changes.{add, remove_values, replace, substitute, move}
+use Rattle.bz_list.specs.Changes.{add, remove_everywhere, remove_if_equal, remove_values, replace, substitute, move}
 use Rattle.bz_command_syntax.specs.declared.command.Host.TheVariants as r
-use Rattle.bz_change.specs.Dicts.{dict_add, dict_set, dict_remove}
-use Rattle.bz_change.proofs.ProperDicts.{dict_add_keeps, dict_set_keeps, dict_remove_keeps}
-use Rattle.bz_load.proofs.ProperLoads.{new_load_keeps, fix_keeps}
+use Rattle.bz_change.specs.Dicts.{dict_add, dict_list_add, dict_remove, dict_replace_if_equal, dict_set, set_select}
+use Rattle.bz_change.proofs.ProperDicts.{dict_add_keeps, dict_list_add_keeps, dict_remove_keeps, dict_replace_if_equal_keeps, dict_set_keeps, set_select_keeps}
+use Rattle.bz_load.proofs.ProperLoads.{new_load_keeps, fix_keeps, substitute_load_keeps}
 use Rattle.bz_load.proofs.PlaceSteps.{all_put}
 use Rattle.bz_comment.proofs.ProperComments.{comment_keeps, remove_comment_keeps, statement_keeps, remove_statement_keeps}
 use Rattle.bz_value.specs.declared.refusal.Refusal.TheVariants.{NoTarget, NameTaken}
@@ -33,7 +34,7 @@ use Rattle.bz_command.specs.Laws.{EffectsStayProper}
 use Rattle.bz_attribute.proofs.ProperAttributes.{Made, Keeps}
 use Rattle.bz_command_syntax.proofs.PlainTexts.{substituted_utf8}
 use Rattle.bz_change.proofs.ProperCommands.{set_keeps, set_if_absent_keeps, remove_keeps, rename_keeps, copy_keeps, copy_no_overwrite_keeps}
-use Rattle.bz_list.proofs.ProperCommands.{add_keeps, remove_values_keeps, replace_keeps, substitute_keeps, move_keeps}
+use Rattle.bz_list.proofs.ProperCommands.{add_keeps, remove_everywhere_keeps, remove_if_equal_keeps, remove_values_keeps, replace_keeps, substitute_keeps, move_keeps}
 use Rattle.bz_attribute.proofs.ProperMade.{made_rule, kind_function}
 
 there_is : (P : Rule → Type 0) (C : Type 0) → ((rule : Rule) → P rule → C) → (o : Option Rule) → is_some o ≡ true → IfSome o P → C
@@ -146,14 +147,20 @@ module _ (grammar : Grammar) where
     each_keeps (w.Attribute (wa.CopyNoOverwrite name rule)) p =
         arguments_changed (copy_no_overwrite name (source name rule items)) (copy_no_overwrite_keeps grammar name (source name rule items) p.0 (source_value name rule items h))
     each_keeps (w.Value (wv.Add name words)) p = arguments_changed (add current name words) (add_keeps grammar current name words p.0 p.1.1)
-    each_keeps (w.Value (wv.Remove name words)) p = arguments_changed (remove_values current name words) (remove_values_keeps grammar current name words)
+    each_keeps (w.Value (wv.Remove attributes_of.All words)) p = arguments_changed (remove_everywhere current words) (remove_everywhere_keeps grammar current words)
+    each_keeps (w.Value (wv.Remove (attributes_of.Named name) words)) p = arguments_changed (remove_values current name words) (remove_values_keeps grammar current name words)
     each_keeps (w.Value (wv.Replace attributes old new)) p = arguments_changed (replace current attributes old new) (replace_keeps grammar current attributes old new p.2)
     each_keeps (w.Value (wv.Substitute attributes pattern template)) p =
         arguments_changed (substitute current attributes pattern template) (substitute_keeps grammar current attributes pattern template (substituted_utf8 pattern template))
     each_keeps (w.Value (wv.Move from to values)) p = arguments_changed (move current from to values) (move_keeps grammar current from to values p.1)
+    each_keeps (w.Value (wv.RemoveIfEqual name word)) p = arguments_changed (remove_if_equal current name word) (remove_if_equal_keeps grammar current name word)
     each_keeps (w.Dict (wd.Add name entries)) p = arguments_changed (dict_add current name entries) (dict_add_keeps grammar current name entries p.0 p.1)
     each_keeps (w.Dict (wd.Set name entries)) p = arguments_changed (dict_set current name entries) (dict_set_keeps grammar current name entries p.0 p.1)
     each_keeps (w.Dict (wd.Remove name keys)) p = arguments_changed (dict_remove name keys) (dict_remove_keeps grammar name keys)
+    each_keeps (w.Dict (wd.ReplaceIfEqual name key old new)) p =
+        arguments_changed (dict_replace_if_equal current name key old new) (dict_replace_if_equal_keeps grammar current name key old new p.0 p.3)
+    each_keeps (w.Dict (wd.ListAdd name key words)) p = arguments_changed (dict_list_add current name key words) (dict_list_add_keeps grammar current name key words p.0 p.1 p.2.1)
+    each_keeps (w.Dict (wd.Select name entries)) p = arguments_changed (set_select current name entries) (set_select_keeps grammar current name entries p.0 p.1)
     each_keeps (w.Load operation) p = unchanged
     each_keeps (w.Comment (wc.Add r.Rule text)) p = statement_changed (with_comment text) (statement_keeps grammar text p.1 p.2)
     each_keeps (w.Comment (wc.Add (r.Attribute name) text)) p = arguments_changed (comment current (r.Attribute name) text) (comment_keeps grammar current (r.Attribute name) text p.0 p.1 p.2)
@@ -177,6 +184,7 @@ module _ (grammar : Grammar) where
       rules_made (w.Dict operation) p = by_each (w.Dict operation) p
       rules_made (w.Load (wl.New path symbols)) p = new_load_keeps grammar path symbols items p.0 p.1 h
       rules_made (w.Load (wl.Fix fixes)) p = fix_keeps grammar fixes items h
+      rules_made (w.Load (wl.Substitute pattern template)) p = substitute_load_keeps grammar pattern template items h
       rules_made (w.Comment operation) p = by_each (w.Comment operation) p
       rules_made (w.Print fields) p = h
 

@@ -1,9 +1,9 @@
 -- Which rules a target means, and what a command prints of them and makes of a file value.
-use Rattle.std.specs.Prelude.{ℕ, ◌+◌, Bool, true, false, ◌&&◌, List, [], ◌∷◌, codes, length, map, is_some, nat_eq, ◌++◌, Option, Some, None, Result, Ok, Err, decimal, option_map, if◌then◌else◌, not}
-use Rattle.bz_command.specs.Words.{Which, Item, rule_of, is_rule_of_kind, has_name, Rule as RuleRead, attribute, Bytes, comments_of, Operation, Host, Refusal, print_comment, with_comment, without_comments, comment, remove_comment, Target, Expr, LoadOperation, RulePlace, with_items, with_parts, on_row, on_first, function_of, rule_made, Arguments, attributes_changed, values_changed, dicts_changed, fix, new_load, prints}
+use Rattle.std.specs.Prelude.{ℕ, ◌+◌, Bool, true, false, ◌&&◌, List, [], ◌∷◌, codes, length, map, is_some, nat_eq, ◌++◌, Option, Some, None, Result, Ok, Err, decimal, option_map, if◌then◌else◌, not, bytes_eq}
+use Rattle.bz_command.specs.Words.{Which, Item, rule_of, is_rule_of_kind, has_name, Rule as RuleRead, attribute, Bytes, comments_of, Operation, Host, Refusal, print_comment, with_comment, without_comments, comment, remove_comment, Target, Expr, LoadOperation, RulePlace, with_items, with_parts, on_row, on_first, function_of, rule_made, Arguments, attributes_changed, values_changed, dicts_changed, fix, new_load, substitute_load, prints}
 use Rattle.bz_label.specs.declared.target.Which.TheVariants.{All, Kind, Line, Package, Name}
 use Rattle.bz_value.specs.declared.value.Item.TheVariants as i
-use Rattle.std.specs.Option.{option_map_or}
+use Rattle.std.specs.Option.{option_map_or, option_or}
 use Rattle.bz_command_syntax.specs.declared.command.Operation.TheVariants as w
 use Rattle.bz_command_syntax.specs.declared.command.CommentOperation.TheVariants as wc
 use Rattle.bz_command.specs.Prints.{printed_item}
@@ -137,11 +137,16 @@ unmarked _ _ = []
 
 -- ---- new
 
--- After how many items a new rule goes: at the end, or beside the first rule of a name, where that is there.
+-- the place of the first rule of a name; where there is none, `__pkg__` is the first rule of kind `package`
+abbrev pub place_beside : Bytes → List Item → Option ℕ
+place_beside name items =
+    option_or (position (has_name name) items) (if bytes_eq name (codes "__pkg__") then position (is_rule_of_kind (codes "package")) items else None)
+
+-- After how many items a new rule goes: at the end, or beside a rule, where that is there.
 abbrev pub new_rule_place : RulePlace → List Item → Option ℕ
 new_rule_place End items = Some (length items)
-new_rule_place (Before rule) items = position (has_name rule) items
-new_rule_place (After rule) items = option_map (λ at. at + 1) (position (has_name rule) items)
+new_rule_place (Before rule) items = place_beside rule items
+new_rule_place (After rule) items = option_map (λ at. at + 1) (place_beside rule items)
 
 abbrev pub with_rule : Bytes → Bytes → RulePlace → List Item → Result (List Item) Refusal
 with_rule kind name place items =
@@ -186,6 +191,7 @@ on_each operation current marks items = on_meant (on_one operation current (sour
 abbrev pub loads_changed : LoadOperation → List Item → List Item
 loads_changed (wl.New path symbols) items = new_load path symbols items
 loads_changed (wl.Fix fixes) items = fix fixes items
+loads_changed (wl.Substitute pattern template) items = substitute_load pattern template items
 
 -- what a command makes of the rules that are marked
 abbrev pub on_rules : Operation → Bytes → List Bool → List Item → Result (List Item) Refusal

@@ -38,6 +38,7 @@ command_rows =
     ∷ row (codes "set_if_absent") (codes "attributes" ∷ []) false true true
     ∷ row (codes "add") (codes "values" ∷ []) false true true
     ∷ row (codes "remove") (codes "attributes" ∷ codes "values" ∷ []) false true false
+    ∷ row (codes "remove_if_equal") (codes "values" ∷ []) false true false
     ∷ row (codes "replace") (codes "values" ∷ []) false true true
     ∷ row (codes "substitute") (codes "values" ∷ []) false true true
     ∷ row (codes "move") (codes "values" ∷ []) false true false
@@ -47,7 +48,11 @@ command_rows =
     ∷ row (codes "dict_add") (codes "dicts" ∷ []) false true true
     ∷ row (codes "dict_set") (codes "dicts" ∷ []) false true false
     ∷ row (codes "dict_remove") (codes "dicts" ∷ []) false true false
+    ∷ row (codes "dict_replace_if_equal") (codes "dicts" ∷ []) false true true
+    ∷ row (codes "dict_list_add") (codes "dicts" ∷ []) false true true
+    ∷ row (codes "set_select") (codes "dicts" ∷ []) false true false
     ∷ row (codes "new_load") (codes "loads" ∷ []) false false true
+    ∷ row (codes "substitute_load") (codes "loads" ∷ []) false false true
     ∷ row (codes "comment") (codes "comments" ∷ []) false true true
     ∷ row (codes "print_comment") (codes "comments" ∷ []) true true true
     ∷ row (codes "remove_comment") (codes "comments" ∷ []) false true false

@@ -64,9 +64,19 @@ rest = node k.Star (mark (codes "**") ∷ name (codes "rest") ∷ [])
 abbrev env : List (Bytes × Bytes) → Expr
 env entries = argument_of (codes "env") (sequence k.Dict [] (map (λ entry. binary k.Entry (string entry.0) (codes ":") (string entry.1)) entries))
 
--- load("//:d.bzl", "SYMBOL", ..)
+-- env = {ENTRY, ..}, and select({ENTRY, ..})
+abbrev dict : List Expr → Expr
+dict entries = argument_of (codes "env") (sequence k.Dict [] entries)
+
+abbrev selected : List Expr → Expr
+selected entries = call (name (codes "select")) (sequence k.Dict [] entries ∷ [])
+
+-- load("PATH", "SYMBOL", ..), and load("//:d.bzl", "SYMBOL", ..)
+abbrev load_from : Expr → List Bytes → Item
+load_from path symbols = i.Stmt (sequence k.Load (token c.Keyword (codes "load") ∷ []) (path ∷ map string symbols))
+
 abbrev load : List Bytes → Item
-load symbols = i.Stmt (sequence k.Load (token c.Keyword (codes "load") ∷ []) (map string (codes "//:d.bzl" ∷ symbols)))
+load symbols = load_from (string (codes "//:d.bzl")) symbols
 
 -- "# c" above, and "#  s" at the end of the line
 abbrev noted : HostComments
@@ -127,6 +137,10 @@ Rules =
     -- There is no rule of that name, which is reported before a name that is taken.
     × (made (codes "new g x after z") All (x [] ∷ []) ≡ refuses NoTarget)
     × (made (codes "new g x") All (x [] ∷ []) ≡ refuses NameTaken)
+    -- `__pkg__` is the first rule of that name, else the first one of kind `package`.
+    × (made (codes "new g y before __pkg__") All (x [] ∷ settings ∷ settings ∷ []) ≡ gives (x [] ∷ y [] ∷ settings ∷ settings ∷ []))
+    × (made (codes "new g y after __pkg__") All (settings ∷ rule_of (codes "f") (codes "__pkg__") [] ∷ []) ≡ gives (settings ∷ rule_of (codes "f") (codes "__pkg__") [] ∷ y [] ∷ []))
+    × (made (codes "new g y after __pkg__") All (x [] ∷ []) ≡ refuses NoTarget)
     -- The rule is of another kind; its name and its other arguments stay.
     × (done (codes "set kind g") (small ∷ []) ≡ gives (rule_of (codes "g") (codes "x") (small ∷ []) ∷ []))
 
@@ -156,6 +170,15 @@ Values =
     -- All go that mean the value, and with the last one the attribute.
     × (done (codes "remove deps a") (deps (codes ":a" ∷ codes ":b" ∷ codes "//p:a" ∷ []) ∷ []) ≡ leaves (deps (codes ":b" ∷ []) ∷ []))
     × (done (codes "remove deps :a") (deps (codes ":a" ∷ []) ∷ small ∷ []) ≡ leaves (small ∷ []))
+    -- From all attributes but the name; one without a list stays.
+    × (done (codes "remove * a x") (small ∷ deps (codes ":a" ∷ codes ":b" ∷ []) ∷ listed (codes "tags") (codes "a" ∷ []) ∷ listed (codes "copts") (codes ":a" ∷ []) ∷ rest ∷ [])
+    ≡ leaves (small ∷ deps (codes ":b" ∷ []) ∷ listed (codes "copts") (codes ":a" ∷ []) ∷ rest ∷ []))
+    -- The attribute goes where it is the value: a string that means it, or a number; another one stays, and so does a list.
+    × (done (codes "remove_if_equal size small") (small ∷ large ∷ []) ≡ leaves (large ∷ []))
+    × (done (codes "remove_if_equal size small") (large ∷ small ∷ []) ≡ leaves (large ∷ small ∷ []))
+    × (done (codes "remove_if_equal size 5") (argument_of (codes "size") (token c.Number (codes "5")) ∷ []) ≡ leaves [])
+    × (done (codes "remove_if_equal deps :a") (deps (codes ":a" ∷ []) ∷ []) ≡ leaves (deps (codes ":a" ∷ []) ∷ []))
+    × (done (codes "remove_if_equal size small") [] ≡ leaves [])
     -- Each that means the old value becomes the new one, in all attributes but the name.
     × (done (codes "replace * x y") (assigned (codes "size") (codes "x") ∷ listed (codes "tags") (codes "x" ∷ codes "z" ∷ []) ∷ [])
     ≡ leaves (assigned (codes "size") (codes "y") ∷ listed (codes "tags") (codes "y" ∷ codes "z" ∷ []) ∷ []))
@@ -174,13 +197,36 @@ Dicts =
     -- All entries of the key go, and with the last one the attribute.
     × (done (codes "dict_remove env A") (env ((codes "A", codes "1") ∷ (codes "B", codes "2") ∷ (codes "A", codes "3") ∷ []) ∷ []) ≡ leaves (env ((codes "B", codes "2") ∷ []) ∷ []))
     × (done (codes "dict_remove env A") (env ((codes "A", codes "1") ∷ []) ∷ small ∷ []) ≡ leaves (small ∷ []))
+    -- The value of the first entry of the key becomes another one, where it is this one.
+    × (done (codes "dict_replace_if_equal env A 1 2") (env ((codes "A", codes "1") ∷ (codes "A", codes "1") ∷ []) ∷ []) ≡ leaves (env ((codes "A", codes "2") ∷ (codes "A", codes "1") ∷ []) ∷ []))
+    × (done (codes "dict_replace_if_equal env A 1 2") (dict (binary k.Entry (string (codes "A")) (codes ":") (token c.Number (codes "1")) ∷ []) ∷ [])
+    ≡ leaves (dict (binary k.Entry (string (codes "A")) (codes ":") (token c.Number (codes "2")) ∷ []) ∷ []))
+    × (done (codes "dict_replace_if_equal env A 3 2") (env ((codes "A", codes "1") ∷ []) ∷ []) ≡ leaves (env ((codes "A", codes "1") ∷ []) ∷ []))
+    × (done (codes "dict_replace_if_equal env B 1 2") (env ((codes "A", codes "1") ∷ []) ∷ []) ≡ leaves (env ((codes "A", codes "1") ∷ []) ∷ []))
+    × (done (codes "dict_replace_if_equal size A 1 2") (small ∷ []) ≡ refuses NotADict)
+    × (done (codes "dict_replace_if_equal env A 1 2") [] ≡ leaves [])
+    -- Values go to the list of the key, but for those that are there; a new entry, and a new attribute, where that is absent.
+    × (done (codes "dict_list_add env A b a") (dict (binary k.Entry (string (codes "A")) (codes ":") (list_of (string (codes "a") ∷ [])) ∷ []) ∷ [])
+    ≡ leaves (dict (binary k.Entry (string (codes "A")) (codes ":") (list_of (string (codes "a") ∷ string (codes "b") ∷ [])) ∷ []) ∷ []))
+    × (done (codes "dict_list_add env A a a") [] ≡ leaves (dict (binary k.Entry (string (codes "A")) (codes ":") (list_of (string (codes "a") ∷ [])) ∷ []) ∷ []))
+    × (done (codes "dict_list_add env A a") (env ((codes "A", codes "1") ∷ []) ∷ []) ≡ refuses NotAList)
+    × (done (codes "dict_list_add size A a") (small ∷ []) ≡ refuses NotADict)
+    -- A `select`; a key that comes again has the later value, and in a list attribute both.
+    × (done (codes "set_select size //c:x small //c:x 5") (large ∷ [])
+    ≡ leaves (argument_of (codes "size") (selected (binary k.Entry (string (codes "//c:x")) (codes ":") (token c.Number (codes "5")) ∷ [])) ∷ []))
+    × (done (codes "set_select deps //c:x //p:a //c:x b") []
+    ≡ leaves (argument_of (codes "deps") (selected (binary k.Entry (string (codes "//c:x")) (codes ":") (list_of (string (codes ":a") ∷ string (codes "b") ∷ [])) ∷ [])) ∷ []))
+    × (made (codes "set_select size //c:x small") (Name (codes "z")) (x [] ∷ []) ≡ refuses NoTarget)
 
--- Both commands look at no rule that the target means.
+-- These look at no rule that the target means.
 abbrev Loads : Type 0
 Loads =
     -- A new load goes after the comments at the top of the file, a further symbol to the end of the first load of the path.
     (made (codes "new_load //:d.bzl a") (Name (codes "z")) (block ∷ x [] ∷ []) ≡ gives (block ∷ load (codes "a" ∷ []) ∷ x [] ∷ []))
     × (made (codes "new_load //:d.bzl a b") All (load (codes "a" ∷ []) ∷ x [] ∷ load [] ∷ []) ≡ gives (load (codes "a" ∷ codes "b" ∷ []) ∷ x [] ∷ load [] ∷ []))
+    -- The path of each load has another text; what a pattern makes of it is a premise.
+    × ((substituted (codes "d") (codes "e") (codes "//:d.bzl") ≡ codes "//:e.bzl")
+    → made (codes "substitute_load d e") (Name (codes "z")) (load (codes "a" ∷ []) ∷ x [] ∷ []) ≡ gives (load_from (string (codes "//:e.bzl")) (codes "a" ∷ []) ∷ x [] ∷ []))
     -- The rule x uses the symbol f alone; the package goes to the top.
     × (made (codes "fix") All (load (codes "a" ∷ codes "f" ∷ []) ∷ x [] ∷ settings ∷ []) ≡ gives (load (codes "f" ∷ []) ∷ settings ∷ x [] ∷ []))
 

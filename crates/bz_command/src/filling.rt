@@ -98,8 +98,21 @@ fn size_in_each(work: Work<'_, '_>, operation: &Operation) -> Result<usize, Memo
             (attribute, words_size(values.as_slice()))
         }
         Operation::Dict(
-            DictOperation::Add { attribute, entries } | DictOperation::Set { attribute, entries },
+            DictOperation::Add { attribute, entries }
+            | DictOperation::Set { attribute, entries }
+            | DictOperation::Select { attribute, entries },
         ) => (attribute, entries_size(entries.as_slice())),
+        Operation::Dict(
+            DictOperation::ListAdd {
+                attribute,
+                key,
+                values,
+            },
+        ) => (
+            attribute,
+            words_size(values.as_slice()).saturating_add(word_size(key)),
+        ),
+        Operation::Dict(DictOperation::ReplaceIfEqual { new, .. }) => (new, 0),
         Operation::Attribute(AttributeOperation::Rename { to, .. })
         | Operation::Value(ValueOperation::Move { to, .. }) => (to, 0),
         Operation::Rule(RuleOperation::SetKind { kind }) => (kind, 0),

@@ -1,10 +1,10 @@
 //! What a command makes of a rule, and of the items of a file: of the rules at some places, with a new rule, without some, and of loads.
 //! Items that stay are moved.
-ghost use Rattle.std.specs.Prelude.{◌≡◌, ◌⊎◌, ◌↔◌, ◌≤◌, ◌<◌, ◌+◌, ◌∷◌, ◌++◌, [], ℕ, Bool, List, drop, false, length, slice_get, slice_set, None, Ok, Err, OnOk, IsTrue, IfOk, IfErr, IfSome, if◌then◌else◌};
+ghost use Rattle.std.specs.Prelude.{◌≡◌, ◌⊎◌, ◌↔◌, ◌≤◌, ◌<◌, ◌+◌, ◌∷◌, ◌++◌, [], ℕ, Bool, List, codes, drop, false, length, slice_get, slice_set, None, Ok, Err, OnOk, IsTrue, IfOk, IfErr, IfSome, if◌then◌else◌};
 ghost use Rattle.std.specs.List.{insert, list_any, position};
 ghost use Rattle.std.specs.Option.{option_copied};
-ghost use Rattle.bz_command.specs.Words.{Item, AreOver, IsSpliced, has_name, held_name, HaveSameNames, Bytes, AreListed, Ascend, function_of, changed_by};
-ghost use Rattle.bz_command.specs.Effect.{is_rule, loads_changed, looks_at_rules, on_arguments, on_meant, on_rules, on_statement, new_rule_place, source, source_of, unmarked, with_function};
+ghost use Rattle.bz_command.specs.Words.{Item, AreOver, IsSpliced, has_name, held_name, HaveSameNames, Bytes, AreListed, Ascend, function_of, changed_by, is_rule_of_kind};
+ghost use Rattle.bz_command.specs.Effect.{is_rule, loads_changed, looks_at_rules, on_arguments, on_meant, on_rules, on_statement, new_rule_place, place_beside, source, source_of, unmarked, with_function};
 ghost use Rattle.bz_command.specs.private.Looks.{arguments_by, made_by, marks_by, one_made_by, places_by, says_itself};
 ghost use Rattle.bz_command.specs.private.Growing.{IsCompared, IsGrown};
 
@@ -20,8 +20,8 @@ use bz_comment::{Change, change_comments, change_own};
 use bz_items::{Items, Memory, Text};
 use bz_label::Target;
 use bz_list::change_values;
-use bz_load::{LoadedPaths, fix, new_load};
-use bz_rule::{attribute, has_name, held_name};
+use bz_load::{LoadedPaths, fix, new_load, substitute_load};
+use bz_rule::{attribute, has_name, held_name, is_rule_of_kind};
 use bz_value::{Expr, Item, Refusal, Window};
 use std::alloc::Global;
 
@@ -396,6 +396,29 @@ fn place_of_rule(name: &[u8], items: &[Item]) -> Option<usize>
     items.iter().position(|item| has_name(name, item))
 }
 
+/// The place of the first rule of kind `package`.
+#[tactic(auto, using(crate::proofs::RunningItems::rule_within))]
+fn place_of_package(items: &[Item]) -> Option<usize>
+    ensures place { result ≡ position (is_rule_of_kind (codes "package")) items.now }
+    ensures within { IfSome result (λ at. at < length items.now) }
+{
+    items
+        .iter()
+        .position(|item| is_rule_of_kind(b"package", item))
+}
+
+/// The place of the first rule of this name; where there is none, `__pkg__` means the first rule of kind `package`.
+fn place_beside(name: &[u8], items: &[Item]) -> Option<usize>
+    ensures place { result ≡ place_beside name.now items.now }
+    ensures within { IfSome result (λ at. at < length items.now) }
+{
+    let named = place_of_rule(name, items);
+    if named.is_none() && name == b"__pkg__".as_slice() {
+        return place_of_package(items);
+    }
+    named
+}
+
 /// Where a new rule goes: after how many items. `None`: the rule beside which it goes isn't there.
 #[tactic(auto, using(crate::proofs::RunningItems::at_most))]
 fn place_of_new(place: &RulePlace, items: &[Item]) -> Option<usize>
@@ -404,8 +427,8 @@ fn place_of_new(place: &RulePlace, items: &[Item]) -> Option<usize>
 {
     match place {
         RulePlace::End => Some(items.len()),
-        RulePlace::Before(rule) => place_of_rule(rule.as_slice(), items),
-        RulePlace::After(rule) => match place_of_rule(rule.as_slice(), items) {
+        RulePlace::Before(rule) => place_beside(rule.as_slice(), items),
+        RulePlace::After(rule) => match place_beside(rule.as_slice(), items) {
             Some(at) => Some(at + 1),
             None => None,
         },
@@ -447,7 +470,19 @@ pub fn looks_for_load(command: &Command) -> bool {
     )
 }
 
-/// What an operation on the symbols that the file loads makes of its items, of which there may be the paths from which they load.
+/// Items that were made of others, and where they are others.
+fn compared(alloc: Global, new: Items<Item>, items: &[Item]) -> Result<Changed, Memory>
+    ensures items { IfOk result (λ changed. changed.items ≡ new) }
+    ensures compared { IfOk result (IsCompared items.now) }
+{
+    Ok(Changed {
+        windows: window_between(alloc, items, new.as_slice())?,
+        items: new,
+        same_names: false,
+    })
+}
+
+/// What an operation on what the file loads makes of its items, of which there may be the paths from which they load.
 fn on_loads(
     alloc: Global,
     operation: &LoadOperation,
@@ -474,11 +509,11 @@ fn on_loads(
         }
         LoadOperation::Fix { fixes } => {
             let new = fix(alloc, *fixes, items.as_slice())?;
-            Ok(Changed {
-                windows: window_between(alloc, items.as_slice(), new.as_slice())?,
-                items: new,
-                same_names: false,
-            })
+            compared(alloc, new, items.as_slice())
+        }
+        LoadOperation::Substitute { pattern, template } => {
+            let new = substitute_load(alloc, pattern, template.as_slice(), items.as_slice())?;
+            compared(alloc, new, items.as_slice())
         }
     }
 }

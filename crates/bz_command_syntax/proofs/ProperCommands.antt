@@ -1,5 +1,5 @@
 -- Every command that is read is proper.
-use Rattle.std.proofs.Common.{◌≡◌, Bool, true, false, List, [], ◌∷◌, ◌&&◌, not, Option, Some, None, Ok, Err, refl, subst, arith, IsUtf8, IfSome, codes, bytes_eq, option_map}
+use Rattle.std.proofs.Common.{◌≡◌, Bool, true, false, List, [], ◌∷◌, ◌&&◌, not, Option, Some, None, Ok, Err, refl, sym, subst, true≢false, arith, IsUtf8, IfSome, codes, bytes_eq, option_map}
 use Rattle.std.specs.Prelude.{if◌then◌else◌}
 use Rattle.std.specs.Str.{is_utf8, chars}
 use lib.Utf8.{encode}
@@ -75,6 +75,23 @@ values_proper [] u = tt
 values_proper (attribute ∷ values) u =
     given_is _ _ _ (λ h. let i = and_parts (is_identifier attribute) (is_nonempty values) h in ((i.0, u.0), (i.1, u.1)))
 
+key_values_proper : Gives c.key_values (λ parts. IsAttribute parts.0 × IsUtf8 parts.1 × AreValues parts.2)
+key_values_proper (attribute ∷ key ∷ values) u =
+    given_is _ _ _ (λ h. let i = and_parts (is_identifier attribute) (is_nonempty values) h in ((i.0, u.0), u.1.0, (i.1, u.1.1)))
+key_values_proper _ u = tt
+
+key_words_proper : Gives c.key_words (λ parts. IsAttribute parts.0 × IsUtf8 parts.1 × IsUtf8 parts.2 × IsUtf8 parts.3)
+key_words_proper (attribute ∷ key ∷ old ∷ new ∷ []) u =
+    given_is (λ (parts : Bytes × Bytes × Bytes × Bytes). IsAttribute parts.0 × IsUtf8 parts.1 × IsUtf8 parts.2 × IsUtf8 parts.3) _ _ (λ i. ((i, u.0), u.1.0, u.1.1.0, u.1.1.1.0))
+key_words_proper _ u = tt
+
+abbrev pub AreTexts : Bytes × Bytes → Type 0
+AreTexts parts = IsUtf8 parts.0 × IsUtf8 parts.1
+
+pub two_words_proper : (words : List Bytes) → AreUtf8 words → IfSome (c.two_words words) AreTexts
+two_words_proper (first ∷ second ∷ []) u = (u.0, u.1.0)
+two_words_proper _ u = tt
+
 attributes_proper : (word : Bytes) → IsUtf8 word → IfSome (c.attributes_of word) AreAttributes
 attributes_proper word u = either _ (c.is_star word) _ _ (λ _. tt) (given_is _ (is_identifier word) _ (λ i. (i, u)))
 
@@ -122,6 +139,26 @@ entries_proper (attribute ∷ words) u =
     either _ (is_identifier attribute && is_nonempty words) _ _ (λ h.
     let i = and_parts (is_identifier attribute) (is_nonempty words) h in
     mapped (AreSome IsEntry) _ (λ entries. (attribute, entries)) (c.each_of c.entry_of words) (some_proper IsEntry c.entry_of entry_proper words i.1 u.1) (λ entries e. ((i.0, u.0), e))) tt
+
+pairs_proper : (words : List Bytes) → AreUtf8 words → IfSome (c.pairs_of words) (EachIs IsEntry)
+pairs_proper [] u = tt
+pairs_proper (key ∷ []) u = tt
+pairs_proper (key ∷ value ∷ words) u =
+    mapped (EachIs IsEntry) _ (λ entries. record { key = key; value = value } ∷ entries) (c.pairs_of words) (pairs_proper words u.1.1) (λ entries e. ((u.0, u.1.0), e))
+
+-- there is one where there is a word
+some_pairs : (words : List Bytes) → is_nonempty words ≡ true → AreUtf8 words → IfSome (c.pairs_of words) (AreSome IsEntry)
+some_pairs [] n u = absurd (true≢false (sym n))
+some_pairs (key ∷ []) n u = tt
+some_pairs (key ∷ value ∷ words) n u =
+    mapped (EachIs IsEntry) (AreSome IsEntry) (λ entries. record { key = key; value = value } ∷ entries) (c.pairs_of words) (pairs_proper words u.1.1) (λ entries e. (refl, ((u.0, u.1.0), e)))
+
+attribute_pairs_proper : Gives c.attribute_pairs (λ parts. IsAttribute parts.0 × AreSome IsEntry parts.1)
+attribute_pairs_proper [] u = tt
+attribute_pairs_proper (attribute ∷ words) u =
+    either _ (is_identifier attribute && is_nonempty words) _ _ (λ h.
+    let i = and_parts (is_identifier attribute) (is_nonempty words) h in
+    mapped (AreSome IsEntry) _ (λ entries. (attribute, entries)) (c.pairs_of words) (some_pairs words i.1 u.1) (λ entries e. ((i.0, u.0), e))) tt
 
 names_proper : (to from : Bytes) → IsUtf8 to → IsUtf8 from → IfSome (c.symbol_of_names to from) IsSymbol
 names_proper to from u v = given_is _ _ _ (λ h. let i = and_parts (is_identifier to) (is_identifier from) h in ((i.0, u), (i.1, v)))
@@ -212,10 +249,18 @@ set_if_absent_proper words u =
 
 remove_proper : IsProperReader c.remove_of
 remove_proper [] u = tt
-remove_proper (attribute ∷ values) u =
-    if_proper (is_nonempty values) _ _
-    (λ some. made_proper (λ name. w.Value (wv.Remove name values)) (c.given (is_identifier attribute) attribute) (given_is _ (is_identifier attribute) attribute (λ i. ((i, u.0), (some, u.1)))))
-    (made_proper (λ attributes. w.Attribute (wa.Remove attributes)) (c.attributes_of attribute) (attributes_proper attribute u.0))
+remove_proper (attribute ∷ []) u = by_form (λ attributes. w.Attribute (wa.Remove attributes)) (λ words. c.attributes_of attribute) (λ words v. attributes_proper attribute u.0) [] tt
+remove_proper (attribute ∷ value ∷ values) u =
+    made_proper (λ attributes. w.Value (wv.Remove attributes (value ∷ values))) (c.attributes_of attribute)
+    (mapped_proper (c.attributes_of attribute) (attributes_proper attribute u.0))
+  where
+    mapped_proper : (o : Option Attributes) → IfSome o AreAttributes → IfSome o (λ attributes. AreAttributes attributes × AreValues (value ∷ values))
+    mapped_proper None h = tt
+    mapped_proper (Some attributes) h = (h, (refl, u.1))
+
+set_select_proper : IsProperReader c.set_select_of
+set_select_proper words u =
+    if_proper (c.begins_with_kind words) _ _ (λ _. tt) (by_form (λ parts. w.Dict (wd.Select parts.0 parts.1)) c.attribute_pairs attribute_pairs_proper words u)
 
 abbrev AllReadProper : List (Bytes × (Bytes × Reader)) → Type 0
 AllReadProper [] = Unit {0}
@@ -233,6 +278,7 @@ commands_proper =
     (with_row set_if_absent_proper
     (with_row (by_form (λ parts. w.Value (wv.Add parts.0 parts.1)) c.attribute_values values_proper)
     (with_row remove_proper
+    (with_row (by_form (λ parts. w.Value (wv.RemoveIfEqual parts.0 parts.1)) c.attribute_word word_proper)
     (with_row (by_form (λ parts. w.Value (wv.Replace parts.0 parts.1 parts.2)) c.attributes_words words_proper)
     (with_row (by_form (λ parts. w.Value (wv.Substitute parts.0 parts.1 parts.2)) c.attributes_words words_proper)
     (with_row (by_form (λ parts. w.Value (wv.Move parts.0 parts.1 parts.2)) c.moved_values moved_proper)
@@ -242,12 +288,16 @@ commands_proper =
     (with_row (by_form (λ parts. w.Dict (wd.Add parts.0 parts.1)) c.dict_entries entries_proper)
     (with_row (by_form (λ parts. w.Dict (wd.Set parts.0 parts.1)) c.dict_entries entries_proper)
     (with_row (by_form (λ parts. w.Dict (wd.Remove parts.0 parts.1)) c.attribute_values values_proper)
+    (with_row (by_form (λ parts. w.Dict (wd.ReplaceIfEqual parts.0 parts.1 parts.2 parts.3)) c.key_words key_words_proper)
+    (with_row (by_form (λ parts. w.Dict (wd.ListAdd parts.0 parts.1 parts.2)) c.key_values key_values_proper)
+    (with_row set_select_proper
     (with_row (by_form (λ parts. w.Load (wl.New parts.0 parts.1)) c.path_symbols symbols_proper)
+    (with_row (by_form (λ parts. w.Load (wl.Substitute parts.0 parts.1)) c.two_words two_words_proper)
     (with_row (by_form (λ parts. w.Comment (wc.Add parts.0 parts.1)) (λ words. option_and_then c.host_text (c.split_last words)) text_proper)
     (with_row (by_form (λ host. w.Comment (wc.Print host)) c.host_of host_proper)
     (with_row (by_form (λ host. w.Comment (wc.Remove host)) c.host_of host_proper)
     (with_row (by_form (λ fixes. w.Load (wl.Fix fixes)) c.fixes_of (λ words u. fixes_proper (c.fixes_of words)))
-    (with_row (by_form w.Print c.fields_of fields_proper) tt))))))))))))))))))))
+    (with_row (by_form w.Print c.fields_of fields_proper) tt)))))))))))))))))))))))))
 
 named_proper : (table : List (Bytes × (Bytes × Reader))) → AllReadProper table → (name : Bytes) → IfSome (c.row_named table name) (λ command. IsProperReader command.1)
 named_proper [] h name = tt

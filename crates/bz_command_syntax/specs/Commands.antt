@@ -62,6 +62,21 @@ abbrev pub attribute_values : List Bytes → Option (Bytes × List Bytes)
 attribute_values [] = None
 attribute_values (attribute ∷ values) = given (is_identifier attribute && is_nonempty values) (attribute, values)
 
+-- ATTRIBUTE KEY VALUE..
+abbrev pub key_values : List Bytes → Option (Bytes × Bytes × List Bytes)
+key_values (attribute ∷ key ∷ values) = given (is_identifier attribute && is_nonempty values) (attribute, key, values)
+key_values _ = None
+
+-- ATTRIBUTE KEY OLD NEW
+abbrev pub key_words : List Bytes → Option (Bytes × Bytes × Bytes × Bytes)
+key_words (attribute ∷ key ∷ old ∷ new ∷ []) = given (is_identifier attribute) (attribute, key, old, new)
+key_words _ = None
+
+-- PATTERN TEMPLATE
+abbrev pub two_words : List Bytes → Option (Bytes × Bytes)
+two_words (first ∷ second ∷ []) = Some (first, second)
+two_words _ = None
+
 -- ATTRIBUTE WORD WORD or * WORD WORD
 abbrev pub attributes_words : List Bytes → Option (Attributes × Bytes × Bytes)
 attributes_words (attribute ∷ first ∷ second ∷ []) = option_map (λ attributes. (attributes, first, second)) (attributes_of attribute)
@@ -111,12 +126,11 @@ abbrev pub set_if_absent_of : List Bytes → ReadCommand
 set_if_absent_of words =
     if begins_with_kind words then Err Arguments else operation_of (λ parts. w.Attribute (wa.SetIfAbsent parts.0 parts.1)) (attribute_values words)
 
--- remove ATTRIBUTE, remove * or remove ATTRIBUTE VALUE..
+-- remove ATTRIBUTE or remove *, and values, one or more, where these go
 abbrev pub remove_of : List Bytes → ReadCommand
 remove_of [] = Err Arguments
 remove_of (attribute ∷ values) =
-    if is_nonempty values then operation_of (λ name. w.Value (wv.Remove name values)) (given (is_identifier attribute) attribute)
-    else operation_of (λ attributes. w.Attribute (wa.Remove attributes)) (attributes_of attribute)
+    operation_of (λ attributes. if is_nonempty values then w.Value (wv.Remove attributes values) else w.Attribute (wa.Remove attributes)) (attributes_of attribute)
 
 -- FROM TO VALUE..
 abbrev pub moved_values : List Bytes → Option (Bytes × Bytes × Values)
@@ -141,6 +155,23 @@ abbrev pub dict_entries : List Bytes → Option (Bytes × List Entry)
 dict_entries [] = None
 dict_entries (attribute ∷ words) =
     if is_identifier attribute && is_nonempty words then option_map (λ entries. (attribute, entries)) (each_of entry_of words) else None
+
+-- keys and values in turn
+abbrev pub pairs_of : List Bytes → Option (List Entry)
+pairs_of [] = Some []
+pairs_of (key ∷ []) = None
+pairs_of (key ∷ value ∷ words) = option_map (λ entries. record { key = key; value = value } ∷ entries) (pairs_of words)
+
+-- ATTRIBUTE KEY VALUE [KEY VALUE]..
+abbrev pub attribute_pairs : List Bytes → Option (Bytes × List Entry)
+attribute_pairs [] = None
+attribute_pairs (attribute ∷ words) =
+    if is_identifier attribute && is_nonempty words then option_map (λ entries. (attribute, entries)) (pairs_of words) else None
+
+-- set_select ATTRIBUTE KEY VALUE [KEY VALUE]..; `kind` is no attribute where a value is set
+abbrev pub set_select_of : List Bytes → ReadCommand
+set_select_of words =
+    if begins_with_kind words then Err Arguments else operation_of (λ parts. w.Dict (wd.Select parts.0 parts.1)) (attribute_pairs words)
 
 -- two names of a symbol, which are identifiers
 abbrev pub symbol_of_names : Bytes → Bytes → Option Symbol
@@ -210,7 +241,7 @@ fields_of words = each_of field_of words
 -- ---- all commands
 
 -- The table of commands: the name of each, the forms of its words, as they are printed where words have another one, and what it reads.
--- `substitute` reads each text that `regex` takes as a pattern.
+-- `substitute` and `substitute_load` read each text that `regex` takes as a pattern.
 abbrev pub commands : List (Bytes × (Bytes × (List Bytes → ReadCommand)))
 commands =
     (codes "new", (codes "'new KIND NAME [before RULE]' or 'new KIND NAME [after RULE]'", λ words. operation_of (λ parts. w.Rule (wr.New parts.0 parts.1 parts.2)) (new_rule words)))
@@ -218,7 +249,8 @@ commands =
     ∷ (codes "set", (codes "'set ATTR VALUE..' or 'set kind KIND'", set_of))
     ∷ (codes "set_if_absent", (codes "'set_if_absent ATTR VALUE..'", set_if_absent_of))
     ∷ (codes "add", (codes "'add ATTR VALUE..'", λ words. operation_of (λ parts. w.Value (wv.Add parts.0 parts.1)) (attribute_values words)))
-    ∷ (codes "remove", (codes "'remove ATTR', 'remove *' or 'remove ATTR VALUE..'", remove_of))
+    ∷ (codes "remove", (codes "'remove ATTR', 'remove *', 'remove ATTR VALUE..' or 'remove * VALUE..'", remove_of))
+    ∷ (codes "remove_if_equal", (codes "'remove_if_equal ATTR VALUE'", λ words. operation_of (λ parts. w.Value (wv.RemoveIfEqual parts.0 parts.1)) (attribute_word words)))
     ∷ (codes "replace", (codes "'replace ATTR OLD NEW' or 'replace * OLD NEW'", λ words. operation_of (λ parts. w.Value (wv.Replace parts.0 parts.1 parts.2)) (attributes_words words)))
     ∷ (codes "substitute", (codes "'substitute ATTR PATTERN TEMPLATE' or 'substitute * PATTERN TEMPLATE'", λ words. operation_of (λ parts. w.Value (wv.Substitute parts.0 parts.1 parts.2)) (attributes_words words)))
     ∷ (codes "move", (codes "'move FROM TO VALUE..' or 'move FROM TO *'", λ words. operation_of (λ parts. w.Value (wv.Move parts.0 parts.1 parts.2)) (moved_values words)))
@@ -228,7 +260,11 @@ commands =
     ∷ (codes "dict_add", (codes "'dict_add ATTR KEY:VALUE..'", λ words. operation_of (λ parts. w.Dict (wd.Add parts.0 parts.1)) (dict_entries words)))
     ∷ (codes "dict_set", (codes "'dict_set ATTR KEY:VALUE..'", λ words. operation_of (λ parts. w.Dict (wd.Set parts.0 parts.1)) (dict_entries words)))
     ∷ (codes "dict_remove", (codes "'dict_remove ATTR KEY..'", λ words. operation_of (λ parts. w.Dict (wd.Remove parts.0 parts.1)) (attribute_values words)))
+    ∷ (codes "dict_replace_if_equal", (codes "'dict_replace_if_equal ATTR KEY OLD NEW'", λ words. operation_of (λ parts. w.Dict (wd.ReplaceIfEqual parts.0 parts.1 parts.2 parts.3)) (key_words words)))
+    ∷ (codes "dict_list_add", (codes "'dict_list_add ATTR KEY VALUE..'", λ words. operation_of (λ parts. w.Dict (wd.ListAdd parts.0 parts.1 parts.2)) (key_values words)))
+    ∷ (codes "set_select", (codes "'set_select ATTR KEY VALUE [KEY VALUE]..'", set_select_of))
     ∷ (codes "new_load", (codes "'new_load PATH [TO=]FROM..'", λ words. operation_of (λ parts. w.Load (wl.New parts.0 parts.1)) (path_symbols words)))
+    ∷ (codes "substitute_load", (codes "'substitute_load PATTERN TEMPLATE'", λ words. operation_of (λ parts. w.Load (wl.Substitute parts.0 parts.1)) (two_words words)))
     ∷ (codes "comment", (codes "'comment [ATTR [VALUE]] TEXT'", λ words. operation_of (λ parts. w.Comment (wc.Add parts.0 parts.1)) (option_and_then host_text (split_last words))))
     ∷ (codes "print_comment", (codes "'print_comment [ATTR [VALUE]]'", λ words. operation_of (λ host. w.Comment (wc.Print host)) (host_of words)))
     ∷ (codes "remove_comment", (codes "'remove_comment [ATTR [VALUE]]'", λ words. operation_of (λ host. w.Comment (wc.Remove host)) (host_of words)))

@@ -5,12 +5,14 @@ use Rattle.bz_items.specs.Characters.{Bytes}
 use Rattle.bz_command_syntax.specs.Commands.{ReadCommand, command_of}
 use Rattle.bz_command_syntax.specs.declared.command.Operation.TheVariants as w
 use Rattle.bz_command_syntax.specs.declared.command.ValueOperation.TheVariants as wv
+use Rattle.bz_command_syntax.specs.declared.command.LoadOperation.TheVariants as wl
 use Rattle.bz_command_syntax.specs.declared.fault.CommandFault.{CommandFault}
 use Rattle.bz_command_syntax.specs.declared.fault.CommandFault.TheVariants.{BadPattern, Memory}
 
 -- a substitution whose pattern `regex` refuses
 abbrev pub HasBadPattern : ReadCommand → Type 0
 HasBadPattern (Ok (w.Value (wv.Substitute attributes pattern template))) = IsRefusedPattern pattern
+HasBadPattern (Ok (w.Load (wl.Substitute pattern template))) = IsRefusedPattern pattern
 HasBadPattern _ = ⊥
 
 -- memory aside: what was read, or a pattern that is refused where nothing else is wrong

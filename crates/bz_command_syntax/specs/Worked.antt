@@ -53,7 +53,7 @@ abbrev Attributes : Type 0
 Attributes =
     reads (codes "set srcs x y") (w.Attribute (wa.Set (codes "srcs") (codes "x" ∷ codes "y" ∷ [])))
     × reads (codes "set_if_absent srcs x") (w.Attribute (wa.SetIfAbsent (codes "srcs") (codes "x" ∷ [])))
-    × reads (codes "remove *") (w.Attribute (wa.Remove AllAttributes)) × is_refused (codes "remove * x")
+    × reads (codes "remove *") (w.Attribute (wa.Remove AllAttributes))
     × reads (codes "rename a b") (w.Attribute (wa.Rename (codes "a") (codes "b")))
     × reads (codes "copy a *") (w.Attribute (wa.Copy (codes "a") (codes "*")))
     × reads (codes "copy_no_overwrite a b") (w.Attribute (wa.CopyNoOverwrite (codes "a") (codes "b")))
@@ -61,7 +61,9 @@ Attributes =
 abbrev Values : Type 0
 Values =
     reads (codes "add deps :x a\\ b") (w.Value (wv.Add (codes "deps") (codes ":x" ∷ codes "a b" ∷ [])))
-    × reads (codes "remove deps * x") (w.Value (wv.Remove (codes "deps") (codes "*" ∷ codes "x" ∷ [])))
+    × reads (codes "remove deps * x") (w.Value (wv.Remove (Named (codes "deps")) (codes "*" ∷ codes "x" ∷ [])))
+    × reads (codes "remove * x") (w.Value (wv.Remove AllAttributes (codes "x" ∷ []))) × is_refused (codes "remove :x y")
+    × reads (codes "remove_if_equal size 5") (w.Value (wv.RemoveIfEqual (codes "size") (codes "5"))) × is_refused (codes "remove_if_equal * x")
     × reads (codes "replace * a b") (w.Value (wv.Replace AllAttributes (codes "a") (codes "b")))
     -- a backslash stays unless a space follows; what is no pattern is seen later
     × reads (codes "substitute srcs (\\.c$ $1") (w.Value (wv.Substitute (Named (codes "srcs")) (codes "(\\.c$") (codes "$1")))
@@ -72,8 +74,14 @@ Others =
     -- the key ends at the first colon
     reads (codes "dict_add env A:1:2 :") (w.Dict (wd.Add (codes "env") (record { key = codes "A"; value = codes "1:2" } ∷ record { key = []; value = [] } ∷ [])))
     × is_refused (codes "dict_set env A") × reads (codes "dict_remove env A:1") (w.Dict (wd.Remove (codes "env") (codes "A:1" ∷ [])))
+    × reads (codes "dict_replace_if_equal env A:1 x y") (w.Dict (wd.ReplaceIfEqual (codes "env") (codes "A:1") (codes "x") (codes "y")))
+    × is_refused (codes "dict_replace_if_equal env A x")
+    × reads (codes "dict_list_add d K x") (w.Dict (wd.ListAdd (codes "d") (codes "K") (codes "x" ∷ []))) × is_refused (codes "dict_list_add d K")
+    × reads (codes "set_select d K x K y") (w.Dict (wd.Select (codes "d") (record { key = codes "K"; value = codes "x" } ∷ record { key = codes "K"; value = codes "y" } ∷ [])))
+    × is_refused (codes "set_select d K") × is_refused (codes "set_select d K x L") × is_refused (codes "set_select kind K x")
     × reads (codes "new_load p x y=z") (w.Load (wl.New (codes "p") (record { to = codes "x"; from = codes "x" } ∷ record { to = codes "y"; from = codes "z" } ∷ [])))
     × is_refused (codes "new_load p a=b=c")
+    × reads (codes "substitute_load ^@a// @b//") (w.Load (wl.Substitute (codes "^@a//") (codes "@b//"))) × is_refused (codes "substitute_load a")
     × reads (codes "fix unusedLoads") (w.Load (wl.Fix (record { move_package_to_top = false; unused_loads = true })))
     × is_refused (codes "fix unusedLoads unusedLoads")
     × reads (codes "comment deps :x why\\ not") (w.Comment (wc.Add (h.Item (codes "deps") (codes ":x")) (codes "why not")))

@@ -117,7 +117,7 @@ pub enum ValueOperation {
     },
     /// These values, one or more, go from the attribute's lists.
     Remove {
-        attribute: Text,
+        attributes: Attributes,
         values: Texts,
     },
     /// A value becomes another one, in lists or alone.
@@ -138,26 +138,60 @@ pub enum ValueOperation {
         to: Text,
         values: Values,
     },
+    /// The attribute goes where it has this value.
+    RemoveIfEqual {
+        attribute: Text,
+        value: Text,
+    },
 }
 
 /// What is done to attributes that are dicts.
 #[derive(Drop)]
 pub enum DictOperation {
     /// Entries whose key isn't there, one or more, go to the end of the attribute's dict.
-    Add { attribute: Text, entries: Entries },
+    Add {
+        attribute: Text,
+        entries: Entries,
+    },
     /// The same, and the value of a key that is there becomes this one.
-    Set { attribute: Text, entries: Entries },
+    Set {
+        attribute: Text,
+        entries: Entries,
+    },
     /// The entries of these keys, one or more, go from the attribute's dict.
-    Remove { attribute: Text, keys: Texts },
+    Remove {
+        attribute: Text,
+        keys: Texts,
+    },
+    /// The value of a key becomes another one, where it is this one.
+    ReplaceIfEqual {
+        attribute: Text,
+        key: Text,
+        old: Text,
+        new: Text,
+    },
+    /// These values, one or more, go to the end of the list of a key, where they are no items of it.
+    ListAdd {
+        attribute: Text,
+        key: Text,
+        values: Texts,
+    },
+    /// The attribute's value becomes a `select` of these entries, one or more.
+    Select {
+        attribute: Text,
+        entries: Entries,
+    },
 }
 
-/// What is done to the symbols that the file loads.
+/// What is done to what the file loads.
 #[derive(Drop)]
 pub enum LoadOperation {
     /// Symbols, one or more, are loaded from a path.
     New { path: Text, symbols: Items<Symbol> },
     /// The file is mended.
     Fix { fixes: Fixes },
+    /// In the path of each load, each match of the pattern is replaced by the template.
+    Substitute { pattern: Pattern, template: Text },
 }
 
 /// What is done to comments, or with them.

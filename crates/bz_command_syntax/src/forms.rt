@@ -130,6 +130,38 @@ pub(crate) fn attribute_and_values(mut words: Vec<Text>) -> Read<(Text, Texts)>
     Ok((attribute, Items::from_vec(words)))
 }
 
+/// The attribute, a key, and its values, one or more.
+pub(crate) fn attribute_key_values(mut words: Vec<Text>) -> Read<(Text, Text, Texts)>
+    ensures { MatchResult result (λ parts. c.key_values words.items ≡ Some parts) (λ fault. (c.key_values words.items ≡ None) × (fault ≡ CommandFault.Arguments)) }
+{
+    let attribute = take_first(&mut words)?;
+    let key = take_first(&mut words)?;
+    ensure!(is_attribute(&attribute) && has_values(&words));
+    Ok((attribute, key, Items::from_vec(words)))
+}
+
+/// The attribute, a key, and the two words after it.
+pub(crate) fn attribute_key_words(mut words: Vec<Text>) -> Read<(Text, Text, Text, Text)>
+    ensures { MatchResult result (λ parts. c.key_words words.items ≡ Some parts) (λ fault. (c.key_words words.items ≡ None) × (fault ≡ CommandFault.Arguments)) }
+{
+    let attribute = take_first(&mut words)?;
+    let key = take_first(&mut words)?;
+    let old = take_first(&mut words)?;
+    let new = take_first(&mut words)?;
+    ensure!(words.is_empty() && is_attribute(&attribute));
+    Ok((attribute, key, old, new))
+}
+
+/// Two words.
+pub(crate) fn two_words(mut words: Vec<Text>) -> Read<(Text, Text)>
+    ensures { MatchResult result (λ parts. c.two_words words.items ≡ Some parts) (λ fault. (c.two_words words.items ≡ None) × (fault ≡ CommandFault.Arguments)) }
+{
+    let first = take_first(&mut words)?;
+    let second = take_first(&mut words)?;
+    ensure!(words.is_empty());
+    Ok((first, second))
+}
+
 /// The attributes and the two words after them.
 pub(crate) fn attributes_and_words(mut words: Vec<Text>) -> Read<(Attributes, Text, Text)>
     ensures { MatchResult result (λ parts. c.attributes_words words.items ≡ Some parts) (λ fault. (c.attributes_words words.items ≡ None) × (fault ≡ CommandFault.Arguments)) }
@@ -316,6 +348,34 @@ pub(crate) fn path_symbols(mut words: Vec<Text>) -> Read<(Text, Items<Symbol>)>
     ensure!(has_values(&words));
     let symbols = each(*words.allocator(), &words)?;
     Ok((path, symbols))
+}
+
+// The entries whose keys and values are the words in turn.
+fn pairs_of(alloc: Global, words: &[Text]) -> Read<Entries>
+    ensures { MatchResult result (λ entries. c.pairs_of words.now ≡ Some entries) (λ fault. ((c.pairs_of words.now ≡ None) × (fault ≡ CommandFault.Arguments)) ⊎ (fault ≡ CommandFault.Memory)) }
+{
+    let mut entries = Items::new(alloc);
+    let mut left = words;
+    while let Some((key, rest)) = left.split_first() {
+        let Some((value, rest)) = rest.split_first() else {
+            return Err(CommandFault::Arguments);
+        };
+        let key = Text::from_slice(alloc, key.as_slice())?;
+        let value = Text::from_slice(alloc, value.as_slice())?;
+        entries.push(Entry { key, value })?;
+        left = rest;
+    }
+    Ok(entries)
+}
+
+/// The attribute and its entries, one or more, of which each is two words.
+pub(crate) fn attribute_pairs(mut words: Vec<Text>) -> Read<(Text, Entries)>
+    ensures { MatchResult result (λ parts. c.attribute_pairs words.items ≡ Some parts) (λ fault. ((c.attribute_pairs words.items ≡ None) × (fault ≡ CommandFault.Arguments)) ⊎ (fault ≡ CommandFault.Memory)) }
+{
+    let attribute = take_first(&mut words)?;
+    ensure!(is_attribute(&attribute) && has_values(&words));
+    let entries = pairs_of(*words.allocator(), &words)?;
+    Ok((attribute, entries))
 }
 
 fn is_unknown_field(word: &[u8]) -> bool

@@ -10,9 +10,10 @@ use crate::command::{
 };
 use crate::fault::CommandFault;
 use crate::forms::{
-    Read, as_text, attribute_and_values, attribute_and_word, attributes_and_words, attributes_of,
-    ensure, entries_of, fields_of, fixes_of, has_values, host_of, is_attribute, is_kind_name,
-    is_text, moved_values, new_rule, path_symbols, take_first, two_attributes,
+    Read, as_text, attribute_and_values, attribute_and_word, attribute_key_values,
+    attribute_key_words, attribute_pairs, attributes_and_words, attributes_of, ensure, entries_of,
+    fields_of, fixes_of, has_values, host_of, is_kind_name, is_text, moved_values, new_rule,
+    path_symbols, take_first, two_attributes, two_words,
 };
 use crate::pattern::Pattern;
 use crate::words::read_words;
@@ -57,12 +58,11 @@ fn remove_of(mut words: Vec<Text>) -> Read<Operation>
     ensures { result ≡ c.remove_of words.items }
 {
     let attribute = take_first(&mut words)?;
-    if has_values(&words) {
-        ensure!(is_attribute(&attribute));
-        let values = Items::from_vec(words);
-        return Ok(Operation::Value(ValueOperation::Remove { attribute, values }));
-    }
     let attributes = attributes_of(attribute)?;
+    if has_values(&words) {
+        let values = Items::from_vec(words);
+        return Ok(Operation::Value(ValueOperation::Remove { attributes, values }));
+    }
     Ok(Operation::Attribute(AttributeOperation::Remove { attributes }))
 }
 
@@ -79,6 +79,24 @@ fn substitute_of(words: Vec<Text>) -> Read<Operation>
         pattern,
         template,
     }))
+}
+
+fn substitute_load_of(words: Vec<Text>) -> Read<Operation>
+    requires { AreUtf8 words.items }
+    ensures { IsReadAs (c.command_in true (codes "substitute_load" ∷ words.items)) result }
+{
+    let alloc = *words.allocator();
+    let (pattern, template) = two_words(words)?;
+    let pattern = Pattern::read(alloc, as_text(&pattern))?;
+    Ok(Operation::Load(LoadOperation::Substitute { pattern, template }))
+}
+
+fn set_select_of(words: Vec<Text>) -> Read<Operation>
+    ensures { IsReadAs (c.set_select_of words.items) result }
+{
+    ensure!(!begins_with_kind(&words));
+    let (attribute, entries) = attribute_pairs(words)?;
+    Ok(Operation::Dict(DictOperation::Select { attribute, entries }))
 }
 
 fn is_one_line(text: &Text) -> bool
@@ -112,7 +130,9 @@ macro_rules! commands {
             "set_if_absent" => "'set_if_absent ATTR VALUE..'", operation = set_if_absent_of => operation;
             "add" => "'add ATTR VALUE..'",
                 (attribute, values) = attribute_and_values => Operation::Value(ValueOperation::Add { attribute, values });
-            "remove" => "'remove ATTR', 'remove *' or 'remove ATTR VALUE..'", operation = remove_of => operation;
+            "remove" => "'remove ATTR', 'remove *', 'remove ATTR VALUE..' or 'remove * VALUE..'", operation = remove_of => operation;
+            "remove_if_equal" => "'remove_if_equal ATTR VALUE'",
+                (attribute, value) = attribute_and_word => Operation::Value(ValueOperation::RemoveIfEqual { attribute, value });
             "replace" => "'replace ATTR OLD NEW' or 'replace * OLD NEW'",
                 (attributes, old, new) = attributes_and_words => Operation::Value(ValueOperation::Replace { attributes, old, new });
             "substitute" => "'substitute ATTR PATTERN TEMPLATE' or 'substitute * PATTERN TEMPLATE'", operation = substitute_of => operation;
@@ -130,8 +150,14 @@ macro_rules! commands {
                 (attribute, entries) = entries_of => Operation::Dict(DictOperation::Set { attribute, entries });
             "dict_remove" => "'dict_remove ATTR KEY..'",
                 (attribute, keys) = attribute_and_values => Operation::Dict(DictOperation::Remove { attribute, keys });
+            "dict_replace_if_equal" => "'dict_replace_if_equal ATTR KEY OLD NEW'",
+                (attribute, key, old, new) = attribute_key_words => Operation::Dict(DictOperation::ReplaceIfEqual { attribute, key, old, new });
+            "dict_list_add" => "'dict_list_add ATTR KEY VALUE..'",
+                (attribute, key, values) = attribute_key_values => Operation::Dict(DictOperation::ListAdd { attribute, key, values });
+            "set_select" => "'set_select ATTR KEY VALUE [KEY VALUE]..'", operation = set_select_of => operation;
             "new_load" => "'new_load PATH [TO=]FROM..'",
                 (path, symbols) = path_symbols => Operation::Load(LoadOperation::New { path, symbols });
+            "substitute_load" => "'substitute_load PATTERN TEMPLATE'", operation = substitute_load_of => operation;
             "comment" => "'comment [ATTR [VALUE]] TEXT'", operation = comment_of => operation;
             "print_comment" => "'print_comment [ATTR [VALUE]]'",
                 host = host_of => Operation::Comment(CommentOperation::Print { host });

@@ -10,7 +10,7 @@ use Rattle.bz_list.specs.Words.{Bytes, attribute, has_attribute, on_first_that, 
 use Rattle.bz_rule.specs.Values.{has_kind, parts_of, items_of, on_row, on_items, with_parts, with_items, on_lists}
 use Rattle.bz_attribute.proofs.AttributesAgain.{by_there, by_absent, with_value_same, node_parts, attribute_new, attribute_changed, without_new, same_made}
 use Rattle.bz_attribute.proofs.FormsAgain.{if_true, if_either, row_same, items_same, both, if_false, parts_kind, items_kind, parts_filled, items_filled, row_changed, items_changed}
-use Rattle.bz_list.specs.Changes.{with_items_added, cleared, without_items, remove_values}
+use Rattle.bz_list.specs.Changes.{strings_added, with_strings, with_items_added, cleared, without_items, remove_values}
 use Rattle.bz_list.specs.Laws.{AddedAgain, become_plain, are_there, AddedIsThere, RemovedAgain}
 use Rattle.bz_attribute.specs.Made.{string_of, list_of, plus, shortened_in, mark, node, binds_looser, operand}
 use Rattle.bz_value.specs.declared.refusal.Refusal.TheVariants.{NotAList}
@@ -39,10 +39,6 @@ grown name added arguments value =
 added_absent : (name : Bytes) (added : List Expr → List Expr) (xs : List Expr) → has_attribute name xs ≡ false → with_items_added name added xs ≡ Ok (with_new name (list_of (added [])) xs)
 added_absent name added xs h = by_absent (attribute name xs) (Ok (with_new name (list_of (added [])) xs)) (grown name added xs) h
 
--- the strings that the words become that are none of these items
-abbrev pub strings_for : Bytes → Bytes → List Bytes → List Expr → List Expr
-strings_for current name words items = map (string_of current name) (fresh current name items [] words)
-
 -- ---- no further items
 
 none_fresh : (current name : Bytes) (items : List Expr) (words : List Bytes) → list_all (λ word. list_any (is_item current name word) items) words ≡ true → fresh current name items [] words ≡ []
@@ -66,15 +62,18 @@ more_none value =
     if_either (has_kind k.Sum value) (on_row k.Sum (on_first_that (has_kind k.List) change) value) (change value) value
     (row_same k.Sum (on_first_that (has_kind k.List) change) value (first_that_same (has_kind k.List) change list_more_none (parts_of value))) (list_more_none value)
 
+-- the value whose lists have all words stays
+pub with_strings_same : (current name : Bytes) (words : List Bytes) (value : Expr) → are_there current name words value ≡ true → with_strings current name words value ≡ value
+with_strings_same current name words value t =
+    ap (λ (strings : List Bytes). with_more (map (string_of current name) strings) value) (none_fresh current name (items_in value) words t) ∙ more_none value
+
 pub adding_again : AddedAgain
 adding_again current name words xs value e l t =
-    let added : List Expr → List Expr = strings_for current name words in
-    let none : added (items_in value) ≡ [] = ap (map (string_of current name)) (none_fresh current name (items_in value) words t) in
-    let same : with_more (added (items_in value)) value ≡ value = ap (λ more. with_more more value) none ∙ more_none value in
+    let added : List Expr → List Expr = strings_added current name words in
     added_found name added xs value e
     ∙ (if_false (is_no_list value) (Err NotAList) _ (some_lists value l)
     ∙ (ap (λ b. Ok (with_value name (if b then with_more (added (items_in value)) value else plus value (list_of (added []))) xs)) l
-    ∙ ap Ok (ap (λ v. with_value name v xs) same ∙ with_value_same name value xs e)))
+    ∙ ap Ok (ap (λ v. with_value name v xs) (with_strings_same current name words value t) ∙ with_value_same name value xs e)))
 
 -- ---- a shorter label of a plain word
 
@@ -276,16 +275,16 @@ are_added current name words xs new value same found there =
     ∙ (ap (λ (o : Option Expr). option_map_or (are_there current name words) o false) found ∙ there)
 
 -- in a list or a sum that grows
-there_more : (current name : Bytes) (words : List Bytes) (value : Expr) → become_plain words ≡ true → has_lists value ≡ true
-    → are_there current name words (with_more (strings_for current name words (items_in value)) value) ≡ true
+pub there_more : (current name : Bytes) (words : List Bytes) (value : Expr) → become_plain words ≡ true → has_lists value ≡ true
+    → are_there current name words (with_strings current name words value) ≡ true
 there_more current name words value p l =
-    let more : List Expr = strings_for current name words (items_in value) in
+    let more : List Expr = strings_added current name words (items_in value) in
     words_there current name (items_in value) (items_in (with_more more value))
     (λ word h. any_more (is_item current name word) more value l ∙ ap (λ b. b || list_any (is_item current name word) more) h) [] words p (λ word h. absurd (true≢false (sym h)))
     (λ word h. any_more (is_item current name word) more value l ∙ or_right (list_any (is_item current name word) (items_in value)) (list_any (is_item current name word) more) h)
 
 -- in a new list
-there_new : (current name : Bytes) (words : List Bytes) (value : Expr) → become_plain words ≡ true → items_in value ≡ strings_for current name words [] → are_there current name words value ≡ true
+pub there_new : (current name : Bytes) (words : List Bytes) (value : Expr) → become_plain words ≡ true → items_in value ≡ strings_added current name words [] → are_there current name words value ≡ true
 there_new current name words value p e =
     words_there current name [] (items_in value) (λ word h. absurd (true≢false (sym h))) [] words p (λ word h. absurd (true≢false (sym h))) (λ word h. ap (list_any (is_item current name word)) e ∙ h)
 
@@ -293,7 +292,7 @@ pub added_is_there : AddedIsThere
 added_is_there current name words xs new plain e = found_or_new (attribute name xs) refl
   where
     strings : List Expr → List Expr
-    strings = strings_for current name words
+    strings = strings_added current name words
 
     there_with : (value : Expr) → are_there current name words (value_with strings value) ≡ true
     there_with value =
@@ -332,7 +331,7 @@ none_left current name all earlier (word ∷ words) plain f =
     (if_false (not (is_some_item current name all string)) (string ∷ none more) (none more) (ap not meant) ∙ none_left current name all (word ∷ earlier) words p.1 rest)
 
 -- the first word is fresh where nothing is there
-some_made : (current name : Bytes) (words : List Bytes) → is_nonempty words ≡ true → become_plain words ≡ true → list_any (is_some_item current name words) (strings_for current name words []) ≡ true
+some_made : (current name : Bytes) (words : List Bytes) → is_nonempty words ≡ true → become_plain words ≡ true → list_any (is_some_item current name words) (strings_added current name words []) ≡ true
 some_made current name [] h plain = absurd (true≢false (sym h))
 some_made current name (word ∷ words) h plain =
     let p = and_parts (not (list_any is_escaped word)) (become_plain words) plain in
@@ -345,12 +344,12 @@ emptied name xs items =
 
 pub removing_again : RemovedAgain
 removing_again current name words xs new absent full plain e =
-    let items : List Expr = strings_for current name words [] in
+    let items : List Expr = strings_added current name words [] in
     let value : Expr = list_of items in
     let ys : List Expr = with_new name value xs in
     let test : Expr → Bool = is_some_item current name words in
     let left : Expr → Bool = λ x. not (test x) in
-    let same : ys ≡ new = same_made ys new _ (added_absent name (strings_for current name words) xs absent) e in
+    let same : ys ≡ new = same_made ys new _ (added_absent name (strings_added current name words) xs absent) e in
     let some : list_any test (items_in value) ≡ true = ap (list_any test) (items_list items) ∙ some_made current name words full plain in
     let none : filter left (items_of value) ≡ [] = ap (filter left) (list_items items) ∙ none_left current name words [] words plain (λ x h. h) in
     ap (remove_values current name words) (sym same)

@@ -6,15 +6,15 @@ use Rattle.std.specs.Option.{option_map_or}
 use Rattle.bz_grammar.specs.declared.kind.Kind.TheVariants as k
 use Rattle.std.proofs.lemmas.List.{append-nil, at_drop_all}
 use Rattle.bz_value.specs.declared.value.Expr.{Expr, Token, Form'}
-use Rattle.bz_list.specs.Words.{is_empty, Bytes, attribute, with_new, with_value, without, Arguments, by_value, on_first_that, on_value, is_attribute, Values, Attributes, list_of, plus, string_text, is_label_attribute}
+use Rattle.bz_list.specs.Words.{is_empty, Bytes, attribute, with_new, with_value, without, Arguments, by_value, on_first_that, on_value, is_attribute, is_other_attribute, Values, Attributes, list_of, plus, string_text, is_label_attribute}
 use Rattle.bz_attribute.specs.Lists.{items_in, listed, lists_of, is_empty_list, is_no_list, has_lists, is_some_item, with_more, body_of, are_one}
 use Rattle.bz_attribute.proofs.ListsThere.{in_sum, in_value, items_there, some_filtered}
 use Rattle.std.proofs.lemmas.Bool.{or_parts}
 use Rattle.std.proofs.lemmas.List.Folds.{list_any-append}
-use Rattle.bz_rule.specs.Values.{has_kind, parts_of, items_of, with_parts, with_items, with_text, on_row, on_items, on_lists}
+use Rattle.bz_rule.specs.Values.{first_text, has_kind, parts_of, items_of, with_parts, with_items, with_text, on_row, on_items, on_lists}
 use Rattle.bz_attribute.proofs.AttributesAgain.{by_there, with_value_same}
 use Rattle.bz_attribute.proofs.FormsAgain.{both, own_parts, own_items, if_true, if_false}
-use Rattle.bz_list.specs.Changes.{cleared, without_items, is_moved, items_moved, with_items_added, move, remove_values, with_body, in_attributes}
+use Rattle.bz_list.specs.Changes.{argument_left, values_left, cleared, without_items, is_moved, items_moved, with_items_added, move, remove_values, with_body, in_attributes}
 use Rattle.bz_list.specs.private.Listing.{put_back, without_chosen, chosen_in, added_by, value_with, item_changed_by}
 use Rattle.bz_list.specs.declared.replacing.Change.{Change}
 use Rattle.bz_list.specs.declared.replacing.Change.TheVariants.{Replace, Substitute, Shorten}
@@ -197,3 +197,17 @@ pub sum_taken : (test : Expr → Bool) (value : Expr) (xs taken old : List Expr)
 sum_taken test value xs taken old i sum so_far past =
     sym (append-nil taken) ∙ (sym (at_drop_all (λ rest. taken ++ filter test (flat_map listed rest)) xs i past)
     ∙ (so_far ∙ ap (λ items. old ++ filter test items) (in_sum value sum)))
+
+-- what is left of one argument, by what is left of the list of it alone
+pub left_alone : (current name : Bytes) (words : List Bytes) (x : Expr) (before after : List Expr) (chosen : Expr → Bool) → is_other_attribute x ≡ true → name ≡ first_text (parts_of x) → before ≡ x ∷ []
+    → chosen ≡ is_some_item current name words → after ≡ without_chosen name chosen (attribute name before) before → after ≡ argument_left current words x
+left_alone current name words x before after chosen other named one same left =
+    left
+    ∙ (both (λ test xs. without_chosen name test (attribute name xs) xs) same one
+    ∙ (by (is_some_item current name words) (attribute name (x ∷ []))
+    ∙ (ap (λ own. values_left current own words (x ∷ [])) named
+    ∙ sym (if_true (is_other_attribute x) (values_left current (first_text (parts_of x)) words (x ∷ [])) (x ∷ []) other))))
+  where
+    by : (test : Expr → Bool) (found : Option Expr) → without_chosen name test found (x ∷ []) ≡ option_map_or (λ value. without_items name test value (x ∷ [])) found (x ∷ [])
+    by test None = refl
+    by test (Some value) = refl

@@ -12,7 +12,7 @@ use Rattle.bz_grammar.specs.Shapes.{is_class}
 use Rattle.bz_grammar.proofs.Numbers.{same_kind}
 use Rattle.std.proofs.lemmas.Bool.{eqb-true}
 use Rattle.bz_grammar.specs.Spots.{Spot, Within}
-use Rattle.bz_list.specs.Words.{is_label_attribute, Bytes, string_text, list_of, string_of, plus, on_first_that, is_attribute, is_other_attribute, on_value, with_value, with_new, without, Attributes, Values}
+use Rattle.bz_list.specs.Words.{attribute, is_label_attribute, Bytes, string_text, list_of, string_of, plus, on_first_that, is_attribute, is_other_attribute, on_value, with_value, with_new, without, Attributes, Values}
 use Rattle.bz_label.specs.Read.{shortened}
 use Rattle.bz_value.specs.declared.value.Expr.{Expr, Token, Form', items-the_row-Expr}
 use Rattle.bz_value.specs.LineShapes.{Grammar, value_shape}
@@ -26,11 +26,12 @@ use Rattle.bz_rule.specs.Values.{has_kind, has_class, text_of, parts_of, items_o
 use Rattle.bz_rule.proofs.ProperChanges.{by_test, by_case, Stays, row_stays, items_stay, lists_stay, string_in_place}
 use Rattle.bz_rule.proofs.ProperForms.{InPlace, AsForm, itself, each_mapped, opened}
 use Rattle.bz_rule.proofs.ProperItems.{IsValue, from_in_place, item_within, value_in_place, all_joined, all_kept, all_changed}
+use Rattle.bz_rule.proofs.ProperArguments.{attribute_value}
 use Rattle.bz_rule.proofs.ProperSequences.{IsItem, AreOf, list_apart, list_in_place, where_true}
 use Rattle.bz_attribute.specs.Lists.{items_in, listed, with_more, body_of, are_one, is_item, fresh, travelled, is_there, arriving, has_lists, is_no_list, is_empty_list, is_some_item}
 use Rattle.bz_attribute.proofs.ListsThere as lists
 use Rattle.bz_attribute.proofs.ProperAttributes.{first_that_stays, AreArguments, Made, Keeps, of_attribute, first_that_kept, value_stays, with_value_kept, without_kept, with_new_kept}
-use Rattle.bz_list.specs.Changes.{in_value, replaced_item, with_body, substituted_item, with_items_added, add, cleared, without_items, remove_values, in_attributes, replace, substitute, is_moved, items_moved, move}
+use Rattle.bz_list.specs.Changes.{in_value, replaced_item, with_body, substituted_item, with_items_added, add, cleared, without_items, values_left, remove_values, argument_left, remove_everywhere, equals_word, remove_if_equal, strings_added, with_strings, in_attributes, replace, substitute, is_moved, items_moved, move}
 use Rattle.bz_list.proofs.LawAdded.{grown}
 use Rattle.bz_attribute.proofs.ProperMade.{string_strung, quoted_string, list_value, plus_value, words_are_items}
 use Rattle.bz_attribute.proofs.ProperTexts.{body_utf8, shortened_utf8}
@@ -104,13 +105,15 @@ module _ (grammar : Grammar) where
 
   -- ---- further items
 
-  pub more_value : (more : List Expr) (x : Expr) → AreOf grammar s.test more → IsValue grammar x → IsValue grammar (with_more more x)
-  more_value more x h v =
+  more_in_place : (more : List Expr) (x : Expr) → AreOf grammar s.test more → InPlace grammar x (with_more more x)
+  more_in_place more x h =
       let grown : List Expr → List Expr = λ items. items ++ more in
       let stays : Stays grammar (on_items k.List grown) = list_in_place grammar grown (λ xs a. all_joined (IsItem grammar s.test) xs more a h) in
-      value_in_place grammar x (with_more more x)
-      (by_test (InPlace grammar x) (has_kind k.Sum x) (on_row k.Sum (on_first_that (has_kind k.List) (on_items k.List grown)) x) (on_items k.List grown x)
-      (row_stays grammar k.Sum refl (on_first_that (has_kind k.List) (on_items k.List grown)) (first_that_stays grammar (has_kind k.List) (on_items k.List grown) stays) x) (stays x)) v
+      by_test (InPlace grammar x) (has_kind k.Sum x) (on_row k.Sum (on_first_that (has_kind k.List) (on_items k.List grown)) x) (on_items k.List grown x)
+      (row_stays grammar k.Sum refl (on_first_that (has_kind k.List) (on_items k.List grown)) (first_that_stays grammar (has_kind k.List) (on_items k.List grown) stays) x) (stays x)
+
+  more_value : (more : List Expr) (x : Expr) → AreOf grammar s.test more → IsValue grammar x → IsValue grammar (with_more more x)
+  more_value more x h v = value_in_place grammar x (with_more more x) (more_in_place more x h) v
 
   -- ---- fewer items
 
@@ -178,10 +181,14 @@ module _ (grammar : Grammar) where
       (by_test (Made grammar) (is_no_list value) (Err NotAList) (Ok (with_value name (plus value (list_of (added []))) xs)) tt
       (with_value_kept grammar name (plus value (list_of (added []))) xs (plus_value grammar value (added []) v (f [])) h)))
 
+  pub strings_are_items : (current name : Bytes) (words : List Bytes) (items : List Expr) → AreUtf8 words → AreOf grammar s.test (strings_added current name words items)
+  strings_are_items current name words items u = words_are_items grammar current name (fresh current name items [] words) (fresh_utf8 current name items [] words u)
+
+  pub with_strings_stays : (current name : Bytes) (words : List Bytes) → AreUtf8 words → Stays grammar (with_strings current name words)
+  with_strings_stays current name words u x = more_in_place (strings_added current name words (items_in x)) x (strings_are_items current name words (items_in x) u)
+
   pub add_keeps : (current name : Bytes) (words : List Bytes) → IsAttribute name → AreUtf8 words → Keeps grammar (add current name words)
-  add_keeps current name words a u =
-      added_keeps name (λ items. map (string_of current name) (fresh current name items [] words)) a
-      (λ items. words_are_items grammar current name (fresh current name items [] words) (fresh_utf8 current name items [] words u))
+  add_keeps current name words a u = added_keeps name (strings_added current name words) a (λ items. strings_are_items current name words items u)
 
   -- ---- remove
 
@@ -198,6 +205,29 @@ module _ (grammar : Grammar) where
       of_attribute grammar name xs (Ok xs) (λ value. if is_no_list value then Err NotAList else Ok (without_items name (is_some_item current name words) value xs)) h h
       (λ value v. by_test (Made grammar) (is_no_list value) (Err NotAList) (Ok (without_items name (is_some_item current name words) value xs)) tt
       (without_items_kept name (is_some_item current name words) value xs v h))
+
+  values_left_kept : (current name : Bytes) (words : List Bytes) (xs : List Expr) → AreArguments grammar xs → AreArguments grammar (values_left current name words xs)
+  values_left_kept current name words xs h = by (attribute name xs) (attribute_value grammar name xs h)
+    where
+      by : (found : Option Expr) → IfSome found (IsValue grammar)
+          → AreArguments grammar (option_map_or (λ value. without_items name (is_some_item current name words) value xs) found xs)
+      by None v = h
+      by (Some value) v = without_items_kept name (is_some_item current name words) value xs v h
+
+  argument_left_kept : (current : Bytes) (words : List Bytes) (x : Expr) → IsItem grammar s.argument x → AreArguments grammar (argument_left current words x)
+  argument_left_kept current words x i =
+      by_test (AreArguments grammar) (is_other_attribute x) (values_left current (first_text (parts_of x)) words (x ∷ [])) (x ∷ [])
+      (values_left_kept current (first_text (parts_of x)) words (x ∷ []) (i, tt)) (i, tt)
+
+  pub remove_everywhere_keeps : (current : Bytes) (words : List Bytes) → Keeps grammar (remove_everywhere current words)
+  remove_everywhere_keeps current words [] h = tt
+  remove_everywhere_keeps current words (x ∷ xs) h =
+      all_joined (IsItem grammar s.argument) (argument_left current words x) (flat_map (argument_left current words) xs)
+      (argument_left_kept current words x h.0) (remove_everywhere_keeps current words xs h.1)
+
+  pub remove_if_equal_keeps : (current name word : Bytes) → Keeps grammar (remove_if_equal current name word)
+  remove_if_equal_keeps current name word xs h =
+      by_test (AreArguments grammar) (option_map_or (equals_word current name word) (attribute name xs) false) (without name xs) xs (without_kept grammar name xs h) h
 
   -- ---- replace and substitute
 

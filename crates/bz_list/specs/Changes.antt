@@ -1,8 +1,9 @@
 -- What the commands on the values of attributes make of the arguments of a rule.
-use Rattle.std.specs.Prelude.{Bool, true, false, not, List, [], Ok, Err, map, if◌then◌else◌, bytes_eq}
-use Rattle.std.specs.List.{list_any, filter}
+use Rattle.std.specs.Prelude.{Bool, true, false, not, ◌&&◌, ◌||◌, List, [], ◌∷◌, Ok, Err, map, if◌then◌else◌, bytes_eq}
+use Rattle.std.specs.List.{list_any, filter, flat_map}
 use Rattle.std.specs.Option.{option_map_or}
-use Rattle.bz_list.specs.Words.{Expr, Bytes, ValueOperation, Attributes, Values, attribute, parts_of, with_text, first_text, on_lists, string_text, string_of, list_of, plus, is_attribute, is_other_attribute, on_first_that, on_value, with_value, with_new, without, Arguments, by_value, has_lists, items_in, is_no_list, is_empty_list, with_more, body_of, is_item, is_some_item, fresh, arriving}
+use Rattle.bz_list.specs.Words.{Expr, Bytes, ValueOperation, Attributes, Values, attribute, parts_of, with_text, first_text, text_of, has_class, on_lists, string_text, string_of, list_of, plus, is_attribute, is_other_attribute, on_first_that, on_value, with_value, with_new, without, Arguments, by_value, has_lists, items_in, is_no_list, is_empty_list, with_more, body_of, is_item, is_some_item, fresh, arriving}
+use Rattle.bz_token.specs.declared.class.Class.TheVariants as c
 use Rattle.bz_command_syntax.specs.Patterns.{substituted}
 use Rattle.bz_command_syntax.specs.declared.command.ValueOperation.TheVariants as wv
 use Rattle.bz_command_syntax.specs.declared.command.Attributes.TheVariants as a
@@ -19,8 +20,16 @@ with_items_added name added arguments =
     if has_lists value then Ok (with_value name (with_more (added (items_in value)) value) arguments)
     else (if is_no_list value then Err NotAList else Ok (with_value name (plus value (list_of (added []))) arguments)))
 
+-- the strings of the words that are none of these items, each once
+abbrev pub strings_added : Bytes → Bytes → List Bytes → List Expr → List Expr
+strings_added current name words items = map (string_of current name) (fresh current name items [] words)
+
+-- the value with these
+abbrev pub with_strings : Bytes → Bytes → List Bytes → Expr → Expr
+with_strings current name words value = with_more (strings_added current name words (items_in value)) value
+
 abbrev pub add : Bytes → Bytes → List Bytes → List Expr → Arguments
-add current name words arguments = with_items_added name (λ items. map (string_of current name) (fresh current name items [] words)) arguments
+add current name words arguments = with_items_added name (strings_added current name words) arguments
 
 -- ---- remove
 
@@ -32,10 +41,35 @@ abbrev pub without_items : Bytes → (Expr → Bool) → Expr → List Expr → 
 without_items name test value arguments =
     if list_any test (items_in value) then cleared name (on_lists (filter (λ x. not (test x))) value) arguments else arguments
 
+-- the arguments without these values in the lists of an attribute
+abbrev pub values_left : Bytes → Bytes → List Bytes → List Expr → List Expr
+values_left current name words arguments =
+    option_map_or (λ value. without_items name (is_some_item current name words) value arguments) (attribute name arguments) arguments
+
 abbrev pub remove_values : Bytes → Bytes → List Bytes → List Expr → Arguments
 remove_values current name words arguments =
     by_value (attribute name arguments) (Ok arguments)
     (λ value. if is_no_list value then Err NotAList else Ok (without_items name (is_some_item current name words) value arguments))
+
+-- what is left of one argument without these values, where `*` means it; one without lists stays
+abbrev pub argument_left : Bytes → List Bytes → Expr → List Expr
+argument_left current words x =
+    if is_other_attribute x then values_left current (first_text (parts_of x)) words (x ∷ []) else x ∷ []
+
+abbrev pub remove_everywhere : Bytes → List Bytes → List Expr → Arguments
+remove_everywhere current words arguments = Ok (flat_map (argument_left current words) arguments)
+
+-- a name or a number that is spelled so
+abbrev pub is_spelled : Bytes → Expr → Bool
+is_spelled word x = (has_class c.Name x || has_class c.Number x) && bytes_eq (text_of x) word
+
+-- a plain string that means the same, or a name or a number
+abbrev pub equals_word : Bytes → Bytes → Bytes → Expr → Bool
+equals_word current name word x = is_item current name word x || is_spelled word x
+
+abbrev pub remove_if_equal : Bytes → Bytes → Bytes → List Expr → Arguments
+remove_if_equal current name word arguments =
+    Ok (if option_map_or (equals_word current name word) (attribute name arguments) false then without name arguments else arguments)
 
 -- ---- replace
 
@@ -94,13 +128,16 @@ move current from to values arguments =
 -- What an operation on values makes of the arguments of a rule that it is meant for.
 abbrev pub values_changed : ValueOperation → Bytes → List Expr → Arguments
 values_changed (wv.Add name words) current arguments = add current name words arguments
-values_changed (wv.Remove name words) current arguments = remove_values current name words arguments
+values_changed (wv.Remove a.All words) current arguments = remove_everywhere current words arguments
+values_changed (wv.Remove (a.Named name) words) current arguments = remove_values current name words arguments
 values_changed (wv.Replace attributes old new) current arguments = replace current attributes old new arguments
 values_changed (wv.Substitute attributes pattern template) current arguments = substitute current attributes pattern template arguments
 values_changed (wv.Move from to values) current arguments = move current from to values arguments
+values_changed (wv.RemoveIfEqual name word) current arguments = remove_if_equal current name word arguments
 
--- `add` and `remove` know whether they change anything: a list grows or it loses items. Of the others one may give back what it takes away.
+-- `add` and `remove` of one attribute know whether they change anything: a list grows or it loses items. Of the others one may give back what
+-- it takes away, or nothing is said.
 abbrev pub tells_change : ValueOperation → Bool
 tells_change (wv.Add name words) = true
-tells_change (wv.Remove name words) = true
+tells_change (wv.Remove (a.Named name) words) = true
 tells_change _ = false

@@ -14,6 +14,6 @@ pub use Rattle.bz_label.specs.Tables.{is_label_attribute}
 pub use Rattle.bz_label.specs.declared.label.Label.{Label}
 pub use Rattle.bz_rule.specs.QuoteMarks.{inside}
 pub use Rattle.bz_rule.specs.Rules.{attribute}
-pub use Rattle.bz_rule.specs.Values.{first_text, has_kind, on_items, on_lists, parts_of, text_of, with_text}
+pub use Rattle.bz_rule.specs.Values.{first_text, has_class, has_kind, on_items, on_lists, parts_of, text_of, with_text}
 pub use Rattle.bz_value.specs.Empty.{is_empty}
 pub use Rattle.bz_value.specs.declared.value.Expr.{Expr}

@@ -7,4 +7,4 @@ mod listed;
 mod replacing;
 
 pub use laws::{added_is_there, adding_again, removing_again};
-pub use listed::{change_values, tells_change};
+pub use listed::{add_strings, change_values, is_spelled, list_of_strings, tells_change};

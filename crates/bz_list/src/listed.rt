@@ -1,9 +1,10 @@
 //! Items that are added to the lists of an attribute, removed from them and moved to another one, and the table of all commands on values.
-ghost use Rattle.std.specs.Prelude.{◌≡◌, ◌⊎◌, ◌↔◌, IsTrue, ◌++◌, ◌∷◌, [], ℕ, List, Ok, Err, IfOk, OnOk, IfErr, map, not};
+ghost use Rattle.std.specs.Prelude.{◌≡◌, ◌⊎◌, ◌↔◌, IsTrue, ◌++◌, ◌∷◌, [], ℕ, List, Ok, Err, IfOk, OnOk, IfErr, map, not, false};
 ghost use Rattle.std.specs.List.{filter, flat_map, list_any};
+ghost use Rattle.std.specs.Option.{option_map_or};
 ghost use Rattle.bz_grammar.specs.declared.kind.Kind.TheVariants as kinds;
-ghost use Rattle.bz_list.specs.Words.{is_empty, attribute as value_there, has_kind as is_of, on_items, on_lists, on_first_that, fresh, is_item as is_item_of, items_in, listed as as_listed, with_more, string_of as string_made};
-ghost use Rattle.bz_list.specs.Changes.{with_items_added, remove_values, move, tells_change, values_changed};
+ghost use Rattle.bz_list.specs.Words.{is_empty, attribute as value_there, has_kind as is_of, on_items, on_lists, on_first_that, fresh, is_item as is_item_of, items_in, list_of as list_made, listed as as_listed, with_more, string_of as string_made};
+ghost use Rattle.bz_list.specs.Changes.{argument_left, is_spelled, equals_word, move, remove_everywhere, remove_if_equal, remove_values, strings_added, tells_change, values_changed, with_items_added, with_strings};
 ghost use Rattle.bz_list.specs.private.KnownValues.{knows_word};
 ghost use Rattle.bz_list.specs.private.Listing.{added_by, added_to, chooses, chosen_in, is_item_ending, is_left, new_items, new_strings, put_back, value_with, without_chosen};
 
@@ -12,12 +13,12 @@ use crate::known::{
 };
 use crate::replacing::Change;
 use bz_attribute::{
-    Slot, add_attribute, append_to, body_of, first_of_kind, has_kind, has_lists, is_empty_list,
-    is_item, is_no_list, list_of, operands_of, plus, remove_first, set_value, string_of,
-    take_value,
+    Slot, add_attribute, append_to, body_of, first_of_kind, first_text, has_kind, has_lists,
+    is_empty_list, is_item, is_no_list, is_other_attribute, list_of, operands_of, parts_of, plus,
+    remove_first, set_value, string_of, take_value,
 };
-use bz_command_syntax::{ValueOperation, Values};
-use bz_grammar::Kind;
+use bz_command_syntax::{Attributes, ValueOperation, Values};
+use bz_grammar::{Class, Kind};
 use bz_items::{Items, Memory, Text};
 use bz_rule::{attribute, inside, text_of};
 use bz_value::{Expr, Refusal};
@@ -293,6 +294,101 @@ fn remove_values(
     Ok(taken.is_empty())
 }
 
+/// What is left of one argument without the items that are one of the words, where `*` means it.
+fn argument_left(
+    alloc: Global,
+    current: &[u8],
+    words: &[Text],
+    x: Expr,
+) -> Result<Items<Expr>, Memory>
+    ensures { IfOk result (λ left. left ≡ argument_left current.now words.now x) }
+{
+    let mut left = Items::new(alloc);
+    if !is_other_attribute(&x) {
+        left.push(x)?;
+        return Ok(left);
+    }
+    let name = Text::from_slice(alloc, first_text(parts_of(&x)))?;
+    left.push(x)?;
+    let slot = Slot::new(alloc, current, name.as_slice());
+    let chosen = words_chosen(slot, words)?;
+    take_items(slot, &chosen, &mut left)?;
+    Ok(left)
+}
+
+/// Items that are one of the words go from the lists of all attributes but `name`, and each attribute whose whole value is then an empty list.
+fn remove_everywhere(
+    alloc: Global,
+    current: &[u8],
+    words: &[Text],
+    arguments: &mut Items<Expr>,
+) -> Done
+    ensures { OnOk result (remove_everywhere current.now words.now arguments.old ≡ Ok arguments.new) }
+{
+    let mut all = Vec::new(alloc);
+    for x in mem::replace(arguments, Items::new(alloc)).into_vec() {
+        let mut left = argument_left(alloc, current, words, x)?.into_vec();
+        all.append(&mut left)?;
+    }
+    *arguments = Items::from_vec(all);
+    Ok(())
+}
+
+/// Whether the expression is a name or a number that is spelled so.
+pub fn is_spelled(word: &[u8], x: &Expr) -> bool
+    ensures { result ≡ is_spelled word.now x.now }
+{
+    match x {
+        Expr::Token(token) if token.class == Class::Name || token.class == Class::Number => {
+            token.text.as_slice() == word
+        }
+        _ => false,
+    }
+}
+
+/// Whether a value is a plain string that means the same as the word, or a name or a number that is spelled so.
+fn equals_word(slot: Slot<'_>, word: &[u8], x: &Expr) -> bool
+    ensures { result ≡ equals_word slot.entry.current.now slot.entry.attribute.now word.now x.now }
+{
+    is_item(slot.current, slot.attribute, word, x) || is_spelled(word, x)
+}
+
+/// Whether the attribute is there and has this value.
+fn has_value(slot: Slot<'_>, word: &[u8], arguments: &[Expr]) -> bool
+    ensures { result ≡ option_map_or (equals_word slot.entry.current.now slot.entry.attribute.now word.now) (value_there slot.entry.attribute.now arguments.now) false }
+{
+    match attribute(slot.attribute, arguments) {
+        Some(value) => equals_word(slot, word, value),
+        None => false,
+    }
+}
+
+/// The attribute goes where it has this value.
+fn remove_if_equal(slot: Slot<'_>, word: &[u8], arguments: &mut Items<Expr>)
+    ensures { remove_if_equal slot.entry.current.now slot.entry.attribute.now word.now arguments.old ≡ Ok arguments.new }
+{
+    if has_value(slot, word, arguments.as_slice()) {
+        remove_first(slot.attribute, arguments);
+    }
+}
+
+/// Puts the strings of words, each once, after the items of the first list of a value, unless they are items of its lists. The error: a growth
+/// was refused.
+pub fn add_strings(slot: Slot<'_>, words: &[Text], value: &mut Expr) -> Result<(), Memory>
+    ensures { OnOk result (value.new ≡ with_strings slot.entry.current.now slot.entry.attribute.now words.now value.old) }
+{
+    let more = added_beside(slot, Added::Words(words), operands_of(value))?;
+    append_to_value(&mut more.into_vec(), value)
+}
+
+/// A new list of the strings of words, each once. The error: a growth was refused.
+pub fn list_of_strings(slot: Slot<'_>, words: &[Text]) -> Result<Expr, Memory>
+    ensures { IfOk result (λ list. list ≡ list_made (strings_added slot.entry.current.now slot.entry.attribute.now words.now [])) }
+{
+    let items = added_beside(slot, Added::Words(words), &[])?;
+    Ok(list_of(slot.alloc, items))
+}
+
 /// Items leave one attribute and are added to another.
 fn move_values(
     from: Slot<'_>,
@@ -328,7 +424,11 @@ pub fn tells_change(operation: &ValueOperation) -> bool
 {
     matches!(
         operation,
-        ValueOperation::Add { .. } | ValueOperation::Remove { .. }
+        ValueOperation::Add { .. }
+            | ValueOperation::Remove {
+                attributes: Attributes::Named(_),
+                ..
+            }
     )
 }
 
@@ -350,9 +450,19 @@ pub fn change_values(
             let slot = Slot::new(alloc, current, attribute.as_slice());
             add_items(slot, Added::Words(values.as_slice()), arguments)
         }
-        ValueOperation::Remove { attribute, values } => {
+        ValueOperation::Remove {
+            attributes: Attributes::Named(attribute),
+            values,
+        } => {
             let slot = Slot::new(alloc, current, attribute.as_slice());
             remove_values(slot, values.as_slice(), arguments)
+        }
+        ValueOperation::Remove {
+            attributes: Attributes::All,
+            values,
+        } => {
+            remove_everywhere(alloc, current, values.as_slice(), arguments)?;
+            Ok(false)
         }
         ValueOperation::Replace {
             attributes,
@@ -375,6 +485,11 @@ pub fn change_values(
         ValueOperation::Move { from, to, values } => {
             let from = Slot::new(alloc, current, from.as_slice());
             move_values(from, to.as_slice(), values, arguments)?;
+            Ok(false)
+        }
+        ValueOperation::RemoveIfEqual { attribute, value } => {
+            let slot = Slot::new(alloc, current, attribute.as_slice());
+            remove_if_equal(slot, value.as_slice(), arguments);
             Ok(false)
         }
     }

@@ -1,4 +1,4 @@
--- new_load and fix keep each comment as often as it occurred there.
+-- The commands on loads keep each comment as often as it occurred there.
 use Rattle.std.proofs.Common.{◌≡◌, ℕ, zero, suc, ◌+◌, Bool, true, false, not, ◌&&◌, ◌||◌, List, [], ◌∷◌, ◌++◌, Option, Some, None, refl, sym, ap, ◌∙◌, map, codes, arith, true≢false}
 use Rattle.std.specs.Prelude.{IfSome, bytes_eq, if◌then◌else◌}
 use Rattle.std.specs.List.{AllByRecursion, list_any, filter, insert, find}
@@ -10,20 +10,21 @@ use Rattle.bz_grammar.specs.declared.kind.Kind.TheVariants as k
 use Rattle.bz_grammar.specs.Shapes as s
 use Rattle.bz_grammar.specs.Spots.{Begins}
 use Rattle.bz_value.specs.declared.value.Expr.{Expr, Token, Form', items-the_row-Expr}
-use Rattle.bz_load.specs.Words.{Item, Bytes, is_empty, is_none, quoted_of, Symbol, token, node, mark, name, on_first_that, without_first}
+use Rattle.bz_load.specs.Words.{Item, Bytes, body_of, is_empty, is_none, quoted_of, substituted, Symbol, token, node, mark, name, on_first_that, without_first}
 use Rattle.bz_value.specs.declared.value.Item.TheVariants as i
 use Rattle.bz_value.specs.Comments.{HostComments, no_comments}
 use Rattle.bz_value.specs.Counted.{total, suffix_amount, host_amount, row_amount, item_amount, one_if}
 use Rattle.bz_value.specs.Proper.{comments_of, IsProperItem}
 use Rattle.bz_value.specs.LineShapes.{whole_grammar}
 use Rattle.bz_value.proofs.Totals.{append_total, form_amount}
-use Rattle.bz_rule.specs.Values.{has_kind, parts_of, items_of, with_items, on_items, on_rest}
+use Rattle.bz_rule.specs.Values.{has_kind, parts_of, items_of, with_items, with_text, on_first, on_items, on_rest}
 use Rattle.bz_rule.proofs.ProperChanges.{by_test, by_case}
 use Rattle.bz_rule.proofs.ProperSequences.{IsItem, AreOf}
-use Rattle.bz_attribute.proofs.FormsAgain.{if_false, made}
+use Rattle.bz_attribute.proofs.FormsAgain.{if_false, made, own_parts}
 use Rattle.bz_attribute.proofs.GrownArguments.{whole, row_total}
 use Rattle.bz_load.specs.Loads.{is_load_from, is_loaded, after_path, leading_blocks, loads_end, after_loads}
 use Rattle.bz_load.specs.NewLoad.{new_symbols, symbol_made, load_made, with_symbols, new_load}
+use Rattle.bz_load.specs.SubstituteLoad.{path_substituted, string_substituted, substitute_load, with_string_body}
 use Rattle.bz_load.specs.Fixes.{is_used, is_commented, path_comments, end_of, has_own_comments, symbol_stays, is_emptied, used_alone, is_package_call, package_moved, move_package_to_top, fix}
 use Rattle.bz_load.specs.Laws.{LoadsKeepComments}
 use Rattle.bz_load.proofs.ProperLoads.{fix_keeps, IsAlias, alias_parts, load_parts, token_amount}
@@ -101,6 +102,36 @@ module _ (number : Bytes → ℕ) where
       let z = load_none more (symbols_none chosen) path in
       by_test (λ ys. file ys ≡ file items) (list_any (is_load_from path) items) (on_first_that (is_load_from path) (with_symbols more) items) (after_loads (load_made path more) items)
       (first_same (item_amount number) (is_load_from path) (with_symbols more) (more_same more (symbols_none chosen)) items) (omega arith)
+
+  -- ---- paths with another body
+
+  text_same : (text : Bytes) (x : Expr) → whole number (with_text text x) ≡ whole number x
+  text_same text (Token t) = refl
+  text_same text (Form' kind s parts s' items end split open_break comments) = ap (whole number) (own_parts (Form' kind s parts s' items end split open_break comments))
+
+  module _ (pattern template : Bytes) where
+    string_same : (x : Expr) (found : Option Bytes) → whole number (option_map_or (λ inside. with_string_body inside (substituted pattern template inside) x) found x) ≡ whole number x
+    string_same x None = refl
+    string_same x (Some inside) =
+        let new : Bytes = substituted pattern template inside in
+        by_test (λ (y : Expr). whole number y ≡ whole number x) (bytes_eq new inside) x (with_text (quoted_of new) x) refl (text_same (quoted_of new) x)
+
+    path_same : (xs : List Expr) → total (whole number) (on_first (string_substituted pattern template) xs) ≡ total (whole number) xs
+    path_same [] = refl
+    path_same (x ∷ xs) = ap (λ n. n + total (whole number) xs) (string_same x (body_of x))
+
+    load_same : (item : Item) → item_amount number (path_substituted pattern template item) ≡ item_amount number item
+    load_same (i.Block lines) = refl
+    load_same (i.Stmt x) =
+        let new : List Expr = on_first (string_substituted pattern template) (items_of x) in
+        by_test (λ (y : Expr). whole number y ≡ whole number x) (has_kind k.Load x) (with_items new x) x (items_same new x (path_same (items_of x))) refl
+
+    pub substitute_load_same : (items : List Item) → file (substitute_load pattern template items) ≡ file items
+    substitute_load_same [] = refl
+    substitute_load_same (item ∷ items) =
+        let first = load_same item in
+        let rest = substitute_load_same items in
+        omega arith
 
   -- ---- what is dropped has no comments
 
@@ -212,4 +243,5 @@ pub comments_stay : LoadsKeepComments
 comments_stay = (
   λ path symbols items text. new_load_same (one_if text) path symbols items,
   λ fixes items h text. by_fixes (one_if text) fixes.move_package_to_top fixes.unused_loads items (recursion_from_All IsProperItem items h),
+  λ pattern template items text. substitute_load_same (one_if text) pattern template items,
 )

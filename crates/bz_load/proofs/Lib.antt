@@ -6,3 +6,4 @@ pub mod PathSteps
 pub mod PlaceSteps
 pub mod ProperLoads
 pub mod PutSteps
+pub mod RenamedPaths

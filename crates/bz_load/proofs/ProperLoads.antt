@@ -1,4 +1,4 @@
--- What new_load and fix make of proper items is proper, and what a proper load is made of.
+-- What the commands on loads make of proper items is proper, and what a proper load is made of.
 use Rattle.std.proofs.Common.{◌≡◌, Bool, true, false, not, List, [], ◌∷◌, ◌++◌, inr, refl, sym, subst, map, arith, true≢false, ◌||◌, ◌&&◌, inl, ap, ◌∙◌, ℕ, length}
 use Rattle.std.specs.Prelude.{IsUtf8, IfSome, Option, Some, None, codes, bytes_eq, if◌then◌else◌}
 use Rattle.std.specs.List.{AllByRecursion, filter, list_any, find}
@@ -11,7 +11,7 @@ use Rattle.bz_grammar.specs.declared.kind.Kind.TheVariants as k
 use Rattle.bz_grammar.specs.Shapes as s
 use Rattle.bz_grammar.specs.Spots.{Begins, Within, Spot}
 use Rattle.bz_value.specs.declared.value.Expr.{Expr, Token, Form', items-the_row-Expr}
-use Rattle.bz_load.specs.Words.{Item, Bytes, quoted_of, Symbol, Fixes, is_text, token, node, mark, name, on_first_that, without_first, Kind}
+use Rattle.bz_load.specs.Words.{Item, Bytes, body_of, quoted_of, substituted, Symbol, Fixes, is_text, token, node, mark, name, on_first_that, without_first, Kind}
 use Rattle.bz_value.specs.declared.value.Item.TheVariants as i
 use Rattle.bz_value.specs.Comments.{no_comments}
 use Rattle.bz_value.specs.Proper.{IsComment, IsProperItemIn, comments_of, ProperExpr}
@@ -20,8 +20,9 @@ use Rattle.bz_value.specs.Roots as r
 use Rattle.bz_value.proofs.FormParts.{ArePartsBy, form_proper_by}
 use Rattle.bz_command_syntax.specs.Proper.{IsSymbol, IsAttribute, EachIs, AreSome}
 use Rattle.bz_command_syntax.proofs.NameTests.{identifiers_are_names}
-use Rattle.bz_rule.specs.Values.{has_kind, items_of, with_items, on_items, on_rest, parts_of}
-use Rattle.bz_rule.proofs.ProperChanges.{by_test, by_case}
+use Rattle.bz_command_syntax.proofs.PlainTexts.{substituted_utf8}
+use Rattle.bz_rule.specs.Values.{has_kind, items_of, with_items, with_text, on_first, on_items, on_rest, parts_of}
+use Rattle.bz_rule.proofs.ProperChanges.{by_test, by_case, first_stays, items_stay, string_in_place}
 use Rattle.bz_rule.proofs.ProperRules.{statement_in_place}
 use Rattle.bz_rule.proofs.ProperForms.{InPlace, itself, AsForm, opened}
 use Rattle.bz_rule.proofs.ProperItems.{all_joined, all_kept, all_changed}
@@ -30,6 +31,8 @@ use Rattle.bz_attribute.proofs.ProperTexts.{one_ascii}
 use Rattle.bz_attribute.proofs.ProperMade.{IsNew, none_there, new_part, row_proper, token_new, quoted_string}
 use Rattle.bz_load.specs.Loads.{path_in, is_load_from, is_loaded, leading_blocks, loads_end, after_loads}
 use Rattle.bz_load.specs.NewLoad.{and_symbol, new_symbols, symbol_made, load_made, with_symbols, new_load}
+use Rattle.bz_load.specs.SubstituteLoad.{path_substituted, string_substituted, substitute_load, with_string_body}
+use Rattle.bz_load.proofs.RenamedPaths.{string_body}
 use Rattle.bz_load.specs.Fixes.{is_used, has_own_comments, symbol_stays, with_used, is_emptied, used_alone, unused_loads, is_package_call, package_moved, move_package_to_top, fix, has_operand, end_of}
 use Rattle.bz_load.specs.private.Known.{operand_in}
 use Rattle.bz_load.proofs.Operands.{none_among, operands_answered}
@@ -150,6 +153,26 @@ module _ (grammar : Grammar) where
       by_test AreFine (list_any (is_load_from path) items) (on_first_that (is_load_from path) (with_symbols more) items) (after_loads (load_made path more) items)
       (first_changed (is_load_from path) (with_symbols more) (more_symbols path more fine) items h)
       (all_put (IsProperItemIn grammar) (loads_end (leading_blocks items) 0 items) (load_made path more) items (load_proper path more u fine) h)
+
+  -- ---- paths with another body
+
+  string_stays : (pattern template : Bytes) (x : Expr) (found : Option Bytes) → body_of x ≡ found → InPlace grammar x (option_map_or (λ inside. with_string_body inside (substituted pattern template inside) x) found x)
+  string_stays pattern template x None e = itself grammar x
+  string_stays pattern template x (Some inside) e =
+      let new : Bytes = substituted pattern template inside in
+      let w = string_body x inside e in
+      by_test (InPlace grammar x) (bytes_eq new inside) x (with_text (quoted_of new) x) (itself grammar x)
+      (string_in_place grammar (quoted_of new) x w.0 (λ h. quoted_string new (substituted_utf8 pattern template inside (w.1 h.1))))
+
+  path_stays : (pattern template : Bytes) (item : Item) → IsProperItemIn grammar item → IsProperItemIn grammar (path_substituted pattern template item)
+  path_stays pattern template (i.Block lines) h = h
+  path_stays pattern template (i.Stmt x) h =
+      let change : Expr → Expr = string_substituted pattern template in
+      statement_in_place grammar x (on_items k.Load (on_first change) x)
+      (items_stay grammar k.Load refl (on_first change) (first_stays grammar change (λ y. string_stays pattern template y (body_of y) refl)) x) h
+
+  pub substitute_load_keeps : (pattern template : Bytes) (items : List Item) → AllByRecursion (IsProperItemIn grammar) items → AllByRecursion (IsProperItemIn grammar) (substitute_load pattern template items)
+  substitute_load_keeps pattern template items h = all_changed (IsProperItemIn grammar) (path_substituted pattern template) (path_stays pattern template) items h
 
   -- ---- unused symbols
 
@@ -275,4 +298,5 @@ pub loads_stay_proper : LoadsStayProper
 loads_stay_proper = (
   λ grammar path symbols items u some h. All-from_recursion (IsProperItemIn grammar) (new_load path symbols items) (new_load_keeps grammar path symbols items u some (recursion_from_All (IsProperItemIn grammar) items h)),
   λ grammar fixes items h. All-from_recursion (IsProperItemIn grammar) (fix fixes items) (fix_keeps grammar fixes items (recursion_from_All (IsProperItemIn grammar) items h)),
+  λ grammar pattern template items h. All-from_recursion (IsProperItemIn grammar) (substitute_load pattern template items) (substitute_load_keeps grammar pattern template items (recursion_from_All (IsProperItemIn grammar) items h)),
 )

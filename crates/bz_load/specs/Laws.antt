@@ -1,15 +1,17 @@
--- Laws of new_load and of fix.
+-- Laws of the commands on loads.
 use Rattle.std.specs.Prelude.{◌≡◌, Bool, true, false, not, List, IsUtf8}
 use Rattle.std.specs.List.{list_any, list_all}
 use Rattle.bz_load.specs.Words.{Item, times, Bytes, IsProper, IsProperIn, Grammar, IsSymbol, AreSome, is_escaped, Symbol, Fixes, without_first}
 use Rattle.bz_load.specs.NewLoad.{new_load}
+use Rattle.bz_load.specs.SubstituteLoad.{substitute_load}
 use Rattle.bz_load.specs.Fixes.{is_used, is_emptied, unused_loads, is_package_call, move_package_to_top, fix}
 
--- What new_load makes of proper items by words that were read is proper, and what fix makes of them too: in a BUILD file as in any.
+-- What new_load makes of proper items by words that were read is proper, and what fix and substitute_load make of them too: in a BUILD file as in any.
 abbrev pub LoadsStayProper : Type 0
 LoadsStayProper =
     ((grammar : Grammar) (path : Bytes) (symbols : List Symbol) (items : List Item) → IsUtf8 path → AreSome IsSymbol symbols → IsProperIn grammar items → IsProperIn grammar (new_load path symbols items))
     × ((grammar : Grammar) (fixes : Fixes) (items : List Item) → IsProperIn grammar items → IsProperIn grammar (fix fixes items))
+    × ((grammar : Grammar) (pattern template : Bytes) (items : List Item) → IsProperIn grammar items → IsProperIn grammar (substitute_load pattern template items))
 
 -- ---- once more
 
@@ -52,3 +54,4 @@ abbrev pub LoadsKeepComments : Type 0
 LoadsKeepComments =
     ((path : Bytes) (symbols : List Symbol) (items : List Item) (text : Bytes) → times text (new_load path symbols items) ≡ times text items)
     × ((fixes : Fixes) (items : List Item) → IsProper items → (text : Bytes) → times text (fix fixes items) ≡ times text items)
+    × ((pattern template : Bytes) (items : List Item) (text : Bytes) → times text (substitute_load pattern template items) ≡ times text items)

@@ -3,6 +3,7 @@ pub mod Laws
 pub mod Loads
 pub mod NewLoad
 pub mod Paths
+pub mod SubstituteLoad
 pub mod Words
 pub mod Worked
 pub mod private

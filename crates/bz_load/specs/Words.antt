@@ -3,6 +3,7 @@ pub use Rattle.bz_attribute.specs.Attributes.{on_first_that, without_first}
 pub use Rattle.bz_attribute.specs.Lists.{body_of}
 pub use Rattle.bz_attribute.specs.Made.{mark, name, node, sequence, token}
 pub use Rattle.bz_attribute.specs.Sets.{texts_of}
+pub use Rattle.bz_command_syntax.specs.Patterns.{substituted}
 pub use Rattle.bz_command_syntax.specs.Proper.{AreSome, IsSymbol}
 pub use Rattle.bz_command_syntax.specs.Quoted.{is_escaped, quoted_of}
 pub use Rattle.bz_command_syntax.specs.declared.command.Fixes.{Fixes}
@@ -12,7 +13,7 @@ pub use Rattle.bz_grammar.specs.declared.kind.Kind.{Kind}
 pub use Rattle.bz_items.specs.Characters.{Bytes}
 pub use Rattle.bz_rule.specs.QuoteMarks.{local_name}
 pub use Rattle.bz_rule.specs.Rules.{is_rule_of_kind, is_text}
-pub use Rattle.bz_rule.specs.Values.{has_kind, items_of, on_items, on_rest, parts_of, text_of}
+pub use Rattle.bz_rule.specs.Values.{has_kind, items_of, on_first, on_items, on_rest, parts_of, text_of, with_text}
 pub use Rattle.bz_value.specs.Comments.{HostComments}
 pub use Rattle.bz_value.specs.Counted.{times}
 pub use Rattle.bz_value.specs.Empty.{is_empty, is_none}

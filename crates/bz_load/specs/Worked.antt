@@ -1,11 +1,12 @@
--- Worked rows: small files, and what new_load and fix make of them.
+-- Worked rows: small files, and what the commands on loads make of them.
 use Rattle.std.specs.Prelude.{◌≡◌, true, false, List, [], ◌∷◌, Some, codes}
 use Rattle.bz_token.specs.declared.class.Class.TheVariants as c
 use Rattle.bz_grammar.specs.declared.kind.Kind.TheVariants as k
-use Rattle.bz_load.specs.Words.{Expr, Item, Bytes, Symbol, Fixes, token, node, sequence, name, mark}
+use Rattle.bz_load.specs.Words.{Expr, Item, Bytes, Symbol, Fixes, substituted, token, node, sequence, name, mark}
 use Rattle.bz_value.specs.declared.value.Expr.TheVariants as e
 use Rattle.bz_value.specs.declared.value.Item.TheVariants as i
 use Rattle.bz_load.specs.NewLoad.{new_load}
+use Rattle.bz_load.specs.SubstituteLoad.{substitute_load}
 use Rattle.bz_load.specs.Fixes.{unused_loads, move_package_to_top, fix}
 
 abbrev plain : Bytes → Expr
@@ -56,3 +57,10 @@ WorkedLoads =
     -- The package goes after the last load, which goes; the next time it goes after the load that is the last one then.
     × (fix both (one ∷ rule ∷ other ∷ settings ∷ []) ≡ one ∷ rule ∷ settings ∷ [])
     × (fix both (one ∷ rule ∷ settings ∷ []) ≡ one ∷ settings ∷ rule ∷ [])
+    -- Each match in the path of a load is replaced, and nothing else; loads that come to one path stay two.
+    × ((substituted (codes "a") (codes "b") (codes "a.bzl") ≡ codes "b.bzl") → (substituted (codes "a") (codes "b") (codes "b.bzl") ≡ codes "b.bzl")
+    → substitute_load (codes "a") (codes "b") (block ∷ load (noted (codes "\"a.bzl\"") ∷ a ∷ alias ∷ []) ∷ other ∷ rule ∷ []) ≡ block ∷ load (noted (codes "\"b.bzl\"") ∷ a ∷ alias ∷ []) ∷ other ∷ rule ∷ [])
+    -- A path whose body stays is written as it was; one that is no plain string is passed over, and a load without a path.
+    × ((substituted (codes "a") (codes "b") (codes "b.bzl") ≡ codes "b.bzl")
+    → substitute_load (codes "a") (codes "b") (load (plain (codes "'b.bzl'") ∷ a ∷ []) ∷ load (plain (codes "r\"a.bzl\"") ∷ a ∷ []) ∷ load [] ∷ [])
+    ≡ load (plain (codes "'b.bzl'") ∷ a ∷ []) ∷ load (plain (codes "r\"a.bzl\"") ∷ a ∷ []) ∷ load [] ∷ [])

@@ -2,12 +2,12 @@
 ghost use Rattle.bz_load.specs.Laws.{LoadsKeepComments, FixedAgain, LoadedAgain, LoadsStayProper, MovedAgain, UnusedAgain};
 ghost use Rattle.bz_load.specs.Worked.{WorkedLoads};
 
-/// Worked rows: what new_load and fix make of small files.
+/// Worked rows: what the commands on loads make of small files.
 pub fn worked_loads()
     ensures { WorkedLoads }
 {}
 
-/// What new_load and fix make of proper items is proper.
+/// What the commands on loads make of proper items is proper.
 #[tactic(auto, using(crate::proofs::ProperLoads::loads_stay_proper))]
 pub fn loads_stay_proper()
     ensures { LoadsStayProper }
@@ -37,7 +37,7 @@ pub fn fixing_again()
     ensures { FixedAgain }
 {}
 
-/// new_load and fix lose no comment, and make none.
+/// The commands on loads lose no comment, and make none.
 #[tactic(auto, using(crate::proofs::LawComments::comments_stay))]
 pub fn comments_stay()
     ensures { LoadsKeepComments }

@@ -1,4 +1,4 @@
-//! The loads of a file: symbols that are loaded too, symbols that nothing uses, and the package after the loads.
+//! The loads of a file: symbols that are loaded too, paths in which a pattern is replaced, symbols that nothing uses, and the package after the loads.
 #![tactic(auto)]
 
 mod adding;
@@ -6,6 +6,7 @@ mod fixing;
 mod laws;
 mod paths;
 mod readings;
+mod renaming;
 
 pub use adding::{WithLoad, new_load};
 pub use fixing::fix;
@@ -14,3 +15,4 @@ pub use laws::{
     worked_loads,
 };
 pub use paths::LoadedPaths;
+pub use renaming::substitute_load;

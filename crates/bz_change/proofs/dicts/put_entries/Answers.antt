@@ -1,5 +1,5 @@
 use Rattle.std.proofs.Common.{◌∙◌, arith, rules}
-use Rattle.bz_change.proofs.KeyPlaces.{entry_absent, first, entry_kept, entry_set, all_before, put_next}
+use Rattle.bz_change.proofs.KeyPlaces.{entry_absent, first, entry_set, all_before, put_next}
 use Rattle.bz_change.proofs.dicts.put_entries.Goals as goal
 
 pub at_mut-requires : goal.at_mut-requires
@@ -17,17 +17,10 @@ loop-entry-preserved-in_default c = record {
       (search rules ∙ entry_absent c.args.change c.args.slot.current.now c.args.slot.attribute.now c.entry-item.result c.loop-entry.places c.loop-entry.items c.loop-entry.invariant.indexed (search rules)) c.loop-entry.invariant.put;
 }
 
-pub loop-entry-preserved-in_default-change : goal.loop-entry-preserved-in_default-change
-loop-entry-preserved-in_default-change c = record {
-  indexed = c.loop-entry.invariant.indexed;
-  put = put_next c.args.change c.args.slot.current.now c.args.slot.attribute.now c.args.entries.now c.loop-entry.entry-index c.entry-item.result c.loop-entry.items c.loop-entry.items _ (omega arith) c.entry-item.is
-      (entry_kept c.args.change c.args.slot.current.now c.args.slot.attribute.now c.entry-item.result c.loop-entry.places c.loop-entry.items c.loop-entry.invariant.indexed c.in-Some.field-0.now (search rules) (search rules)) c.loop-entry.invariant.put;
-}
-
 pub loop-entry-preserved : goal.loop-entry-preserved
 loop-entry-preserved c =
-    let kept = entry_set c.args.change c.args.slot.current.now c.args.slot.attribute.now c.entry-item.result c.loop-entry.places c.loop-entry.items c.loop-entry.invariant.indexed c.in-Some.field-0.now (search rules) c.in-Set.is
-    _ _ c.at_mut.ensures.value c.in_ok-set_entry.ensures in
+    let kept = entry_set c.args.change c.args.slot.current.now c.args.slot.attribute.now c.entry-item.result c.loop-entry.places c.loop-entry.items c.loop-entry.invariant.indexed c.in-Some.field-0.now (search rules)
+    _ _ c.at_mut.ensures.value c.in_ok-change_entry.ensures in
     record {
       indexed = kept.1;
       put = put_next c.args.change c.args.slot.current.now c.args.slot.attribute.now c.args.entries.now c.loop-entry.entry-index c.entry-item.result _ _ _ (omega arith) c.entry-item.is kept.0 c.loop-entry.invariant.put;

@@ -9,9 +9,15 @@ use Rattle.bz_command.proofs.laws.worked_command_effects.Goals as goal
 pub returns : goal.returns
 unfolding Rattle.bz_value.specs.declared.value.Expr.TheBlock.hidden-the_row-Expr-0 denote.Hole.Carrier.hidden digits
 returns c = (
-  (refl, refl, refl, refl, refl),
+  (refl, refl, refl, refl, refl, refl, refl, refl),
   (refl, refl, refl, refl, refl, refl, refl, refl, refl, refl),
   (
+    refl,
+    refl,
+    refl,
+    refl,
+    refl,
+    refl,
     refl,
     refl,
     refl,
@@ -20,8 +26,13 @@ returns c = (
     λ h. ap (λ text. leaves (argument_of (codes "deps") (list_of (with_body (codes "p") (codes "deps") (codes ":l") text (string (codes ":l")) ∷ [])) ∷ [])) h,
     refl,
   ),
-  (refl, refl, refl, refl, refl),
-  (refl, refl, refl),
+  (refl, refl, refl, refl, refl, refl, refl, refl, refl, refl, refl, refl, refl, refl, refl, refl, refl, refl),
+  (
+    refl,
+    refl,
+    λ h. rw h refl,
+    refl,
+  ),
   (refl, refl, refl, refl, refl),
   (refl, refl, refl, refl, refl),
 )

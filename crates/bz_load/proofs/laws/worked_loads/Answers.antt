@@ -3,4 +3,4 @@ use Rattle.bz_load.proofs.laws.worked_loads.Goals as goal
 
 pub returns : goal.returns
 unfolding Rattle.bz_value.specs.declared.value.Expr.TheBlock.hidden-the_row-Expr-0 denote.Hole.Carrier.hidden
-returns c = (refl, refl, refl, refl, refl, refl, refl, refl)
+returns c = (refl, refl, refl, refl, refl, refl, refl, refl, λ h g. rw (h, g) refl, λ g. rw g refl)

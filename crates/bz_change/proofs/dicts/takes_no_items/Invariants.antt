@@ -1,0 +1,7 @@
+use Rattle.std.proofs.Common.{◌≡◌, drop}
+use Rattle.bz_change.specs.Dicts.{takes_no_items}
+use Rattle.bz_change.proofs.dicts.takes_no_items.Given as goal
+
+-- the entries so far have other keys
+abbrev pub invariant-loop-x : goal.invariant-loop-x
+invariant-loop-x l = takes_no_items l.key (drop l.x-index l.items) ≡ takes_no_items l.key l.items
