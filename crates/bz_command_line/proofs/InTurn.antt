@@ -1,12 +1,15 @@
 -- Operands of a line, and lines of a file, one after the other.
-use Rattle.std.proofs.Common.{◌≡◌, ◌<◌, ◌+◌, ◌++◌, ◌∷◌, [], ℕ, List, Bor, true, Result, Ok, Err, Option, Some, None, IfSome, option_map, map, take, drop, get_or, length, append_assoc, add-one, arith, suc, refl, ap, subst, sym, ◌∙◌}
+use Rattle.std.proofs.Common.{◌≡◌, ◌≢◌, ◌<◌, ◌+◌, ◌++◌, ◌∷◌, [], ℕ, List, Bor, true, Result, Ok, Err, Option, Some, None, IfSome, option_map, map, take, drop, get_or, length, append_assoc, add-one, arith, suc, refl, ap, subst, sym, ◌∙◌, inl, inr}
 use Rattle.std.proofs.Math.Seq.{drop-cons}
 use Rattle.std.proofs.lemmas.List.{append-nil, map_more, length-map, length-take-le, map-append, take-append-drop}
 use Rattle.bz_items.specs.Characters.{Bytes}
-use Rattle.bz_command_line.specs.Refused.{IsFirstFault, IsFirstRefused, IsGroupFault, IsOperandFault}
-use Rattle.bz_command_line.specs.Requested.{Requested, Usage, both, in_line, joined_by, joined_operands, nothing_requested, requested_by, requested_of}
-use Rattle.bz_command_line.specs.Script.{in_front, is_read, line_group, operand_groups, operands_in}
+use Rattle.bz_command_line.specs.Refused.{IsFirstFault, IsFirstRefused, IsGroupFault, IsOperandFault, IsRefusedOperand, IsScriptFault}
+use Rattle.bz_command_line.specs.Requested.{Refused, Requested, Usage, both, in_line, refused_for, joined_by, joined_operands, nothing_requested, requested_by, requested_of}
+use Rattle.bz_command_line.specs.Script.{in_front, is_read, line_group, line_with_nul, operand_groups, operands_in, script_lines}
+use Rattle.bz_command_syntax.specs.declared.fault.CommandFault.TheVariants.{BadPattern}
 use Rattle.bz_command_line.specs.declared.verb.OperandFault.{OperandFault}
+use Rattle.bz_command_line.specs.declared.verb.OperandFault.TheVariants.{Command}
+use Rattle.bz_command_line.proofs.OtherFaults.{no_pattern}
 
 -- ---- texts after references, cut at a place
 
@@ -60,14 +63,23 @@ requested_turn items at requested more within before one =
     ap requested_of (texts_more items at within) ∙ requested_more (texts_in (take at items)) (text_at items at)
     ∙ ap (λ first. joined_operands first (requested_by (text_at items at))) before ∙ one
 
-pub refused_turn : (items : List (Bor Bytes)) (at : ℕ) (requested : Requested) (fault : OperandFault) → at < length items
-    → requested_of (texts_in (take at items)) ≡ Ok requested → IsOperandFault (text_at items at) fault
-    → IsFirstRefused (texts_in items) (record { operand = text_at items at; fault = fault })
-refused_turn items at requested fault within before is = record {
+-- what is reported of an operand that is refused for this fault, with the reason where that is a pattern
+pub is_refused : (refused : Refused) (operand : Bytes) (fault : OperandFault) → IsOperandFault operand fault → refused.operand ≡ operand → refused.fault ≡ fault
+    → (fault ≢ Command BadPattern → refused.pattern ≡ None) → IsRefusedOperand refused
+is_refused refused operand fault (inl is) same named other =
+    let none = other (no_pattern operand fault is) in
+    let all : refused_for operand fault ≡ refused = rw (sym same, sym named, sym none) refl in
+    inl (ap requested_by same ∙ is ∙ ap Err all)
+is_refused refused operand fault (inr is) same named other = inr (rw (same, named) is)
+
+pub refused_turn : (items : List (Bor Bytes)) (at : ℕ) (requested : Requested) (refused : Refused) → at < length items
+    → requested_of (texts_in (take at items)) ≡ Ok requested → refused.operand ≡ text_at items at → IsRefusedOperand refused
+    → IsFirstRefused (texts_in items) refused
+refused_turn items at requested refused within before same is = record {
   front = texts_in (take at items);
   rest = texts_in (drop (at + 1) items);
   requested = requested;
-  split = texts_split items at within;
+  split = rw same (texts_split items at within);
   before = before;
   fault = is;
 }
@@ -109,3 +121,9 @@ fault_turn items at groups (Some usage) operands within before here same is = re
   before = before;
   fault = rw (texts_before items at within) (here, usage, subst (λ (all : List Bytes). IsGroupFault all usage) same is, refl);
 }
+
+-- the first fault of the lines of a file, none of which has a NUL byte
+pub fault_of_script : (found : Option Usage) (text : Bytes) (lines : List Bytes) → lines ≡ script_lines text → line_with_nul lines ≡ None
+    → IfSome found (IsFirstFault lines) → IfSome found (IsScriptFault text)
+fault_of_script None text lines is none first = tt
+fault_of_script (Some usage) text lines is none first = inr (subst (λ (it : List Bytes). line_with_nul it ≡ None) is none, subst (λ (it : List Bytes). IsFirstFault it usage) is first)

@@ -1,5 +1,6 @@
 pub mod Counts
 pub mod InTurn
 pub mod Lines
+pub mod OtherFaults
 pub mod PathTexts
 pub mod Texts

@@ -4,7 +4,7 @@ use Rattle.bz_items.specs.Characters.{Bytes}
 use Rattle.bz_command_syntax.specs.Commands.{command_of}
 use Rattle.bz_command_syntax.specs.Refused.{HasBadPattern}
 use Rattle.bz_command_syntax.specs.declared.fault.CommandFault.TheVariants.{BadPattern}
-use Rattle.bz_command_line.specs.Requested.{Requested, Refused, Usage, of_operand, no_command, no_target, in_line, requested_by, requested_of, operand_group}
+use Rattle.bz_command_line.specs.Requested.{Requested, Refused, Usage, of_operand, no_command, no_target, in_line, refused_for, requested_by, requested_of, operand_group}
 use Rattle.bz_command_line.specs.Script.{line_with_nul, script_lines, is_read, operands_in, operand_groups, script_of}
 use Rattle.bz_command_line.specs.declared.verb.OperandFault.{OperandFault}
 use Rattle.bz_command_line.specs.declared.verb.OperandFault.TheVariants.{Command}
@@ -15,7 +15,11 @@ IsPatternFault operand fault = (fault ≡ Command BadPattern) × HasBadPattern (
 
 -- memory aside: what the operand requests, or a pattern that is refused where nothing else is wrong
 abbrev pub IsOperandFault : Bytes → OperandFault → Type 0
-IsOperandFault operand fault = (requested_by operand ≡ Err (record { operand = operand; fault = fault })) ⊎ IsPatternFault operand fault
+IsOperandFault operand fault = (requested_by operand ≡ Err (refused_for operand fault)) ⊎ IsPatternFault operand fault
+
+-- the same of what is reported, of a pattern with the reason or without it
+abbrev pub IsRefusedOperand : Refused → Type 0
+IsRefusedOperand refused = (requested_by refused.operand ≡ Err refused) ⊎ IsPatternFault refused.operand refused.fault
 
 -- The first operand that is refused.
 pub record IsFirstRefused (operands : List Bytes) (refused : Refused) : Type 0 where
@@ -24,7 +28,7 @@ pub record IsFirstRefused (operands : List Bytes) (refused : Refused) : Type 0 w
   pub requested : Requested
   pub split : operands ≡ front ++ refused.operand ∷ rest
   pub before : requested_of front ≡ Ok requested
-  pub fault : IsOperandFault refused.operand refused.fault
+  pub fault : IsRefusedOperand refused
 
 -- why the operands of one line request nothing
 abbrev pub IsGroupFault : List Bytes → Usage → Type 0

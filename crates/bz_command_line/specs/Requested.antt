@@ -1,5 +1,5 @@
 -- What the operands of one line request: commands, in order, and targets, in order.
-use Rattle.std.specs.Prelude.{ℕ, List, [], ◌∷◌, ◌++◌, if◌then◌else◌, Result, Ok, Err}
+use Rattle.std.specs.Prelude.{ℕ, List, [], ◌∷◌, ◌++◌, if◌then◌else◌, Option, None, Result, Ok, Err}
 use Rattle.bz_items.specs.Characters.{Bytes}
 use Rattle.bz_label.specs.declared.target.Target.{Target}
 use Rattle.bz_command_line.specs.Operands.{is_target, operand_target, verb_of}
@@ -14,21 +14,31 @@ pub record Requested : Type 0 where
   pub commands : List Request
   pub targets : List Target
 
--- an operand that is refused
+-- why `regex` refuses a pattern: from this byte on, from 1, and for this reason, in its own words; or that it is too large
+pub data PatternFault : Type 0 where
+  syntax : ℕ → Bytes → PatternFault
+  too_large : PatternFault
+
+-- an operand that is refused; of a pattern with the reason, where that is known
 pub record Refused : Type 0 where
   pub operand : Bytes
   pub fault : OperandFault
+  pub pattern : Option PatternFault
+
+-- an operand that is refused for another cause than its pattern
+abbrev pub refused_for : Bytes → OperandFault → Refused
+refused_for operand fault = record { operand = operand; fault = fault; pattern = None }
 
 abbrev pub nothing_requested : Requested
 nothing_requested = record { commands = []; targets = [] }
 
 abbrev pub wanted : Bytes → Result Verb OperandFault → Result Requested Refused
 wanted operand (Ok verb) = Ok (record { commands = record { verb = verb; text = operand } ∷ []; targets = [] })
-wanted operand (Err fault) = Err (record { operand = operand; fault = fault })
+wanted operand (Err fault) = Err (refused_for operand fault)
 
 abbrev pub aimed : Bytes → Result Target OperandFault → Result Requested Refused
 aimed operand (Ok target) = Ok (record { commands = []; targets = target ∷ [] })
-aimed operand (Err fault) = Err (record { operand = operand; fault = fault })
+aimed operand (Err fault) = Err (refused_for operand fault)
 
 -- what one operand requests
 abbrev pub requested_by : Bytes → Result Requested Refused

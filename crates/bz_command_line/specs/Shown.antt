@@ -2,7 +2,8 @@
 use Rattle.std.specs.Prelude.{map, option_map, Option, Some, None}
 use Rattle.bz_command_line.specs.Requested as a
 use Rattle.bz_command_line.specs.Line as l
-use Rattle.bz_command_line.specs.declared.{requested.Requested.Requested, requested.Request.Request, verb.Refused.Refused, requested.UsageFault.UsageFault, script.ScriptFault.ScriptFault, line.Given.Given, line.CommandLine.CommandLine, line.LineFault.LineFault}
+use Rattle.bz_command_line.specs.declared.{requested.Requested.Requested, requested.Request.Request, pattern.PatternFault.PatternFault, verb.Refused.Refused, requested.UsageFault.UsageFault, script.ScriptFault.ScriptFault, line.Given.Given, line.CommandLine.CommandLine, line.LineFault.LineFault}
+use Rattle.bz_command_line.specs.declared.pattern.PatternFault.TheVariants as t
 use Rattle.bz_command_line.specs.declared.requested.UsageFault.TheVariants as u
 use Rattle.bz_command_line.specs.declared.script.ScriptFault.TheVariants as s
 use Rattle.bz_command_line.specs.declared.line.Given.TheVariants as g
@@ -28,8 +29,12 @@ request_in request = record { verb = request.verb; text = request.text.now }
 abbrev pub requested_in : Requested → a.Requested
 requested_in requested = record { commands = map request_in requested.commands.items; targets = requested.targets.items }
 
+abbrev pub pattern_in : PatternFault → a.PatternFault
+pattern_in (t.Syntax at reason) = a.syntax at reason.now
+pattern_in t.TooLarge = a.too_large
+
 abbrev pub refused_in : Refused → a.Refused
-refused_in refused = record { operand = refused.operand.now; fault = refused.fault }
+refused_in refused = record { operand = refused.operand.now; fault = refused.fault; pattern = option_map pattern_in refused.pattern }
 
 -- why operands request nothing, where memory is not the cause
 abbrev pub usage_in : UsageFault → Option a.Usage

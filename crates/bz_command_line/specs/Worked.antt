@@ -1,12 +1,12 @@
 -- Worked rows: what lines of words and files of lines say.
-use Rattle.std.specs.Prelude.{◌≡◌, [], ◌∷◌, ◌++◌, codes, Ok, Err, true, false}
+use Rattle.std.specs.Prelude.{◌≡◌, [], ◌∷◌, ◌++◌, codes, Some, Ok, Err, true, false}
 use Rattle.bz_items.specs.Characters.{Bytes}
 use Rattle.bz_label.specs.declared.target.Target.{Target}
 use Rattle.bz_label.specs.declared.target.Which.TheVariants.{Name}
 use Rattle.bz_command_syntax.specs.declared.command.Operation.TheVariants as w
 use Rattle.bz_command_syntax.specs.declared.command.RuleOperation.TheVariants as wr
-use Rattle.bz_command_syntax.specs.declared.fault.CommandFault.TheVariants.{Unknown, Arguments}
-use Rattle.bz_command_line.specs.Requested.{Requested, Request, Usage, of_operand, no_target, no_line, nul, in_line, operand_group}
+use Rattle.bz_command_syntax.specs.declared.fault.CommandFault.TheVariants.{Unknown, Arguments, BadPattern}
+use Rattle.bz_command_line.specs.Requested.{Requested, Request, Usage, syntax, refused_for, of_operand, no_target, no_line, nul, in_line, operand_group}
 use Rattle.bz_command_line.specs.App.{line_hint}
 use Rattle.bz_command_line.specs.Hints.{hint_for}
 use Rattle.bz_command_line.specs.Line.{operands, script, of_clap, beside_script, beside_stdout, command_line_of}
@@ -41,7 +41,7 @@ abbrev deleted : Bytes → Requested
 deleted name = record { commands = request (Do (w.Rule wr.Delete)) (codes "delete") ∷ []; targets = meant name ∷ [] }
 
 abbrev refused : Bytes → OperandFault → Usage
-refused operand fault = of_operand (record { operand = operand; fault = fault })
+refused operand fault = of_operand (refused_for operand fault)
 
 -- commands and targets mixed, each in order; the first refused operand; a word after `format`
 abbrev Groups : Type 0
@@ -68,14 +68,14 @@ Faults = (script_of (byte_order_mark ++ codes "#delete|//a:x\n\n") ≡ Err no_li
     × (script_of (codes "delete\ngrow|a:\n") ≡ Err (in_line 1 no_target))
 
 abbrev answers : Bytes → Bytes → Type 0
-answers operand lines = hint_for (record { operand = operand; fault = Command Arguments }) ≡ lines
+answers operand lines = hint_for (refused_for operand (Command Arguments)) ≡ lines
 
 -- the forms of a command; a name without its words; words of `fix`, one of them twice; a step of a history
 abbrev Forms : Type 0
 Forms = answers (codes "set kind") (codes "buildozer: the form is 'set ATTR VALUE..' or 'set kind KIND'\n")
     × answers (codes " add ")
     (codes "buildozer: the form is 'add ATTR VALUE..'\nbuildozer: on a command line, put a command and its words in one pair of quotation marks\n")
-    × answers (codes "fix unusedLoads unusedLoads") (codes "buildozer: the form is 'fix [unusedLoads] [movePackageToTop]'\n")
+    × answers (codes "fix unusedLoads unusedLoads") (codes "buildozer: the form is 'fix [unusedLoads] [movePackageToTop]'\nbuildozer: there is no other fix here: buildifier puts lists in order and shortens labels\n")
     × answers (codes "undo 0") (codes "buildozer: the form is 'undo [N]'\n")
 
 -- a field that is none here; a text of several words
@@ -86,6 +86,12 @@ Meant = answers (codes "print name label")
     (codes "buildozer: the form is 'comment [ATTR [VALUE]] TEXT'\nbuildozer: the text of a comment is one word, so put a backslash before each space of it\n")
     × answers (codes "comment a-b") (codes "buildozer: the form is 'comment [ATTR [VALUE]] TEXT'\n")
 
+-- a target of another repository; a pattern that is refused
+abbrev Elsewhere : Type 0
+Elsewhere = (hint_for (refused_for (codes "@r//a:x") BadTarget) ≡ codes "buildozer: a target begins with no @: to edit another repository, run buildozer in its root\n")
+    × (hint_for (record { operand = codes "substitute srcs a( x"; fault = Command BadPattern; pattern = Some (syntax 2 (codes "unclosed group")) })
+    ≡ codes "buildozer: in the pattern, at byte 2: unclosed group\n")
+
 -- an option of other programs; a letter that is one here; a target of standard input; what is after `--`
 abbrev Strange : Type 0
 Strange = (line_hint (codes "-kf" ∷ codes "--quiet" ∷ codes "-r" ∷ [])
@@ -94,7 +100,7 @@ Strange = (line_hint (codes "-kf" ∷ codes "--quiet" ∷ codes "-r" ∷ [])
 
 -- an escape sequence and a line feed in an operand
 abbrev Escaped : Type 0
-Escaped = operand_line (record { operand = codes "//a" ++ 27 ∷ codes "[31m\n/:x"; fault = BadTarget }) ≡ codes "buildozer: //a\\x1b[31m\\n/:x: BadTarget (12)\n"
+Escaped = operand_line (refused_for (codes "//a" ++ 27 ∷ codes "[31m\n/:x") BadTarget) ≡ codes "buildozer: //a\\x1b[31m\\n/:x: BadTarget (12)\n"
 
 abbrev pub WorkedCommandLines : Type 0
-WorkedCommandLines = Words × Groups × Lines × Faults × Forms × Meant × Strange × Escaped
+WorkedCommandLines = Words × Groups × Lines × Faults × Forms × Meant × Elsewhere × Strange × Escaped

@@ -2,12 +2,14 @@
 #![tactic(auto)]
 
 mod line;
+mod pattern;
 mod reported;
 mod requested;
 mod script;
 mod verb;
 
 pub use line::{CommandLine, Given, LineFault, Options, read_line, worked_command_lines};
+pub use pattern::PatternFault;
 pub use reported::{report_line_usage, report_script, report_usage};
 pub use requested::{Request, Requested, UsageFault, read_group};
 pub use script::{ScriptFault, read_script};

@@ -1,14 +1,15 @@
 //! What the operands of one line request: its commands and its targets.
-ghost use Rattle.std.specs.Prelude.{◌≡◌, ◌⊎◌, Ok, Err, IfOk, IfErr, IfSome, OnOk, map};
+ghost use Rattle.std.specs.Prelude.{◌≡◌, ◌≢◌, ◌⊎◌, None, Ok, Err, IfOk, IfErr, IfSome, OnOk, map};
 ghost use Rattle.std.specs.List.{All};
 ghost use Rattle.bz_command_line.specs.Requested as a;
 ghost use Rattle.bz_command_line.specs.Operands.{is_target};
 ghost use Rattle.bz_command_line.specs.Paths.{HasPath};
 ghost use Rattle.bz_command_line.specs.Refused.{IsGroupFault, IsOperandFault};
-ghost use Rattle.bz_command_line.specs.Shown.{requested_in, usage_in};
-ghost use Rattle.bz_command_line.specs.declared.verb.OperandFault.{OperandFault};
+ghost use Rattle.bz_command_line.specs.Shown.{refused_in, requested_in, usage_in};
 
+use crate::pattern::pattern_fault;
 use crate::verb::{OperandFault, Refused, Verb, read_verb};
+use bz_command_syntax::CommandFault;
 use bz_label::{Target, TargetFault};
 use std::alloc::Global;
 
@@ -74,6 +75,23 @@ fn add<'a>(alloc: Global, requested: &mut Requested<'a>, text: &'a str) -> Resul
     Ok(())
 }
 
+// An operand that is refused for this fault, of a pattern with the reason.
+fn with_reason<'a>(alloc: Global, operand: &'a str, fault: OperandFault) -> Refused<'a>
+    ensures seen { (refused_in result).operand ≡ operand.entry.now }
+    ensures fault { (refused_in result).fault ≡ fault }
+    ensures other { fault ≢ OperandFault.Command CommandFault.BadPattern → (refused_in result).pattern ≡ None }
+{
+    let pattern = match fault {
+        OperandFault::Command(CommandFault::BadPattern) => pattern_fault(alloc, operand),
+        _ => None,
+    };
+    Refused {
+        operand,
+        fault,
+        pattern,
+    }
+}
+
 /// What the operands of one line request: commands and targets, at least one of each, in order. The package of each target
 /// is text in UTF-8, of at most 65,536 bytes. Errors, in this order: `Operand` where one is refused, which is the first
 /// such; `NoCommand`; `NoTarget`; and `Memory` where a growth was refused.
@@ -91,7 +109,7 @@ pub fn read_group<'a>(alloc: Global, operands: &[&'a str]) -> Result<Requested<'
             Ok(()) => {}
             Err(fault) => match fault {
                 OperandFault::Memory => return Err(UsageFault::Memory),
-                fault => return Err(UsageFault::Operand(Refused { operand, fault })),
+                fault => return Err(UsageFault::Operand(with_reason(alloc, operand, fault))),
             },
         }
     }

@@ -105,11 +105,16 @@ pub fn read_script<'a>(
     ensures err { IfErr result (λ fault. IfSome (script_usage_in fault) (IsScriptFault script.entry.now)) }
     ensures paths { IfOk result (λ groups. All (λ requested. All HasPath requested.targets.items) groups.items) }
 {
-    let lines = script_lines(alloc, script).map_err(|_| ScriptFault::Memory)?;
+    let Ok(lines) = script_lines(alloc, script) else {
+        return Err(ScriptFault::Memory);
+    };
     if let Some(line) = line_with_nul(&lines) {
         return Err(ScriptFault::Nul(line));
     }
-    let groups = read_groups(alloc, &lines)?;
+    let groups = match read_groups(alloc, &lines) {
+        Ok(groups) => groups,
+        Err(fault) => return Err(fault),
+    };
     if groups.is_empty() {
         return Err(ScriptFault::NoLine);
     }

@@ -4,17 +4,19 @@ ghost use Rattle.bz_label.specs.Pieces.{has_slash, has_colon};
 ghost use Rattle.bz_command_syntax.specs.Commands.{row_named};
 ghost use Rattle.bz_command_syntax.specs.Proper.{AreUtf8};
 ghost use Rattle.bz_streams.specs.Near.{nearest};
-ghost use Rattle.bz_command_line.specs.Operands.{verb_of, of_command, count_of, file_verb_in, steps_of};
-ghost use Rattle.bz_command_line.specs.Hints.{verb_forms, fix_names, did_you_mean, target_hint, name_hint, is_fix, near_word, words_end, form_end, form_hint, words_hint, hint_for};
+ghost use Rattle.bz_command_line.specs.Operands.{begins_with, verb_of, of_command, count_of, file_verb_in, steps_of};
+ghost use Rattle.bz_command_line.specs.Hints.{verb_forms, fix_names, did_you_mean, repository_hint, target_hint, lines_in_place, place_hint, name_hint, is_fix, near_word, words_end, form_end, form_hint, words_hint, pattern_line, hint_in, hint_for};
 ghost use Rattle.bz_command_line.specs.Refused.{IsPatternFault};
-ghost use Rattle.bz_command_line.specs.Shown.{refused_in};
+ghost use Rattle.bz_command_line.specs.Shown.{refused_in, pattern_in};
 ghost use Rattle.bz_command_line.specs.Verbs.{prints, operand_fault_name, operand_fault_number};
 
+use crate::pattern::PatternFault;
 use bz_command_syntax::{
     COMMAND_NAMES, Command, CommandFault, TEXT_LIMIT, as_text, command_form, read_words,
 };
 use bz_items::Text;
 use bz_streams::nearest;
+use itoa::Buffer;
 use std::alloc::{AllocError, Global};
 
 /// What a command requests.
@@ -97,6 +99,8 @@ impl OperandFault {
 pub struct Refused<'a> {
     pub operand: &'a str,
     pub fault: OperandFault,
+    /// Of a pattern that is refused: why, where that is known.
+    pub pattern: Option<PatternFault>,
 }
 
 const WRONG_ARGUMENTS: OperandFault = OperandFault::Command(CommandFault::Arguments);
@@ -182,16 +186,30 @@ pub(crate) fn read_verb(alloc: Global, text: &str) -> Result<Verb, OperandFault>
 
 const HELP_HINT: &str = "buildozer: see buildozer --help, or man buildozer\n";
 
+const TOO_LARGE: &str = "buildozer: the pattern is too large when compiled\n";
+
 const LENGTH_HINT: &str = "buildozer: a command has at most 65,536 bytes\n";
 
 const TARGET_HINT: &str =
     "buildozer: a target has a colon or begins with //, and contains no space\n";
+
+const REPOSITORY_HINT: &str =
+    "buildozer: a target begins with no @: to edit another repository, run buildozer in its root\n";
+
+const REPLACE_LOAD_LINE: &str =
+    "buildozer: in place of replace_load there are new_load, set kind and fix unusedLoads: see docs/COMING.md\n";
+
+const USE_REPO_LINE: &str =
+    "buildozer: use_repo(..) of MODULE.bazel is written by hand here: see docs/COMING.md\n";
 
 const NAME_ALONE: &str =
     "buildozer: on a command line, put a command and its words in one pair of quotation marks\n";
 
 const FIELDS_LINE: &str =
     "buildozer: a field is kind, startline, rule or the name of an attribute; label, endline and path are none here\n";
+
+const FIXES_LINE: &str =
+    "buildozer: there is no other fix here: buildifier puts lists in order and shortens labels\n";
 
 /// The line on the text of a comment, of which several words are given.
 pub const COMMENT_TEXT_LINE: &str =
@@ -216,17 +234,59 @@ fn did_you_mean(alloc: Global, near: Option<&str>, lines: &str) -> Result<String
     }
 }
 
+fn names_repository(name: &str) -> bool
+    ensures { result ≡ begins_with (codes "@") name.now }
+{
+    name.as_bytes().strip_prefix(b"@".as_slice()).is_some()
+}
+
 fn may_be_target(name: &str) -> bool
     ensures { result ≡ (has_slash name.now || has_colon name.now) }
 {
     name.as_bytes().contains(&b'/') || name.as_bytes().contains(&b':')
 }
 
+// What begins with an at sign may be meant as a target of another repository.
+fn repository_hint(name: &str) -> &'static str
+    ensures { result.now ≡ repository_hint name.now }
+{
+    if names_repository(name) {
+        REPOSITORY_HINT
+    } else {
+        ""
+    }
+}
+
 // What has a slash or a colon may be meant as a target.
 fn target_hint(name: &str) -> &'static str
     ensures { result.now ≡ target_hint name.now }
 {
+    if names_repository(name) {
+        return REPOSITORY_HINT;
+    }
     if may_be_target(name) { TARGET_HINT } else { "" }
+}
+
+// What does the work of a command of bazelbuild's buildozer that is not here.
+fn line_in_place(name: &str) -> Option<&'static str>
+    ensures { option_map (λ s. s.now) result ≡ row_named lines_in_place name.now }
+{
+    match name {
+        "replace_load" => Some(REPLACE_LOAD_LINE),
+        "use_repo_add" => Some(USE_REPO_LINE),
+        "use_repo_remove" => Some(USE_REPO_LINE),
+        _ => None,
+    }
+}
+
+// What is in the place of such a command, else what a target has.
+fn place_hint(name: &str) -> &'static str
+    ensures { result.now ≡ place_hint name.now }
+{
+    match line_in_place(name) {
+        Some(line) => line,
+        None => target_hint(name),
+    }
 }
 
 fn name_hint(alloc: Global, name: &str) -> Result<String, AllocError>
@@ -238,7 +298,7 @@ fn name_hint(alloc: Global, name: &str) -> Result<String, AllocError>
     let mut names = Vec::from_slice(alloc, COMMAND_NAMES)?;
     names.extend_from_slice(&["undo", "redo", "journal", "format"])?;
     let near = nearest(alloc, name, &names)?;
-    did_you_mean(alloc, near, target_hint(name))
+    did_you_mean(alloc, near, place_hint(name))
 }
 
 fn is_fix(word: &str) -> bool
@@ -290,6 +350,9 @@ fn words_end(name: &str, several: bool) -> &'static str
     if name == "print" {
         return FIELDS_LINE;
     }
+    if name == "fix" {
+        return FIXES_LINE;
+    }
     if name == "comment" && several {
         return COMMENT_TEXT_LINE;
     }
@@ -328,17 +391,53 @@ fn words_hint(alloc: Global, name: &str, words: &[Text]) -> Result<String, Alloc
     did_you_mean(alloc, near, form.as_str())
 }
 
+// The line on a pattern that is refused.
+fn pattern_line(alloc: Global, fault: Option<PatternFault>) -> Result<String, AllocError>
+    ensures { IfOk result (λ line. string_bytes line ≡ pattern_line (option_map pattern_in fault)) }
+{
+    match fault {
+        Some(PatternFault::Syntax(at, reason)) => {
+            let mut numbers = Buffer::new();
+            let mut line = joined(
+                alloc,
+                "buildozer: in the pattern, at byte ",
+                numbers.format(at),
+                ": ",
+            )?;
+            line.push_str(reason)?;
+            line.push_str("\n")?;
+            Ok(line)
+        }
+        Some(PatternFault::TooLarge) => joined(alloc, TOO_LARGE, "", ""),
+        None => joined(alloc, "", "", ""),
+    }
+}
+
 /// What is printed after the line of an operand that is refused. Of a name that no command has: the command that is nearest, where
-/// one is near, else what a target has where the name has a slash or a colon, and where help is for `help`. Of words that don't fit:
-/// the one of `fix` that is nearest to a word that it doesn't know, else the forms of the command, and where it has no words, that they
-/// go with it in one pair of quotation marks; of `print` the fields, and of `comment` how spaces are written in its text. Of a command
-/// that is too long: how long one may be. The error: memory was refused.
+/// one is near, else what does the work of a command of bazelbuild's that is not here, else what a target has where the name has a
+/// slash or a colon, and where help is for `help`. Of words that don't fit: the one of `fix` that is nearest to a word that it doesn't
+/// know, else the forms of the command, and where it has no words, that they go with it in one pair of quotation marks; of `print` the
+/// fields, of `fix` where other fixes are, and of `comment` how spaces are written in its text. Of a command that is too long: how long
+/// one may be. Of a pattern: where and why it is refused. Of a target that begins with a repository: where its packages are edited. The
+/// error: memory was refused.
 pub(crate) fn hint_for(alloc: Global, refused: &Refused<'_>) -> Result<String, AllocError>
     ensures { IfOk result (λ hint. string_bytes hint ≡ hint_for (refused_in refused.now)) }
 {
-    let OperandFault::Command(fault) = refused.fault else {
-        return Ok(String::new(alloc));
-    };
+    match refused.fault {
+        OperandFault::Command(fault) => Ok(command_hint(alloc, refused, fault)?),
+        OperandFault::BadTarget => Ok(joined(alloc, repository_hint(refused.operand), "", "")?),
+        OperandFault::Memory => Ok(String::new(alloc)),
+    }
+}
+
+// The same of a command.
+fn command_hint(
+    alloc: Global,
+    refused: &Refused<'_>,
+    fault: CommandFault,
+) -> Result<String, AllocError>
+    ensures { IfOk result (λ hint. string_bytes hint ≡ hint_in (refused_in refused.now) fault) }
+{
     let words = read_words(alloc, refused.operand.as_bytes())?;
     let Some((name, words)) = words.split_first() else {
         return Ok(String::new(alloc));
@@ -350,6 +449,7 @@ pub(crate) fn hint_for(alloc: Global, refused: &Refused<'_>) -> Result<String, A
             Ok(words_hint(alloc, name, words)?)
         }
         CommandFault::Arguments => Ok(joined(alloc, LENGTH_HINT, "", "")?),
-        CommandFault::BadPattern | CommandFault::Memory => Ok(String::new(alloc)),
+        CommandFault::BadPattern => Ok(pattern_line(alloc, refused.pattern)?),
+        CommandFault::Memory => Ok(String::new(alloc)),
     }
 }

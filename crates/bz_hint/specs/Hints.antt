@@ -9,6 +9,7 @@ use Rattle.bz_value.specs.declared.refusal.Refusal.{Refusal}
 use Rattle.bz_value.specs.declared.refusal.Refusal.TheVariants.{NoAttribute, NoTarget}
 use Rattle.bz_value.specs.declared.value.Item.{Item}
 use Rattle.bz_command_syntax.specs.declared.command.CommentOperation.TheVariants as c
+use Rattle.bz_command_syntax.specs.declared.command.LoadOperation.TheVariants as l
 use Rattle.bz_command_syntax.specs.declared.command.Operation.{Operation}
 use Rattle.bz_command_syntax.specs.declared.command.Operation.TheVariants as o
 use Rattle.bz_command_syntax.specs.declared.command.ValueOperation.TheVariants as v
@@ -45,7 +46,8 @@ abbrev pub target_lines : Bytes → Refusal → Operation → Which → Bytes �
 target_lines file refusal operation All current lines items = refusing_lines file (refusing_rule operation All current lines items)
 target_lines file refusal operation (Kind kind) current lines items = refusing_lines file (refusing_rule operation (Kind kind) current lines items)
 target_lines file refusal operation (Name name) current lines items =
-    if refusal_number refusal == refusal_number NoTarget then missing_lines file (utf8_lossy name) (nearest_rule (utf8_lossy name) items) else []
+    if refusal_number refusal == refusal_number NoTarget then missing_lines file (utf8_lossy name) (nearest_rule (utf8_lossy name) items)
+    else refusing_lines file (refusing_rule operation (Name name) current lines items)
 target_lines file refusal operation (Line line) current lines items = []
 target_lines file refusal operation Package current lines items = []
 
@@ -76,8 +78,12 @@ escaped_digit_line file = codes "buildozer: note: " ++ (escaped_text file ++ cod
 abbrev pub escaped_digit_lines : Bytes → Bool → List Bytes
 escaped_digit_lines file is_there = if is_there then escaped_digit_line file ∷ [] else []
 
+-- of a pattern and its template
+abbrev pub template_lines : Bytes → Bytes → Bytes → List Bytes
+template_lines file pattern template = missing_group_lines file (missing_group pattern template) ++ escaped_digit_lines file (has_escaped_digit template)
+
 -- on a file that an operation changed
 abbrev pub change_notes : Bytes → Operation → List Bytes
-change_notes file (o.Value (v.Substitute attributes pattern template)) =
-    missing_group_lines file (missing_group pattern template) ++ escaped_digit_lines file (has_escaped_digit template)
+change_notes file (o.Value (v.Substitute attributes pattern template)) = template_lines file pattern template
+change_notes file (o.Load (l.Substitute pattern template)) = template_lines file pattern template
 change_notes file _ = []

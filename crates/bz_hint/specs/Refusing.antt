@@ -7,18 +7,18 @@ use Rattle.bz_label.specs.declared.target.Which.TheVariants.{All, Kind, Line, Pa
 use Rattle.bz_value.specs.declared.value.Expr.{Expr}
 use Rattle.bz_value.specs.declared.value.Item.{Item}
 use Rattle.bz_value.specs.declared.value.Item.TheVariants as i
-use Rattle.bz_rule.specs.Rules.{is_rule_of_kind}
+use Rattle.bz_rule.specs.Rules.{has_name, is_rule_of_kind}
 use Rattle.bz_command_syntax.specs.declared.command.Operation.{Operation}
 use Rattle.bz_command.specs.Effect.{is_rule, on_one, printed_one, source_of}
 use Rattle.bz_hint.specs.Names.{rule_name}
 
--- A target that may mean several rules means this one.
+-- A target that may mean several rules, or is a name, means this one.
 abbrev pub is_meant : Which → Item → Bool
 is_meant All item = is_rule item
 is_meant (Kind kind) item = is_rule_of_kind kind item
 is_meant (Line line) item = false
 is_meant Package item = false
-is_meant (Name name) item = false
+is_meant (Name name) item = has_name name item
 
 -- The item is meant, and the operation by itself is refused on it: what it changes there, or what it prints. (The value that is copied, where
 -- one is; whether what is printed is refused doesn't depend on the line.)

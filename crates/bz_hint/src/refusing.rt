@@ -16,7 +16,7 @@ use bz_grammar::laws::one_reading;
 use bz_hosts::view;
 use bz_items::Memory;
 use bz_label::{Target, Which};
-use bz_rule::{call_of, is_named, is_rule_of_kind};
+use bz_rule::{call_of, has_name, is_named, is_rule_of_kind};
 use bz_tree::parse;
 use bz_value::Item;
 use std::alloc::{AllocError, Global};
@@ -45,14 +45,15 @@ fn is_rule(item: &Item) -> bool
     }
 }
 
-// Whether a target that may mean several rules means this one.
+// Whether a target that may mean several rules, or is a name, means this one.
 fn is_meant(which: &Which, item: &Item) -> bool
     ensures { result ≡ is_meant which.now item.now }
 {
     match which {
         Which::All => is_rule(item),
         Which::Kind(kind) => is_rule_of_kind(kind.as_slice(), item),
-        Which::Line(_) | Which::Package | Which::Name(_) => false,
+        Which::Name(name) => has_name(name.as_slice(), item),
+        Which::Line(_) | Which::Package => false,
     }
 }
 
@@ -123,7 +124,7 @@ fn first_refusing(work: Work<'_, '_>, items: &[Item]) -> Result<Option<Refusing>
     Ok(None)
 }
 
-/// The first rule of this text, a BUILD file's, that refuses a command, among those that a target means which may mean several; none where
+/// The first rule of this text, a BUILD file's, that refuses a command, among those that a target means which may mean several or is a name; none where
 /// none does, or the text is no BUILD file's. `current` is the path of the file's package. The error: memory was refused.
 pub(crate) fn refusing_rule(
     alloc: Global,

@@ -9,7 +9,7 @@ ghost use Rattle.bz_streams.specs.Faults.{AppendsUnlessFailed};
 ghost use Rattle.bz_streams.specs.Outputs.{Reports};
 ghost use Rattle.bz_streams.specs.Controls.{escaped_text};
 ghost use Rattle.bz_command_syntax.specs.Patterns.{has_escaped_digit, missing_group};
-ghost use Rattle.bz_hint.specs.Hints.{change_notes, comment_hint_lines, escaped_digit_lines, missing_group_lines, missing_line, missing_lines, refusal_hint, refusing_lines, rule_line, target_lines};
+ghost use Rattle.bz_hint.specs.Hints.{change_notes, comment_hint_lines, escaped_digit_lines, missing_group_lines, missing_line, missing_lines, refusal_hint, refusing_lines, rule_line, target_lines, template_lines};
 ghost use Rattle.bz_hint.specs.Names as names;
 ghost use Rattle.bz_hint.specs.Refusing as refusing;
 
@@ -17,7 +17,9 @@ use crate::names::nearest_rule;
 use crate::refusing::refusing_rule;
 use bz_command::{Command, Refusal};
 use bz_command_line::COMMENT_TEXT_LINE;
-use bz_command_syntax::{CommentOperation, Operation, Pattern, ValueOperation, has_escaped_digit};
+use bz_command_syntax::{
+    CommentOperation, LoadOperation, Operation, Pattern, ValueOperation, has_escaped_digit,
+};
 use bz_items::Memory;
 use bz_label::{Target, Which};
 use bz_streams::{LinePiece, Sink, report_pieces};
@@ -167,11 +169,13 @@ fn hint_target<E: Sink>(
     ensures err { OnErr result (err.new ≡ err.old) }
 {
     match &refused.target.which {
-        Which::All | Which::Kind(_) => hint_refusing(alloc, err, file, text, refused),
         Which::Name(name) if refused.refusal.number() == Refusal::NoTarget.number() => {
             hint_missing(alloc, err, file, text, name.as_slice())
         }
-        Which::Name(_) | Which::Line(_) | Which::Package => Ok(()),
+        Which::All | Which::Kind(_) | Which::Name(_) => {
+            hint_refusing(alloc, err, file, text, refused)
+        }
+        Which::Line(_) | Which::Package => Ok(()),
     }
 }
 
@@ -187,7 +191,7 @@ fn report_comment_text<E: Sink>(err: &mut E, command: &Command, refusal: Refusal
 }
 
 /// Reports what helps below the line of a command that is refused in a file of this name and text, a BUILD file's: where no rule has the name
-/// of the target, that, and the name that is near; where the target means several rules, which one refuses it; where a comment is put on an attribute that isn't there, how
+/// of the target, that, and the name that is near; where the target means several rules or is a name, which one refuses it; where a comment is put on an attribute that isn't there, how
 /// its text is written. `current` is the path of the file's package. The error: memory was refused, and nothing is reported.
 pub fn report_hint<E: Sink>(
     alloc: Global,
@@ -257,20 +261,30 @@ fn note_escaped_digit<E: Sink>(err: &mut E, file: &str, template: &[u8])
     }
 }
 
+// Reports what is to be noted of a pattern and its template.
+fn note_template<E: Sink>(err: &mut E, file: &str, pattern: &Pattern, template: &[u8])
+    ensures { Reports (E.faults err.old) (E.faults err.new) (E.contents err.old) (E.contents err.new) (template_lines file.now pattern.now template.now) }
+{
+    note_missing_group(err, file, pattern, template);
+    note_escaped_digit(err, file, template);
+}
+
 /// Reports what is to be noted of a command that changed the file of this name: a template that names a group which its pattern lacks, or that
 /// has a backslash before a digit. It takes no memory.
 pub fn report_notes<E: Sink>(err: &mut E, file: &str, command: &Command)
     ensures { Reports (E.faults err.old) (E.faults err.new) (E.contents err.old) (E.contents err.new) (change_notes file.now command.now) }
 {
-    if let Operation::Value(
-        ValueOperation::Substitute {
-            pattern,
-            template,
-            ..
-        },
-    ) = &command.operation
-    {
-        note_missing_group(err, file, pattern, template.as_slice());
-        note_escaped_digit(err, file, template.as_slice());
+    match &command.operation {
+        Operation::Value(
+            ValueOperation::Substitute {
+                pattern,
+                template,
+                ..
+            },
+        )
+        | Operation::Load(LoadOperation::Substitute { pattern, template }) => {
+            note_template(err, file, pattern, template.as_slice());
+        }
+        _ => {}
     }
 }

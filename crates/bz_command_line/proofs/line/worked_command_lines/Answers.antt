@@ -13,5 +13,6 @@ returns c = (
   (refl, refl, refl, refl),
   (refl, refl, refl),
   (refl, refl),
+  (refl, refl),
   refl,
 )
