@@ -2,6 +2,7 @@
 pub use Rattle.bz_build_format.specs.Faults.{FormatsBzlTo, FormatsTo}
 pub use Rattle.bz_build_format.specs.declared.formatter.FormatFault.{FormatFault}
 pub use Rattle.bz_files.specs.Folder.{Folder, IsAside, IsReplacing, new_name, SameBut, SameFolders, with_file}
+pub use Rattle.bz_files.specs.Orders.{ReadsRegular}
 pub use Rattle.bz_files.specs.declared.files.FileFault.{FileFault}
 pub use Rattle.bz_items.specs.Characters.{Bytes, full_stop}
 pub use Rattle.bz_lex.specs.declared.fault.ReadFault.{ReadFault}

@@ -1,6 +1,6 @@
 //! The program buildifier over any reader, writers and files.
 ghost use Rattle.std.specs.Prelude.{◌≡◌, ◌≢◌, ◌⊎◌, [], ◌∷◌, List, ℕ, true, false, IfOk, OnOk, OnErr, IsErr, Err, codes, map, option_map};
-ghost use Rattle.bz_buildifier.specs.Words.{Rises, AppendsUnlessFailed, Reports, Counts, Writes, WritesUnlessClosed, named_line};
+ghost use Rattle.bz_buildifier.specs.Words.{ReadsRegular, Rises, AppendsUnlessFailed, Reports, Counts, Writes, WritesUnlessClosed, named_line};
 ghost use Rattle.bz_buildifier.specs.Modes as m;
 ghost use Rattle.bz_buildifier.specs.Modes.{format_line, is_bzl};
 ghost use Rattle.bz_buildifier.specs.FormatRun.{FormatsAs, IsCutBy, FileStep, InputStep, FormatOutcome, IsFormatUsageLine, no_word_line};
@@ -50,6 +50,7 @@ fn file_effect<F: Files, W: Sink, E: Sink>(
         × (result ≡ effect_seen effect)
         × WritesUnlessClosed closed effect.closes (W.faults out.old) (W.faults out.new) (W.contents out.old) (W.contents out.new) effect.out
         × Reports (E.faults err.old) (E.faults err.new) (E.contents err.old) (E.contents err.new) effect.lines }
+    ensures regular { ReadsRegular (F.acts files.old) (F.acts files.new) }
     ensures status { result.cut ≢ Cut.Whole → result.status ≡ 3 }
     ensures cut { IsCutBy result.cut (F.faults files.old) (F.faults files.new) (W.faults out.old) (W.faults out.new) }
     ensures files { Counts (F.faults files.old) (F.faults files.new) }
@@ -215,6 +216,7 @@ pub fn buildifier<S: AsStr, R: Source, W: Sink, E: Sink, F: Files>(
     ensures named { IfOk (format_line (map S.text words.now)) (λ line. line.files ≢ [] → input.new ≡ input.old) }
     ensures unnamed { IfOk (format_line (map S.text words.now)) (λ line. line.files ≡ [] → files.new ≡ files.old) }
     ensures unwritten { result.cut ≡ Cut.Read → out.new ≡ out.old }
+    ensures regular { ReadsRegular (F.acts files.old) (F.acts files.new) }
 
     // A run is cut by the reader, the writer or the files where that counted a fault; where none did it is whole or wants memory.
     ensures read_cause { result.cut ≡ Cut.Read → Rises (R.faults input.old) (R.faults input.new) }

@@ -5,6 +5,7 @@ use Rattle.bz_buildifier.specs.private.FormatShown.{seen_line}
 use Rattle.bz_buildifier.specs.Words.{named_line, WritesUnlessClosed}
 use Rattle.bz_streams.specs.declared.exit.Cut.TheVariants as cut
 use Rattle.bz_buildifier.specs.declared.effect.Effect.{Effect}
+use Rattle.bz_files.proofs.Orders.{none_read, reads_on}
 use Rattle.bz_streams.proofs.Written.{left-cons}
 use Rattle.bz_streams.proofs.Outputs.{appends_nothing, counts_more, reports_more}
 use Rattle.bz_buildifier.proofs.FormatRuns.{cut_more, files_more, files_outcome, grown_is, input_outcome, no_names, some_names, status_more, usage_outcome, writes_on}
@@ -79,9 +80,16 @@ returns-clause-run g c = λ cause.
       so_far.4,
     )
 
+pub returns-in-Err-clause-regular : goal.returns-in-Err-clause-regular
+returns-in-Err-clause-regular g c = none_read (g.F.Files.acts c.args.files.now)
+
+pub returns-then-is_empty-clause-regular : goal.returns-then-is_empty-clause-regular
+returns-then-is_empty-clause-regular g c = none_read (g.F.Files.acts c.args.files.now)
+
 pub loop-name-init : goal.loop-name-init
 loop-name-init g c = record {
   runs = λ honest. (r.begun, refl, (λ after last more. more), (refl, appends_nothing (g.W.Sink.contents c.args.out.now)), (refl, refl));
+  regular = none_read (g.F.Files.acts c.args.files.now);
   status = λ other. absurd (other refl);
   cut = (refl, refl);
   files = record { grows = omega arith; rises = inl refl };
@@ -119,6 +127,7 @@ loop-name-preserved g c =
             reports_more (E.faults c.args.err.now) (E.faults l.err) (E.faults e.new.err) (E.contents c.args.err.now) (E.contents l.err)
                 (E.contents e.new.err) so_far.0.lines step.0.lines so_far.4 step.4,
           );
+      regular = reads_on (F.acts c.args.files.now) (F.acts l.files) (F.acts e.new.files) l.invariant.regular e.ensures.regular;
       status = λ other. rw (c.grown-progress.ensures) (status_more l.progress.cut e.result.cut l.progress.status e.result.status l.invariant.status e.ensures.status
           (rw (c.grown-progress.ensures) at other));
       cut = rw (c.grown-progress.ensures) (cut_more l.progress.cut e.result.cut (F.faults c.args.files.now) (F.faults l.files) (F.faults e.new.files)

@@ -1,5 +1,5 @@
 use Rattle.std.proofs.Common.{◌≡◌, true, map, drop}
-use Rattle.bz_buildifier.specs.Words.{Folder, Writes, Reports, Counts}
+use Rattle.bz_buildifier.specs.Words.{Folder, ReadsRegular, Writes, Reports, Counts}
 use Rattle.bz_buildifier.specs.FormatRun as r
 use Rattle.bz_buildifier.specs.private.FormatShown.{effect_seen}
 use Rattle.bz_streams.specs.declared.exit.Cut.TheVariants as c
@@ -13,6 +13,7 @@ invariant-loop-name g l = record {
       → r.FilesFormatted l.options.mode l.options.file_type (map (λ name. name.now) l.names) r.begun (g.F.Files.folder l.fn.files) after last)
       × Writes run.closes (g.W.Sink.faults l.fn.out) (g.W.Sink.faults l.out) (g.W.Sink.contents l.fn.out) (g.W.Sink.contents l.out) run.out
       × Reports (g.E.Sink.faults l.fn.err) (g.E.Sink.faults l.err) (g.E.Sink.contents l.fn.err) (g.E.Sink.contents l.err) run.lines;
+  regular : ReadsRegular (g.F.Files.acts l.fn.files) (g.F.Files.acts l.files);
   status : (l.progress.cut ≡ c.Whole → ⊥) → l.progress.status ≡ 3;
   cut : r.IsCutBy l.progress.cut (g.F.Files.faults l.fn.files) (g.F.Files.faults l.files) (g.W.Sink.faults l.fn.out) (g.W.Sink.faults l.out);
   files : Counts (g.F.Files.faults l.fn.files) (g.F.Files.faults l.files);

@@ -2,6 +2,7 @@ use Rattle.std.proofs.Common.{◌≡◌, ◌∙◌, [], inl, inr, refl, sym, sub
 use Rattle.bz_buildifier.specs.FormatRun.{FormatsAs, unread, without_memory, unformatted, kept, rewritten, Rewrites, Prints, is_rewritten, file_out, text_status}
 use Rattle.bz_buildifier.specs.Modes.{is_bzl}
 use Rattle.bz_buildifier.specs.FormatRun as r
+use Rattle.bz_files.proofs.Orders.{reads_on, reads_one, rewrite_reads}
 use Rattle.bz_buildifier.proofs.FormatSteps.{nothing_more, quiet, unread_quiet, refused_quiet, same_rewrites, formatted_file, refused_file}
 use Rattle.bz_buildifier.proofs.formatting.file_effect.Goals as goal
 
@@ -103,3 +104,27 @@ pub returns-clause-step : goal.returns-clause-step
 returns-clause-step g c =
     let e = c.fail-in-Err-file_out.ensures in
     λ honest. (r.memory_effect c.args.name.now, without_memory refl (c.in-Ok.ensures.same honest), e.effect, nothing_more c.args.closed (g.W.Sink.faults c.args.out.now) (g.W.Sink.contents c.args.out.now), e.reported)
+
+pub returns-in-Err-clause-regular : goal.returns-in-Err-clause-regular
+returns-in-Err-clause-regular g c = reads_one (g.F.Files.acts c.args.files.now) (g.F.Files.acts c.read_most.new.self) _ refl c.read_most.ensures.acts
+
+pub returns-in-Err-format_named-clause-regular : goal.returns-in-Err-format_named-clause-regular
+returns-in-Err-format_named-clause-regular g c = reads_one (g.F.Files.acts c.args.files.now) (g.F.Files.acts c.read_most.new.self) _ refl c.read_most.ensures.acts
+
+pub returns-in-Ok-file_out-clause-regular : goal.returns-in-Ok-file_out-clause-regular
+returns-in-Ok-file_out-clause-regular g c = reads_one (g.F.Files.acts c.args.files.now) (g.F.Files.acts c.read_most.new.self) _ refl c.read_most.ensures.acts
+
+pub returns-clause-regular : goal.returns-clause-regular
+returns-clause-regular g c = reads_one (g.F.Files.acts c.args.files.now) (g.F.Files.acts c.read_most.new.self) _ refl c.read_most.ensures.acts
+
+pub returns-in-Ok-rewrite-clause-regular : goal.returns-in-Ok-rewrite-clause-regular
+returns-in-Ok-rewrite-clause-regular g c =
+    let a = g.F.Files.acts c.args.files.now in
+    let b = g.F.Files.acts c.read_most.new.self in
+    reads_on a b (g.F.Files.acts c.rewrite.new.files) (reads_one a b _ refl c.read_most.ensures.acts) (rewrite_reads _ _ _ _ b (g.F.Files.acts c.rewrite.new.files) c.in-Ok-rewrite.ensures.ordered)
+
+pub returns-in-Err-rewrite-clause-regular : goal.returns-in-Err-rewrite-clause-regular
+returns-in-Err-rewrite-clause-regular g c =
+    let a = g.F.Files.acts c.args.files.now in
+    let b = g.F.Files.acts c.read_most.new.self in
+    reads_on a b (g.F.Files.acts c.rewrite.new.files) (reads_one a b _ refl c.read_most.ensures.acts) (rewrite_reads _ _ _ _ b (g.F.Files.acts c.rewrite.new.files) c.in-Err-rewrite.ensures.ordered)
