@@ -18,6 +18,7 @@ use Rattle.bz_streams.proofs.Outputs.{reports_more}
 use Rattle.bz_buildozer.specs.Calls.{ReportsLine, ReportsLines, IsLeft}
 use Rattle.bz_buildozer.specs.Reported.{unread_status}
 use Rattle.bz_buildozer.specs.Steps.{RunStep, input_package}
+use Rattle.bz_buildozer.specs.Unread.{RunActs, IsUnreadInRun}
 use Rattle.bz_buildozer.specs.declared.reading.Taken.{Taken}
 use Rattle.bz_buildozer.specs.private.Taking.{Brings, InputUntil, NamedUntil, base_of}
 use Rattle.bz_buildozer.specs.private.ShownFiles.{taken_in}
@@ -62,48 +63,48 @@ opened_found journals folder current (Some (name, text)) (Some file) lines holds
 none_opened : (journals : Bool) (folder : Folder) (current : Bytes) (file : Option Opened) → file ≡ None → IfSome file (IsOpenedIn journals folder current)
 none_opened journals folder current file is = subst (λ (it : Option Opened). IfSome it (IsOpenedIn journals folder current)) (sym is) tt
 
-none_taken_until : (why : Cut) (journals : Bool) (folder : Folder) (current name text : Bytes) (file : Option Opened) (lines : List Bytes) → why ≢ c.Whole
-    → TakesUntil why journals folder current name text file lines → file ≡ None
-none_taken_until c.Whole journals folder current name text file lines other takes = absurd (other refl)
-none_taken_until c.Files journals folder current name text file lines other takes = takes.1
-none_taken_until c.Memory journals folder current name text file lines other takes = takes.0
-none_taken_until _ journals folder current name text file lines other takes = absurd takes
+none_taken_until : (why : Cut) (journals : Bool) (acts : RunActs) (folder : Folder) (current name text : Bytes) (file : Option Opened) (lines : List Bytes) → why ≢ c.Whole
+    → TakesUntil why journals acts folder current name text file lines → file ≡ None
+none_taken_until c.Whole journals acts folder current name text file lines other takes = absurd (other refl)
+none_taken_until c.Files journals acts folder current name text file lines other takes = takes.1
+none_taken_until c.Memory journals acts folder current name text file lines other takes = takes.0
+none_taken_until _ journals acts folder current name text file lines other takes = absurd takes
 
-none_found : (why : Cut) (journals : Bool) (folder : Folder) (current name : Bytes) (file : Option Opened) (lines : List Bytes) → why ≢ c.Whole
-    → FindsUntil why journals folder current name file lines → file ≡ None
-none_found why journals folder current name file lines other (inl none) = none.0
-none_found why journals folder current name file lines other (inr (text, held, takes)) = none_taken_until why journals folder current name text file lines other takes
+none_found : (why : Cut) (journals : Bool) (acts : RunActs) (folder : Folder) (current name : Bytes) (file : Option Opened) (lines : List Bytes) → why ≢ c.Whole
+    → FindsUntil why journals acts folder current name file lines → file ≡ None
+none_found why journals acts folder current name file lines other (inl none) = none.0
+none_found why journals acts folder current name file lines other (inr (text, held, takes)) = none_taken_until why journals acts folder current name text file lines other takes
 
 -- where memory is refused none is open
-memory_second : (journals : Bool) (folder : Folder) (current : Bytes) (file : Option Opened) (lines : List Bytes) → SecondUntil c.Memory journals folder current file lines → file ≡ None
-memory_second journals folder current file lines (inl none) = none.0
-memory_second journals folder current file lines (inr opens) = none_found c.Memory journals folder current (second_name current) file lines (λ is. absurd (cc is)) opens
+memory_second : (journals : Bool) (acts : RunActs) (folder : Folder) (current : Bytes) (file : Option Opened) (lines : List Bytes) → SecondUntil c.Memory journals acts folder current file lines → file ≡ None
+memory_second journals acts folder current file lines (inl none) = none.0
+memory_second journals acts folder current file lines (inr opens) = none_found c.Memory journals acts folder current (second_name current) file lines (λ is. absurd (cc is)) opens
 
-memory_closes : (journals : Bool) (folder : Folder) (current : Bytes) (file : Option Opened) (lines : List Bytes) → OpensUntil c.Memory journals folder current file lines → file ≡ None
-memory_closes journals folder current file lines (inl none) = none.0
-memory_closes journals folder current file lines (inr (inl gone)) = memory_second journals folder current file lines gone.1
-memory_closes journals folder current file lines (inr (inr opens)) = none_found c.Memory journals folder current (first_name current) file lines (λ is. absurd (cc is)) opens
+memory_closes : (journals : Bool) (acts : RunActs) (folder : Folder) (current : Bytes) (file : Option Opened) (lines : List Bytes) → OpensUntil c.Memory journals acts folder current file lines → file ≡ None
+memory_closes journals acts folder current file lines (inl none) = none.0
+memory_closes journals acts folder current file lines (inr (inl gone)) = memory_second journals acts folder current file lines gone.1
+memory_closes journals acts folder current file lines (inr (inr opens)) = none_found c.Memory journals acts folder current (first_name current) file lines (λ is. absurd (cc is)) opens
 
-opened_second : (why : Cut) (journals : Bool) (folder : Folder) (current : Bytes) (file : Option Opened) (lines : List Bytes) → SecondUntil why journals folder current file lines
+opened_second : (why : Cut) (journals : Bool) (acts : RunActs) (folder : Folder) (current : Bytes) (file : Option Opened) (lines : List Bytes) → SecondUntil why journals acts folder current file lines
     → IfSome file (IsOpenedIn journals folder current)
-opened_second c.Whole journals folder current file lines opens =
+opened_second c.Whole journals acts folder current file lines opens =
     opened_found journals folder current (found_second folder current) file lines (second_holds folder current) opens
-opened_second c.Read journals folder current file lines opens = absurd opens
-opened_second c.Write journals folder current file lines opens = absurd opens
-opened_second c.Files journals folder current file lines opens =
-    none_opened journals folder current file (none_found c.Files journals folder current (second_name current) file lines (λ is. absurd (cc is)) opens)
-opened_second c.Memory journals folder current file lines opens = none_opened journals folder current file (memory_second journals folder current file lines opens)
+opened_second c.Read journals acts folder current file lines opens = absurd opens
+opened_second c.Write journals acts folder current file lines opens = absurd opens
+opened_second c.Files journals acts folder current file lines opens =
+    none_opened journals folder current file (none_found c.Files journals acts folder current (second_name current) file lines (λ is. absurd (cc is)) opens)
+opened_second c.Memory journals acts folder current file lines opens = none_opened journals folder current file (memory_second journals acts folder current file lines opens)
 
 -- an open file is one that the folder has
-pub opened_until : (why : Cut) (journals : Bool) (folder : Folder) (current : Bytes) (file : Option Opened) (lines : List Bytes) → OpensUntil why journals folder current file lines
+pub opened_until : (why : Cut) (journals : Bool) (acts : RunActs) (folder : Folder) (current : Bytes) (file : Option Opened) (lines : List Bytes) → OpensUntil why journals acts folder current file lines
     → IfSome file (IsOpenedIn journals folder current)
-opened_until c.Whole journals folder current file lines opens =
+opened_until c.Whole journals acts folder current file lines opens =
     opened_found journals folder current (found_in folder current) file lines (found_holds folder current) opens
-opened_until c.Memory journals folder current file lines opens = none_opened journals folder current file (memory_closes journals folder current file lines opens)
-opened_until c.Files journals folder current file lines (inl (why, more, told, second)) = opened_second why journals folder current file more second
-opened_until c.Files journals folder current file lines (inr (inl gone)) = opened_second c.Files journals folder current file lines gone.1
-opened_until c.Files journals folder current file lines (inr (inr (text, held, unread))) = none_opened journals folder current file unread.1
-opened_until _ journals folder current file lines opens = absurd opens
+opened_until c.Memory journals acts folder current file lines opens = none_opened journals folder current file (memory_closes journals acts folder current file lines opens)
+opened_until c.Files journals acts folder current file lines (inl (why, more, told, unread, second)) = opened_second why journals acts folder current file more second
+opened_until c.Files journals acts folder current file lines (inr (inl gone)) = opened_second c.Files journals acts folder current file lines gone.1
+opened_until c.Files journals acts folder current file lines (inr (inr (text, held, unread))) = none_opened journals folder current file unread.1
+opened_until _ journals acts folder current file lines opens = absurd opens
 
 -- the journal of a file is there
 pub journal_there : (journals : Bool) (folder : Folder) (name journal bytes : Bytes) → journals ≡ true → journal ≡ journal_name name → get folder journal ≡ Some bytes
@@ -164,85 +165,86 @@ memory_until sink Is Until line why file old new more refused whole (inr (memory
     (line ∷ [], subst (λ (it : Cut). Until it file (line ∷ [])) (sym memory) (refused closed), one_line sink old new line (told memory))
 
 -- A file that was found is opened, or its journal is not: what cuts that says nothing of the text.
-found_until : (why : Cut) (journals : Bool) (current name called front text : Bytes) (folder now : Folder) (file : Option Opened) (lines : List Bytes) → name ≡ called
-    → get folder name ≡ Some text → now ≡ folder → why ≢ c.Whole → TakesUntil why journals now current name front file lines
-    → (held : Bytes) × (get folder called ≡ Some held) × TakesUntil why journals folder current called held file lines
-found_until why journals current name called front text folder now file lines is held same other takes = (
+found_until : (why : Cut) (journals : Bool) (acts : RunActs) (current name called front text : Bytes) (folder now : Folder) (file : Option Opened) (lines : List Bytes) → name ≡ called
+    → get folder name ≡ Some text → now ≡ folder → why ≢ c.Whole → TakesUntil why journals acts now current name front file lines
+    → (held : Bytes) × (get folder called ≡ Some held) × TakesUntil why journals acts folder current called held file lines
+found_until why journals acts current name called front text folder now file lines is held same other takes = (
   text,
   ap (get folder) (sym is) ∙ held,
-  go why other (subst (λ (n : Bytes). TakesUntil why journals folder current n front file lines) is
-      (subst (λ (f : Folder). TakesUntil why journals f current name front file lines) same takes)),
+  go why other (subst (λ (n : Bytes). TakesUntil why journals acts folder current n front file lines) is
+      (subst (λ (f : Folder). TakesUntil why journals acts f current name front file lines) same takes)),
 )
   where
-    go : (cut : Cut) → cut ≢ c.Whole → TakesUntil cut journals folder current called front file lines → TakesUntil cut journals folder current called text file lines
+    go : (cut : Cut) → cut ≢ c.Whole → TakesUntil cut journals acts folder current called front file lines → TakesUntil cut journals acts folder current called text file lines
     go c.Whole other it = absurd (other refl)
     go c.Files other it = it
     go c.Memory other it = it
     go _ other it = absurd it
 
-second_until : (why : Cut) (journals : Bool) (current name front text : Bytes) (folder now : Folder) (file : Option Opened) (lines : List Bytes) → name ≡ second_name current
-    → get folder name ≡ Some text → front ≡ take (limit + 1) text → now ≡ folder → TakesUntil why journals now current name front file lines
-    → SecondUntil why journals folder current file lines
-second_until c.Whole journals current name front text folder now file lines is held cut same takes =
+second_until : (why : Cut) (journals : Bool) (acts : RunActs) (current name front text : Bytes) (folder now : Folder) (file : Option Opened) (lines : List Bytes) → name ≡ second_name current
+    → get folder name ≡ Some text → front ≡ take (limit + 1) text → now ≡ folder → TakesUntil why journals acts now current name front file lines
+    → SecondUntil why journals acts folder current file lines
+second_until c.Whole journals acts current name front text folder now file lines is held cut same takes =
     second_opens journals current name front text folder now file lines is held cut same takes
-second_until c.Files journals current name front text folder now file lines is held cut same takes =
-    inr (found_until c.Files journals current name (second_name current) front text folder now file lines is held same (λ is. absurd (cc is)) takes)
-second_until c.Memory journals current name front text folder now file lines is held cut same takes =
-    inr (inr (found_until c.Memory journals current name (second_name current) front text folder now file lines is held same (λ is. absurd (cc is)) takes))
-second_until _ journals current name front text folder now file lines is held cut same takes = absurd takes
+second_until c.Files journals acts current name front text folder now file lines is held cut same takes =
+    inr (found_until c.Files journals acts current name (second_name current) front text folder now file lines is held same (λ is. absurd (cc is)) takes)
+second_until c.Memory journals acts current name front text folder now file lines is held cut same takes =
+    inr (inr (found_until c.Memory journals acts current name (second_name current) front text folder now file lines is held same (λ is. absurd (cc is)) takes))
+second_until _ journals acts current name front text folder now file lines is held cut same takes = absurd takes
 
-first_until : (why : Cut) (journals : Bool) (current name front text : Bytes) (folder now : Folder) (file : Option Opened) (lines : List Bytes) → name ≡ first_name current
-    → get folder name ≡ Some text → front ≡ take (limit + 1) text → now ≡ folder → TakesUntil why journals now current name front file lines
-    → OpensUntil why journals folder current file lines
-first_until c.Whole journals current name front text folder now file lines is held cut same takes =
+first_until : (why : Cut) (journals : Bool) (acts : RunActs) (current name front text : Bytes) (folder now : Folder) (file : Option Opened) (lines : List Bytes) → name ≡ first_name current
+    → get folder name ≡ Some text → front ≡ take (limit + 1) text → now ≡ folder → TakesUntil why journals acts now current name front file lines
+    → OpensUntil why journals acts folder current file lines
+first_until c.Whole journals acts current name front text folder now file lines is held cut same takes =
     first_opens journals current name front text folder now file lines is held cut same takes
-first_until c.Files journals current name front text folder now file lines is held cut same takes =
-    inr (inr (found_until c.Files journals current name (first_name current) front text folder now file lines is held same (λ is. absurd (cc is)) takes))
-first_until c.Memory journals current name front text folder now file lines is held cut same takes =
-    inr (inr (inr (found_until c.Memory journals current name (first_name current) front text folder now file lines is held same (λ is. absurd (cc is)) takes)))
-first_until _ journals current name front text folder now file lines is held cut same takes = absurd takes
+first_until c.Files journals acts current name front text folder now file lines is held cut same takes =
+    inr (inr (found_until c.Files journals acts current name (first_name current) front text folder now file lines is held same (λ is. absurd (cc is)) takes))
+first_until c.Memory journals acts current name front text folder now file lines is held cut same takes =
+    inr (inr (inr (found_until c.Memory journals acts current name (first_name current) front text folder now file lines is held same (λ is. absurd (cc is)) takes)))
+first_until _ journals acts current name front text folder now file lines is held cut same takes = absurd takes
 
 -- Where the first file isn't there, what comes of the second one is what comes of both.
-pub absent_until : (why : Cut) (journals : Bool) (folder : Folder) (current : Bytes) (file : Option Opened) (lines : List Bytes) → get folder (first_name current) ≡ None
-    → SecondUntil why journals folder current file lines → OpensUntil why journals folder current file lines
-absent_until c.Whole journals folder current file lines gone opens =
+pub absent_until : (why : Cut) (journals : Bool) (acts : RunActs) (folder : Folder) (current : Bytes) (file : Option Opened) (lines : List Bytes) → get folder (first_name current) ≡ None
+    → SecondUntil why journals acts folder current file lines → OpensUntil why journals acts folder current file lines
+absent_until c.Whole journals acts folder current file lines gone opens =
     subst (λ (found : Option Bytes). OpensBeside journals folder current (found_at (first_name current) found (found_second folder current)) file lines) (sym gone) opens
-absent_until c.Files journals folder current file lines gone opens = inr (inl (gone, opens))
-absent_until c.Memory journals folder current file lines gone opens = inr (inl (gone, opens))
-absent_until _ journals folder current file lines gone opens = absurd opens
+absent_until c.Files journals acts folder current file lines gone opens = inr (inl (gone, opens))
+absent_until c.Memory journals acts folder current file lines gone opens = inr (inl (gone, opens))
+absent_until _ journals acts folder current file lines gone opens = absurd opens
 
-pub named_until : (second : Bool) (why : Cut) (journals : Bool) (current name front text : Bytes) (folder now : Folder) (file : Option Opened) (lines : List Bytes)
+pub named_until : (second : Bool) (why : Cut) (journals : Bool) (acts : RunActs) (current name front text : Bytes) (folder now : Folder) (file : Option Opened) (lines : List Bytes)
     → name ≡ in_package current (base_of second) → get folder name ≡ Some text → front ≡ take (limit + 1) text → now ≡ folder
-    → TakesUntil why journals now current name front file lines → NamedUntil second why journals folder current file lines
+    → TakesUntil why journals acts now current name front file lines → NamedUntil second why journals acts folder current file lines
 named_until false = first_until
 named_until true = second_until
 
-pub memory_named : (second journals : Bool) (folder : Folder) (current : Bytes) → NamedUntil second c.Memory journals folder current None (wanting_name current)
-memory_named false journals folder current = inl (refl, refl)
-memory_named true journals folder current = inl (refl, refl)
+pub memory_named : (second journals : Bool) (acts : RunActs) (folder : Folder) (current : Bytes) → NamedUntil second c.Memory journals acts folder current None (wanting_name current)
+memory_named false journals acts folder current = inl (refl, refl)
+memory_named true journals acts folder current = inl (refl, refl)
 
 -- memory is refused to read the file of this name
-pub memory_read : (second journals : Bool) (folder : Folder) (current name : Bytes) → name ≡ in_package current (base_of second)
-    → NamedUntil second c.Memory journals folder current None (wanting name)
-memory_read false journals folder current name is = inr (inr (inl (refl, ap wanting is)))
-memory_read true journals folder current name is = inr (inl (refl, ap wanting is))
+pub memory_read : (second journals : Bool) (acts : RunActs) (folder : Folder) (current name : Bytes) → name ≡ in_package current (base_of second)
+    → NamedUntil second c.Memory journals acts folder current None (wanting name)
+memory_read false journals acts folder current name is = inr (inr (inl (refl, ap wanting is, tt)))
+memory_read true journals acts folder current name is = inr (inl (refl, ap wanting is, tt))
 
-pub by_name_of : (second number : Bool) (why : Cut) (journals : Bool) (folder : Folder) (current : Bytes) (file : Option Opened) (lines : List Bytes) → second ≡ number
-    → NamedUntil number why journals folder current file lines → NamedUntil second why journals folder current file lines
-by_name_of second number why journals folder current file lines is opens = subst (λ (b : Bool). NamedUntil b why journals folder current file lines) (sym is) opens
+pub by_name_of : (second number : Bool) (why : Cut) (journals : Bool) (acts : RunActs) (folder : Folder) (current : Bytes) (file : Option Opened) (lines : List Bytes) → second ≡ number
+    → NamedUntil number why journals acts folder current file lines → NamedUntil second why journals acts folder current file lines
+by_name_of second number why journals acts folder current file lines is opens = subst (λ (b : Bool). NamedUntil b why journals acts folder current file lines) (sym is) opens
 
 -- It can't be read, and `BUILD` is tried.
-pub tried_on : {E : Type 0} (sink : SinkOf E) (Trusted Now : Type 0) (journals : Bool) (folder now : Folder) (current name : Bytes) (why : Cut) (file : Option Opened)
+pub tried_on : {E : Type 0} (sink : SinkOf E) (Trusted Now : Type 0) (journals : Bool) (acts : RunActs) (folder now : Folder) (current name : Bytes) (why : Cut) (file : Option Opened)
     (old mid new : E) → (Trusted → Now × (now ≡ folder)) → name ≡ first_name current → ReportsLine sink old mid (named_line name (codes "cannot open"))
-    → Brings sink (λ found lines. Now → SecondUntil why journals now current found lines) file mid new
-    → Brings sink (λ found lines. Trusted → OpensUntil c.Files journals folder current found lines) file old new
-tried_on sink Trusted Now journals folder now current name why file old mid new still named told (more, second, reported) = (
+    → IsUnreadInRun acts name → Brings sink (λ found lines. Now → SecondUntil why journals acts now current found lines) file mid new
+    → Brings sink (λ found lines. Trusted → OpensUntil c.Files journals acts folder current found lines) file old new
+tried_on sink Trusted Now journals acts folder now current name why file old mid new still named told unread (more, second, reported) = (
   unreadable name ++ more,
   (λ trusted. inl (
     why,
     more,
     ap (λ (n : Bytes). unreadable n ++ more) named,
-    subst (λ (f : Folder). SecondUntil why journals f current file more) (still trusted).1 (second (still trusted).0),
+    subst (IsUnreadInRun acts) named unread,
+    subst (λ (f : Folder). SecondUntil why journals acts f current file more) (still trusted).1 (second (still trusted).0),
   )),
   (sink.faults mid, sink.contents mid, told, reported),
 )
@@ -266,7 +268,7 @@ closed_added current before after file added closed = added ∙ ap (λ (f : Opti
 
 -- what was opened of a package that was not used before
 uses_until : (why : Cut) (journals : Bool) (world : World) (current : Bytes) (before after : List Used) (file : Option Opened) (number : Option ℕ) (lines : List Bytes)
-    → (journals ≡ false → current ≡ input_package → ⊥) → package_number current before ≡ None → OpensUntil why journals world.folder current file lines
+    → (journals ≡ false → current ≡ input_package → ⊥) → package_number current before ≡ None → OpensUntil why journals world.acts world.folder current file lines
     → after ≡ before ++ record { «package» = current; file = file } ∷ [] → number ≡ option_map (λ (_ : Opened). length before) file
     → Uses why journals world current before number lines after
 uses_until c.Whole journals world current before after file number lines other none opens added at =
@@ -274,12 +276,12 @@ uses_until c.Whole journals world current before after file number lines other n
     let uses = used_first journals world current before after found file lines none (inr (in_folder journals current other, refl)) opens added in
     (length before, uses, last_place before after current file number added at)
 uses_until c.Memory journals world current before after file number lines other none opens added at =
-    let closed = memory_closes journals world.folder current file lines opens in (
+    let closed = memory_closes journals world.acts world.folder current file lines opens in (
       none,
       at ∙ ap (option_map (λ (_ : Opened). length before)) closed,
       inr (
         closed_added current before after file added closed,
-        inr (in_folder journals current other, subst (λ (f : Option Opened). OpensUntil c.Memory journals world.folder current f lines) closed opens),
+        inr (in_folder journals current other, subst (λ (f : Option Opened). OpensUntil c.Memory journals world.acts world.folder current f lines) closed opens),
       ),
     )
 uses_until c.Files journals world current before after file number lines other none opens added at =
@@ -291,7 +293,7 @@ pub uses_read : {E : Type 0} (sink : SinkOf E) (Trusted : Type 0) (world : World
     (why : Cut) (file : Option Opened) (number : Option ℕ) (old new : E) → Trusted → (journals ≡ false → current ≡ input_package → ⊥)
     → package_number current before ≡ None → after ≡ before ++ record { «package» = current; file = file } ∷ []
     → number ≡ option_map (λ (_ : Opened). length before) file
-    → Brings sink (λ found lines. Trusted → OpensUntil why journals world.folder current found lines) file old new → IsLeft world.known before remaining
+    → Brings sink (λ found lines. Trusted → OpensUntil why journals world.acts world.folder current found lines) file old new → IsLeft world.known before remaining
     → (lines : List Bytes) × Uses why journals world current before number lines after × IsLeft world.known after remaining × ReportsLines sink old new lines
 uses_read sink Trusted world journals current remaining before after why file number old new trusted other none added at (lines, opens, told) left = (
   lines,

@@ -37,6 +37,7 @@ kept_after files file history reply old new honest holds same_package pair = eli
         other.1,
         record {
           steps = pair.steps;
+          own = pair.own other.1;
           saved = pair.journal honest other.1;
           holds = subst (λ (current : Bytes). Holds (files.folder new) file.name current (present history) history.texts)
               (sym same_package) done.0;

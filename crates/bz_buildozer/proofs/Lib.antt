@@ -17,5 +17,6 @@ pub mod SafeSteps
 pub mod ShownPackages
 pub mod StandSteps
 pub mod StepLists
+pub mod UnreadSteps
 pub mod WorkedEnds
 pub mod WorkedText

@@ -6,7 +6,7 @@ use Rattle.bz_buildozer.specs.Steps.{input_package, all_steps, names_input, show
 use Rattle.bz_files.proofs.Elapsing.{each_since, elapsed_on, stays, weakened}
 use Rattle.bz_command_line.specs.Requested.{Requested, operand_group, Request, Refused, Usage, accepted, requested_of, complete}
 use Rattle.bz_buildozer.specs.Keeps.{KeepsFolder}
-use Rattle.bz_buildozer.specs.Calls.{PassesBy, EndsIn, MayRun, PrintsUntil, ReportsLines, PrintsAll, ReportsLine}
+use Rattle.bz_buildozer.specs.Calls.{acts_over, PassesBy, EndsIn, MayRun, PrintsUntil, ReportsLines, PrintsAll, ReportsLine}
 use Rattle.bz_buildozer.specs.Moments.{IsMeanwhile, IsMomentOfRun, IsMomentOfSteps, AllAreSafe}
 use Rattle.bz_buildozer.specs.Run.{World, Progress, RunsSteps, nothing_done}
 use Rattle.bz_buildozer.proofs.ReadSteps.{IsReadOf, whole_requests, script_read, whole_outcome}
@@ -15,6 +15,7 @@ use Rattle.bz_streams.specs.declared.exit.Cut.TheVariants as c
 use Rattle.bz_streams.specs.declared.sink.Sink.{Ghosts as SinkOf}
 use Rattle.bz_buildozer.specs.Ending.{Ended, TriesFiles, status_of, texts_out}
 use Rattle.bz_buildozer.specs.Found.{Used}
+use Rattle.bz_buildozer.specs.Unread.{RunActs}
 use Rattle.bz_buildozer.specs.Reported.{output_lines, memory_line, no_journal_line, unread_line, unread_status, usage_line, IsLineUsageLine}
 use Rattle.bz_buildozer.proofs.FailSteps.{more_lines, one_line}
 use Rattle.bz_buildozer.proofs.ExactReads.{nothing_else_used, output_empty_where_input_fails}
@@ -61,10 +62,10 @@ IsMomentOfText folder text now = (lines : List Requested) × IsText text × (scr
 module _ {F : Type 0} (files : FilesOf F) (old new : F) where
   pub by_operands : (known : Option Bytes) (texts : List Bytes) (requested : Requested) (lines : List Requested) → operand_group texts ≡ Ok requested → lines ≡ requested ∷ []
       → PassesBy files (IsMomentOfSteps (files.folder old) (all_steps lines) []) old new
-      → PassesBy files (IsMomentOfRun (record { folder = files.folder old; known = known }) (operands texts)) old new
+      → PassesBy files (IsMomentOfRun (record { folder = files.folder old; known = known; acts = acts_over files old new }) (operands texts)) old new
   by_operands known texts requested lines is same =
       weakened (files.moment old) (files.moment new) (files.since old) (files.since new) (IsMomentOfSteps (files.folder old) (all_steps lines) [])
-      (IsMomentOfRun (record { folder = files.folder old; known = known }) (operands texts)) (λ now moment. inr (
+      (IsMomentOfRun (record { folder = files.folder old; known = known; acts = acts_over files old new }) (operands texts)) (λ now moment. inr (
         requested ∷ [],
         (requested, is, refl),
         subst (λ (these : List Requested). IsMomentOfSteps (files.folder old) (all_steps these) [] now) same moment,
@@ -83,17 +84,17 @@ module _ {F : Type 0} (files : FilesOf F) (old new : F) where
 
   -- a file of lines that was not read
   pub by_no_script : (known : Option Bytes) (name : Bytes) → KeepsFolder files old new
-      → PassesBy files (IsMomentOfRun (record { folder = files.folder old; known = known }) (script name)) old new
+      → PassesBy files (IsMomentOfRun (record { folder = files.folder old; known = known; acts = acts_over files old new }) (script name)) old new
   by_no_script known name =
       weakened (files.moment old) (files.moment new) (files.since old) (files.since new) (λ (now : Folder). now ≡ files.folder old)
-      (IsMomentOfRun (record { folder = files.folder old; known = known }) (script name)) (λ now is. inl is)
+      (IsMomentOfRun (record { folder = files.folder old; known = known; acts = acts_over files old new }) (script name)) (λ now is. inl is)
 
   pub by_script : (known : Option Bytes) (name whole text text' : Bytes) (mid : F) → files.folder mid ≡ files.folder old → text' ≡ text
-      → IsScript (record { folder = files.folder old; known = known }) name (Some whole) → IsReadOf whole text → KeepsFolder files old mid
+      → IsScript (record { folder = files.folder old; known = known; acts = acts_over files old new }) name (Some whole) → IsReadOf whole text → KeepsFolder files old mid
       → PassesBy files (IsMomentOfText (files.folder mid) text') mid new
-      → PassesBy files (IsMomentOfRun (record { folder = files.folder old; known = known }) (script name)) old new
+      → PassesBy files (IsMomentOfRun (record { folder = files.folder old; known = known; acts = acts_over files old new }) (script name)) old new
   by_script known name whole text text' mid still same is read first second =
-      let world : World = record { folder = files.folder old; known = known } in
+      let world : World = record { folder = files.folder old; known = known; acts = acts_over files old new } in
       elapsed_on (files.moment old) (files.moment mid) (files.moment new) (files.since old) (files.since mid) (files.since new) (IsMomentOfRun world (script name))
       (IsMomentOfText (files.folder mid) text') (λ now moment.
       let requests = whole_requests whole text text' moment.0 same read moment.1 moment.2 in
@@ -109,16 +110,16 @@ module _ {F : Type 0} (files : FilesOf F) (old new : F) where
   Each world given = (now : Folder) → files.since new (files.moment old) now → IsMomentOfRun world given now
 
   pub each_of : (known : Option Bytes) (given : Given) → ((now : Folder) → files.since old (files.moment old) now → now ≡ files.folder old)
-      → PassesBy files (IsMomentOfRun (record { folder = files.folder old; known = known }) given) old new
-      → Each (record { folder = files.folder old; known = known }) given
+      → PassesBy files (IsMomentOfRun (record { folder = files.folder old; known = known; acts = acts_over files old new }) given) old new
+      → Each (record { folder = files.folder old; known = known; acts = acts_over files old new }) given
   each_of known given only time =
-      each_since (files.moment old) (files.moment new) (files.since old) (files.since new) (IsMomentOfRun (record { folder = files.folder old; known = known }) given)
+      each_since (files.moment old) (files.moment new) (files.since old) (files.since new) (IsMomentOfRun (record { folder = files.folder old; known = known; acts = acts_over files old new }) given)
       time (λ now stood. inl (only now stood))
 
   -- words that are no line
   pub no_words : (found : Result CommandLine LineUsage) (known : Option Bytes) → new ≡ old
       → ((now : Folder) → files.since old (files.moment old) now → now ≡ files.folder old)
-      → IfOk found (λ line. line.options.journal ≡ true → Each (record { folder = files.folder old; known = known }) line.given)
+      → IfOk found (λ line. line.options.journal ≡ true → Each (record { folder = files.folder old; known = known; acts = acts_over files old new }) line.given)
   no_words (Ok line) known same only = λ kept now stood. inl (only now (subst (λ (held : F). files.since held (files.moment old) now) same stood))
   no_words (Err usage) known same only = tt
 
@@ -343,16 +344,16 @@ text_unused options name text text' reported line world found usage same valid f
 
 -- ---- a file of lines
 
-pub script_done : (options : Options) (name whole text text' : Bytes) (folder folder' : Folder) (known : Option Bytes) (ended : Ended) → text' ≡ text
-    → folder' ≡ folder → IsScript (record { folder = folder; known = known }) name (Some whole) → IsReadOf whole text
-    → OrOutOfMemory (record { folder = folder'; known = known }) (TextOutcome options name text' (record { folder = folder'; known = known })) ended
-    → OrOutOfMemory (record { folder = folder; known = known }) (ScriptOutcome options name (record { folder = folder; known = known })) ended
-script_done options name whole text text' folder folder' known ended same still is read (inl memory) = inl (memory ∙ ap out_of_memory still)
-script_done options name whole text text' folder folder' known ended same still is read (inr outcome) =
-    let world : World = record { folder = folder'; known = known } in inr (inl (
+pub script_done : (options : Options) (name whole text text' : Bytes) (folder folder' : Folder) (known : Option Bytes) (acts : RunActs) (ended : Ended) → text' ≡ text
+    → folder' ≡ folder → IsScript (record { folder = folder; known = known; acts = acts }) name (Some whole) → IsReadOf whole text
+    → OrOutOfMemory (record { folder = folder'; known = known; acts = acts }) (TextOutcome options name text' (record { folder = folder'; known = known; acts = acts })) ended
+    → OrOutOfMemory (record { folder = folder; known = known; acts = acts }) (ScriptOutcome options name (record { folder = folder; known = known; acts = acts })) ended
+script_done options name whole text text' folder folder' known acts ended same still is read (inl memory) = inl (memory ∙ ap out_of_memory still)
+script_done options name whole text text' folder folder' known acts ended same still is read (inr outcome) =
+    let world : World = record { folder = folder'; known = known; acts = acts } in inr (inl (
       whole,
       is,
-      subst (λ (it : Folder). TextOutcome options name whole (record { folder = it; known = known }) ended) still
+      subst (λ (it : Folder). TextOutcome options name whole (record { folder = it; known = known; acts = acts }) ended) still
           (whole_outcome options name whole text world ended read (subst (λ (it : Bytes). TextOutcome options name it world ended) same outcome)),
     ))
 
@@ -361,7 +362,7 @@ pub script_missing : (honest : Bool) (world : World) (options : Options) (name :
     → IsUnused honest world (ScriptOutcome options name) (unread_line (reported_name name) c.Whole)
 script_missing true world options name is other = (world, (λ _. refl), inr (refl, (λ write. absurd (cc write)), λ _. is refl))
 script_missing false world options name is other =
-    (record { folder = empty; known = None }, (λ honest. absurd (cc honest)), inr (refl, (λ write. absurd (cc write)), λ _. inr (other, sym (get-empty (slice_cmp nat_cmp) name))))
+    (record { folder = empty; known = None; acts = world.acts }, (λ honest. absurd (cc honest)), inr (refl, (λ write. absurd (cc write)), λ _. inr (other, sym (get-empty (slice_cmp nat_cmp) name))))
 
 -- The text was read of the file of lines.
 pub script_unused : (honest : Bool) (world : World) (options : Options) (name text text' line : Bytes) → text' ≡ text → (honest ≡ true → IsScriptFront world name text)
@@ -380,7 +381,7 @@ script_unused true world options name text text' line same is outcome =
 script_unused false world options name text text' line same is outcome = (now, (λ honest. absurd (cc honest)), inl (text', there (bytes_eq name input_package) refl, outcome now))
   where
     now : World
-    now = record { folder = with_file world.folder name text'; known = Some text' }
+    now = record { folder = with_file world.folder name text'; known = Some text'; acts = world.acts }
 
     there : (b : Bool) → bytes_eq name input_package ≡ b → IsScript now name (Some text')
     there true of_input = inl ((bytes_eq-Decides name input_package).0 of_input, (text', refl, refl))

@@ -18,6 +18,8 @@ use Rattle.bz_command_line.specs.declared.requested.Request.{Request}
 use Rattle.bz_command_line.specs.declared.requested.Requested.{Requested}
 use Rattle.bz_buildozer.specs.Steps.{RunStep, all_steps, step_of, steps_requested}
 use Rattle.bz_buildozer.specs.Found.{Used}
+use Rattle.bz_buildozer.specs.Unread.{RunActs}
+use Rattle.bz_buildozer.proofs.UnreadSteps.{among_first, among_second, grows_none, grows_on}
 
 -- ---- moments
 
@@ -44,15 +46,15 @@ moment_after began (x ∷ xs) ys used now is = (used, used, inl refl, inl refl, 
 abbrev pub Done : Bool → Type 0 → Bool → List RunStep → Cut → RunSpot → RunSpot → Type 0
 Done journals Premise keep_going steps = Proceeds journals Premise steps (λ (it : Cut) (world : World). RunsSteps it journals world keep_going steps)
 
-counts_same : (count : ℕ) → Counts count count
+pub counts_same : (count : ℕ) → Counts count count
 counts_same count = record { grows = omega arith; rises = inl refl }
 
 -- these do nothing
 done_still : (journals : Bool) (Premise : Type 0) (keep_going : Bool) (steps : List RunStep) (spot : RunSpot)
-    → ((known : Option (List ℕ)) → RunsSteps c.Whole journals (record { folder = spot.folder; known = known }) keep_going steps spot.state [] spot.folder spot.state)
+    → ((known : Option (List ℕ)) (acts : RunActs) → RunsSteps c.Whole journals (record { folder = spot.folder; known = known; acts = acts }) keep_going steps spot.state [] spot.folder spot.state)
     → Done journals Premise keep_going steps c.Whole spot spot
 done_still journals Premise keep_going steps spot none = record {
-  does = λ can safe known left. ([], none known, left, (refl, refl));
+  does = λ can safe known acts left among. ([], none known acts, left, (refl, refl));
   safely = λ kept honest began all mean. (
     all,
     mean,
@@ -65,11 +67,12 @@ done_still journals Premise keep_going steps spot none = record {
   cut = (refl, refl);
   read_faults = counts_same spot.read_faults;
   counts = counts_same spot.file_faults;
+  grows = grows_none spot.acts;
   honest = refl;
 }
 
 pub done_none : (journals : Bool) (Premise : Type 0) (keep_going : Bool) (spot : RunSpot) → Done journals Premise keep_going [] c.Whole spot spot
-done_none journals Premise keep_going spot = done_still journals Premise keep_going [] spot (λ known. (refl, refl, refl, refl))
+done_none journals Premise keep_going spot = done_still journals Premise keep_going [] spot (λ known acts. (refl, refl, refl, refl))
 
 still : (Premise Now : Type 0) (journals honest honest' : Bool) → honest' ≡ honest → (Premise → Now) → MayRun journals honest Premise → MayRun journals honest' Now
 still Premise Now journals honest honest' same implies (inl is) = inl (same ∙ is)
@@ -85,13 +88,13 @@ done_on : (journals : Bool) (Premise Now : Type 0) (keep_going : Bool) (xs ys : 
     → Done journals Premise keep_going xs cut old mid → Done journals Now keep_going ys later mid new
     → Done journals Premise keep_going (xs ++ ys) (first_cut cut later) old new
 done_on journals Premise Now keep_going xs ys cut later old mid new implies before then = record {
-  does = λ can safe known remains.
+  does = λ can safe known acts remains among.
       let all_safe = λ (kept : journals ≡ true).
       (before.safely kept (honest_kept journals old.honest Premise can kept) old.folder (safe kept) (began_safely old.folder old.state.used (safe kept))).0 in
-      let first = before.does can safe known remains in
-      let next = then.does (still Premise Now journals old.honest mid.honest before.honest implies can) all_safe known first.2 in (
+      let first = before.does can safe known acts remains (among_first old.acts mid.acts new.acts acts then.grows among) in
+      let next = then.does (still Premise Now journals old.honest mid.honest before.honest implies can) all_safe known acts first.2 (among_second old.acts mid.acts new.acts acts before.grows among) in (
         first.0 ++ next.0,
-        runs_more cut later journals (record { folder = old.folder; known = known }) keep_going xs ys old.state mid.state new.state first.0 next.0 mid.folder new.folder
+        runs_more cut later journals (record { folder = old.folder; known = known; acts = acts }) keep_going xs ys old.state mid.state new.state first.0 next.0 mid.folder new.folder
             first.1 next.1,
         next.2,
         reports_more old.faults mid.faults new.faults old.reported mid.reported new.reported first.0 next.0 first.3 next.3,
@@ -114,6 +117,7 @@ done_on journals Premise Now keep_going xs ys cut later old mid new implies befo
   cut = cut_more cut later old.read_faults mid.read_faults new.read_faults old.file_faults mid.file_faults new.file_faults before.cut then.cut before.read_faults then.read_faults before.counts then.counts;
   read_faults = counts_more old.read_faults mid.read_faults new.read_faults before.read_faults then.read_faults;
   counts = counts_more old.file_faults mid.file_faults new.file_faults before.counts then.counts;
+  grows = grows_on old.acts mid.acts new.acts before.grows then.grows;
   honest = then.honest ∙ before.honest;
 }
 
@@ -130,8 +134,8 @@ pub done_early : (journals : Bool) (Premise : Type 0) (keep_going : Bool) (steps
     → steps ≡ xs ++ ys → Done journals Premise keep_going xs cut old new → Done journals Premise keep_going steps cut old new
 done_early journals Premise keep_going steps xs ys cut old new ended split before =
     subst (λ (it : Cut). Done journals Premise keep_going steps it old new) (cut_alone cut)
-    (done_more journals Premise Premise keep_going steps xs ys cut c.Whole old new new (λ is. is) split before (done_still journals Premise keep_going ys new (λ known.
-    ended_runs journals (record { folder = new.folder; known = known }) keep_going ys new.state ended)))
+    (done_more journals Premise Premise keep_going steps xs ys cut c.Whole old new new (λ is. is) split before (done_still journals Premise keep_going ys new (λ known acts.
+    ended_runs journals (record { folder = new.folder; known = known; acts = acts }) keep_going ys new.state ended)))
 
 -- ---- a loop over a list, which it holds under another name
 

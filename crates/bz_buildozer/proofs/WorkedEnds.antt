@@ -30,6 +30,7 @@ use Rattle.bz_buildozer.specs.Outcome.{WordsOutcome, IsText, LineOutcome, Script
 use Rattle.bz_buildozer.specs.Keeps.{FolderAfter}
 use Rattle.bz_buildozer.specs.Run.{World, Progress, Answers, AnswersIn, AreHints, Does, Finds, LeadsBy, RunsSteps, UsesWhole, nothing_done, reported_of, state_after, ends_run}
 use Rattle.bz_buildozer.specs.Steps.{RunStep, action_of, all_steps, shows_input}
+use Rattle.bz_buildozer.specs.Unread.{no_acts}
 use Rattle.bz_buildozer.specs.Reported.{absent_hint, output_lines, usage_line}
 use Rattle.bz_buildozer.specs.WorkedParts.{text_read, text_made}
 use Rattle.bz_buildozer.specs.WorkedRuns.{WorkedUsage, WorkedWholeRuns, HasBuild, OverBuild, BesideNone, OverInput}
@@ -71,7 +72,7 @@ by_script : (name : Bytes) (world : World) (ended : Ended) → command_line_of (
 by_script name world ended is outcome = by_line (codes "-f" ∷ name ∷ []) (record { options = plain; given = script name }) world ended is outcome
 
 abbrev refused : Bytes → OperandFault → Usage
-refused operand fault = of_operand (record { operand = operand; fault = fault })
+refused operand fault = of_operand (record { operand = operand; fault = fault; pattern = None })
 
 abbrev rule_x : Bytes → Target
 rule_x current = record { «package» = current; which = Name (codes "x") }
@@ -130,9 +131,9 @@ usage =
           ))),
       (λ world text there long. by_script lines world (unused world.folder (codes "lines: TooLarge\n")) refl
           (inl (text, inr (not_input lines refl, sym there), inl (TooLarge, inl (long, refl), refl)))),
-      (λ folder text long. by_script (codes "-") (record { folder = folder; known = Some text }) (unused folder (codes "<stdin>: TooLarge\n")) refl
+      (λ folder text long. by_script (codes "-") (record { folder = folder; known = Some text; acts = no_acts }) (unused folder (codes "<stdin>: TooLarge\n")) refl
           (inl (text, inl (refl, (text, refl, refl)), inl (TooLarge, inl (long, refl), refl)))),
-      (λ folder. by_script (codes "-") (record { folder = folder; known = Some (codes "undo|-:x\n") })
+      (λ folder. by_script (codes "-") (record { folder = folder; known = Some (codes "undo|-:x\n"); acts = no_acts })
           (unused folder (codes "buildozer: package - cannot be edited beside -f -\n")) refl
           (inl (
             codes "undo|-:x\n",
@@ -428,11 +429,11 @@ module _ (world : World) (has : HasBuild world) (gone : found_in world.folder no
 
 -- ---- runs over standard input
 
-over_input : (folder : Folder) → OverInput (record { folder = folder; known = Some text_read })
+over_input : (folder : Folder) → OverInput (record { folder = folder; known = Some text_read; acts = no_acts })
 unfolding clap_on_literals
 over_input folder =
     let dash : Bytes = codes "-" in
-    let world : World = record { folder = folder; known = Some text_read } in
+    let world : World = record { folder = folder; known = Some text_read; acts = no_acts } in
     let finds : Finds false world dash (Some (stdin, text_read)) = inl (refl, refl, (text_read, refl, refl)) in (
       run_of (codes "--" ∷ set_text ∷ codes "-:x" ∷ []) (set_text ∷ codes "-:x" ∷ []) false false false (requested_of (set_size ∷ []) (rule_x dash ∷ [])) world c.Whole [] []
           (after_set dash stdin) folder refl refl (run_set world dash stdin finds false)

@@ -4,6 +4,7 @@ use Rattle.std.specs.Prelude.{◌≡◌, ◌≢◌, ◌⊎◌, ◌++◌, ℕ, Li
 use Rattle.std.specs.Option.{option_map}
 use Rattle.std.specs.Io.KnownBytes.{Appends}
 use Rattle.bz_buildozer.specs.Words.{Bytes, Folder, Elapses, Ghosts as FilesOf, AppendsSome, Rises, Reports, Counts, Cut, Exit}
+use Rattle.bz_files.specs.Orders.{Act}
 use Rattle.bz_streams.specs.declared.exit.Cut.TheVariants as c
 use Rattle.bz_streams.specs.declared.sink.Sink.{Ghosts as SinkOf}
 use Rattle.bz_streams.specs.declared.source.Source.{Ghosts as SourceOf}
@@ -16,6 +17,7 @@ use Rattle.bz_buildozer.specs.Moments.{AllAreSafe, IsMeanwhile, IsMomentOfSteps}
 use Rattle.bz_buildozer.specs.Run.{World, Progress}
 use Rattle.bz_buildozer.specs.private.Shown.{progress_in}
 use Rattle.bz_buildozer.specs.Steps.{RunStep, action_of, input_package}
+use Rattle.bz_buildozer.specs.Unread.{RunActs, ActsGrow, ActsAreAmong}
 use Rattle.bz_buildozer.specs.declared.run.Run.{Run}
 pub use Rattle.bz_command_line.specs.Reported.{ReportsLine}
 
@@ -71,13 +73,17 @@ PrintsUntil sink why old new bytes = ⊥
 
 -- ---- what can be read
 
--- the folder as it is, and these bytes of standard input
-abbrev pub world_with : {F : Type 0} → FilesOf F → F → Option Bytes → World
-world_with files held known = record { folder = files.folder held; known = known }
+-- the acts from these files to those
+abbrev pub acts_over : {F : Type 0} → FilesOf F → F → F → RunActs
+acts_over files old new = record { began = files.acts old; ended = files.acts new }
+
+-- the folder as it is, and these bytes of standard input, in a run of these acts
+abbrev pub world_with : {F : Type 0} → FilesOf F → F → Option Bytes → RunActs → World
+world_with files held known acts = record { folder = files.folder held; known = known; acts = acts }
 
 -- the folder as it is, and what is left of standard input
-abbrev pub world_of : {R F : Type 0} → SourceOf R → FilesOf F → R → F → World
-world_of source files input held = world_with files held (source.remaining input)
+abbrev pub world_of : {R F : Type 0} → SourceOf R → FilesOf F → R → F → RunActs → World
+world_of source files input held acts = world_with files held (source.remaining input) acts
 
 -- Each folder since the beginning of the call, but those that had occurred by then, has P.
 abbrev pub PassesBy : {F : Type 0} → FilesOf F → (Folder → Type 0) → F → F → Type 0
@@ -136,6 +142,7 @@ pub record RunSpot : Type 1 where
   pub moment : ℕ
   pub since : ℕ → Folder → Type 0
   pub honest : Bool
+  pub acts : Option (List Act)
   pub file_faults : ℕ
   pub reported : Option Bytes
   pub faults : ℕ
@@ -150,6 +157,7 @@ spot source files errors run input held err = record {
   moment = files.moment held;
   since = files.since held;
   honest = files.honest held;
+  acts = files.acts held;
   file_faults = files.faults held;
   reported = errors.contents err;
   faults = errors.faults err;
@@ -158,8 +166,8 @@ spot source files errors run input held err = record {
 -- This is done from one spot to another, and in the folder; its lines are printed. (Of standard input all is left until package `-` is
 -- used.)
 abbrev pub DoesBetween : (World → Progress → List Bytes → Folder → Progress → Type 0) → RunSpot → RunSpot → Type 0
-DoesBetween Does old new = (known : Option Bytes) → IsLeft known old.state.used old.left → (lines : List Bytes)
-    × Does (record { folder = old.folder; known = known }) old.state lines new.folder new.state
+DoesBetween Does old new = (known : Option Bytes) (acts : RunActs) → IsLeft known old.state.used old.left → ActsAreAmong old.acts new.acts acts
+    → (lines : List Bytes) × Does (record { folder = old.folder; known = known; acts = acts }) old.state lines new.folder new.state
     × IsLeft known new.state.used new.left
     × Reports old.faults new.faults old.reported new.reported lines
 
@@ -192,6 +200,7 @@ pub record Proceeds (journals : Bool) (Premise : Type 0) (steps : List RunStep) 
   pub cut : AreCutBy why old.read_faults new.read_faults old.file_faults new.file_faults
   pub read_faults : Counts old.read_faults new.read_faults
   pub counts : Counts old.file_faults new.file_faults
+  pub grows : ActsGrow old.acts new.acts
   pub honest : new.honest ≡ old.honest
 
 -- ---- what a run leaves

@@ -1,6 +1,6 @@
 -- What keeping an action does to the packages of a run and to the files.
 use Rattle.std.specs.Prelude.{◌≡◌, ◌⊎◌, ◌==◌, ◌||◌, not, ℕ, true, List, Some, Result, Ok, Err, ◌≢◌, ◌&&◌, Bool, false, if◌then◌else◌, Option, None, IfErr}
-use Rattle.bz_buildozer.specs.Words.{Ghosts as FilesOf, Elapses, Folder, Bytes, IsRefused, Counts, Cut, Edit, journal_text, journal_name, Holds, OthersStay}
+use Rattle.bz_buildozer.specs.Words.{Ghosts as FilesOf, Elapses, Folder, Bytes, IsRefused, Counts, Cut, Edit, Journal, journal_text, journal_name, Holds, OthersStay}
 use Rattle.bz_files.specs.Faults.{Rises}
 use Rattle.bz_buildozer.specs.Sessions.{Action, Reply, Acts, Answer, History, present, KeepFault, Refused, Pair, Keeps, KeepsFile}
 use Rattle.bz_streams.specs.declared.exit.Cut.TheVariants as c
@@ -57,10 +57,11 @@ abbrev pub file_after : Bool → Answer → History → Opened → Opened
 file_after journals (Err refusal) history file = record file { history = history }
 file_after journals (Ok reply) history file = file_left journals (Ok reply) history file
 
--- A history is kept beside the file of this name: FILE.journal is what is saved of it, FILE holds the present text and goes on with all of
--- its texts, and each other name stays, but the two under which these are written first.
+-- A history is kept beside the file of this name: FILE.journal is the journal of it and of the steps between its texts, FILE holds the
+-- present text and goes on with all of its texts, and each other name stays, but the two under which these are written first.
 pub record KeepsHistory (name : Bytes) (history : History) (before after : Folder) : Type 0 where
   pub steps : List (List Edit)
+  pub own : Journal (journal_text history steps) history steps
   pub saved : get after (journal_name name) ≡ Some (journal_text history steps)
   pub holds : Holds after name history.«package» (present history) history.texts
   pub others : OthersStay name before after

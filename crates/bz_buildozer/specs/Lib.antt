@@ -11,6 +11,7 @@ pub mod Reported
 pub mod Run
 pub mod Sessions
 pub mod Steps
+pub mod Unread
 pub mod Words
 pub mod WorkedParts
 pub mod WorkedRuns

@@ -13,11 +13,13 @@ use Rattle.bz_buildozer.specs.Journals.{OpensBeside, TakesBeside, fault_lines, j
 use Rattle.bz_buildozer.specs.Keeps.{FolderAfter, file_after, left_out, after_keeping}
 use Rattle.bz_buildozer.specs.Reported.{refusal_line, unkept_line, unread_line}
 use Rattle.bz_buildozer.specs.Steps.{RunStep, action_of, input_package}
+use Rattle.bz_buildozer.specs.Unread.{RunActs, IsUnreadInRun}
 
--- what can be read: the files of a folder, and the bytes of standard input where they are known
+-- what can be read: the files of a folder, and the bytes of standard input where they are known; and the acts of the run
 pub record World : Type 0 where
   pub folder : Folder
   pub known : Option Bytes
+  pub acts : RunActs
 
 -- how far a run has come: the packages used, what was printed, and whether a step has failed
 pub record Progress : Type 0 where
@@ -59,37 +61,42 @@ WantsMemory journals folder name lines = (lines ≡ wanting name)
     ⊎ (IsSome (journal_beside journals folder name) × (lines ≡ fault_lines (journal_name name) (of_resuming r.Memory)))
 
 -- A file that was found is opened, or its journal can't be read. Where memory is refused nothing is open, and a line says so.
-abbrev pub TakesUntil : Cut → Bool → Folder → Bytes → Bytes → Bytes → Option Opened → List Bytes → Type 0
-TakesUntil c.Whole journals folder current name text file lines = TakesBeside (journal_beside journals folder name) current name text file lines
-TakesUntil c.Files journals folder current name text file lines = (journals ≡ true) × (file ≡ None) × (lines ≡ unreadable (journal_name name))
-TakesUntil c.Memory journals folder current name text file lines = (file ≡ None) × WantsMemory journals folder name lines
-TakesUntil why journals folder current name text file lines = ⊥
+abbrev pub TakesUntil : Cut → Bool → RunActs → Folder → Bytes → Bytes → Bytes → Option Opened → List Bytes → Type 0
+TakesUntil c.Whole journals acts folder current name text file lines = TakesBeside (journal_beside journals folder name) current name text file lines
+TakesUntil c.Files journals acts folder current name text file lines = (journals ≡ true) × (file ≡ None) × (lines ≡ unreadable (journal_name name)) × IsUnreadInRun acts (journal_name name)
+TakesUntil c.Memory journals acts folder current name text file lines = (file ≡ None) × WantsMemory journals folder name lines
+TakesUntil why journals acts folder current name text file lines = ⊥
+
+-- That a file can't be read is reported of one of which a read failed.
+abbrev pub IsUnreadFor : Cut → RunActs → Bytes → Type 0
+IsUnreadFor c.Files acts name = IsUnreadInRun acts name
+IsUnreadFor why acts name = Unit {0}
 
 -- The file of this name can't be read, or memory is refused for it; or it is there, and is not opened for its journal.
-abbrev pub FindsUntil : Cut → Bool → Folder → Bytes → Bytes → Option Opened → List Bytes → Type 0
-FindsUntil why journals folder current name file lines = ((file ≡ None) × (lines ≡ unread_line name why ∷ []))
-    ⊎ ((text : Bytes) × (get folder name ≡ Some text) × TakesUntil why journals folder current name text file lines)
+abbrev pub FindsUntil : Cut → Bool → RunActs → Folder → Bytes → Bytes → Option Opened → List Bytes → Type 0
+FindsUntil why journals acts folder current name file lines = ((file ≡ None) × (lines ≡ unread_line name why ∷ []) × IsUnreadFor why acts name)
+    ⊎ ((text : Bytes) × (get folder name ≡ Some text) × TakesUntil why journals acts folder current name text file lines)
 
 -- `BUILD` is opened, or it or its journal can't be read, or memory is refused.
-abbrev pub SecondUntil : Cut → Bool → Folder → Bytes → Option Opened → List Bytes → Type 0
-SecondUntil c.Whole journals folder current file lines = OpensBeside journals folder current (found_second folder current) file lines
-SecondUntil c.Files journals folder current file lines = FindsUntil c.Files journals folder current (second_name current) file lines
-SecondUntil c.Memory journals folder current file lines =
-    ((file ≡ None) × (lines ≡ wanting_name current)) ⊎ FindsUntil c.Memory journals folder current (second_name current) file lines
-SecondUntil why journals folder current file lines = ⊥
+abbrev pub SecondUntil : Cut → Bool → RunActs → Folder → Bytes → Option Opened → List Bytes → Type 0
+SecondUntil c.Whole journals acts folder current file lines = OpensBeside journals folder current (found_second folder current) file lines
+SecondUntil c.Files journals acts folder current file lines = FindsUntil c.Files journals acts folder current (second_name current) file lines
+SecondUntil c.Memory journals acts folder current file lines =
+    ((file ≡ None) × (lines ≡ wanting_name current)) ⊎ FindsUntil c.Memory journals acts folder current (second_name current) file lines
+SecondUntil why journals acts folder current file lines = ⊥
 
 -- The file that is found for a package is opened, or can't be read, or memory is refused. Where `BUILD.bazel` can't be read, that is
 -- reported, and `BUILD` is tried.
-abbrev pub OpensUntil : Cut → Bool → Folder → Bytes → Option Opened → List Bytes → Type 0
-OpensUntil c.Whole journals folder current file lines = OpensBeside journals folder current (found_in folder current) file lines
-OpensUntil c.Files journals folder current file lines =
-    ((why : Cut) × (more : List Bytes) × (lines ≡ unreadable (first_name current) ++ more) × SecondUntil why journals folder current file more)
-    ⊎ (((get folder (first_name current) ≡ None) × SecondUntil c.Files journals folder current file lines)
-    ⊎ ((text : Bytes) × (get folder (first_name current) ≡ Some text) × TakesUntil c.Files journals folder current (first_name current) text file lines))
-OpensUntil c.Memory journals folder current file lines = ((file ≡ None) × (lines ≡ wanting_name current))
-    ⊎ (((get folder (first_name current) ≡ None) × SecondUntil c.Memory journals folder current file lines)
-    ⊎ FindsUntil c.Memory journals folder current (first_name current) file lines)
-OpensUntil why journals folder current file lines = ⊥
+abbrev pub OpensUntil : Cut → Bool → RunActs → Folder → Bytes → Option Opened → List Bytes → Type 0
+OpensUntil c.Whole journals acts folder current file lines = OpensBeside journals folder current (found_in folder current) file lines
+OpensUntil c.Files journals acts folder current file lines =
+    ((why : Cut) × (more : List Bytes) × (lines ≡ unreadable (first_name current) ++ more) × IsUnreadInRun acts (first_name current) × SecondUntil why journals acts folder current file more)
+    ⊎ (((get folder (first_name current) ≡ None) × SecondUntil c.Files journals acts folder current file lines)
+    ⊎ ((text : Bytes) × (get folder (first_name current) ≡ Some text) × TakesUntil c.Files journals acts folder current (first_name current) text file lines))
+OpensUntil c.Memory journals acts folder current file lines = ((file ≡ None) × (lines ≡ wanting_name current))
+    ⊎ (((get folder (first_name current) ≡ None) × SecondUntil c.Memory journals acts folder current file lines)
+    ⊎ FindsUntil c.Memory journals acts folder current (first_name current) file lines)
+OpensUntil why journals acts folder current file lines = ⊥
 
 -- A package is read and opened where it is used first, with the journal of its file where journals are kept; it gets the next number.
 abbrev pub UsesWhole : Bool → World → Bytes → List Used → ℕ → List Bytes → List Used → Type 0
@@ -102,14 +109,14 @@ UsesWhole journals world current before place lines after =
 -- Memory is refused for a package, which has no file then: for its name, for standard input, or for its file in the folder.
 abbrev pub UsesNone : Bool → World → Bytes → List Bytes → Type 0
 UsesNone journals world current lines = ((journals ≡ false) × (current ≡ input_package) × (lines ≡ wanting stdin))
-    ⊎ (IsInFolder journals current × OpensUntil c.Memory journals world.folder current None lines)
+    ⊎ (IsInFolder journals current × OpensUntil c.Memory journals world.acts world.folder current None lines)
 
 -- The package of a step is used, and this is its number where its file is open. One that can't be read has none from now on.
 abbrev pub Uses : Cut → Bool → World → Bytes → List Used → Option ℕ → List Bytes → List Used → Type 0
 Uses c.Whole journals world current before number lines after =
     (place : ℕ) × UsesWhole journals world current before place lines after × (number ≡ option_map (λ _. place) (file_at place after))
 Uses c.Files journals world current before number lines after = (package_number current before ≡ None) × IsInFolder journals current
-    × ((file : Option Opened) × OpensUntil c.Files journals world.folder current file lines
+    × ((file : Option Opened) × OpensUntil c.Files journals world.acts world.folder current file lines
     × (after ≡ before ++ record { «package» = current; file = file } ∷ []) × (number ≡ option_map (λ _. length before) file))
 Uses c.Read journals world current before number lines after = (journals ≡ false) × (current ≡ input_package) × (package_number current before ≡ None)
     × (number ≡ None) × (lines ≡ unreadable stdin) × (after ≡ before ++ record { «package» = current; file = None } ∷ [])

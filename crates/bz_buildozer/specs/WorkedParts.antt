@@ -11,6 +11,7 @@ use Rattle.bz_buildozer.specs.Reported.{absent_hint, package_hint, refusal_line,
 use Rattle.bz_buildozer.specs.Ending.{texts_out, writing_of, status_of}
 use Rattle.bz_buildozer.specs.Run.{Finds, reported_of, printed_by, state_after, wanting_name}
 use Rattle.bz_buildozer.specs.Steps.{RunStep, all_steps, shows_input}
+use Rattle.bz_buildozer.specs.Unread.{no_acts}
 use Rattle.bz_lex.specs.declared.fault.ReadFault.TheVariants.{NotUtf8, Unexpected}
 use Rattle.bz_command_line.specs.declared.verb.OperandFault.TheVariants.{BadTarget}
 
@@ -117,7 +118,7 @@ Files =
     → found_in folder (codes "a") ≡ Some (codes "a/BUILD", text_read))
     × ((folder : Folder) → get folder (codes "a/BUILD.bazel") ≡ None → get folder (codes "a/BUILD") ≡ None → found_in folder (codes "a") ≡ None)
     -- Package `-` is standard input.
-    × ((folder : Folder) → Finds false (record { folder = folder; known = Some text_read }) (codes "-") (Some (codes "<stdin>", text_read)))
+    × ((folder : Folder) → Finds false (record { folder = folder; known = Some text_read; acts = no_acts }) (codes "-") (Some (codes "<stdin>", text_read)))
     -- A package that was used is used again; under another path it is another package.
     × (package_number (codes "app") (root app_read ∷ app app_read ∷ []) ≡ Some 1) × (package_number (codes "./app") (root app_read ∷ app app_read ∷ []) ≡ None)
 
@@ -134,7 +135,7 @@ WorkedRefusals = (fault_line stdin (Unexpected 12 305) ≡ codes "<stdin>:12:305
     ≡ codes "buildozer: a/BUILD: redo: TooFar (61)\nbuildozer: to undo or redo what earlier runs did, give --journal, as in those runs\n")
     × (refusal_line false (codes "a/BUILD") (codes "add deps b") NoTarget ≡ codes "buildozer: a/BUILD: add deps b: NoTarget (41)\n")
     × (refusal_line true (codes "a/BUILD") (codes "redo") TooFar ≡ codes "buildozer: a/BUILD: redo: TooFar (61)\n")
-    × (operand_line (record { operand = codes "//a::b"; fault = BadTarget }) ≡ codes "buildozer: //a::b: BadTarget (12)\n")
+    × (operand_line (record { operand = codes "//a::b"; fault = BadTarget; pattern = None }) ≡ codes "buildozer: //a::b: BadTarget (12)\n")
     × (fixed_line (codes "a/BUILD") ≡ codes "fixed a/BUILD\n")
     -- Memory is refused: to a command; before a file of //a has its name; for standard input.
     × (refusal_line false (codes "a/BUILD") (codes "add deps b") Memory ≡ codes "buildozer: a/BUILD: add deps b: Memory (8)\n")

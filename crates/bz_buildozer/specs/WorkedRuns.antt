@@ -12,6 +12,7 @@ use Rattle.bz_buildozer.specs.Reported.{absent_hint}
 use Rattle.bz_buildozer.specs.Ending.{ended_whole}
 use Rattle.bz_buildozer.specs.Outcome.{WordsOutcome, unused}
 use Rattle.bz_buildozer.specs.Run.{World}
+use Rattle.bz_buildozer.specs.Unread.{no_acts}
 use Rattle.bz_buildozer.specs.WorkedParts.{text_read, text_made}
 
 -- ---- usage faults: a run prints its one line, has status 1 and leaves all else as it was
@@ -55,10 +56,10 @@ WorkedUsage =
     × ((world : World) (text : Bytes) → get world.folder (codes "lines") ≡ Some text → limit < length text
     → Unused (codes "-f" ∷ codes "lines" ∷ []) (codes "lines: TooLarge\n") world)
     × ((folder : Folder) (text : Bytes) → limit < length text
-    → Unused (codes "-f" ∷ codes "-" ∷ []) (codes "<stdin>: TooLarge\n") (record { folder = folder; known = Some text }))
+    → Unused (codes "-f" ∷ codes "-" ∷ []) (codes "<stdin>: TooLarge\n") (record { folder = folder; known = Some text; acts = no_acts }))
     -- -f - with the line undo|-:x
     × ((folder : Folder) → Unused (codes "-f" ∷ codes "-" ∷ []) (codes "buildozer: package - cannot be edited beside -f -\n")
-    (record { folder = folder; known = Some (codes "undo|-:x\n") }))
+    (record { folder = folder; known = Some (codes "undo|-:x\n"); acts = no_acts }))
     -- --journal -- undo -:x
     × IsUsage (codes "--journal" ∷ codes "--" ∷ codes "undo" ∷ codes "-:x" ∷ []) (codes "buildozer: package - has no journal\n")
 
@@ -116,4 +117,4 @@ OverInput world =
 abbrev pub WorkedWholeRuns : Type 0
 WorkedWholeRuns = ((current : Bytes) → IsMade current) × ((world : World) → HasBuild world → OverBuild world)
     × ((world : World) → HasBuild world → found_in world.folder (codes "none") ≡ None → BesideNone world)
-    × ((folder : Folder) → OverInput (record { folder = folder; known = Some text_read }))
+    × ((folder : Folder) → OverInput (record { folder = folder; known = Some text_read; acts = no_acts }))

@@ -13,6 +13,7 @@ ghost use Rattle.bz_buildozer.specs.Run.{Answers, AreHints, Does, LeadsBy, reply
 ghost use Rattle.bz_buildozer.specs.private.Shown.{progress_in, step_in};
 ghost use Rattle.bz_buildozer.specs.Steps as s;
 ghost use Rattle.bz_buildozer.specs.Steps.{RunStep, input_package};
+ghost use Rattle.bz_buildozer.specs.Unread.{ActsGrow};
 
 use crate::reported::{fail, report_refusal};
 use crate::run::Run;
@@ -229,6 +230,7 @@ fn act<F: Files, E: Sink>(
         × ReportsLines E.Sink err.old err.new lines }
     ensures keeps { journals ≡ true → KeepsStep F.Files (step_in step.entry) place run.old.workspace run.new.workspace files.old files.new }
     ensures works { WorksOn F.Files result files.old files.new }
+    ensures grows { ActsGrow (F.acts files.old) (F.acts files.new) }
 {
     let Some(place) = place else {
         run.failed = true;

@@ -10,6 +10,7 @@ ghost use Rattle.bz_buildozer.specs.Ending.{differs, has_changed, is_input, goes
 ghost use Rattle.bz_buildozer.specs.Steps.{input_package};
 ghost use Rattle.bz_buildozer.specs.private.Shown.{progress_in};
 ghost use Rattle.bz_buildozer.specs.Reported.{fixed_line, output_lines};
+ghost use Rattle.bz_buildozer.specs.Unread.{ActsGrow};
 
 use crate::reported::{FAILED, fail};
 use crate::run::Run;
@@ -150,6 +151,7 @@ fn write_file<F: Files, E: Sink>(options: Options, used: &Used, files: &mut F, e
         × ReportsLine E.Sink err.old err.new (named_line file.name (codes "Memory")) × (files.new ≡ files.old)) }
     ensures kept { options.journal ≡ true → files.new ≡ files.old }
     ensures works { WorksOn F.Files result files.old files.new }
+    ensures grows { ActsGrow (F.acts files.old) (F.acts files.new) }
 {
     let Some(file) = &used.file else {
         return Cut::Whole;
@@ -189,6 +191,7 @@ fn write_files<F: Files, E: Sink>(
         × TriesFiles result options (map used_in packages.now) (F.folder files.old) lines (F.folder files.new) × ReportsLines E.Sink err.old err.new lines }
     ensures kept { options.journal ≡ true → files.new ≡ files.old }
     ensures works { WorksOn F.Files result files.old files.new }
+    ensures grows { ActsGrow (F.acts files.old) (F.acts files.new) }
 {
     let mut cut = Cut::Whole;
     for used in packages {
@@ -239,6 +242,7 @@ pub(crate) fn finish<W: Sink, F: Files, E: Sink>(
     ensures cause { (result.cut ≡ cut) ⊎ ((cut ≡ Cut.Whole) × ((result.cut ≡ Cut.Memory) ⊎ (result.cut ≡ Cut.Write)
         ⊎ ((result.cut ≡ Cut.Files) × Rises (F.faults files.old) (F.faults files.new)))) }
     ensures counts { Counts (F.faults files.old) (F.faults files.new) }
+    ensures grows { ActsGrow (F.acts files.old) (F.acts files.new) }
     ensures honest { F.honest files.new ≡ F.honest files.old }
 {
     let Run {

@@ -4,7 +4,8 @@ ghost use Rattle.std.specs.List.{All};
 ghost use Rattle.bz_buildozer.specs.Words.{Folder, command_line_of, script, HasPath, script_of, requested_in};
 ghost use Rattle.bz_command_line.specs.Requested as a;
 ghost use Rattle.bz_buildozer.specs.Keeps.{KeepsFolder};
-ghost use Rattle.bz_buildozer.specs.Calls.{ReportsLines, PrintsAll, IsStill, ReadsNothing, world_with, world_of, EndsIn, PassesBy, IsEndedOver};
+ghost use Rattle.bz_buildozer.specs.Calls.{ReportsLines, PrintsAll, IsStill, ReadsNothing, acts_over, world_with, world_of, EndsIn, PassesBy, IsEndedOver};
+ghost use Rattle.bz_buildozer.specs.Unread.{RunActs, ActsAreAmong};
 ghost use Rattle.bz_buildozer.specs.Moments.{IsMomentOfRun, IsMomentOfSteps};
 ghost use Rattle.bz_buildozer.specs.Outcome.{unused, IsUnused, LineOutcome, LinesEnd, OrOutOfMemory, WordsOutcome, TextOutcome, ScriptOutcome, AreOfInputAndSome, IsText, KeepsJournals, LineGivesNothing, NamesNoFile, TakesNoFile, TakesNoInput, TakesScript};
 ghost use Rattle.bz_buildozer.specs.Steps.{all_steps, input_package, names_input};
@@ -59,8 +60,8 @@ fn perform<R: Source, W: Sink, E: Sink, F: Files>(
     files: &mut F,
 ) -> Exit
     requires { All (λ requested. All HasPath requested.targets.items) lines.now }
-    ensures ends { (F.honest files.old ≡ true) ⊎ AreOfInputAndSome (map requested_in lines.now) → EndsIn W.Sink E.Sink F.Files
-        (LinesEnd job.options (map requested_in lines.now) (world_of R.Source F.Files input.old files.old)) result out.old out.new err.old err.new files.new }
+    ensures ends { (F.honest files.old ≡ true) ⊎ AreOfInputAndSome (map requested_in lines.now) → (acts : RunActs) → ActsAreAmong (F.acts files.old) (F.acts files.new) acts
+        → EndsIn W.Sink E.Sink F.Files (LinesEnd job.options (map requested_in lines.now) (world_of R.Source F.Files input.old files.old acts)) result out.old out.new err.old err.new files.new }
     ensures unread { job.options.journal ≡ true → names_input (map requested_in lines.now) ≡ true → (input.new ≡ input.old) × (out.new ≡ out.old) × (files.new ≡ files.old) }
     ensures reads_nothing { job.options.journal ≡ true → ReadsNothing R.Source result.cut input.old input.new }
     ensures unused { result.status ≡ 1 → (input.new ≡ input.old) × (out.new ≡ out.old) × (files.new ≡ files.old) }
@@ -107,9 +108,9 @@ fn run_text<R: Source, W: Sink, E: Sink, F: Files>(
     err: &mut E,
     files: &mut F,
 ) -> Exit
-    ensures ends { F.honest files.old ≡ true → (known : Option (List ℕ)) → (read.entry.name.now ≢ input_package → known ≡ R.remaining input.old)
-        → EndsIn W.Sink E.Sink F.Files (OrOutOfMemory (world_with F.Files files.old known)
-        (TextOutcome job.options read.entry.name.now read.entry.bytes.now (world_with F.Files files.old known))) result out.old out.new err.old err.new files.new }
+    ensures ends { F.honest files.old ≡ true → (known : Option (List ℕ)) (acts : RunActs) → (read.entry.name.now ≢ input_package → known ≡ R.remaining input.old)
+        → ActsAreAmong (F.acts files.old) (F.acts files.new) acts → EndsIn W.Sink E.Sink F.Files (OrOutOfMemory (world_with F.Files files.old known acts)
+        (TextOutcome job.options read.entry.name.now read.entry.bytes.now (world_with F.Files files.old known acts))) result out.old out.new err.old err.new files.new }
     ensures unused { result.status ≡ 1 → (input.new ≡ input.old) × (out.new ≡ out.old) × (files.new ≡ files.old) }
     ensures usage { result.status ≡ 1 → (line : List ℕ) × ((world : World) → TextOutcome job.options read.entry.name.now read.entry.bytes.now world (unused world.folder line))
         × ReportsLines E.Sink err.old err.new (line ∷ []) }
@@ -155,18 +156,18 @@ fn run_script<R: Source, W: Sink, E: Sink, F: Files>(
     err: &mut E,
     files: &mut F,
 ) -> Exit
-    ensures ends { F.honest files.old ≡ true → EndsIn W.Sink E.Sink F.Files (OrOutOfMemory (world_of R.Source F.Files input.old files.old)
-        (ScriptOutcome job.options name.now (world_of R.Source F.Files input.old files.old))) result out.old out.new err.old err.new files.new }
+    ensures ends { F.honest files.old ≡ true → EndsIn W.Sink E.Sink F.Files (OrOutOfMemory (world_of R.Source F.Files input.old files.old (acts_over F.Files files.old files.new))
+        (ScriptOutcome job.options name.now (world_of R.Source F.Files input.old files.old (acts_over F.Files files.old files.new)))) result out.old out.new err.old err.new files.new }
     ensures unused { result.status ≡ 1 → out.new ≡ out.old }
     ensures unused_input { result.status ≡ 1 → name.now ≢ input_package → input.new ≡ input.old }
     ensures unused_files { result.status ≡ 1 → name.now ≡ input_package → files.new ≡ files.old }
     ensures unused_time { result.status ≡ 1 → F.honest files.old ≡ true → KeepsFolder F.Files files.old files.new }
     ensures usage { result.status ≡ 1 → result.cut ≡ Cut.Whole → (line : List ℕ)
-        × IsUnused (F.honest files.old) (world_of R.Source F.Files input.old files.old) (ScriptOutcome job.options name.now) line
+        × IsUnused (F.honest files.old) (world_of R.Source F.Files input.old files.old (acts_over F.Files files.old files.new)) (ScriptOutcome job.options name.now) line
         × ReportsLines E.Sink err.old err.new (line ∷ []) }
     ensures unread_kept { job.options.journal ≡ true → name.now ≢ input_package → IsStill R.Source input.old input.new }
     ensures moments { job.options.journal ≡ true → F.honest files.old ≡ true
-        → PassesBy F.Files (IsMomentOfRun (world_of R.Source F.Files input.old files.old) (script name.now)) files.old files.new }
+        → PassesBy F.Files (IsMomentOfRun (world_of R.Source F.Files input.old files.old (acts_over F.Files files.old files.new)) (script name.now)) files.old files.new }
     ensures sound { R.sound input.old ≡ true → result.cut ≢ Cut.Read }
     ensures status { result.cut ≢ Cut.Whole → (result.status ≡ 2) ⊎ (result.status ≡ 1) }
     ensures ended { IsEndedOver R.Source W.Sink F.Files result.cut input.old input.new out.old out.new files.old files.new }
@@ -204,14 +205,14 @@ pub fn buildozer<S: AsStr, R: Source, W: Sink, E: Sink, F: Files>(
     // too: whole, or where something fails, with what was done before, the line of each failure, all that standard output is to be given
     // unless it failed itself, and each file tried.
     ensures ends { (F.honest files.old ≡ true) ⊎ NamesNoFile (map S.text words.now) → EndsIn W.Sink E.Sink F.Files
-        (WordsOutcome (map S.text words.now) (world_of R.Source F.Files input.old files.old)) result out.old out.new err.old err.new files.new }
+        (WordsOutcome (map S.text words.now) (world_of R.Source F.Files input.old files.old (acts_over F.Files files.old files.new))) result out.old out.new err.old err.new files.new }
 
     // Words that request nothing leave the input, the output and the files as they were.
     ensures unread { LineGivesNothing (command_line_of (map S.text words.now)) → (input.new ≡ input.old) × (out.new ≡ out.old) × (files.new ≡ files.old) }
 
     // A run of status 1 that no port cut says in one line why, with journals as without: of operands the first one that is refused.
     ensures usage { result.status ≡ 1 → result.cut ≡ Cut.Whole → (line : List ℕ)
-        × IsUnused (F.honest files.old) (world_of R.Source F.Files input.old files.old) (LineOutcome (map S.text words.now) (command_line_of (map S.text words.now))) line
+        × IsUnused (F.honest files.old) (world_of R.Source F.Files input.old files.old (acts_over F.Files files.old files.new)) (LineOutcome (map S.text words.now) (command_line_of (map S.text words.now))) line
         × ReportsLines E.Sink err.old err.new (line ∷ []) }
 
     // A run of status 1 leaves the output as it was. So it leaves the input, unless lines are in it, and the files, unless lines
@@ -230,7 +231,7 @@ pub fn buildozer<S: AsStr, R: Source, W: Sink, E: Sink, F: Files>(
     // Whatever cuts or stops a run with journals, each folder since it began is one at a moment of its steps: each file that it has open
     // goes on with the texts that its history has at that step or at the one before, and other names are as they were.
     ensures moments { F.honest files.old ≡ true → IfOk (command_line_of (map S.text words.now)) (λ line. line.options.journal ≡ true
-        → (now : Folder) → F.since files.new (F.moment files.old) now → IsMomentOfRun (world_of R.Source F.Files input.old files.old) line.given now) }
+        → (now : Folder) → F.since files.new (F.moment files.old) now → IsMomentOfRun (world_of R.Source F.Files input.old files.old (acts_over F.Files files.old files.new)) line.given now) }
 
     // Where standard input never fails, it cuts no run.
     ensures sound { R.sound input.old ≡ true → result.cut ≢ Cut.Read }

@@ -6,6 +6,7 @@ ghost use Rattle.bz_buildozer.specs.Journals.{TakesBeside};
 ghost use Rattle.bz_buildozer.specs.Keeps.{ReadsFiles};
 ghost use Rattle.bz_buildozer.specs.Opens.{Takes};
 ghost use Rattle.bz_buildozer.specs.Run.{TakesUntil};
+ghost use Rattle.bz_buildozer.specs.Unread.{RunActs, ActsAreAmong, ActsGrow};
 ghost use Rattle.bz_buildozer.specs.private.Taking.{Brings, InputUntil, NamedUntil, base_of};
 ghost use Rattle.bz_buildozer.specs.private.ShownFiles.{taken_in};
 
@@ -98,9 +99,10 @@ fn open_found<F: Files, E: Sink>(
     err: &mut E,
 ) -> Taken
     requires { length «package».now ≤ 65536 }
-    ensures takes { Brings E.Sink (λ file lines. F.honest files.old ≡ true
-        → TakesUntil result.cut journals (F.folder files.old) «package».now name.now text.items file lines) (taken_in result) err.old err.new }
+    ensures takes { (acts : RunActs) → ActsAreAmong (F.acts files.old) (F.acts files.new) acts → Brings E.Sink (λ file lines. F.honest files.old ≡ true
+        → TakesUntil result.cut journals acts (F.folder files.old) «package».now name.now text.items file lines) (taken_in result) err.old err.new }
     ensures files { ReadsFiles F.Files result.cut files.old files.new }
+    ensures grows { ActsGrow (F.acts files.old) (F.acts files.new) }
 {
     if !journals {
         return open_text(package, name, text, err);
@@ -140,9 +142,10 @@ pub(crate) fn open_named<F: Files, E: Sink>(
     err: &mut E,
 ) -> Taken
     requires { length «package».now ≤ 65536 }
-    ensures opens { Brings E.Sink (λ file lines. F.honest files.old ≡ true
-        → NamedUntil second result.cut journals (F.folder files.old) «package».now file lines) (taken_in result) err.old err.new }
+    ensures opens { (acts : RunActs) → ActsAreAmong (F.acts files.old) (F.acts files.new) acts → Brings E.Sink (λ file lines. F.honest files.old ≡ true
+        → NamedUntil second result.cut journals acts (F.folder files.old) «package».now file lines) (taken_in result) err.old err.new }
     ensures files { ReadsFiles F.Files result.cut files.old files.new }
+    ensures grows { ActsGrow (F.acts files.old) (F.acts files.new) }
 {
     let Ok(name) = name_in(alloc, package, base_of(second)) else {
         return unnamed(err, package);

@@ -1,8 +1,9 @@
 //! What opening a file takes: its name, its bytes, and the lines on why it isn't open.
-ghost use Rattle.std.specs.Prelude.{◌≡◌, ◌≢◌, ◌⊎◌, ◌≤◌, ◌++◌, [], ◌∷◌, codes, eqb, flat_map, option_map, take, true, Some, None, IfOk, IfErr, IsErrOf, string_bytes};
+ghost use Rattle.std.specs.Prelude.{◌≡◌, ◌≢◌, ◌⊎◌, ◌≤◌, ◌++◌, [], ◌∷◌, codes, eqb, flat_map, option_map, take, true, Some, None, Err, IfOk, IfErr, IsErrOf, string_bytes};
 ghost use Rattle.std.specs.List.{ends_with};
 ghost use Rattle.std.specs.FinMap.{get};
 ghost use Rattle.bz_buildozer.specs.Words.{Bytes, ReadsRegular, Rises, AppendsUnlessFailed, Reports, line_piece_text, named_line};
+ghost use Rattle.bz_files.specs.Orders.{Read, with_act};
 ghost use Rattle.bz_buildozer.specs.Found.{in_package};
 ghost use Rattle.bz_buildozer.specs.Journals.{fault_lines, of_package, of_resuming, shown_package};
 ghost use Rattle.bz_buildozer.specs.Keeps.{KeepsFolder};
@@ -53,6 +54,7 @@ pub(crate) fn bytes_of<F: Files>(
     ensures folder { F.honest files.old ≡ true → F.folder files.new ≡ F.folder files.old }
     ensures time { F.honest files.old ≡ true → KeepsFolder F.Files files.old files.new }
     ensures regular { ReadsRegular (F.acts files.old) (F.acts files.new) }
+    ensures failed { IfErr result (λ fault. F.acts files.new ≡ with_act (F.acts files.old) (Read name.now FileKind.Regular (Err fault))) }
     ensures kinds { IfErr result (λ fault. fault ≢ FileFault.Write) }
     ensures cause { IsErrOf result FileFault.Open → Rises (F.faults files.old) (F.faults files.new) }
     ensures kept { (IsErrOf result FileFault.Open → ⊥) → F.faults files.new ≡ F.faults files.old }

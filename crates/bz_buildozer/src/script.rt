@@ -1,7 +1,8 @@
 //! Files of lines.
 ghost use Rattle.std.specs.Prelude.{◌≡◌, ◌≢◌, None, true, IfOk, IfErr};
 ghost use Rattle.bz_streams.specs.Outputs.{Counts};
-ghost use Rattle.bz_buildozer.specs.Calls.{world_of, AreCutOver};
+ghost use Rattle.bz_buildozer.specs.Calls.{acts_over, world_of, AreCutOver};
+ghost use Rattle.bz_buildozer.specs.Unread.{ActsGrow};
 ghost use Rattle.bz_buildozer.specs.Keeps.{KeepsFolder};
 ghost use Rattle.bz_buildozer.specs.Outcome.{IsScript, IsScriptFront, IsText, IsTextFault, reported_name};
 ghost use Rattle.bz_buildozer.specs.Steps.{input_package};
@@ -30,10 +31,10 @@ pub(crate) fn read_bytes<R: Source, F: Files>(
     files: &mut F,
 ) -> Result<Vec<u8>, Cut>
     ensures ok { IfOk result (λ bytes. (F.honest files.old ≡ true
-        → IsScriptFront (world_of R.Source F.Files input.old files.old) name.now bytes.items)
+        → IsScriptFront (world_of R.Source F.Files input.old files.old (acts_over F.Files files.old files.new)) name.now bytes.items)
         × (R.faults input.new ≡ R.faults input.old) × (F.faults files.new ≡ F.faults files.old)) }
     ensures err { IfErr result (λ cut. (cut ≡ Cut.Whole → F.honest files.old ≡ true
-        → IsScript (world_of R.Source F.Files input.old files.old) name.now None)
+        → IsScript (world_of R.Source F.Files input.old files.old (acts_over F.Files files.old files.new)) name.now None)
         × (cut ≢ Cut.Write) × AreCutOver R.Source F.Files cut input.old input.new files.old files.new) }
     ensures absent { IfErr result (λ cut. cut ≡ Cut.Whole → name.now ≢ input_package) }
     ensures works { R.sound input.old ≡ true → IfErr result (λ cut. cut ≢ Cut.Read) }
@@ -43,6 +44,7 @@ pub(crate) fn read_bytes<R: Source, F: Files>(
     ensures folder { F.honest files.old ≡ true → F.folder files.new ≡ F.folder files.old }
     ensures time { F.honest files.old ≡ true → KeepsFolder F.Files files.old files.new }
     ensures counts { Counts (F.faults files.old) (F.faults files.new) }
+    ensures grows { ActsGrow (F.acts files.old) (F.acts files.new) }
     ensures honest { F.honest files.new ≡ F.honest files.old }
 {
     if name == INPUT {

@@ -6,6 +6,7 @@ ghost use Rattle.bz_files.specs.Faults.{Rises};
 ghost use Rattle.bz_buildozer.specs.Keeps.{file_left};
 ghost use Rattle.bz_buildozer.specs.Sessions.{History, Keeps, KeepsFile, action_in};
 ghost use Rattle.bz_buildozer.specs.Found.{opened_with, with_opened};
+ghost use Rattle.bz_buildozer.specs.Unread.{ActsGrow};
 ghost use Rattle.bz_buildozer.specs.private.ShownFiles.{IsCourse, opened_in, used_in};
 
 use crate::step::OneStep;
@@ -71,6 +72,7 @@ impl Opened {
         ensures cause { IsWriteOrOpen result → Rises (F.faults files.old) (F.faults files.new) }
         ensures rest { (IsWriteOrOpen result → ⊥) → F.faults files.new ≡ F.faults files.old }
         ensures count { F.faults files.old ≤ F.faults files.new }
+        ensures grows { ActsGrow (F.acts files.old) (F.acts files.new) }
         ensures honest { F.honest files.new ≡ F.honest files.old }
     {
         if !journals {

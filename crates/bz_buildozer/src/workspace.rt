@@ -7,6 +7,7 @@ ghost use Rattle.bz_buildozer.specs.Run.{Uses};
 ghost use Rattle.bz_buildozer.specs.Steps.{input_package};
 ghost use Rattle.bz_buildozer.specs.private.ShownFiles.{opened_in, used_in};
 ghost use Rattle.bz_buildozer.specs.Keeps.{KeepsAt, KeepsFolder};
+ghost use Rattle.bz_buildozer.specs.Unread.{RunActs, ActsGrow, ActsAreAmong};
 ghost use Rattle.bz_buildozer.specs.Found as p;
 ghost use Rattle.bz_buildozer.specs.Found.{file_at, package_number, with_opened};
 
@@ -54,6 +55,7 @@ impl Drop for Workspace {
 
 impl Model for Workspace {
     ghost use Rattle.std.specs.Prelude.{◌≡◌, List, map};
+    ghost use Rattle.bz_buildozer.specs.Unread.{RunActs, ActsGrow, ActsAreAmong};
     ghost use Rattle.bz_buildozer.specs.Found as p;
     ghost use Rattle.bz_buildozer.specs.private.ShownFiles.{texts_of_keys, packages_of, used_in};
 
@@ -139,9 +141,9 @@ impl Workspace {
         err: &mut E,
     ) -> Opening
         requires { length «package».now ≤ 65536 }
-        ensures uses { MayRun journals (F.honest files.old) («package».now ≡ input_package) → (known : Option (List ℕ))
-            → IsLeft known self.old (R.remaining input.old) → (lines : List (List ℕ))
-            × Uses result.cut journals (world_with F.Files files.old known) «package».now self.old result.place lines self.new
+        ensures uses { MayRun journals (F.honest files.old) («package».now ≡ input_package) → (known : Option (List ℕ)) (acts : RunActs)
+            → IsLeft known self.old (R.remaining input.old) → ActsAreAmong (F.acts files.old) (F.acts files.new) acts → (lines : List (List ℕ))
+            × Uses result.cut journals (world_with F.Files files.old known acts) «package».now self.old result.place lines self.new
             × IsLeft known self.new (R.remaining input.new) × ReportsLines E.Sink err.old err.new lines }
         ensures some { journals ≡ true → F.honest files.old ≡ true → UsesSome (F.folder files.old) «package».now result.place self.old self.new }
         ensures time { journals ≡ true → F.honest files.old ≡ true → KeepsFolder F.Files files.old files.new }
@@ -153,6 +155,7 @@ impl Workspace {
         ensures cut { AreCutOver R.Source F.Files result.cut input.old input.new files.old files.new }
         ensures read_faults { Counts (R.faults input.old) (R.faults input.new) }
         ensures counts { Counts (F.faults files.old) (F.faults files.new) }
+        ensures grows { ActsGrow (F.acts files.old) (F.acts files.new) }
         ensures honest { F.honest files.new ≡ F.honest files.old }
     {
         if let Some(place) = self.place(package.as_bytes()) {
@@ -195,6 +198,7 @@ impl Workspace {
         ensures cause { IsWriteOrOpen result → Rises (F.faults files.old) (F.faults files.new) }
         ensures rest { (IsWriteOrOpen result → ⊥) → F.faults files.new ≡ F.faults files.old }
         ensures count { F.faults files.old ≤ F.faults files.new }
+        ensures grows { ActsGrow (F.acts files.old) (F.acts files.new) }
         ensures honest { F.honest files.new ≡ F.honest files.old }
     {
         match &mut self.used[place].file {

@@ -9,9 +9,10 @@ use Rattle.std.specs.FinMap.{get}
 use Rattle.std.proofs.lemmas.Bool.{false≢true}
 use Rattle.bz_journal.specs.Clauses.{Action, Answer, Bytes, Edit, HasActed, History, IsSavedSession, IsWrittenSince, KeepsFile, KeepsPair, PairFault, Refusal, Reply}
 use Rattle.bz_journal.specs.Clauses.{SessionState, present, saved, session_history}
-use Rattle.bz_journal.specs.Words.{Folder, Resumes, journal_name, journal_text}
+use Rattle.bz_journal.specs.Words.{Folder, Journal, Resumes, journal_name, journal_text}
 use Rattle.bz_files.specs.declared.files.Files.{Ghosts as FilesOf}
 use Rattle.bz_files.proofs.Elapsing.{stays}
+use Rattle.bz_files.proofs.Orders.{none_read}
 use Rattle.bz_resume.proofs.Checking.{never_err}
 use Rattle.bz_resume.specs.Resuming.{KeepsHeld, MayResume}
 use Rattle.bz_resume.specs.declared.pair_fault.PairFault.TheVariants as p
@@ -66,11 +67,13 @@ module _ {F : Type 0} (files : FilesOf F) (file : Bytes) (h after : History) (st
         time = λ honest resumes. stays (files.moment held) (files.since held) _;
         kept = λ honest resumes other. absurd (other same);
         journal = λ honest other. absurd (other same);
+        own = λ other. absurd (other same);
         stored = λ honest now stood. inl (as_before now stood);
         changed = λ honest is. absurd (no_fault reply (Pair p.Changed) is);
         still = λ _. refl;
         refused = tt;
         untouched = λ honest. tt;
+        regular = none_read (files.acts held);
         cause = λ is. absurd is;
         rest = λ _. refl;
         count = omega arith;
@@ -87,11 +90,13 @@ module _ {F : Type 0} (files : FilesOf F) (file : Bytes) (h after : History) (st
         time = λ honest resumes. stays (files.moment held) (files.since held) _;
         kept = λ honest resumes. tt;
         journal = λ honest. tt;
+        own = tt;
         stored = λ honest now stood. inl (as_before now stood);
         changed = λ honest is. absurd (not_changed is);
         still = tt;
         refused = λ _. refl;
         untouched = λ honest other now stood. only now stood;
+        regular = none_read (files.acts held);
         cause = λ is. absurd (not_caused is);
         rest = λ _. refl;
         count = omega arith;
@@ -102,7 +107,8 @@ module _ {F : Type 0} (files : FilesOf F) (file : Bytes) (h after : History) (st
 
   -- the pair is replaced, or not both: what `keep` says of these bytes, which are the text before, the journal and the text
   module _ (new : F) (standing stored text : Bytes) (begun : standing ≡ present h) (journal : stored ≡ journal_text after steps) (other : after.cursor ≢ h.cursor)
-      (may : Resumes (files.folder held) file h.«package» h.texts → MayResume (files.folder held) file standing stored text h after steps) where
+      (may : Resumes (files.folder held) file h.«package» h.texts → MayResume (files.folder held) file standing stored text h after steps)
+      (own : Journal (journal_text after steps) after steps) where
     saved_then : (now : Folder) → (get now (journal_name file) ≡ get (files.folder held) (journal_name file)) ⊎ (get now (journal_name file) ≡ Some stored)
         → (get now (journal_name file) ≡ get (files.folder held) (journal_name file)) ⊎ (get now (journal_name file) ≡ Some (journal_text after steps))
     saved_then now (inl was) = inl was
@@ -116,11 +122,13 @@ module _ {F : Type 0} (files : FilesOf F) (file : Bytes) (h after : History) (st
         time = λ honest resumes. kept.time honest h after steps (may resumes);
         kept = λ honest resumes _. kept.kept honest h after steps (may resumes);
         journal = λ honest _. kept.journal honest ∙ ap Some journal;
+        own = λ _. own;
         stored = λ honest now stood. saved_then now (kept.stored honest now stood);
         changed = λ honest is. absurd (no_fault reply (Pair p.Changed) is);
         still = λ same. absurd (other same);
         refused = tt;
         untouched = λ honest. tt;
+        regular = kept.regular;
         cause = λ is. absurd is;
         rest = λ _. kept.rest (never_err _ _) (never_err _ _);
         count = kept.count;
@@ -137,11 +145,13 @@ module _ {F : Type 0} (files : FilesOf F) (file : Bytes) (h after : History) (st
         time = λ honest resumes. kept.time honest h after steps (may resumes);
         kept = λ honest resumes. tt;
         journal = λ honest. tt;
+        own = tt;
         stored = λ honest now stood. saved_then now (kept.stored honest now stood);
         changed = λ honest is there. kept.changed honest (ap Err (only_changed fault is)) (there ∙ ap Some (sym begun));
         still = tt;
         refused = λ is. absurd is;
         untouched = λ honest apart. kept.untouched honest (λ is. apart (ap Pair is));
+        regular = kept.regular;
         cause = λ is. kept.cause (caused fault is);
         rest = λ none. kept.rest (not_caused fault p.Write (λ is. none (inl is))) (not_caused fault p.Open (λ is. none (inr is)));
         count = kept.count;
@@ -206,7 +216,7 @@ module _ {F : Type 0} (files : FilesOf F) (action : Action) (note file : Bytes) 
     }
 
     pub kept_both : KeepsHeld files file standing stored text (Ok tt) held new → KeepsPair files action note file s (Ok reply) t held new
-    kept_both kept = kept_as reply acted new (file_both files file (session_history s) (session_history t) t.steps held new standing stored text begun journal other may reply kept)
+    kept_both kept = kept_as reply acted new (file_both files file (session_history s) (session_history t) t.steps held new standing stored text begun journal other may own reply kept)
 
     pub kept_neither : (fault : PairFault) → KeepsHeld files file standing stored text (Err fault) held new → KeepsPair files action note file s (Err (Pair fault)) t held new
-    kept_neither fault kept = lost_as reply acted new other fault (file_neither files file (session_history s) (session_history t) t.steps held new standing stored text begun journal other may fault kept)
+    kept_neither fault kept = lost_as reply acted new other fault (file_neither files file (session_history s) (session_history t) t.steps held new standing stored text begun journal other may own fault kept)

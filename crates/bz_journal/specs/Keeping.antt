@@ -1,7 +1,8 @@
 -- What keeping an action leaves: an answer, and a file with its journal.
 use Rattle.std.specs.Prelude.{◌≡◌, ◌≢◌, ◌≤◌, ◌<◌, ◌⊎◌, true, ℕ, List, length, Option, None, Some, Result, Ok, Err, IfErr, IsErrOf, IsOk, OnErr, OnOk}
 use Rattle.std.specs.FinMap.{get}
-use Rattle.bz_journal.specs.Words.{Bytes, Edit, Elapses, Folder, Holds, IsFormatted, IsSmall, OthersStay, Resumes, Rises, Survives, journal_name, journal_text}
+use Rattle.bz_journal.specs.Words.{Bytes, Edit, Elapses, Folder, Holds, IsFormatted, IsSmall, Journal, OthersStay, Resumes, Rises, Survives, journal_name, journal_text}
+use Rattle.bz_files.specs.Orders.{ReadsRegular}
 use Rattle.bz_files.specs.declared.files.Files.{Ghosts as FilesOf}
 use Rattle.bz_resume.specs.declared.pair_fault.PairFault.TheVariants as f
 use Rattle.bz_journal.specs.Actions.{Action}
@@ -63,10 +64,11 @@ pub record KeepsFile {F : Type 0} (files : FilesOf F) (name : Bytes) (before aft
   pub time : files.honest old ≡ true → Resumes (files.folder old) name before.package before.texts
       → Elapses (files.moment old) (files.moment new) (files.since old) (files.since new)
       (λ now. (now ≡ files.folder old) ⊎ Survives name before after (files.folder old) now)
-  -- Where the text is another one then, the file holds it, and the journal is that of its history.
+  -- Where the text is another one then, the file holds it, and the journal is that of its history and of these steps between its texts.
   pub kept : files.honest old ≡ true → Resumes (files.folder old) name before.package before.texts → OnOk answer (after.cursor ≢ before.cursor
       → Holds (files.folder new) name before.package (present after) after.texts × OthersStay name (files.folder old) (files.folder new))
   pub journal : files.honest old ≡ true → OnOk answer (after.cursor ≢ before.cursor → get (files.folder new) (journal_name name) ≡ Some (journal_text after steps))
+  pub own : OnOk answer (after.cursor ≢ before.cursor → Journal (journal_text after steps) after steps)
   pub stored : files.honest old ≡ true → (now : Folder) → files.since new (files.moment old) now
       → (get now (journal_name name) ≡ get (files.folder old) (journal_name name)) ⊎ (get now (journal_name name) ≡ Some (journal_text after steps))
   -- That the file holds another text is said only where it does. Nothing is replaced where the present text stays, where the action is
@@ -76,7 +78,8 @@ pub record KeepsFile {F : Type 0} (files : FilesOf F) (name : Bytes) (before aft
   pub refused : IfErr answer (λ fault. IsRefused fault → new ≡ old)
   pub untouched : files.honest old ≡ true → IfErr answer (λ fault. fault ≢ Pair f.Write
       → (now : Folder) → files.since new (files.moment old) now → now ≡ files.folder old)
-  -- A Write and an Open are counted, and nothing else.
+  -- Regular files alone are read. A Write and an Open are counted, and nothing else.
+  pub regular : ReadsRegular (files.acts old) (files.acts new)
   pub cause : IsWriteOrOpen answer → Rises (files.faults old) (files.faults new)
   pub rest : (IsWriteOrOpen answer → ⊥) → files.faults new ≡ files.faults old
   pub count : files.faults old ≤ files.faults new

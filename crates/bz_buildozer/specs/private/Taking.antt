@@ -7,6 +7,7 @@ use Rattle.bz_buildozer.specs.Found.{Opened}
 use Rattle.bz_buildozer.specs.Opens.{Takes}
 use Rattle.bz_buildozer.specs.Run.{OpensUntil, SecondUntil, unreadable, wanting}
 use Rattle.bz_buildozer.specs.Steps.{input_package}
+use Rattle.bz_buildozer.specs.Unread.{RunActs}
 
 -- Of a file, or of none, this is so, and the lines were printed. (Standard error before and after.)
 abbrev pub Brings : {E : Type 0} → SinkOf E → (Option Opened → List Bytes → Type 0) → Option Opened → E → E → Type 0
@@ -31,6 +32,6 @@ slash_after [] = []
 slash_after (first ∷ rest) = codes "/"
 
 -- The file of a package that has its first name, or else its second one, is opened, or that with the second one alone.
-abbrev pub NamedUntil : Bool → Cut → Bool → Folder → Bytes → Option Opened → List Bytes → Type 0
-NamedUntil false why journals folder current file lines = OpensUntil why journals folder current file lines
-NamedUntil true why journals folder current file lines = SecondUntil why journals folder current file lines
+abbrev pub NamedUntil : Bool → Cut → Bool → RunActs → Folder → Bytes → Option Opened → List Bytes → Type 0
+NamedUntil false why journals acts folder current file lines = OpensUntil why journals acts folder current file lines
+NamedUntil true why journals acts folder current file lines = SecondUntil why journals acts folder current file lines

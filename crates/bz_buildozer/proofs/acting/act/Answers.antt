@@ -13,6 +13,7 @@ use Rattle.bz_buildozer.proofs.ActSteps.{file_put, free_here, leads_by, led_to, 
 use Rattle.bz_buildozer.proofs.FailSteps.{one_line}
 use Rattle.bz_buildozer.proofs.KeepSteps.{kept_answers, kept_by, kept_open, refused_answers, unkept_answers, unprinted_answers, wants_memory}
 use Rattle.bz_buildozer.proofs.SafeSteps.{name_left}
+use Rattle.bz_buildozer.proofs.UnreadSteps.{grows_none}
 use Rattle.bz_buildozer.proofs.acting.act.Goals as goal
 
 pub returns-in_default-clause-answers : goal.returns-in_default-clause-answers
@@ -208,3 +209,24 @@ leave-requires g c = kept_open c.args.journals g.F.Files c.in-Some.place (action
 pub note-requires : goal.note-requires
 note-requires g c = kept_open c.args.journals g.F.Files c.in-Some.place (action_in c.in-Some-action_of.action) c.args.step.request.now.text.now c.args.run.now.workspace _ c.act.new.self c.args.files.now
     c.act.new.files c.in-Ok.ensures.acts
+
+pub returns-in_default-clause-grows : goal.returns-in_default-clause-grows
+returns-in_default-clause-grows g c = grows_none (g.F.Files.acts c.args.files.now)
+
+pub returns-then-is_left_at-clause-grows : goal.returns-then-is_left_at-clause-grows
+returns-then-is_left_at-clause-grows g c = grows_none (g.F.Files.acts c.args.files.now)
+
+pub returns-in_default-action_of-clause-grows : goal.returns-in_default-action_of-clause-grows
+returns-in_default-action_of-clause-grows g c = grows_none (g.F.Files.acts c.args.files.now)
+
+pub returns-in-Ok-put_printed-clause-grows : goal.returns-in-Ok-put_printed-clause-grows
+returns-in-Ok-put_printed-clause-grows g c = c.act.ensures.grows
+
+pub returns-in-Ok-clause-grows : goal.returns-in-Ok-clause-grows
+returns-in-Ok-clause-grows g c = c.act.ensures.grows
+
+pub returns-in-Err-Refused-clause-grows : goal.returns-in-Err-Refused-clause-grows
+returns-in-Err-Refused-clause-grows g c = c.act.ensures.grows
+
+pub returns-clause-grows : goal.returns-clause-grows
+returns-clause-grows g c = c.act.ensures.grows

@@ -9,6 +9,7 @@ use Rattle.bz_buildozer.proofs.CutSteps.{by_name, cut_after, neither_read, works
 use Rattle.bz_buildozer.proofs.FailSteps.{does_so, left_after, more_lines}
 use Rattle.bz_buildozer.proofs.RunSteps.{honest_kept}
 use Rattle.bz_buildozer.proofs.SafeSteps.{opened_safely, step_acted}
+use Rattle.bz_buildozer.proofs.UnreadSteps.{among_first, grows_on}
 use Rattle.bz_buildozer.proofs.acting.do_step.Goals as goal
 
 pub returns : goal.returns
@@ -26,10 +27,11 @@ returns g c =
     let works = acted.ensures.works in
     let unread = works_unread acted.result (g.F.Files.faults opening.new.files) (g.F.Files.faults acted.new.files) works.cut in
     record {
-      does = λ can safe known left.
-          let world : World = record { folder = folder c.args.files.now; known = known } in
+      does = λ can safe known acts left among.
+          let world : World = record { folder = folder c.args.files.now; known = known; acts = acts } in
           let here = by_name is_honest c.args.journals name c.args.step.target.now.«package» input_package named can in
-          let opened = opening.ensures.uses here known left in
+          let opened = opening.ensures.uses here known acts left (among_first (g.F.Files.acts c.args.files.now) (g.F.Files.acts opening.new.files) (g.F.Files.acts acted.new.files) acts
+          acted.ensures.grows among) in
           let same = opening.ensures.folder here in
           let kept = λ (is : c.args.journals ≡ true). honest_kept c.args.journals (g.F.Files.honest c.args.files.now) (c.args.step.target.now.«package» ≡ input_package) can is in
           let done = acted.ensures.answers (λ is. opening.ensures.honest ∙ kept is) (λ is.
@@ -59,5 +61,6 @@ returns g c =
       read_faults = opening.ensures.read_faults;
       counts = counts_more (g.F.Files.faults c.args.files.now) (g.F.Files.faults opening.new.files) (g.F.Files.faults acted.new.files)
           opening.ensures.counts works.counts;
+      grows = grows_on (g.F.Files.acts c.args.files.now) (g.F.Files.acts opening.new.files) (g.F.Files.acts acted.new.files) opening.ensures.grows acted.ensures.grows;
       honest = works.honest ∙ opening.ensures.honest;
     }

@@ -55,3 +55,9 @@ returns-clause-ends g c = λ premise.
       more_lines g.E.Sink c.args.err.now c.print_all-output.new.err c.write_files-written.new.err (output_lines c.in-Err.later) tried.0 c.in-Err.ensures.told tried.2,
       c.ended-in-Err.ensures.cut ∙ c.first_cut-in-Err-2.ensures ∙ ap (first_cut c.args.cut) c.first_cut-in-Err.ensures,
     )
+
+pub returns-in-Ok-clause-grows : goal.returns-in-Ok-clause-grows
+returns-in-Ok-clause-grows g c = c.write_files-written.ensures.grows
+
+pub returns-clause-grows : goal.returns-clause-grows
+returns-clause-grows g c = c.write_files-written.ensures.grows

@@ -5,6 +5,8 @@ use Rattle.bz_buildozer.specs.private.ShownFiles.{opened_in, used_in}
 use Rattle.bz_buildozer.specs.Ending.{Writing, WritesFile}
 use Rattle.bz_buildozer.specs.Words.{AppendsUnlessFailed, named_line}
 use Rattle.bz_buildozer.proofs.EndingSteps.{trusted, unwritten_as, writing_is}
+use Rattle.bz_files.proofs.Orders.{rewrite_reads}
+use Rattle.bz_buildozer.proofs.UnreadSteps.{grows_none, grows_read}
 use Rattle.bz_buildozer.proofs.ending.write_file.Goals as goal
 
 pub returns-clause-writes : goal.returns-clause-writes
@@ -57,3 +59,23 @@ returns-in_default-rewrite-clause-unwritten g c = λ is.
             c.as_slice.ensures c.deref.ensures.value (c.in_default-rewrite.ensures.rewrites.either honest) (c.in_default-rewrite.ensures.rewrites.untouched honest)),
       ),
     )
+
+pub returns-in_default-clause-grows : goal.returns-in_default-clause-grows
+returns-in_default-clause-grows g c = grows_none (g.F.Files.acts c.args.files.now)
+
+pub returns-then-options-2-clause-grows : goal.returns-then-options-2-clause-grows
+returns-then-options-2-clause-grows g c = grows_none (g.F.Files.acts c.args.files.now)
+
+pub returns-in_default-put_file-clause-grows : goal.returns-in_default-put_file-clause-grows
+returns-in_default-put_file-clause-grows g c = grows_none (g.F.Files.acts c.args.files.now)
+
+pub returns-in_default-rewrite-clause-grows : goal.returns-in_default-rewrite-clause-grows
+returns-in_default-rewrite-clause-grows g c = grows_read (g.F.Files.acts c.args.files.now) (g.F.Files.acts c.rewrite.new.files)
+    (rewrite_reads c.rewrite.result c.as_str-name.result.now c.as_slice.result.now c.deref.result.now (g.F.Files.acts c.args.files.now) (g.F.Files.acts c.rewrite.new.files) c.rewrite.ensures.ordered)
+
+pub returns-clause-grows : goal.returns-clause-grows
+returns-clause-grows g c = grows_read (g.F.Files.acts c.args.files.now) (g.F.Files.acts c.rewrite.new.files)
+    (rewrite_reads c.rewrite.result c.as_str-name.result.now c.as_slice.result.now c.deref.result.now (g.F.Files.acts c.args.files.now) (g.F.Files.acts c.rewrite.new.files) c.rewrite.ensures.ordered)
+
+pub returns-then-file-clause-grows : goal.returns-then-file-clause-grows
+returns-then-file-clause-grows g c = grows_none (g.F.Files.acts c.args.files.now)

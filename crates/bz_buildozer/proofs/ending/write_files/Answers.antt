@@ -1,4 +1,4 @@
-use Rattle.std.proofs.Common.{◌≡◌, ◌⊎◌, List, inl, inr, ◌∙◌, ◌++◌, ◌∷◌, [], true, map, take, ap, subst, sym}
+use Rattle.std.proofs.Common.{refl, ◌≡◌, ◌⊎◌, List, inl, inr, ◌∙◌, ◌++◌, ◌∷◌, [], true, map, take, ap, subst, sym}
 use Rattle.std.proofs.lemmas.List.{map_more}
 use Rattle.bz_buildozer.specs.private.ShownFiles.{used_in}
 use Rattle.bz_buildozer.specs.Ending.{TriesFiles}
@@ -9,7 +9,17 @@ use Rattle.bz_streams.specs.Exits.{first_cut}
 use Rattle.bz_buildozer.proofs.EndingSteps.{of_input_at, tries_file, tries_more}
 use Rattle.bz_buildozer.proofs.FailSteps.{more_lines}
 use Rattle.bz_buildozer.proofs.KeepSteps.{works_more}
+use Rattle.bz_buildozer.proofs.RunSteps.{counts_same}
+use Rattle.bz_buildozer.proofs.UnreadSteps.{grows_none, grows_on}
 use Rattle.bz_buildozer.proofs.ending.write_files.Goals as goal
+
+pub loop-used-init : goal.loop-used-init
+loop-used-init g c = record {
+  tries = λ premise. ([], (refl, refl, refl), (refl, refl));
+  kept = λ _. refl;
+  works = record { cut = inl (refl, refl); counts = counts_same (g.F.Files.faults c.args.files.now); honest = refl };
+  grows = grows_none (g.F.Files.acts c.args.files.now);
+}
 
 pub loop-used-preserved : goal.loop-used-preserved
 loop-used-preserved g c =
@@ -39,4 +49,5 @@ loop-used-preserved g c =
           );
       kept = λ kept. later.ensures.kept kept ∙ l.invariant.kept kept;
       works = works_more F l.cut later.result c.args.files.now l.files later.new.files l.invariant.works later.ensures.works;
+      grows = grows_on (F.acts c.args.files.now) (F.acts l.files) (F.acts later.new.files) l.invariant.grows later.ensures.grows;
     }

@@ -4,6 +4,7 @@ use Rattle.bz_buildozer.specs.private.ShownFiles.{used_in}
 use Rattle.bz_buildozer.specs.Calls.{ReportsLines, WorksOn}
 use Rattle.bz_buildozer.specs.Ending.{TriesFiles}
 use Rattle.bz_buildozer.specs.Steps.{input_package}
+use Rattle.bz_buildozer.specs.Unread.{ActsGrow}
 use Rattle.bz_buildozer.proofs.ending.write_files.Given as goal
 
 -- what the packages so far leave
@@ -14,4 +15,5 @@ invariant-loop-used g l = record {
       × ReportsLines g.E.Sink l.fn.err l.err lines;
   kept : l.options.journal ≡ true → l.files ≡ l.fn.files;
   works : WorksOn g.F.Files l.cut l.fn.files l.files;
+  grows : ActsGrow (g.F.Files.acts l.fn.files) (g.F.Files.acts l.files);
 }

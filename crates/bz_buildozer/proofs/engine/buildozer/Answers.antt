@@ -5,7 +5,7 @@ use Rattle.std.proofs.lemmas.List.Elements.{All-push}
 use Rattle.bz_buildozer.specs.Words.{Folder, LineUsage, operands, script, command_line_of, HasPath, IsGroupFault, Usage}
 use Rattle.bz_command_line.specs.Shown.{given_in, line_in, line_usage_in, requested_in, usage_in}
 use Rattle.bz_command_line.specs.declared.requested.Requested.{Requested}
-use Rattle.bz_buildozer.specs.Calls.{ReportsLine}
+use Rattle.bz_buildozer.specs.Calls.{ReportsLine, acts_over}
 use Rattle.bz_buildozer.specs.Outcome.{unused, GivesNothing, LineGivesNothing, LineOutcome}
 use Rattle.bz_buildozer.specs.Moments.{IsMomentOfRun}
 use Rattle.bz_buildozer.specs.Reported.{IsLineUsageLine, no_journal_line, usage_line}
@@ -13,12 +13,13 @@ use Rattle.bz_buildozer.specs.Run.{World}
 use Rattle.bz_buildozer.specs.Steps.{input_package, names_input}
 use Rattle.bz_buildozer.proofs.FailSteps.{one_line}
 use Rattle.bz_buildozer.proofs.Outcomes.{at_some, by_operands, by_words, each_of, names_given, no_journal, operands_done, operands_premise, no_words, ends_more, ends_told, read_nothing, told_found, words_done, words_given, words_kept, words_premise, words_unused, script_premise, no_time, of_script}
+use Rattle.bz_buildozer.proofs.UnreadSteps.{among_all}
 use Rattle.bz_buildozer.proofs.engine.buildozer.Goals as goal
 
 pub returns-in-Err-clause-ends : goal.returns-in-Err-clause-ends
 returns-in-Err-clause-ends g c premise =
     let words = map g.S.AsStr.text c.args.words.now in
-    let world : World = record { folder = g.F.Files.folder c.args.files.now; known = g.R.Source.remaining c.args.input.now } in
+    let world : World = record { folder = g.F.Files.folder c.args.files.now; known = g.R.Source.remaining c.args.input.now; acts = acts_over g.F.Files c.args.files.now c.args.files.now } in
     let found = line_usage_in c.in-Err.fault in
     let e = c.report_line_usage in
     let end = c.unused in
@@ -38,7 +39,7 @@ returns-in-Operands-clause-usage g c is is_whole =
     let line = line_in c.in-Ok.line in
     let texts = map (λ (s : Bor (List ℕ)). s.now) c.deref.result.now in
     let same : line.given ≡ operands texts = ap given_in c.in-Operands.is ∙ ap (λ (these : List (Bor (List ℕ))). operands (map (λ (s : Bor (List ℕ)). s.now) these)) (sym c.deref.ensures.value) in
-    let world : World = record { folder = g.F.Files.folder c.args.files.now; known = g.R.Source.remaining c.args.input.now } in
+    let world : World = record { folder = g.F.Files.folder c.args.files.now; known = g.R.Source.remaining c.args.input.now; acts = acts_over g.F.Files c.args.files.now c.args.files.now } in
     let e = c.report_usage in
     let end = c.unused-in-Err-read_group in
     let it = told_found e.result end.result (usage_in c.in-Err-read_group.fault) e.new.err end.new.err
@@ -62,12 +63,13 @@ returns-in-Ok-read_group-clause-ends g c premise =
     let requested = requested_in c.in-Ok-read_group.requested in
     let lines = map requested_in c.from_ref.result.now in
     let one : lines ≡ requested ∷ [] = ap (map requested_in) c.from_ref.ensures.value in
-    let world : World = record { folder = g.F.Files.folder c.args.files.now; known = g.R.Source.remaining c.args.input.now } in
+    let world : World = record { folder = g.F.Files.folder c.args.files.now; known = g.R.Source.remaining c.args.input.now; acts = acts_over g.F.Files c.args.files.now c.perform.new.files } in
     ends_more g.W.Sink g.E.Sink g.F.Files c.perform.result _ _ c.args.out.now c.perform.new.out c.args.err.now c.perform.new.err c.perform.new.files
     (λ ended is. words_done words line (operands texts) world ended c.in-Ok.ensures.ok same
     (operands_done line.options texts world requested lines ended c.in-Ok-read_group.ensures.ok one is))
     (c.perform.ensures.ends (operands_premise (g.F.Files.honest c.args.files.now) texts requested lines c.in-Ok-read_group.ensures.ok one
-    (words_premise (g.F.Files.honest c.args.files.now) words line (operands texts) c.in-Ok.ensures.ok same premise)))
+    (words_premise (g.F.Files.honest c.args.files.now) words line (operands texts) c.in-Ok.ensures.ok same premise))
+    (acts_over g.F.Files c.args.files.now c.perform.new.files) (among_all (g.F.Files.acts c.args.files.now) (g.F.Files.acts c.perform.new.files)))
 
 pub returns-in-Operands-clause-ends : goal.returns-in-Operands-clause-ends
 returns-in-Operands-clause-ends g c premise =
@@ -75,7 +77,7 @@ returns-in-Operands-clause-ends g c premise =
     let line = line_in c.in-Ok.line in
     let texts = map (λ (s : Bor (List ℕ)). s.now) c.deref.result.now in
     let same : line.given ≡ operands texts = ap given_in c.in-Operands.is ∙ ap (λ (these : List (Bor (List ℕ))). operands (map (λ (s : Bor (List ℕ)). s.now) these)) (sym c.deref.ensures.value) in
-    let world : World = record { folder = g.F.Files.folder c.args.files.now; known = g.R.Source.remaining c.args.input.now } in
+    let world : World = record { folder = g.F.Files.folder c.args.files.now; known = g.R.Source.remaining c.args.input.now; acts = acts_over g.F.Files c.args.files.now c.args.files.now } in
     let e = c.report_usage in
     let end = c.unused-in-Err-read_group in
     ends_told g.W.Sink g.E.Sink g.F.Files end.result world c.args.out.now c.args.err.now end.new.err c.args.files.now refl (LineOutcome words (command_line_of words) world) e.result
@@ -94,7 +96,7 @@ returns-clause-ends g c premise =
     let line = line_in c.in-Ok.line in
     let name = c.in-Script.name.now in
     let same : line.given ≡ script name = ap given_in c.in-Script.is in
-    let world : World = record { folder = g.F.Files.folder c.args.files.now; known = g.R.Source.remaining c.args.input.now } in
+    let world : World = record { folder = g.F.Files.folder c.args.files.now; known = g.R.Source.remaining c.args.input.now; acts = acts_over g.F.Files c.args.files.now c.run_script.new.files } in
     ends_more g.W.Sink g.E.Sink g.F.Files c.run_script.result _ _ c.args.out.now c.run_script.new.out c.args.err.now c.run_script.new.err c.run_script.new.files
     (λ ended. words_done words line (script name) world ended c.in-Ok.ensures.ok same)
     (c.run_script.ensures.ends (script_premise (g.F.Files.honest c.args.files.now) name
@@ -103,25 +105,25 @@ returns-clause-ends g c premise =
 pub returns-in-Err-clause-read : goal.returns-in-Err-clause-read
 returns-in-Err-clause-read g c none read =
     read_nothing g.W.Sink g.E.Sink g.F.Files (map g.S.AsStr.text c.args.words.now)
-    (record { folder = g.F.Files.folder c.args.files.now; known = g.R.Source.remaining c.args.input.now }) c.unused.result c.args.out.now c.args.out.now c.args.err.now
+    (record { folder = g.F.Files.folder c.args.files.now; known = g.R.Source.remaining c.args.input.now; acts = acts_over g.F.Files c.args.files.now c.args.files.now }) c.unused.result c.args.out.now c.args.out.now c.args.err.now
     c.unused.new.err c.args.files.now none read (returns-in-Err-clause-ends g c (inr none))
 
 pub returns-in-Ok-read_group-clause-read : goal.returns-in-Ok-read_group-clause-read
 returns-in-Ok-read_group-clause-read g c none read =
     read_nothing g.W.Sink g.E.Sink g.F.Files (map g.S.AsStr.text c.args.words.now)
-    (record { folder = g.F.Files.folder c.args.files.now; known = g.R.Source.remaining c.args.input.now }) c.perform.result c.args.out.now c.perform.new.out
+    (record { folder = g.F.Files.folder c.args.files.now; known = g.R.Source.remaining c.args.input.now; acts = acts_over g.F.Files c.args.files.now c.perform.new.files }) c.perform.result c.args.out.now c.perform.new.out
     c.args.err.now c.perform.new.err c.perform.new.files none read (returns-in-Ok-read_group-clause-ends g c (inr none))
 
 pub returns-in-Operands-clause-read : goal.returns-in-Operands-clause-read
 returns-in-Operands-clause-read g c none read =
     read_nothing g.W.Sink g.E.Sink g.F.Files (map g.S.AsStr.text c.args.words.now)
-    (record { folder = g.F.Files.folder c.args.files.now; known = g.R.Source.remaining c.args.input.now }) c.unused-in-Err-read_group.result c.args.out.now c.args.out.now
+    (record { folder = g.F.Files.folder c.args.files.now; known = g.R.Source.remaining c.args.input.now; acts = acts_over g.F.Files c.args.files.now c.args.files.now }) c.unused-in-Err-read_group.result c.args.out.now c.args.out.now
     c.args.err.now c.unused-in-Err-read_group.new.err c.args.files.now none read (returns-in-Operands-clause-ends g c (inr none))
 
 pub returns-clause-read : goal.returns-clause-read
 returns-clause-read g c none read =
     read_nothing g.W.Sink g.E.Sink g.F.Files (map g.S.AsStr.text c.args.words.now)
-    (record { folder = g.F.Files.folder c.args.files.now; known = g.R.Source.remaining c.args.input.now }) c.run_script.result c.args.out.now c.run_script.new.out
+    (record { folder = g.F.Files.folder c.args.files.now; known = g.R.Source.remaining c.args.input.now; acts = acts_over g.F.Files c.args.files.now c.run_script.new.files }) c.run_script.result c.args.out.now c.run_script.new.out
     c.args.err.now c.run_script.new.err c.run_script.new.files none read (returns-clause-ends g c (inr none))
 
 pub returns-in-Ok-read_group-clause-unread : goal.returns-in-Ok-read_group-clause-unread
@@ -147,7 +149,7 @@ returns-clause-unread g c nothing =
 pub returns-in-Err-clause-usage : goal.returns-in-Err-clause-usage
 returns-in-Err-clause-usage g c is is_whole =
     let words = map g.S.AsStr.text c.args.words.now in
-    let world : World = record { folder = g.F.Files.folder c.args.files.now; known = g.R.Source.remaining c.args.input.now } in
+    let world : World = record { folder = g.F.Files.folder c.args.files.now; known = g.R.Source.remaining c.args.input.now; acts = acts_over g.F.Files c.args.files.now c.args.files.now } in
     let found = line_usage_in c.in-Err.fault in
     let e = c.report_line_usage in
     let end = c.unused in
@@ -164,7 +166,7 @@ returns-in-Ok-read_group-clause-usage g c is is_whole =
     let line = line_in c.in-Ok.line in
     let texts = map (λ (s : Bor (List ℕ)). s.now) c.deref.result.now in
     let same : line.given ≡ operands texts = ap given_in c.in-Operands.is ∙ ap (λ (these : List (Bor (List ℕ))). operands (map (λ (s : Bor (List ℕ)). s.now) these)) (sym c.deref.ensures.value) in
-    let world : World = record { folder = g.F.Files.folder c.args.files.now; known = g.R.Source.remaining c.args.input.now } in
+    let world : World = record { folder = g.F.Files.folder c.args.files.now; known = g.R.Source.remaining c.args.input.now; acts = acts_over g.F.Files c.args.files.now c.perform.new.files } in
     let told = c.perform.ensures.usage is in
     let requested = requested_in c.in-Ok-read_group.requested in
     let named = ap names_input (sym (ap (map requested_in) c.from_ref.ensures.value)) ∙ told.1 in (
@@ -234,7 +236,7 @@ returns-in-Ok-read_group-clause-moments g c honest =
     let texts = map (λ (s : Bor (List ℕ)). s.now) c.deref.result.now in
     let same : line.given ≡ operands texts = ap given_in c.in-Operands.is ∙ ap (λ (these : List (Bor (List ℕ))). operands (map (λ (s : Bor (List ℕ)). s.now) these)) (sym c.deref.ensures.value) in
     let known = g.R.Source.remaining c.args.input.now in
-    let world : World = record { folder = g.F.Files.folder c.args.files.now; known = known } in
+    let world : World = record { folder = g.F.Files.folder c.args.files.now; known = known; acts = acts_over g.F.Files c.args.files.now c.perform.new.files } in
     by_words g.F.Files c.args.files.now c.perform.new.files (map g.S.AsStr.text c.args.words.now) line (operands texts) world
     c.in-Ok.ensures.ok same (λ kept. each_of g.F.Files c.args.files.now c.perform.new.files known (operands texts) (g.met.F.Files.only_now c.args.files.now)
     (by_operands g.F.Files c.args.files.now c.perform.new.files known texts (requested_in c.in-Ok-read_group.requested) (map requested_in c.from_ref.result.now)
@@ -246,7 +248,7 @@ returns-in-Operands-clause-moments g c honest =
     let texts = map (λ (s : Bor (List ℕ)). s.now) c.deref.result.now in
     let same : line.given ≡ operands texts = ap given_in c.in-Operands.is ∙ ap (λ (these : List (Bor (List ℕ))). operands (map (λ (s : Bor (List ℕ)). s.now) these)) (sym c.deref.ensures.value) in
     let known = g.R.Source.remaining c.args.input.now in
-    let world : World = record { folder = g.F.Files.folder c.args.files.now; known = known } in
+    let world : World = record { folder = g.F.Files.folder c.args.files.now; known = known; acts = acts_over g.F.Files c.args.files.now c.args.files.now } in
     by_words g.F.Files c.args.files.now c.args.files.now (map g.S.AsStr.text c.args.words.now) line (operands texts) world
     c.in-Ok.ensures.ok same (λ kept. each_of g.F.Files c.args.files.now c.args.files.now known (operands texts) (g.met.F.Files.only_now c.args.files.now)
     (no_time g.F.Files.moment g.F.Files.since c.args.files.now c.args.files.now (IsMomentOfRun world (operands texts)) refl))
@@ -255,7 +257,7 @@ pub returns-clause-moments : goal.returns-clause-moments
 returns-clause-moments g c honest =
     let name = c.in-Script.name.now in
     let known = g.R.Source.remaining c.args.input.now in
-    let world : World = record { folder = g.F.Files.folder c.args.files.now; known = known } in
+    let world : World = record { folder = g.F.Files.folder c.args.files.now; known = known; acts = acts_over g.F.Files c.args.files.now c.run_script.new.files } in
     by_words g.F.Files c.args.files.now c.run_script.new.files (map g.S.AsStr.text c.args.words.now) (line_in c.in-Ok.line) (script name) world
     c.in-Ok.ensures.ok (ap given_in c.in-Script.is) (λ kept. each_of g.F.Files c.args.files.now c.run_script.new.files known (script name)
     (g.met.F.Files.only_now c.args.files.now) (c.run_script.ensures.moments kept honest))

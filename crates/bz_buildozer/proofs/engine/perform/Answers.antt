@@ -14,11 +14,12 @@ use Rattle.bz_buildozer.proofs.CutSteps.{read_before}
 use Rattle.bz_buildozer.proofs.FailSteps.{one_line}
 use Rattle.bz_buildozer.proofs.Outcomes.{unused_yet, ends_unused, lines_premise, begins_safely, honest_still, lines_end, no_more_time, no_time}
 use Rattle.bz_buildozer.proofs.StepLists.{shown_by_lines}
+use Rattle.bz_buildozer.proofs.UnreadSteps.{among_first}
 use Rattle.bz_buildozer.proofs.engine.perform.Goals as goal
 
 pub returns-then-lacks_journal-clause-ends : goal.returns-then-lacks_journal-clause-ends
-returns-then-lacks_journal-clause-ends g c premise =
-    let world : World = record { folder = g.F.Files.folder c.args.files.now; known = g.R.Source.remaining c.args.input.now } in
+returns-then-lacks_journal-clause-ends g c premise acts among =
+    let world : World = record { folder = g.F.Files.folder c.args.files.now; known = g.R.Source.remaining c.args.input.now; acts = acts } in
     ends_unused g.W.Sink g.E.Sink g.F.Files (record { status = 1; cut = cut.Whole }) world c.args.out.now c.args.err.now c.report_pieces.new.err c.args.files.now refl
     (LinesEnd c.args.job.options (map requested_in c.args.lines.now) world) no_journal_line (inl (sym c.lacks_journal.ensures ∙ c.if-lacks_journal.true, refl)) refl
     (one_line g.E.Sink c.args.err.now c.report_pieces.new.err no_journal_line c.report_pieces.ensures)
@@ -41,19 +42,20 @@ returns-clause-unread g c kept named =
     absurd (true≢false (sym (rw (kept, named) refl) ∙ neither))
 
 pub returns-clause-ends : goal.returns-clause-ends
-returns-clause-ends g c given =
+returns-clause-ends g c given acts among =
     let ran = c.run_lines-cut in
     let options = c.args.job.options in
     let lines = map requested_in c.args.lines.now in
     let folder = g.F.Files.folder in
     let is_honest = g.F.Files.honest c.args.files.now in
     let known = g.R.Source.remaining c.args.input.now in
-    let world : World = record { folder = folder c.args.files.now; known = known } in
+    let world : World = record { folder = folder c.args.files.now; known = known; acts = acts } in
     let start = progress_in c.begun-run.result in
     let state = progress_in ran.new.run in
     let neither = sym c.lacks_journal.ensures ∙ c.if-lacks_journal.false in
     let can = lines_premise is_honest options.journal lines neither given in
-    let done = ran.ensures.does can (λ kept. begins_safely (folder c.args.files.now) start c.begun-run.ensures.begins) known (λ _. refl) in
+    let done = ran.ensures.does can (λ kept. begins_safely (folder c.args.files.now) start c.begun-run.ensures.begins) known acts (λ _. refl)
+    (among_first (g.F.Files.acts c.args.files.now) (g.F.Files.acts ran.new.files) (g.F.Files.acts c.finish.new.files) acts c.finish.ensures.grows among) in
     let ends = c.finish.ensures.ends (honest_still is_honest (g.F.Files.honest ran.new.files) options.journal ran.result world options.keep_going lines start done.0
     (folder ran.new.files) state ran.ensures.honest c.begun-run.ensures.begins done.1 can) in
     lines_end g.W.Sink g.E.Sink g.F.Files options lines world start state (folder ran.new.files) done.0 ends.2 c.finish.result ran.result ends.1 ends.0

@@ -2,13 +2,14 @@ use Rattle.std.proofs.Common.{◌≡◌, ap, sym, subst, refl, inr, List, ℕ, �
 use Rattle.bz_buildozer.specs.Words.{Folder, Cut}
 use Rattle.bz_streams.proofs.Outputs.{appends_nothing}
 use Rattle.bz_streams.specs.declared.exit.Cut.TheVariants as cut
-use Rattle.bz_buildozer.specs.Calls.{ReportsLine}
+use Rattle.bz_buildozer.specs.Calls.{ReportsLine, acts_over}
 use Rattle.bz_buildozer.specs.Outcome.{reported_name, unread}
 use Rattle.bz_buildozer.specs.Reported.{unread_line}
 use Rattle.bz_buildozer.specs.Run.{World}
 use Rattle.bz_buildozer.proofs.FailSteps.{one_line, unread_either}
 use Rattle.bz_buildozer.proofs.Outcomes.{by_no_script, by_script, ends_more, exit_of, script_done, script_missing, script_unused, no_more_time}
 use Rattle.bz_buildozer.proofs.ReadSteps.{script_read}
+use Rattle.bz_buildozer.proofs.UnreadSteps.{among_all, among_second}
 use Rattle.bz_buildozer.proofs.engine.run_script.Goals as goal
 
 pub returns-in-Err-clause-ends : goal.returns-in-Err-clause-ends
@@ -28,19 +29,23 @@ returns-in-Err-clause-ends g c honest = (
 pub returns-in-Ok-clause-ends : goal.returns-in-Ok-clause-ends
 returns-in-Ok-clause-ends g c honest =
     let known = g.R.Source.remaining c.args.input.now in
-    let world : World = record { folder = g.F.Files.folder c.args.files.now; known = known } in
+    let world : World = record { folder = g.F.Files.folder c.args.files.now; known = known; acts = acts_over g.F.Files c.args.files.now c.run_text.new.files } in
     let read = script_read world c.args.name.now c.in-Ok.bytes.items (c.in-Ok.ensures.ok.0 honest) in
     ends_more g.W.Sink g.E.Sink g.F.Files c.run_text.result _ _ c.args.out.now c.run_text.new.out c.args.err.now c.run_text.new.err c.run_text.new.files
     (λ ended. script_done c.args.job.options c.args.name.now read.0 c.in-Ok.bytes.items c.deref.result.now (g.F.Files.folder c.args.files.now)
-    (g.F.Files.folder c.read_bytes.new.files) known ended c.deref.ensures.value (c.read_bytes.ensures.folder honest) read.1 read.2)
-    (c.run_text.ensures.ends (c.read_bytes.ensures.honest ∙ honest) known (λ other. ap g.R.Source.remaining (sym (c.read_bytes.ensures.input other))))
+    (g.F.Files.folder c.read_bytes.new.files) known (acts_over g.F.Files c.args.files.now c.run_text.new.files) ended c.deref.ensures.value (c.read_bytes.ensures.folder honest) read.1 read.2)
+    (c.run_text.ensures.ends (c.read_bytes.ensures.honest ∙ honest) known (acts_over g.F.Files c.args.files.now c.run_text.new.files)
+    (λ other. ap g.R.Source.remaining (sym (c.read_bytes.ensures.input other)))
+    (among_second (g.F.Files.acts c.args.files.now) (g.F.Files.acts c.read_bytes.new.files) (g.F.Files.acts c.run_text.new.files)
+    (acts_over g.F.Files c.args.files.now c.run_text.new.files) c.read_bytes.ensures.grows
+    (among_all (g.F.Files.acts c.args.files.now) (g.F.Files.acts c.run_text.new.files))))
 
 pub returns-in-Err-clause-usage : goal.returns-in-Err-clause-usage
 returns-in-Err-clause-usage g c is is_whole =
     let whole = sym c.report_unread.ensures.cut ∙ is_whole in
     let name = c.args.name.now in (
       unread_line (reported_name name) cut.Whole,
-      script_missing (g.F.Files.honest c.args.files.now) (record { folder = g.F.Files.folder c.args.files.now; known = g.R.Source.remaining c.args.input.now }) c.args.job.options name
+      script_missing (g.F.Files.honest c.args.files.now) (record { folder = g.F.Files.folder c.args.files.now; known = g.R.Source.remaining c.args.input.now; acts = acts_over g.F.Files c.args.files.now c.read_bytes.new.files }) c.args.job.options name
           (c.in-Err.ensures.err.0 whole) (c.in-Err.ensures.absent whole),
       one_line g.E.Sink c.args.err.now c.report_unread.new.err _
           (subst (λ (called : List ℕ). ReportsLine g.E.Sink c.args.err.now c.report_unread.new.err (unread_line called cut.Whole)) c.reported_name.ensures
@@ -54,7 +59,7 @@ pub returns-in-Ok-clause-usage : goal.returns-in-Ok-clause-usage
 returns-in-Ok-clause-usage g c is is_whole =
     let told = c.run_text.ensures.usage is in (
       told.0,
-      script_unused (g.F.Files.honest c.args.files.now) (record { folder = g.F.Files.folder c.args.files.now; known = g.R.Source.remaining c.args.input.now }) c.args.job.options
+      script_unused (g.F.Files.honest c.args.files.now) (record { folder = g.F.Files.folder c.args.files.now; known = g.R.Source.remaining c.args.input.now; acts = acts_over g.F.Files c.args.files.now c.run_text.new.files }) c.args.job.options
           c.args.name.now c.in-Ok.bytes.items c.deref.result.now told.0 c.deref.ensures.value c.in-Ok.ensures.ok.0 told.1,
       told.2,
     )
@@ -80,7 +85,7 @@ returns-in-Err-clause-moments g c kept honest =
 
 pub returns-in-Ok-clause-moments : goal.returns-in-Ok-clause-moments
 returns-in-Ok-clause-moments g c kept honest =
-    let world : World = record { folder = g.F.Files.folder c.args.files.now; known = g.R.Source.remaining c.args.input.now } in
+    let world : World = record { folder = g.F.Files.folder c.args.files.now; known = g.R.Source.remaining c.args.input.now; acts = acts_over g.F.Files c.args.files.now c.run_text.new.files } in
     let read = script_read world c.args.name.now c.in-Ok.bytes.items (c.in-Ok.ensures.ok.0 honest) in
     by_script g.F.Files c.args.files.now c.run_text.new.files (g.R.Source.remaining c.args.input.now) c.args.name.now read.0 c.in-Ok.bytes.items c.deref.result.now
     c.read_bytes.new.files (c.read_bytes.ensures.folder honest) c.deref.ensures.value read.1 read.2 (c.read_bytes.ensures.time honest)

@@ -45,8 +45,8 @@ returns-in-Err-read_script-clause-usage g c is =
     )
 
 pub returns-in-Err-clause-ends : goal.returns-in-Err-clause-ends
-returns-in-Err-clause-ends g c honest known before =
-    let world : World = record { folder = g.F.Files.folder c.args.files.now; known = known } in
+returns-in-Err-clause-ends g c honest known acts before among =
+    let world : World = record { folder = g.F.Files.folder c.args.files.now; known = known; acts = acts } in
     let told = returns-in-Err-clause-usage g c refl in
     ends_unused g.W.Sink g.E.Sink g.F.Files (record { status = 1; cut = cut.Whole }) world c.args.out.now c.args.err.now c.report_fault.new.err c.args.files.now refl
     (OrOutOfMemory world (TextOutcome c.args.job.options c.args.read.name.now c.args.read.bytes.now world)) told.0 (inr (told.1 world)) refl told.2
@@ -56,28 +56,28 @@ perform-requires g c =
     subst (λ (lines : List Requested). All (λ (requested : Requested). All HasPath requested.targets.items) lines) (sym c.as_slice-lines.ensures.value) c.in-Ok-read_script.ensures.paths
 
 pub returns-then-edits_input-clause-ends : goal.returns-then-edits_input-clause-ends
-returns-then-edits_input-clause-ends g c honest known before =
-    let world : World = record { folder = g.F.Files.folder c.args.files.now; known = known } in
+returns-then-edits_input-clause-ends g c honest known acts before among =
+    let world : World = record { folder = g.F.Files.folder c.args.files.now; known = known; acts = acts } in
     let told = returns-then-edits_input-clause-usage g c refl in
     ends_unused g.W.Sink g.E.Sink g.F.Files (record { status = 1; cut = cut.Whole }) world c.args.out.now c.args.err.now c.report_pieces.new.err c.args.files.now refl
     (OrOutOfMemory world (TextOutcome c.args.job.options c.args.read.name.now c.args.read.bytes.now world)) told.0 (inr (told.1 world)) refl told.2
 
 pub returns-clause-ends : goal.returns-clause-ends
-returns-clause-ends g c honest known before =
+returns-clause-ends g c honest known acts before among =
     let options = c.args.job.options in
     let name = c.args.read.name.now in
     let left_over = g.R.Source.remaining c.args.input.now in
-    let world : World = record { folder = g.F.Files.folder c.args.files.now; known = known } in
+    let world : World = record { folder = g.F.Files.folder c.args.files.now; known = known; acts = acts } in
     ends_more g.W.Sink g.E.Sink g.F.Files c.perform.result _ _ c.args.out.now c.perform.new.out c.args.err.now c.perform.new.err c.perform.new.files
     (λ ended is. inr (text_lines options name c.args.read.bytes.now c.in-Ok.text.now world (map requested_in c.in-Ok-read_script.lines.items)
     (map requested_in c.as_slice-lines.result.now) ended c.in-Ok.ensures.ok.0 c.in-Ok.ensures.ok.1 c.in-Ok-read_script.ensures.ok
     (ap (map requested_in) c.as_slice-lines.ensures.value)
     (inr (sym c.edits_input.ensures ∙ c.if-edits_input.false, (left_over, (λ other. sym (before (not_input name other))), is)))))
-    (c.perform.ensures.ends (inl honest))
+    (c.perform.ensures.ends (inl honest) acts among)
 
 pub returns-in-Err-read_script-clause-ends : goal.returns-in-Err-read_script-clause-ends
-returns-in-Err-read_script-clause-ends g c honest known before =
-    let world : World = record { folder = g.F.Files.folder c.args.files.now; known = known } in
+returns-in-Err-read_script-clause-ends g c honest known acts before among =
+    let world : World = record { folder = g.F.Files.folder c.args.files.now; known = known; acts = acts } in
     let e = c.report_script in
     let end = c.unused in
     ends_told g.W.Sink g.E.Sink g.F.Files end.result world c.args.out.now c.args.err.now end.new.err c.args.files.now refl

@@ -79,10 +79,10 @@ loop-request-preserved g c =
       | else-run-via-else-run w ↦ (let works = w.if-run.false in rw (works) refl)
     ] in
     let done : Done c.args.options.journal (target.«package» ≡ input_package) c.args.options.keep_going (on_target (item ∷ []) target) e.result mid new = record {
-      does = λ can safe known left.
-          let does = e.ensures.does can safe known left in (
+      does = λ can safe known acts left among.
+          let does = e.ensures.does can safe known acts left among in (
             does.0,
-            one_runs e.result c.args.options.journal (record { folder = mid.folder; known = known }) c.args.options.keep_going _ mid.state new.state does.0 new.folder on does.1,
+            one_runs e.result c.args.options.journal (record { folder = mid.folder; known = known; acts = acts }) c.args.options.keep_going _ mid.state new.state does.0 new.folder on does.1,
             does.2,
             does.3,
           );
@@ -93,6 +93,7 @@ loop-request-preserved g c =
       cut = e.ensures.cut;
       read_faults = e.ensures.read_faults;
       counts = e.ensures.counts;
+      grows = e.ensures.grows;
       honest = e.ensures.honest;
     } in
     rw (c.first_cut-cut.ensures) (done_more c.args.options.journal (AreOfInput (map requested_in lines)) (target.«package» ≡ input_package) c.args.options.keep_going _

@@ -1,6 +1,7 @@
 use Rattle.std.proofs.Common.{inl, ◌∙◌, refl, sym}
 use Rattle.std.proofs.lemmas.Slice.Eq.{bytes_eq-Decides}
 use Rattle.bz_buildozer.specs.Steps.{input_package}
+use Rattle.bz_buildozer.proofs.UnreadSteps.{grows_none, grows_one}
 use Rattle.bz_buildozer.proofs.script.read_bytes.Goals as goal
 
 pub returns-in-Ok-clause-ok : goal.returns-in-Ok-clause-ok
@@ -9,3 +10,21 @@ returns-in-Ok-clause-ok g c = (
   c.in-Ok.ensures.steady (λ is. cc),
   refl,
 )
+
+pub returns-in-Ok-clause-grows : goal.returns-in-Ok-clause-grows
+returns-in-Ok-clause-grows g c = grows_none (g.F.Files.acts c.args.files.now)
+
+pub returns-in-Err-Read-clause-grows : goal.returns-in-Err-Read-clause-grows
+returns-in-Err-Read-clause-grows g c = grows_none (g.F.Files.acts c.args.files.now)
+
+pub returns-in-Ok-read_most-clause-grows : goal.returns-in-Ok-read_most-clause-grows
+returns-in-Ok-read_most-clause-grows g c = grows_one (g.F.Files.acts c.args.files.now) (g.F.Files.acts c.read_most-else-eq.new.self) _ c.read_most-else-eq.ensures.acts
+
+pub returns-in-Err-Absent-clause-grows : goal.returns-in-Err-Absent-clause-grows
+returns-in-Err-Absent-clause-grows g c = grows_one (g.F.Files.acts c.args.files.now) (g.F.Files.acts c.read_most-else-eq.new.self) _ c.read_most-else-eq.ensures.acts
+
+pub returns-in-Err-Memory-read_most-clause-grows : goal.returns-in-Err-Memory-read_most-clause-grows
+returns-in-Err-Memory-read_most-clause-grows g c = grows_one (g.F.Files.acts c.args.files.now) (g.F.Files.acts c.read_most-else-eq.new.self) _ c.read_most-else-eq.ensures.acts
+
+pub returns-clause-grows : goal.returns-clause-grows
+returns-clause-grows g c = grows_one (g.F.Files.acts c.args.files.now) (g.F.Files.acts c.read_most-else-eq.new.self) _ c.read_most-else-eq.ensures.acts

@@ -6,6 +6,7 @@ use Rattle.bz_buildozer.specs.Sessions.{KeepFault, Keeps, KeepsFile, action_in}
 use Rattle.bz_buildozer.specs.private.ShownFiles.{opened_in}
 use Rattle.bz_buildozer.proofs.ActSteps.{marked_written}
 use Rattle.bz_buildozer.proofs.CourseSteps.{kept_course, stays_course}
+use Rattle.bz_buildozer.proofs.UnreadSteps.{grows_none, grows_read}
 use Rattle.bz_buildozer.proofs.used.Opened.act.Goals as goal
 
 pub returns-in-Ok-clause-acts : goal.returns-in-Ok-clause-acts
@@ -84,3 +85,18 @@ returns-in-Err-Refused-clause-course g c = λ _. kept_course g.F.Files (action_i
 pub returns-in-Err-Pair-clause-course : goal.returns-in-Err-Pair-clause-course
 returns-in-Err-Pair-clause-course g c = λ _. kept_course g.F.Files (action_in c.args.action.now) c.args.note.now c.as_str.result.now c.args.self.now.past c.keep_noted.new.self
     (Err c.in-Err-Pair.field-0) c.args.files.now c.keep_noted.new.files c.in-Err-Pair.ensures.form
+
+pub returns-in-Ok-clause-grows : goal.returns-in-Ok-clause-grows
+returns-in-Ok-clause-grows g c = grows_none (g.F.Files.acts c.args.files.now)
+
+pub returns-in-Err-clause-grows : goal.returns-in-Err-clause-grows
+returns-in-Err-clause-grows g c = grows_none (g.F.Files.acts c.args.files.now)
+
+pub returns-in-Ok-keep_noted-clause-grows : goal.returns-in-Ok-keep_noted-clause-grows
+returns-in-Ok-keep_noted-clause-grows g c = grows_read (g.F.Files.acts c.args.files.now) (g.F.Files.acts c.keep_noted.new.files) c.keep_noted.ensures.pair.regular
+
+pub returns-in-Err-Refused-clause-grows : goal.returns-in-Err-Refused-clause-grows
+returns-in-Err-Refused-clause-grows g c = grows_read (g.F.Files.acts c.args.files.now) (g.F.Files.acts c.keep_noted.new.files) c.keep_noted.ensures.pair.regular
+
+pub returns-in-Err-Pair-clause-grows : goal.returns-in-Err-Pair-clause-grows
+returns-in-Err-Pair-clause-grows g c = grows_read (g.F.Files.acts c.args.files.now) (g.F.Files.acts c.keep_noted.new.files) c.keep_noted.ensures.pair.regular

@@ -48,3 +48,6 @@ returns-clause-acts g c =
       pair = done.3;
       plain = done.4;
     }
+
+pub returns-clause-grows : goal.returns-clause-grows
+returns-clause-grows g c = c.act.ensures.grows
