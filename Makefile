@@ -16,6 +16,8 @@
 #: make bench             minutes    time and memory of a delete in a large file, of many commands in one run, also
 #:                                   with a journal, of a run over many packages, of one that writes many files, and of
 #:                                   reading; with FOLDER=.. of the BUILD files there
+#: make little            minutes    what little input takes that could take far more, each run held to the memory that it
+#:                                   is to take (up to 11 GB; what the machine lacks the memory for is not run)
 #: make shapes            5 min      how much longer reading takes for twice the text, for texts of thirty shapes
 #: make largest           6 min      what texts of 4, 16 and 64 MiB cost: a format, a command, one with --journal and
 #:                                   an undo (4 GB of memory)
@@ -51,7 +53,7 @@ SHARED = $(foreach program,$(notdir $(PROGRAMS) $(TREES)),share/man/man1/$(progr
 # what the programs are made of; a second 'make' with nothing changed does nothing
 SOURCES = crates.txt $(shell find crates -name out -prune -o -path '*/must-fail' -prune -o -name README.md -o -type f -print)
 
-.PHONY: all help try share install uninstall dist test edits bench largest shapes hostile fuzz corpus clean rt
+.PHONY: all help try share install uninstall dist test edits bench little largest shapes hostile fuzz corpus clean rt
 
 all: $(PROGRAMS) share bin/.shown
 
@@ -125,6 +127,9 @@ bench: $(PROGRAMS) bin/cases
 	@bench/packages.py
 	@bench/files.py
 	@bench/reading.py $(if $(FOLDER),"$(FOLDER)")
+
+little: $(PROGRAMS)
+	@bench/little.py
 
 largest: $(PROGRAMS)
 	@bench/largest.py

@@ -24,7 +24,7 @@ import time
 import names
 from lib.scenes import TOP
 from scenes import (
-    bazel, building, contrib, devices, disk_acts, edited_packages, failing_calls, formatted_files, fuzz, hostile_texts, install,
+    bazel, building, contrib, devices, disk_acts, edited_packages, failing_calls, foreign_trees, formatted_files, fuzz, hostile_texts, install,
     journals, killed, manual_pages, power, races, readme, refusal_places, refused_memory_calls, refused_memory_runs, sessions, shell_completions,
     whole_trees,
 )  # fmt: skip
@@ -49,6 +49,7 @@ SCRIPTS = [
     ("examples of the pages", readme, ["buildozer", "buildifier"]),
     ("what contrib has", contrib, ["buildozer", "buildifier"]),
     ("commands for whole trees", whole_trees, ["buildozer", "buildifier"]),
+    ("trees that others have made", foreign_trees, ["buildozer", "buildifier"]),
     ("pages for man", manual_pages, []),
     ("public names", names, []),
     ("completions in shells", shell_completions, ["buildozer"]),

@@ -107,6 +107,9 @@ remove deps :a
 remove srcs a.c b.c c.c
 remove *
 remove size
+remove * :a b.c
+remove_if_equal size small
+remove_if_equal deps :b
 replace deps :a :z
 replace * :b //lib:b
 replace size small large
@@ -129,6 +132,12 @@ dict_set env A:2 B:3
 dict_set env D:\\ d
 dict_remove env A C
 dict_remove env A B C D
+dict_replace_if_equal env A 1 2
+dict_replace_if_equal substitutions k v True
+dict_list_add lists K a //lib:b
+dict_list_add env C x
+set_select deps //c:d :a //conditions:default :z
+set_select size //c:d 1
 comment why\\ not
 comment deps because
 comment deps :a the\\ first
@@ -145,6 +154,8 @@ print rule
 print startline size env
 new_load //:defs.bzl a my_b=b
 new_load :b.bzl unused_too new_one
+substitute_load b\\.bzl$ c.bzl
+new f w after __pkg__
 fix
 fix unusedLoads
 fix movePackageToTop

@@ -97,7 +97,22 @@ FAULTS = [
     ),
     (["help", "delete"], b"buildozer: help: Unknown (31)\nbuildozer: see buildozer --help, or man buildozer\n", b""),
     (["delete", "//a:x", "rename deps", "make it"], b"buildozer: rename deps: Arguments (32)\nbuildozer: the form is 'rename OLD NEW'\n", b""),
-    (["delete", "substitute deps ( x", "//a:x"], b"buildozer: substitute deps ( x: BadPattern (33)\n", b""),
+    (
+        ["delete", "substitute deps a( x", "//a:x"],
+        b"buildozer: substitute deps a( x: BadPattern (33)\nbuildozer: in the pattern, at byte 2: unclosed group\n",
+        b"",
+    ),
+    (
+        ["delete", "@r//a:x"],
+        b"buildozer: @r//a:x: BadTarget (12)\nbuildozer: a target begins with no @: to edit another repository, run buildozer in its root\n",
+        b"",
+    ),
+    (
+        ["fix removeVisibility", "//a:x"],
+        b"buildozer: fix removeVisibility: Arguments (32)\nbuildozer: the form is 'fix [unusedLoads] [movePackageToTop]'\n"
+        b"buildozer: there is no other fix here: buildifier puts lists in order and shortens labels\n",
+        b"",
+    ),
     (["-f", "lines", "//a:x"], b"buildozer: operands beside -f\n", b""),
     (["-f", "none"], b"none: cannot open\n", b""),
     (["-f", "a"], b"a: cannot open\n", b""),

@@ -29,7 +29,7 @@ SOON = 60
 SECRET = b"a_secret_of_the_user(\n"
 # a user whom no file of the tests belongs to
 STRANGER = 54321
-# what a repository's own configuration could run in calls of git; {} is a program that leaves a mark
+# what a repository's own configuration could run in calls of git, or have it read; {program} leaves a mark
 SETTINGS = """[core]
 	repositoryformatversion = 1
 	bare = {bare}
@@ -37,24 +37,52 @@ SETTINGS = """[core]
 	hooksPath = {hooks}
 	pager = {program}
 	editor = {program}
+	askPass = {program}
 	sshCommand = {program}
 	alternateRefsCommand = {program}
 	gitProxy = {program}
+	excludesFile = {outside}/names
+	attributesFile = {outside}/names
+[include]
+	path = {outside}/more
+[includeIf "gitdir:/"]
+	path = {outside}/more
 [extensions]
 	partialClone = o
+	worktreeConfig = true
+[alias]
+	ls-files = !{program}
+	check-ignore = !{program}
+	diff = !{program}
+	rev-parse = !{program}
 [remote "o"]
 	url = {outside}
 	promisor = true
 	uploadpack = {program}
+	vcs = evil
+[url "ext::{program} "]
+	insteadOf = {outside}
+[protocol]
+	allow = always
+[submodule "m"]
+	url = {outside}
+	update = !{program}
+	ignore = none
 [filter "evil"]
 	clean = {program}
 	smudge = {program}
 	process = {program}
+[merge "evil"]
+	driver = {program}
 [diff "evil"]
 	command = {program}
 	textconv = {program}
 [diff]
 	external = {program}
+	submodule = diff
+[pager]
+	diff = {program}
+	ls-files = {program}
 [credential]
 	helper = {program}
 [gpg]
@@ -62,6 +90,12 @@ SETTINGS = """[core]
 [uploadpack]
 	packObjectsHook = {program}
 """
+EVIL = b"* filter=evil diff=evil merge=evil\n"
+# programs that are called, and modules that are read, by names that a clone may have, too
+ALIKE = ["git", "diff", "buildozer", "buildifier", "python3", "json.py", "subprocess.py", "sitecustomize.py", "kinduzar_tree/__init__.py"]
+# what git reads by its own configuration, and prints nothing of
+OF_GIT = ("names", "more", "repository")
+LONG_AGO = 1_000_000_000
 
 
 # ---- what a clone can bring
@@ -74,22 +108,35 @@ class Outside:
         self.place, self.folder = place, place.scratch / "outside"
         (self.folder / "hooks").mkdir(parents=True)
         self.mark = place.scratch / "mark"
-        for name in ("BUILD", "secret", "hooks/post-index-change", "hooks/reference-transaction", "program"):
+        self.marking = f'#!/bin/sh\necho "$0 $*" >> {self.mark}\n'.encode()
+        for name in ("BUILD", "secret", "names", "more", "hooks/post-index-change", "hooks/reference-transaction", "program"):
             file = self.folder / name
-            file.write_bytes(f'#!/bin/sh\necho "$0 $*" >> {self.mark}\n'.encode() if "/" in name or name == "program" else SECRET)
+            file.write_bytes(self.marking if "/" in name or name == "program" else SECRET)
             file.chmod(0o755)
+        (self.folder / "more").write_text(f"[core]\n\tfsmonitor = {self.folder}/program\n[diff]\n\texternal = {self.folder}/program\n")
+        subprocess.run(["git", "init", "-q", self.folder / "repository"], env=place.environment, check=True, timeout=PATIENCE)
+        (self.folder / "repository/BUILD").write_bytes(SECRET)
         self.before = self.seen()
 
-    def settings(self, bare=False, has_monitor=True):
-        text = SETTINGS if has_monitor else SETTINGS.replace("\tfsmonitor = {program}\n", "")
-        return text.format(program=self.folder / "program", hooks=self.folder / "hooks", outside=self.folder, bare=str(bare).lower()).encode()
+    def settings(self, bare=False, has_monitor=True, further=""):
+        text = SETTINGS if has_monitor else SETTINGS.replace("\tfsmonitor = {program}\n", "").replace("\tpath = {outside}/more\n", "")
+        return (text + further).format(program=self.folder / "program", hooks=self.folder / "hooks", outside=self.folder, bare=str(bare).lower()).encode()
+
+    def read(self):
+        """The files that were read since `seen` where the system notes that, but for those that git reads by itself."""
+        files = [file for file in self.folder.rglob("*") if file.is_file() and file.relative_to(self.folder).parts[0] not in OF_GIT]
+        return [str(file) for file in files if os.stat(file).st_atime != LONG_AGO]
 
     def seen(self):
         """Each name with what the system says of it, times aside, and its content."""
-        return sorted((str(file), os.lstat(file).st_mode, os.readlink(file) if file.is_symlink() else file.read_bytes() if file.is_file() else b"") for file in self.folder.rglob("*"))
+        found = sorted((str(file), os.lstat(file).st_mode, os.readlink(file) if file.is_symlink() else file.read_bytes() if file.is_file() else b"") for file in self.folder.rglob("*"))
+        for file in self.folder.rglob("*"):
+            os.utime(file, (LONG_AGO, os.stat(file).st_mtime))
+        return found
 
     def is_untouched(self, what, run):
-        """Nothing there was changed or run, and nothing of it is printed."""
+        """Nothing there was read, changed or run, and nothing of it is printed."""
+        self.place.expect(f"{what}: read", self.read(), [])
         self.place.expect(f"{what}: outside", self.seen(), self.before)
         self.place.expect(f"{what}: run", self.mark.read_text() if self.mark.exists() else "", "")
         status, out, err = run
@@ -100,47 +147,91 @@ class Outside:
 
 def hostile(place, outside):
     """A repository of git with what another one may put into it."""
-    place.put({**made(20), ".gitattributes": b"* filter=evil diff=evil\n", "MODULE.bazel": b""})
+    place.put({**made(20), ".gitattributes": EVIL, "MODULE.bazel": b"", ".gitmodules": f'[submodule "m"]\n\tpath = m\n\turl = {outside.folder}\n\tupdate = !{outside.folder}/program\n'.encode()})
     place.git("init", "-q")
     place.git("add", "-A")
+    place.git("update-index", "--add", "--cacheinfo", f"160000,{'1' * 40},m")
     place.git("commit", "-qm", "one")
     place.put({".git/config": outside.settings(), "p1/q1/BUILD": ODD + b"# changed\n"})
     # the same as its time, which git then reads again
     for name in ("p2/q2/BUILD", ".git/index"):
         os.utime(place.folder / name, (1_700_000_000, 1_700_000_000))
-    bare = place.folder / "bare"
-    shutil.copytree(place.folder / ".git", bare, ignore=shutil.ignore_patterns("objects"))
-    (bare / "objects").mkdir()
-    place.put({"bare/config": outside.settings(bare=True), "bare/BUILD": EVEN})
-    for name, to in {"link": "", "out": "BUILD", "p3/BUILD": "BUILD", "p4/q4/MODULE.bazel": "secret", "p5/.bazelignore": "secret", ".git/kinduzar": ""}.items():
-        (place.folder / name).symlink_to(outside.folder / to)
-    place.put({"p5/WORKSPACE": b"", "p5/BUILD": EVEN})
+    for bare in ("bare", ".git/modules/m"):
+        shutil.copytree(place.folder / ".git", place.folder / bare, ignore=shutil.ignore_patterns("objects", "modules"))
+        (place.folder / bare / "objects").mkdir()
+        place.put({f"{bare}/config": outside.settings(bare=bare == "bare", further="" if bare == "bare" else "[core]\n\tworktree = {outside}\n")})
+    place.put({"bare/BUILD": EVEN, "m/.git": b"gitdir: ../.git/modules/m\n", "m/BUILD": EVEN, "w/.git": b"gitdir: %s/repository/.git\n" % os.fsencode(outside.folder), "w/BUILD": EVEN})
+    put_links(place, outside.folder)
+    place.put({"p5/WORKSPACE": b"", "p5/BUILD": EVEN, "p8/WORKSPACE": b"", "p8/BUILD": EVEN, "p9/BUILD": ODD, "v/BUILD": EVEN, "y/z/BUILD": EVEN, "w/MODULE.bazel": b"", "v/MODULE.bazel": b""})
+    put_configuration(place, outside)
     os.mkfifo(place.folder / "p6/BUILD")
     os.mkfifo(place.folder / "p7/BUILD.bazel")
 
 
+def put_links(place, folder):
+    """Links of files and folders that lead outside."""
+    links = {"link": "", "p9/link": "", "out": "BUILD", "p3/BUILD": "BUILD", "p4/q4/MODULE.bazel": "secret", "p5/.bazelignore": "secret", "p8/REPO.bazel": "secret", "y/MODULE.bazel": "secret",
+             "p9/BUILD.bznew": "secret", ".git/kinduzar": "", "v/.git": "repository/.git"}  # fmt: skip
+    for name, to in links.items():
+        (place.folder / name).parent.mkdir(parents=True, exist_ok=True)
+        (place.folder / name).symlink_to(folder / to)
+
+
+def put_configuration(place, outside):
+    """Further files of git's that name what is outside, and files that are called as programs and modules are."""
+    place.put({
+        ".git/config.worktree": outside.settings(), ".git/info/attributes": EVIL, ".git/info/exclude": b"none\n", ".git/worktrees/w/gitdir": b"%s\n" % os.fsencode(outside.folder),
+        ".git/objects/info/alternates": b"%s/repository/.git/objects\n" % os.fsencode(outside.folder), **{f"{folder}{name}": outside.marking for folder in ("", "p9/") for name in ALIKE},
+    })  # fmt: skip
+    for name in ALIKE:
+        (place.folder / name).chmod(0o755)
+
+
 CLONED = [
     ("buildifier-tree", ["--mode=check"]), ("buildifier-tree", ["--mode=diff"]), ("buildifier-tree", ["--diff-from=HEAD", "--mode=check"]),
-    ("buildifier-tree", ["--diff-from=HEAD...HEAD", "--mode=check"]), ("buildifier-tree", ["--diff-from=none", "--mode=check"]), ("buildifier-tree", []),
-    ("buildozer-tree", ["-k", "set size small", "//...:all"]), ("buildozer-tree", ["-k", *SMALL]), ("buildozer-tree", ["print name", "//...:x1"]), ("buildozer-tree", ["undo"]), ("buildozer-tree", ["runs"]),
+    ("buildifier-tree", ["--diff-from=HEAD...HEAD", "--mode=check"]), ("buildifier-tree", ["--diff-from=none", "--mode=check"]),
+    ("buildozer-tree", ["--diff", "-k", *SMALL]), ("buildozer-tree", ["--stdout", "-k", "set size small", "//...:all"]), ("buildifier-tree", []),
+    ("buildozer-tree", ["-k", "set size small", "//...:all"]), ("buildozer-tree", ["-k", *SMALL]), ("buildozer-tree", ["--labels", "print name", "//...:x1"]),
+    ("buildozer-tree", ["undo"]), ("buildozer-tree", ["redo"]), ("buildozer-tree", ["runs"]), ("buildozer-tree", ["journal", "//p1/q1:all"]),
 ]  # fmt: skip
 
 
 def what_a_clone_brings(place):
-    """Links, pipes, ignores and configuration of git lead out of no tree, also in a folder that is a repository without saying so."""
+    """Links, pipes, ignores, names and configuration of git lead out of no tree, also in a folder that is a repository without saying so."""
     outside = Outside(place)
     hostile(place, outside)
     for command, words in CLONED:
         # the monitor keeps git from looking at files, and so from the filters
-        place.put({".git/config": outside.settings(has_monitor=not any("diff-from" in word for word in words))})
-        for here in (".", "bare", "p5") if WHOLE or "--diff-from=HEAD" in words else (".",):
+        for name in (".git/config", ".git/config.worktree"):
+            place.put({name: outside.settings(has_monitor=not any("diff-from" in word for word in words))})
+        for here in (".", "bare", "p5", "m", "w", "v", "y/z") if WHOLE or "--diff-from=HEAD" in words else (".",):
             before = time.monotonic()
             outside.is_untouched(f"{command} {words} in {here}", place.run(command, *words, here=here))
             place.expect(f"{command} {words} in {here}: in time", time.monotonic() - before < SOON, True)
+    for here in ("w", "v"):  # there .git leads to a repository that is none of this tree
+        run = place.run("buildozer-tree", *SMALL, here=here)
+        outside.is_untouched(f"a repository elsewhere, in {here}", run)
+        place.expect(f"in {here}", (run[0], run[2][:1]), (1, ["buildozer-tree: what undo needs is kept in .git, and there is none of this tree: give --state=DIR"]))
     shutil.rmtree(place.folder / ".git/objects")
     (place.folder / ".git/objects").mkdir()
     outside.is_untouched("objects that are missing", place.run("buildifier-tree", "--diff-from=HEAD", "--mode=check"))
     place.expect("files", [os.readlink(place.folder / name) for name in ("p3/BUILD", "out")], [str(outside.folder / "BUILD")] * 2)
+
+
+def a_state_that_leads_outside(place):
+    """Links in the place of what an undo needs, and of what is kept of a run that was refused, are followed nowhere."""
+    outside = Outside(place)
+    place.put({**made(FEW), "MODULE.bazel": b""})
+    place.git("init", "-q")
+    kept = place.folder / ".git/kinduzar"
+    for links in ({"": ""}, {"runs": ""}, {"runs/lock": "secret", "runs/000001.json": "secret", "runs/000001.lock": "secret", "runs/plain": "secret", "rest": "secret"}, {"runs/lock": "new", "runs/000002.lock": "new", "rest": "new"}):
+        place.put({name: ODD.replace(b"x", b"(") for name in made(FEW)})
+        for name, to in links.items():
+            (kept / name).parent.mkdir(parents=True, exist_ok=True)
+            os.symlink(outside.folder / to, str(kept / name).rstrip("/"))
+        for command, words in [("buildifier-tree", []), ("buildozer-tree", ["-k", *SMALL]), ("buildozer-tree", ["set size large", "//p1/q1:all"]), ("buildozer-tree", ["runs"]), ("buildozer-tree", ["undo"]), ("buildozer-tree", ["undo", "1"])]:
+            outside.is_untouched(f"{command} {words} with {links}", place.run(command, *words))
+        kept.unlink() if kept.is_symlink() else shutil.rmtree(kept)
 
 
 def ignores_that_cannot_be_read(place):
@@ -150,7 +241,8 @@ def ignores_that_cannot_be_read(place):
     (place.folder / "b/.bazelignore").symlink_to("/dev/zero")
     (place.folder / "d/.bazelignore").symlink_to("names")
     wanted = ["b/.bazelignore: cannot open", "3 files reformatted, 1 left unchanged, 1 refused"]
-    place.expect("a part", (lambda run: (run[0], run[2][:2]))(place.run("buildifier-tree")), (3, wanted))
+    place.expect("a part", place.run("buildifier-tree")[::2], (3, [*wanted, "to go on with just these: buildifier-tree b"]))
+    place.expect("no package is left", place.run("buildozer-tree", "--labels", "print name", "//...:all", here="b"), (2, b"", [".bazelignore: cannot open", "1 file refused"]))
     place.expect("files", [place.files()[name] for name in ("a/BUILD", "b/BUILD", "d/BUILD", "d/e/BUILD")], [EVEN, ODD, EVEN, ODD])
     place.put({"MODULE.bazel": b""})
     for make in (os.mkfifo, os.mkdir, lambda file: os.symlink(place.scratch / "none", file), lambda file: file.write_bytes(b"x" * (16 << 20) + b"x")):
@@ -205,6 +297,21 @@ def names_write_no_lines(place):
     place.expect("formats", (status, [line for line in err if not line.isprintable()], sum(": Unexpected" in line for line in err)), (1, [], len(FORGED)))
     place.put({f"{name}/BUILD": ODD for name in FORGED})
     place.expect("going on", place.run(*shlex.split(err[-1].partition(": ")[2])), (0, b"", [f"{len(FORGED)} files reformatted"]))
+
+
+def trees_of_other_repositories(place):
+    """A worktree and a submodule keep what an undo needs where git keeps what is theirs."""
+    place.put({"MODULE.bazel": b"", "a/BUILD": ODD})
+    place.git("init", "-q")
+    place.git("add", "-A")
+    place.git("commit", "-qm", "one")
+    place.git("worktree", "add", "-q", "../worktree")
+    place.git("-c", "protocol.file.allow=always", "submodule", "add", "-q", str(place.folder), "m")
+    for here, kept in (("../worktree", ".git/worktrees/worktree"), ("m", ".git/modules/m")):
+        place.expect(f"{here}: edit", place.run("buildozer-tree", *QUIET, *SMALL, here=here), (0, b"", []))
+        place.expect(f"{here}: kept", (place.folder / kept / "kinduzar/runs/000001.json").exists(), True)
+        place.expect(f"{here}: undo", place.run("buildozer-tree", *QUIET, "undo", here=here), (0, b"", []))
+        place.expect(f"{here}: file", (place.folder / here / "a/BUILD").read_bytes(), ODD)
 
 
 def names_that_begin_with_a_dash(place):
@@ -576,7 +683,7 @@ def a_command_alone(place):
 
 
 FOREIGN = named(
-    what_a_clone_brings, ignores_that_cannot_be_read, directories_that_are_ignored, endless_files, names_write_no_lines, names_that_begin_with_a_dash, a_deep_tree,
+    what_a_clone_brings, a_state_that_leads_outside, ignores_that_cannot_be_read, directories_that_are_ignored, endless_files, names_write_no_lines, names_that_begin_with_a_dash, trees_of_other_repositories, a_deep_tree,
     repositories_that_are_broken, roots_of_others, few_descriptors, few_processes, folders_that_are_closed, many_words, no_place_for_files, closed_outputs, early_signals,
     locks_that_wait, long_differences, an_undo_beside_another_run, texts_that_are_not_known, runs_of_undo, odd_records, another_locale, a_command_alone,
 )  # fmt: skip

@@ -203,6 +203,23 @@ def libraries_are_used(place):
     return wrong
 
 
+def libraries_of_the_table(place):
+    """In the table of docs/internals/ARCHITECTURE.md each crate depends on libraries of its line in crates.txt, and these bring in all others of it."""
+    page, wrong = (INTERNALS / "ARCHITECTURE.md").read_text(), []
+    uses = {name.strip(): below.split() for name, _, below in (line.partition("#")[0].partition(":") for line in (TOP / "crates.txt").read_text().splitlines())}
+    rows = dict(re.findall(r"(?m)^\| (\w+) \| [^|]* \| ([^|]*) \| [^|]* \|$", page))
+    for crate in set(rows) & set(uses):
+        reached, pending = set(), [use for use in re.findall(r"\w+", rows[crate]) if use != "std"]
+        wrong += [f"docs/internals/ARCHITECTURE.md: {crate} does not use {use}" for use in pending if use not in uses[crate]]
+        while pending:
+            use = pending.pop()
+            pending += [] if use in reached else uses.get(use, [])
+            reached.add(use)
+        parts = [use for use in uses[crate] if any(use.startswith(f"{other}_") for other in uses[crate])]
+        wrong += [f"docs/internals/ARCHITECTURE.md: {crate} uses {use}, too" for use in uses[crate] if use not in {"core", *reached, *parts}]
+    return wrong if rows else ["no crate has a row"]
+
+
 def rows_of_the_gate(place):
     """Each crate has one row in the table of docs/internals/GATE.md, and no other row is there."""
     table = re.search(r"(?m)^\| Crate \| Functions \|.*\n\|[-|]+\|\n((?:\|.*\n)+)", (INTERNALS / "GATE.md").read_text())
@@ -329,6 +346,27 @@ def calls_are_those_of_the_sources(place):
     return wrong
 
 
+def runs_call_what_is_there(place):
+    """Each name of docs/internals/CALLS.md is a function of its crate, of a type that is named there, and the table above counts these names."""
+    page, wrong, both = (INTERNALS / "CALLS.md").read_text(), [], 0
+    counts_of = {crate: tuple(map(int, (command or 0, format_ or 0))) for crate, command, format_ in re.findall(r"(?m)^\| ([\w ]+) \|(?: (\d+))? \|(?: (\d+))? \|$", page)}
+    found = {}
+    for crate, *cells in re.findall(r"(?m)^\| (\w+) \| ([^|]*)\| ([^|]*)\| ([^|]*)\|$", page)[1:]:
+        names = [" ".join(CODE.findall(cell)).split() for cell in cells]
+        text = "\n".join(file.read_text() for file in (CRATES / crate / "src").rglob("*.rt"))
+        lost = [name for name in sum(names, []) if not all(re.search(pattern, text) for pattern in patterns_of(*name.split("::")))]
+        wrong += [f"docs/internals/CALLS.md: {crate} has no {name}" for name in lost]
+        found[crate] = tuple(len(names[0]) + len(alone) for alone in names[1:])
+        both += len(names[0])
+    found["in all"] = tuple(map(sum, zip(*found.values())))
+    return wrong + different_from_code("numbers of calls", counts_of, found) + [f"{both} are called by both"] * (f"\n{both} of them are called by both" not in page)
+
+
+def patterns_of(*name):
+    """How the type of a function, if it has one, and the function are found in a text."""
+    return [rf"\b{kind}\b" for kind in name[:-1]] + [rf"\bfn {name[-1]}\b"]
+
+
 def index_has_what_is_cited(place):
     """Each definition that a contract cites by its name is in docs/internals/DEFINITIONS.md, whatever the tool finds."""
     texts = [file.read_text() for file in CRATES.glob("bz_*/src/*.rt")]
@@ -348,10 +386,10 @@ def files_of_lemmas_are_there(place):
 
 
 FOUND = {name: an_example(name, block) for name, block in named_examples().items()} | examples_in_shells()
-FOUND |= named(shells_are_there, refusals, attributes, commands, examples_of_commands, rows_for_theirs, layers, libraries_are_used, rows_of_the_gate)
+FOUND |= named(shells_are_there, refusals, attributes, commands, examples_of_commands, rows_for_theirs, layers, libraries_are_used, libraries_of_the_table, rows_of_the_gate)
 FOUND |= named(
     pages_are_linked, readme_is_short, pages_of_crates_have_their_form, files_are_there, crates_are_there, names_are_there, definitions_are_there,
-    made_of_definitions, counts_are_those_of_the_sources, calls_are_those_of_the_sources, index_has_what_is_cited, files_of_lemmas_are_there,
+    made_of_definitions, counts_are_those_of_the_sources, calls_are_those_of_the_sources, runs_call_what_is_there, index_has_what_is_cited, files_of_lemmas_are_there,
 )  # fmt: skip
 SCENES = Scenes(__file__, FOUND, place=on_path, lanes=PROCESSORS)
 

@@ -7,6 +7,9 @@ signal, and each must leave what ample memory gives, or what its row allows besi
 refused memory, which changes nothing. So the rows show of the programs what is proved of the session: an undo or redo over a step
 whose edits hold as many parts as they cover takes no memory, whatever else is refused, since no such answer is allowed there.
 
+Runs over three files are refused memory too, with journals and without: each file and each journal is as it was or as ample memory leaves it, and
+the next run, with ample memory, leaves what one alone does.
+
 Beside them are the rows that both programs were worked out by (lib/worked_rows.py). What each of these may leave is found by runs with
 ample memory: of all its commands, and of some of them only, since one that is refused memory changes nothing. Of some rows some
 requests are refused; with HOSTILE=whole in the environment, each request of each row.
@@ -22,7 +25,7 @@ import re
 from lib import worked_rows
 from lib.lines import refusal_of
 from lib.refused_memory import MOST, Left, refusing
-from lib.scenes import WHOLE, Scenes, sample
+from lib.scenes import WHOLE, Scenes, different, sample
 from lib.stopped_runs import FAILED
 
 # Of how many worked rows requests are refused, how many of each, and of the rows of long texts, where only a sample is wanted; of the
@@ -177,9 +180,14 @@ class Allowed:
         names = {*row.files, *(name for _, after in runs for name in after)}
         self.files = {name: [row.files.get(name), *(after.get(name) for _, after in runs)] for name in names}
 
+    def lacks_help(self, left, files):
+        """Whether all is as with ample memory, but that lines which help are not there below the one that they help with."""
+        is_short = left.err.endswith(b"\n") and self.ample.err.startswith(left.err) and self.ample.err[len(left.err) :].startswith(self.row.program.encode() + b": ")
+        return is_short and (left._replace(err=b""), files) == (self.ample._replace(err=b""), self.after)
+
     def wrong(self, left, files):
         """What is wrong with what a run left; where memory was refused that must be reported, with the status of it."""
-        if (left, files) == (self.ample, self.after):
+        if (left, files) == (self.ample, self.after) or self.lacks_help(left, files):
             return []
         found = [f"the file {name}: {files.get(name)!r}" for name in {*files, *self.files} if files.get(name) not in self.files.get(name, [])]
         lines = left.err.splitlines()
@@ -205,6 +213,37 @@ def worked_faults(refusing, row, most):
     return found
 
 
+# ---- three files
+
+PACKAGES = "abc"
+THREE = {f"{package}/BUILD": b't(name="a",deps=[])\n' for package in PACKAGES}
+EDIT = ["add deps :y", *(f"//{package}:a" for package in PACKAGES)]
+OVER_THREE = {
+    "an edit": worked_rows.Row("buildozer", ["-k", *EDIT], b"", THREE),
+    "an edit that ends at a failure": worked_rows.Row("buildozer", EDIT, b"", THREE),
+    "an edit with journals": worked_rows.Row("buildozer", ["--journal", "-k", *EDIT], b"", THREE),
+    "a format": worked_rows.Row("buildifier", [*THREE], b"", THREE),
+}
+
+
+def over_three_files(row):
+    """Each file, and each journal, is as it was or as ample memory leaves it, and the next run, with ample memory, does the rest."""
+
+    def scene(refusing):
+        allowed, count = Allowed(refusing, row), refusing.requests(row)
+        wrong = [] if count else ["no request was seen, so none was refused"]
+        for mark in ("", "-"):
+            for number in sample(range(1, count + 1), SAMPLE_OF_REQUESTS):
+                left, files, _ = refusing.over_files(row, f"{number}{mark}")
+                wrong += [f"request {number}{mark} refused: {fault}" for fault in allowed.wrong(left, files)]
+                after, files, _ = refusing.over_files(row._replace(files=files), str(MOST))
+                # where all was done there is nothing left to do
+                wrong += different(f"what goes on after request {number}{mark}", (after.status in (0, 3), files), (True, allowed.after))
+        return wrong
+
+    return scene
+
+
 def a_row(row):
     return lambda refusing: faults(refusing, row)
 
@@ -217,6 +256,7 @@ def scenes():
     found = {name: a_row(row) for name, row in ROWS.items()}
     names = dict.fromkeys([*sample(worked_rows.ROWS, SAMPLE_OF_ROWS), *worked_rows.KEPT_ROWS])
     found |= {f"worked out: {name}": a_worked_row(worked_rows.ROWS[name]) for name in names}
+    found |= {f"three files, {name}": over_three_files(row) for name, row in OVER_THREE.items()}
     if WHOLE:
         found |= {f"worked out: {name}": a_worked_row(row, LONG_REQUESTS) for name, row in worked_rows.LONG_ROWS.items()}
     return found

@@ -32,7 +32,7 @@ TAB, TELL = "\t", "\x07"
 REPLIES = [
     ("buildozer ad", ["'add "]),
     ("buildozer de", ["delete"]),
-    ("buildozer 'set", ["set ", "set_if_absent "]),
+    ("buildozer 'set", ["set ", "set_if_absent ", "set_select "]),
     ("buildozer 'add de", ["add defines ", "add deps "]),
     ("buildozer 'add deps ", [r"add deps :odd'\''$x", r"add deps :two\ words", "add deps :x", "add deps :xt", "add deps //"]),
     ("buildozer 'add deps :x", ["add deps :x", "add deps :xt"]),

@@ -88,7 +88,7 @@ class Editor:
     def having(self, targets):
         """Those of the targets, one a package, by which some rule is meant, or whose file refuses to say so."""
         lacking = set()
-        for _, batch, ended in self.pool.each(self.kinds_of, list(batches(targets, self.pool.processes, package_of))):
+        for _, batch, ended in self.pool.each(self.kinds_of, list(batches(targets, self.pool.processes, lambda target: target.package))):
             err = set(lines_of(ended.err))
             for target in batch:
                 lines = {f"buildozer: {shown(place(target.package, name))}: print kind: NoTarget (41)" for name in BUILD_NAMES}
@@ -184,10 +184,6 @@ class Editor:
             return
         for package in packages:
             done.refused.setdefault(package, []).append(f"{place(package, 'BUILD')}: buildozer {ended.how()}")
-
-
-def package_of(target):
-    return target.package
 
 
 def fronts_of(names):

@@ -101,9 +101,20 @@ def is_other(file, number):
 
 
 def own_folder(folder):
-    """The folder where git keeps what is of this working tree alone; None where there is no repository."""
+    """The folder where git keeps what is of this working tree alone; None where there is no repository, or one elsewhere that doesn't name this tree."""
     try:
-        answer = call(folder, "rev-parse", "--absolute-git-dir")
+        answer = call(folder, "rev-parse", "--show-cdup", "--absolute-git-dir")
+        above, _, own = os.fsdecode(answer[1] if answer else b"").rstrip("\n").partition("\n")
+        top = os.path.realpath(os.path.join(folder, above))
+        return own if own and top in (os.path.dirname(own), named_by(own)) else None
     except GitError:
         return None
-    return answer and os.fsdecode(answer[1]).rstrip("\n")
+
+
+def named_by(own):
+    """The working tree that such a folder names, as that of a worktree or of a submodule does."""
+    try:
+        named = os.path.dirname(os.fsdecode(files.content(os.path.join(own, "gitdir"))))
+    except OSError:
+        named = os.fsdecode(call(os.sep, "config", "--file", os.path.join(own, "config"), "core.worktree")[1]).rstrip("\n")
+    return os.path.realpath(os.path.join(own, named)) if named else None

@@ -106,7 +106,7 @@ class Request:
         """Where runs are kept; None where there is no place, or Usage is raised where it is needed."""
         folder = state.folder_for(self.root, self.options.get("--state"))
         if folder is None and is_needed:
-            raise Usage("what undo needs is kept in .git, and this is no repository: give --state=DIR")
+            raise Usage("what undo needs is kept in .git, and there is none of this tree: give --state=DIR")
         return folder and Runs(folder, self.root)
 
 
@@ -161,7 +161,7 @@ class Run:
     def edit(self, editor):
         """Edits the packages, and takes in what comes of them in their order; a failure is the last one begun, unless -k is given."""
         steps = list(self.plan.steps.items())
-        tasks = list(batches(steps, len(steps) if self.request.has("--labels") else editor.pool.processes, lambda step: step[0]))
+        tasks = list(batches(steps, (len(steps) or 1) if self.request.has("--labels") else editor.pool.processes, lambda step: step[0]))
 
         def batch_of(task):
             batch = editor.batch(task)
@@ -253,9 +253,8 @@ class Run:
         words = [NAME, *self.options_again()]
         pairs = [(line, targets) for package in packages for line, targets in self.plan.steps[package]]
         texts = [written(line, targets) for line, targets in pairs]
-        file = None
-        if all(texts) and (len(pairs) > MOST_NAMES or pairs[0][0].number):
-            file = state.keep(self.request.root, os.fsencode("".join(texts)), self.request.options.get("--state"))
+        is_kept = all(texts) and (len(pairs) > MOST_NAMES or pairs[0][0].number)
+        file = state.keep(self.request.root, os.fsencode("".join(texts)), self.request.options.get("--state")) if is_kept else None
         if file:
             words += ["-f", file]
         elif not pairs[0][0].number:

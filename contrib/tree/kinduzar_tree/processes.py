@@ -18,8 +18,7 @@ GRACE = 2.0
 # the status of a process that could not be started
 NOT_RUN = 256
 # a batch has at most so many files, and so many bytes of names
-MOST_FILES = 32
-MOST_BYTES = 96_000
+MOST_FILES, MOST_BYTES = 32, 96_000
 # how many files a process takes of those that this one may have open, and how many it keeps for itself
 FILES, OWN_FILES = 9, 12
 # the disk gives more than the processors: while one process waits for a flush, others go on
@@ -200,7 +199,10 @@ class Pool:
                     self.threads.append(None)
                     self.taking += 1
                     self.take()
-                result = results.get()
+                try:
+                    result = results.get(timeout=GRACE)
+                except queue.Empty:  # a signal that came right before this waited is seen now
+                    continue
                 if result is None:
                     ended += 1
                 elif isinstance(result, BaseException):

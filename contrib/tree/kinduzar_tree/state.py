@@ -17,8 +17,7 @@ def folder_for(place, named=None):
     """The folder, by its absolute path: the one that is named, else the one in the .git of this place; None where there is none."""
     if named is not None:
         return os.path.abspath(named)
-    own = git.own_folder(place)
-    return own and os.path.join(own, FOLDER)
+    return (own := git.own_folder(place)) and os.path.join(own, FOLDER)
 
 
 def make_folder(folder):

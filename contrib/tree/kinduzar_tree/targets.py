@@ -15,7 +15,7 @@ DOTS = "..."
 # the words after a colon by which no rule may be meant, so that a package without any is no fault
 MAY_MEAN_NONE = ("all", "*")
 # commands that look at the package of their target alone
-OF_PACKAGES = ("new", "new_load", "fix", "format", "undo", "redo", "journal")
+OF_PACKAGES = ("new", "new_load", "substitute_load", "fix", "format", "undo", "redo", "journal")
 
 
 @dataclasses.dataclass

@@ -5,6 +5,7 @@ import stat
 
 from . import git, walk
 from .files import MOST_TEXT, content, given
+from .ignored import IGNORE, SETTINGS
 from .names import is_formatted, is_text
 from .processes import NOT_RUN, PROCESSES, Pool, batches, program, room_beside, worked
 from .refusals import Refusals, by_name, go_on, lines_of, summary
@@ -244,7 +245,7 @@ class Run:
             self.screen.say("<stdout>: cannot write")
         if "--quiet" not in self.options:
             self.screen.say(self.summary())
-        again = sorted({*self.refusals.lines, *self.rest})
+        again = sorted({os.path.dirname(name) or os.curdir if os.path.basename(name) in (IGNORE, SETTINGS) else name for name in [*self.refusals.lines, *self.rest]})
         if stopped is not None:
             self.screen.say(STOPPED.format(signal.Signals(stopped).name))
         elif again and self.differing + self.same and "--quiet" not in self.options:
@@ -258,8 +259,7 @@ class Run:
 
     def words(self):
         """The options that the command line to go on has."""
-        kept = ("--mode", "--type", "--processes")
-        return [f"{name}={self.options[name]}" for name in kept if name in self.options]
+        return [f"{name}={self.options[name]}" for name in ("--mode", "--type", "--processes") if name in self.options]
 
     def status(self):
         if UNREAD in self.statuses or self.screen.is_broken or self.refusals.is_unread or self.refusals.has_end(*UNTRIED):
@@ -295,8 +295,7 @@ def run(words, screen):
     check_words(options, operands)
     this = Run(options, screen)
     paths = [*operands, *listed_in(options["--from"])] if "--from" in options else operands or [os.curdir]
-    files = files_of(paths, options, this.refusals)
-    stopped = this.over(files, path)
+    stopped = this.over(files_of(paths, options, this.refusals), path)
     return this.end(stopped), stopped
 
 

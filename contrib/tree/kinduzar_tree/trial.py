@@ -50,22 +50,18 @@ class Labels(Editor):
         package, pairs = steps[0]
         ended = super().edited([(package, [(marked(line), targets) for line, targets in pairs])])
         for line, _ in pairs:
-            for command in filter(is_print, line.commands):
+            for command in line.commands:
                 ended.err = ended.err.replace(os.fsencode(with_mark(command)), os.fsencode(command))
         ended.out = with_labels(os.fsencode(package), ended.out)
         return ended
 
 
-def is_print(command):
-    return command.split(" ")[0] == "print"
-
-
 def with_mark(command):
-    return f"print {MARK} startline name {MARK} {command[6:] or 'name kind'}"
+    return f"print {MARK} startline name {MARK} {command[6:] or 'name kind'}" if command.split(" ")[0] == "print" else command
 
 
 def marked(line):
-    return dataclasses.replace(line, commands=[with_mark(command) if is_print(command) else command for command in line.commands])
+    return dataclasses.replace(line, commands=list(map(with_mark, line.commands)))
 
 
 def with_labels(package, out):
