@@ -10,7 +10,7 @@ use Rattle.bz_streams.specs.declared.exit.Cut.TheVariants as c
 use Rattle.bz_buildifier.specs.declared.file_type.FileType.{FileType}
 use Rattle.bz_buildifier.specs.declared.mode.Mode.{Mode}
 use Rattle.bz_buildifier.specs.declared.mode.Mode.TheVariants.{Fix, Check, PrintIfChanged}
-use Rattle.bz_buildifier.specs.Modes.{FormatLine, FormatUsage, buildifier_app, clap_fault, clap_hint, no_mode, no_type, format_line, is_bzl, mode_names, type_names}
+use Rattle.bz_buildifier.specs.Modes.{FormatLine, FormatUsage, buildifier_app, clap_fault, clap_hint, no_mode, no_type, format_line, is_bzl, mode_in_place, mode_names, type_in_place, type_names}
 
 -- what formatting a text as one of a .bzl file, or as one of a BUILD file, answers
 abbrev pub FormatsAs : Bool → Bytes → Result Bytes FormatFault → Type 0
@@ -177,18 +177,18 @@ abbrev pub RunOf : Mode → FileType → List Bytes → Option Bytes → Folder 
 RunOf mode file_type [] known folder after folder' = (effect : Effect) × InputStep mode file_type known effect × (after ≡ grown begun effect) × (folder' ≡ folder)
 RunOf mode file_type (name ∷ names) known folder after folder' = FilesFormatted mode file_type (name ∷ names) begun folder after folder'
 
--- a text that is none of an option's words; after its line is one of the word that is near, if one is
-abbrev pub no_word_line : Bytes → Bytes → Option Bytes → Bytes
-no_word_line option name None = codes "buildifier: no " ++ (option ++ (codes ": " ++ (escaped_text name ++ codes "\n")))
-no_word_line option name (Some word) = codes "buildifier: no "
+-- a text that is none of an option's words; after its line is one of the word that is near, if one is, else what does its work here
+abbrev pub no_word_line : Bytes → Bytes → Option Bytes → Bytes → Bytes
+no_word_line option name None place = codes "buildifier: no " ++ (option ++ (codes ": " ++ (escaped_text name ++ (codes "\n" ++ place))))
+no_word_line option name (Some word) place = codes "buildifier: no "
     ++ (option ++ (codes ": " ++ (escaped_text name ++ (codes "\nbuildifier: did you mean '--" ++ (option ++ (codes "=" ++ (word ++ codes "'?\n")))))))
 
 -- Of a fault that clap finds the text is clap's, and below it is what may help.
 abbrev pub IsFormatUsageLine : List Bytes → FormatUsage → Bytes → Type 0
 IsFormatUsageLine words clap_fault line =
     (kind : ErrorKind) × (text : Bytes) × IsAmong kind (fault_of buildifier_app words) × (line ≡ text ++ clap_hint kind words)
-IsFormatUsageLine words (no_mode name) line = line ≡ no_word_line (codes "mode") name (nearest name mode_names)
-IsFormatUsageLine words (no_type name) line = line ≡ no_word_line (codes "type") name (nearest name type_names)
+IsFormatUsageLine words (no_mode name) line = line ≡ no_word_line (codes "mode") name (nearest name mode_names) (mode_in_place name)
+IsFormatUsageLine words (no_type name) line = line ≡ no_word_line (codes "type") name (nearest name type_names) (type_in_place name)
 
 -- Words that are no line of buildifier's have status 2; nothing is then read.
 abbrev pub FormatOutcomeOf : List Bytes → Result FormatLine FormatUsage → Option Bytes → Folder → Effect → Folder → Type 0

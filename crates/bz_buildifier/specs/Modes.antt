@@ -50,6 +50,10 @@ mode_called name = if bytes_eq name (codes "fix") then Some Fix
 abbrev pub mode_names : List Bytes
 mode_names = codes "fix" ∷ codes "check" ∷ codes "print_if_changed" ∷ []
 
+-- the line of what does the work of a mode of bazelbuild's buildifier that is none here
+abbrev pub mode_in_place : Bytes → Bytes
+mode_in_place name = if bytes_eq name (codes "diff") then codes "buildifier: buildifier-tree --mode=diff FILE.. shows what would change\n" else []
+
 abbrev pub type_called : Bytes → Option FileType
 type_called name = if bytes_eq name (codes "auto") then Some Auto
     else (if bytes_eq name (codes "build") then Some Build
@@ -58,6 +62,12 @@ type_called name = if bytes_eq name (codes "auto") then Some Auto
 -- all names of types
 abbrev pub type_names : List Bytes
 type_names = codes "auto" ∷ codes "build" ∷ codes "bzl" ∷ []
+
+-- the same of its types
+abbrev pub type_in_place : Bytes → Bytes
+type_in_place name = if bytes_eq name (codes "module") then codes "buildifier: such files are read with --type=build\n"
+    else (if bytes_eq name (codes "workspace") then codes "buildifier: such files are read with --type=build\n"
+    else (if bytes_eq name (codes "default") then codes "buildifier: Starlark of any kind is read with --type=bzl\n" else []))
 
 -- a mode, a type, and files by their names
 pub record FormatLine : Type 0 where

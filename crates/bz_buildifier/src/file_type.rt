@@ -1,7 +1,7 @@
 //! How the files of a run are read.
 ghost use Rattle.std.specs.Prelude.{◌≡◌, eqb};
 ghost use Rattle.std.specs.List.{ends_with};
-ghost use Rattle.bz_buildifier.specs.Modes.{is_bzl, type_called};
+ghost use Rattle.bz_buildifier.specs.Modes.{is_bzl, type_called, type_in_place};
 
 /// What the files of a run are, standard input among them.
 #[derive(Clone, Copy, PartialEq, Eq)]
@@ -16,6 +16,18 @@ pub(crate) enum FileType {
 
 /// All names of types.
 pub(crate) const TYPES: [&str; 3] = ["auto", "build", "bzl"];
+
+/// The line of what does the work of a type of bazelbuild's buildifier that is none here; nothing of any other text.
+pub(crate) fn type_in_place(name: &str) -> &'static str
+    ensures { result.now ≡ type_in_place name.now }
+{
+    match name {
+        "module" => "buildifier: such files are read with --type=build\n",
+        "workspace" => "buildifier: such files are read with --type=build\n",
+        "default" => "buildifier: Starlark of any kind is read with --type=bzl\n",
+        _ => "",
+    }
+}
 
 /// Whether a name ends in this.
 pub(crate) fn ends_in(name: &str, end: &str) -> bool

@@ -11,9 +11,9 @@ use crate::effect::{
     BEGUN, Effect, fail, file_out, grown, input_out, is_rewritten, print, refused, text_status,
     unread_file,
 };
-use crate::file_type::{FileType, TYPES};
+use crate::file_type::{FileType, TYPES, type_in_place};
 use crate::format_line::{FormatUsage, Options, clap_hint, read_format_line};
-use crate::mode::MODES;
+use crate::mode::{MODES, mode_in_place};
 use crate::{Cut, Exit, Sink, Source};
 use bz_build_format::{FormatFault, format, format_bzl};
 use bz_files::{FileKind, Files, rewrite};
@@ -115,10 +115,16 @@ fn input_effect<R: Source, W: Sink, E: Sink>(
     }
 }
 
-// Reports that an option has no such word, and the one that is near, if one is.
-fn report_no_word<'a, E: Sink>(err: &mut E, option: &'a str, name: &'a str, near: Option<&'a str>)
+// Reports that an option has no such word, and the one that is near, if one is, else what does its work here.
+fn report_no_word<'a, E: Sink>(
+    err: &mut E,
+    option: &'a str,
+    name: &'a str,
+    near: Option<&'a str>,
+    place: &'a str,
+)
     ensures { AppendsUnlessFailed (E.faults err.old) (E.faults err.new) (E.contents err.old) (E.contents err.new)
-        (no_word_line option.entry.now name.entry.now (option_map (λ s. s.now) near.entry)) }
+        (no_word_line option.entry.now name.entry.now (option_map (λ s. s.now) near.entry) place.entry.now) }
 {
     let no = Own("buildifier: no ");
     let (option, colon, name) = (Own(option), Own(": "), Outside(name));
@@ -129,7 +135,7 @@ fn report_no_word<'a, E: Sink>(err: &mut E, option: &'a str, name: &'a str, near
             let pieces = &[no, option, colon, name, meant, option, is, word, end];
             report_pieces(err, pieces);
         }
-        None => report_pieces(err, &[no, option, colon, name, Own("\n")]),
+        None => report_pieces(err, &[no, option, colon, name, Own("\n"), Own(place)]),
     }
 }
 
@@ -152,11 +158,13 @@ fn report_unusable<S: AsStr, E: Sink>(
             report_clap_hinted(alloc, err, error, "buildifier", hint)
         }
         FormatUsage::NoMode(name) => {
-            report_no_word(err, "mode", name, nearest(alloc, name, &MODES)?);
+            let near = nearest(alloc, name, &MODES)?;
+            report_no_word(err, "mode", name, near, mode_in_place(name));
             Ok(())
         }
         FormatUsage::NoType(name) => {
-            report_no_word(err, "type", name, nearest(alloc, name, &TYPES)?);
+            let near = nearest(alloc, name, &TYPES)?;
+            report_no_word(err, "type", name, near, type_in_place(name));
             Ok(())
         }
         FormatUsage::Memory => Err(AllocError),
