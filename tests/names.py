@@ -31,8 +31,8 @@ OLD_WORDS = re.compile(
     r"\b(?:[Bb]ehind|[Ss]o many|[Ll]et go|told|[Tt]ells?|[Tt]elling|asked|[Aa]sks?|[Ss]tands?|[Ss]tood|standing|[Ll]ent|[Ww]anting|drawn|[Dd]raws?)\b"
 )
 CODE_SPAN = re.compile(r"`[^`]*`")
-# how many lines of definitions the contracts of the surface may reach
-MOST_LINES = 6_700
+# how many lines of definitions the contracts of the surface may reach: what they do now and few more, as each new command brings some
+MOST_LINES = 6_650
 # the file of worked rows
 ROWS = "Worked.antt"
 DEFINITION = re.compile(r"^(?:abbrev |unfoldable )*pub (?:record |data |abbrev )?([A-Za-z_]\w*)\s*[:(]|^(?:abbrev|unfoldable) pub ([A-Za-z_]\w*) *:")
