@@ -6,3 +6,4 @@ pub mod ControlSteps
 pub mod BeginningSteps
 pub mod BracketSteps
 pub mod Escapes
+pub mod OddNames

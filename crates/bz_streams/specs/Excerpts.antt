@@ -40,10 +40,22 @@ fault_place (f.Unexpected line column) = Some (line, column)
 fault_place (f.TooDeep line column) = Some (line, column)
 fault_place f.Memory = None
 
--- the line of the place of a fault
-abbrev pub place_excerpt : Bytes → ReadFault → Bytes
-place_excerpt text fault = option_map_or (λ place. excerpt (line_numbered text place.0) place.1 (is_last_line text place.0)) (fault_place fault) []
+-- what a fault means, in a line of its own; of `Unexpected` it is said what is there
+abbrev pub fault_sense : ReadFault → Bytes
+fault_sense (f.NotUtf8 at) = codes "    the byte after that many is not UTF-8: save the file as text in UTF-8\n"
+fault_sense f.TooLarge = codes "    a text that is read has at most 67,108,864 bytes\n"
+fault_sense (f.BadCharacter line column) = codes "    no name, number, string or operator begins with this character\n"
+fault_sense (f.OpenString line column) = codes "    the string that begins here is not closed; with one quotation mark it ends on its own line\n"
+fault_sense (f.Indented line column) = codes "    a statement begins at the left margin or, in a suite, with the indentation of that suite\n"
+fault_sense (f.Unexpected line column) = []
+fault_sense (f.TooDeep line column) = codes "    what begins here is nested deeper than 500 levels\n"
+fault_sense f.Memory = []
 
--- what is printed of the text below the line on its fault: that line, and the bracket that is open there
+-- the line of the place of a fault, and what the fault means
+abbrev pub place_excerpt : Bytes → ReadFault → Bytes
+place_excerpt text fault =
+    option_map_or (λ place. excerpt (line_numbered text place.0) place.1 (is_last_line text place.0) ++ fault_sense fault) (fault_place fault) []
+
+-- what is printed of the text below the line on its fault: that line, what the fault means, and the bracket that is open there
 abbrev pub fault_excerpt : Bytes → ReadFault → Bytes
 fault_excerpt text fault = place_excerpt text fault ++ fault_bracket text fault

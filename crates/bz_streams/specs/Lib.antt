@@ -5,6 +5,7 @@ pub mod Excerpts
 pub mod Exits
 pub mod Faults
 pub mod Laws
+pub mod Names
 pub mod Near
 pub mod Options
 pub mod Outputs

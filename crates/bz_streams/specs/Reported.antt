@@ -3,7 +3,7 @@ use Rattle.std.specs.Prelude.{◌++◌, codes, decimal}
 use Rattle.std.specs.Option.{option_map_or}
 use Rattle.bz_items.specs.Characters.{Bytes}
 use Rattle.bz_streams.specs.Controls.{escaped_text}
-use Rattle.bz_streams.specs.Excerpts.{fault_place}
+use Rattle.bz_streams.specs.Excerpts.{fault_place, fault_sense}
 use Rattle.bz_lex.specs.declared.fault.ReadFault.{ReadFault}
 use Rattle.bz_lex.specs.declared.fault.ReadFault.TheVariants as f
 
@@ -37,7 +37,7 @@ abbrev pub placeless_line : Bytes → ReadFault → Bytes
 placeless_line file (f.NotUtf8 at) = said_line file (codes ": NotUtf8 at ") (decimal at)
 placeless_line file fault = named_line file (fault_word fault)
 
--- a file that is not accepted: the place, where the fault has one, and why
+-- a file that is not accepted: the place, where the fault has one, and why; else what that means
 abbrev pub fault_line : Bytes → ReadFault → Bytes
 fault_line file fault =
-    option_map_or (λ place. spot_line file (decimal place.0) (decimal place.1) (fault_word fault)) (fault_place fault) (placeless_line file fault)
+    option_map_or (λ place. spot_line file (decimal place.0) (decimal place.1) (fault_word fault)) (fault_place fault) (placeless_line file fault ++ fault_sense fault)

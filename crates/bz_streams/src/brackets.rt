@@ -111,7 +111,7 @@ fn after_marks(mark: u8, count: u8, byte: u8) -> Within
 
 impl Within {
     /// Where the byte after this one is.
-    fn after(self, byte: u8) -> Within
+    pub(crate) fn after(self, byte: u8) -> Within
         ensures { result ≡ within_after self byte }
     {
         match self {
@@ -139,7 +139,8 @@ impl Within {
         }
     }
 
-    fn is_outside(self) -> bool
+    /// Whether it is in no string and no comment.
+    pub(crate) fn is_outside(self) -> bool
         ensures { result ≡ is_outside self }
     {
         matches!(self, Within::Outside)

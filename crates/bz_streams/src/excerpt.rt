@@ -4,7 +4,7 @@ ghost use Rattle.std.specs.List.{slice_get, slice_split};
 ghost use Rattle.arrayvec.specs.ArrayVec.{array_vec_len};
 ghost use Rattle.bz_streams.specs.Controls.{printable};
 ghost use Rattle.bz_streams.specs.Beginnings.{beginning};
-ghost use Rattle.bz_streams.specs.Excerpts.{line_numbered, is_last_line, is_narrow, excerpt, fault_place, place_excerpt, fault_excerpt};
+ghost use Rattle.bz_streams.specs.Excerpts.{line_numbered, is_last_line, is_narrow, excerpt, fault_place, fault_sense, place_excerpt, fault_excerpt};
 ghost use Rattle.bz_streams.specs.Brackets.{inside_line, bracket_line};
 ghost use Rattle.bz_items.specs.Characters.{space};
 ghost use Rattle.bz_lex.specs.Positions.{is_newline};
@@ -20,7 +20,7 @@ use itoa::Buffer;
 const WIDEST: usize = 200;
 
 // The most bytes of an excerpt: two lines of that width, two margins of four, a caret, a space, what is there and two newlines; and below
-// that 104 of a bracket.
+// that 104 of a bracket, or of what the fault means.
 const LONGEST: usize = 567;
 
 const SPACES: [u8; WIDEST] = [b' '; WIDEST];
@@ -138,17 +138,51 @@ pub(crate) fn fault_place(fault: &ReadFault) -> Option<(u32, u32)>
     }
 }
 
-// The line of the place of a fault and a caret below it; nothing where the fault has no place or the line is too long.
+/// What a fault means, in a line of its own, or nothing.
+pub(crate) fn fault_sense(fault: &ReadFault) -> &'static str
+    ensures text { result.now ≡ fault_sense fault.now }
+    ensures len { length result.now ≤ 104 }
+{
+    match fault {
+        ReadFault::NotUtf8 { .. } => {
+            "    the byte after that many is not UTF-8: save the file as text in UTF-8\n"
+        }
+        ReadFault::TooLarge => "    a text that is read has at most 67,108,864 bytes\n",
+        ReadFault::BadCharacter { .. } => {
+            "    no name, number, string or operator begins with this character\n"
+        }
+        ReadFault::OpenString { .. } => {
+            "    the string that begins here is not closed; with one quotation mark it ends on its own line\n"
+        }
+        ReadFault::Indented { .. } => {
+            "    a statement begins at the left margin or, in a suite, with the indentation of that suite\n"
+        }
+        ReadFault::Unexpected { .. } | ReadFault::Memory => "",
+        ReadFault::TooDeep { .. } => "    what begins here is nested deeper than 500 levels\n",
+    }
+}
+
+// The line of a place and a caret below it, and what the fault there means.
+fn sense_excerpt(text: &[u8], line: usize, column: usize, sense: &str) -> Excerpt
+    requires { length sense.now ≤ 104 }
+    ensures items { result.items ≡ excerpt (line_numbered text.now line) column (is_last_line text.now line) ++ sense.now }
+    ensures len { array_vec_len result ≤ 463 + length sense.now }
+{
+    let last = is_last_line(text, line);
+    let mut below = excerpt(line_numbered(text, line), column, last);
+    put(&mut below, sense.as_bytes());
+    below
+}
+
+// The line of the place of a fault, a caret below it, and what it means; nothing where it has no place, and no line where that is too long.
 fn place_excerpt(text: &[u8], fault: &ReadFault) -> Excerpt
     ensures items { result.items ≡ place_excerpt text.now fault.now }
-    ensures len { array_vec_len result ≤ 463 }
+    ensures len { array_vec_len result ≤ 463 + length (fault_sense fault.now) }
 {
     match fault_place(fault) {
-        Some((line, column)) => excerpt(
-            line_numbered(text, line as usize),
-            column as usize,
-            is_last_line(text, line as usize),
-        ),
+        Some((line, column)) => {
+            sense_excerpt(text, line as usize, column as usize, fault_sense(fault))
+        }
         None => ArrayVec::new(),
     }
 }
@@ -180,8 +214,8 @@ fn put_bracket(text: &mut Excerpt, line: usize, bracket: Option<Bracket>)
     }
 }
 
-/// The line of the place of a fault and a caret below it; nothing where the fault has no place or the line is too long. Below that the
-/// innermost bracket that is open there, where something else was to be there and the bracket is on another line.
+/// The line of the place of a fault and a caret below it; nothing where the fault has no place or the line is too long. Below that what
+/// the fault means, or the innermost bracket that is open there, where something else was to be there and the bracket is on another line.
 pub(crate) fn fault_excerpt(text: &[u8], fault: &ReadFault) -> Excerpt
     ensures { result.items ≡ fault_excerpt text.now fault.now }
 {

@@ -1,11 +1,11 @@
 //! The lines on standard error that speak of files. Its faults are passed over.
 ghost use Rattle.std.specs.Prelude.{◌≡◌, ◌++◌, List, ℕ, IfSome, OnOk, OnErr, decimal};
 ghost use Rattle.bz_streams.specs.Faults.{AppendsUnlessFailed};
-ghost use Rattle.bz_streams.specs.Excerpts.{fault_excerpt};
+ghost use Rattle.bz_streams.specs.Excerpts.{fault_excerpt, fault_sense};
 ghost use Rattle.bz_streams.specs.Options.{option_hint_text};
 ghost use Rattle.bz_streams.specs.Reported.{spot_line, said_line, named_line, fault_word, fault_line};
 
-use crate::excerpt::{fault_excerpt, fault_place};
+use crate::excerpt::{fault_excerpt, fault_place, fault_sense};
 use crate::options::report_above_hint;
 use crate::pieces::report_above;
 use crate::{LinePiece, OptionHint, Sink};
@@ -59,13 +59,21 @@ fn report_place<'a, E: Sink>(
     report_spot(err, file, line, column, word, below);
 }
 
-// Reports a word on a file, after these words of our own.
-fn report_word<'a, E: Sink>(err: &mut E, file: &'a str, says: &'a str, word: &'a str, below: &[u8])
+// Reports a word on a file, after these words of our own, and below it what it means.
+fn report_word<'a, E: Sink>(
+    err: &mut E,
+    file: &'a str,
+    says: &'a str,
+    word: &'a str,
+    sense: &'a str,
+    below: &[u8],
+)
     ensures { AppendsUnlessFailed (E.faults err.old) (E.faults err.new) (E.contents err.old) (E.contents err.new)
-        (said_line file.entry.now says.entry.now word.entry.now ++ below.now) }
+        ((said_line file.entry.now says.entry.now word.entry.now ++ sense.entry.now) ++ below.now) }
 {
     let (file, says) = (LinePiece::Outside(file), LinePiece::Own(says));
-    report_above(err, &[file, says, LinePiece::Own(word), END], below);
+    let (word, sense) = (LinePiece::Own(word), LinePiece::Own(sense));
+    report_above(err, &[file, says, word, END, sense], below);
 }
 
 /// Reports a word on a file: writes `FILE: WORD` and a newline to `err`, up to its first fault. It takes no memory itself.
@@ -74,7 +82,7 @@ pub fn report_named<'a, E: Sink>(err: &mut E, file: &'a str, word: &'a str)
     ensures { AppendsUnlessFailed (E.faults err.old) (E.faults err.new) (E.contents err.old) (E.contents err.new)
         (named_line file.entry.now word.entry.now) }
 {
-    report_word(err, file, ": ", word, b"");
+    report_word(err, file, ": ", word, "", b"");
 }
 
 fn fault_word(fault: &ReadFault) -> &'static str
@@ -103,15 +111,16 @@ fn report_fault_above<E: Sink>(err: &mut E, file: &str, fault: &ReadFault, below
         None => match fault {
             ReadFault::NotUtf8 { at } => {
                 let mut places = Buffer::new();
-                report_word(err, file, ": NotUtf8 at ", places.format(*at), below);
+                let at = places.format(*at);
+                report_word(err, file, ": NotUtf8 at ", at, fault_sense(fault), below);
             }
-            _ => report_word(err, file, ": ", word, below),
+            _ => report_word(err, file, ": ", word, fault_sense(fault), below),
         },
     }
 }
 
 /// Reports why a file is not accepted: writes `FILE:LINE:COLUMN: NAME` to `err`, `FILE: NotUtf8 at BYTE` or, where the
-/// fault has no place, `FILE: NAME`, and a newline, up to its first fault. It takes no memory itself.
+/// fault has no place, `FILE: NAME`, and a newline, and a line on what these two mean, up to its first fault. It takes no memory itself.
 #[tactic(auto, using(crate::proofs::Written::nothing_below))]
 pub fn report_fault<E: Sink>(err: &mut E, file: &str, fault: &ReadFault)
     ensures { AppendsUnlessFailed (E.faults err.old) (E.faults err.new) (E.contents err.old) (E.contents err.new)
@@ -121,7 +130,7 @@ pub fn report_fault<E: Sink>(err: &mut E, file: &str, fault: &ReadFault)
 }
 
 /// Reports why a file that holds this text is not accepted: as `report_fault`, and where the fault has a place the line of the text
-/// below that, and a caret below the place, each after four spaces, and each ended by a newline; up to the first fault of `err`.
+/// below that, a caret below the place, and what the fault means, each after four spaces, and each ended by a newline; up to the first fault of `err`.
 /// A control character of the line is written as a space. A line of more than 200 bytes is left out, with its caret. The caret is
 /// after as many spaces as there are characters before the place. It takes no memory itself.
 pub fn report_fault_in<E: Sink>(err: &mut E, file: &str, text: &[u8], fault: &ReadFault)
