@@ -15,7 +15,7 @@ use Rattle.bz_build_format.specs.Faults.{bzl_formatted, formatted_tree}
 use Rattle.bz_grammar.specs.Legal.{ReadsBzl}
 use Rattle.bz_streams.specs.declared.exit.Cut.TheVariants as c
 use Rattle.bz_buildifier.specs.Modes as m
-use Rattle.bz_buildifier.specs.FormatRun.{FormatsAs, Effect, FilesFormatted, InputStep, input_unread, input_without_memory, input_unformatted, input_printed, FormatOutcomeOf, RunOf, IsFormatUsageLine, begun, grown, output_effect, unopened, input_out, file_out, is_rewritten, text_status, refused}
+use Rattle.bz_buildifier.specs.FormatRun.{FormatsAs, Effect, FilesFormatted, InputStep, input_unread, input_without_memory, input_unformatted, input_printed, FormatOutcomeOf, RunOf, IsFormatUsageLine, begun, grown, noted, output_effect, absent, unopened, input_out, file_out, is_rewritten, text_status, refused}
 use Rattle.bz_buildifier.specs.Modes.{is_bzl}
 use Rattle.bz_buildifier.specs.Laws.{ExactStep, exact_absent, exact_unformatted, exact_formatted, Exact, SameReports, Agree, OutcomesAgree}
 use Rattle.bz_buildifier.specs.declared.file_type.FileType.{FileType}
@@ -149,12 +149,12 @@ answers_agree laws bzl name text output left folder one other after after' (was_
 
 abbrev FileAnswer : Mode → FileType → Bytes → Folder → Bytes → Effect → Folder → Type 0
 FileAnswer mode file_type name folder text effect after =
-    Answered (is_bzl file_type name) name text (λ new. output_effect (file_out mode name text new) (text_status mode text new))
+    Answered (is_bzl file_type name) name text (λ new. noted name text (output_effect (file_out mode name text new) (text_status mode text new)))
     (λ new. if is_rewritten mode text new then with_file folder name new else folder) folder effect after
 
 -- by what is at its name
 abbrev Found : Mode → FileType → Bytes → Folder → Effect → Folder → Type 0
-Found mode file_type name folder effect after = ((get folder name ≡ None) × (effect ≡ unopened name c.Whole) × (after ≡ folder))
+Found mode file_type name folder effect after = ((get folder name ≡ None) × (effect ≡ absent name) × (after ≡ folder))
     ⊎ ((text : Bytes) × (get folder name ≡ Some text) × FileAnswer mode file_type name folder text effect after)
 
 found : (mode : Mode) (file_type : FileType) (name : Bytes) (folder : Folder) (effect : Effect) (after : Folder) → ExactStep mode file_type name folder effect after
@@ -175,7 +175,7 @@ one_found laws mode file_type name folder after after' one other (inl a) (inl b)
 one_found laws mode file_type name folder after after' one other (inl a) (inr b) = absurd (never_both folder name b.0 a.0 b.1)
 one_found laws mode file_type name folder after after' one other (inr a) (inl b) = absurd (never_both folder name a.0 b.0 a.1)
 one_found laws mode file_type name folder after after' one other (inr a) (inr b) =
-    answers_agree laws (is_bzl file_type name) name a.0 (λ new. output_effect (file_out mode name a.0 new) (text_status mode a.0 new))
+    answers_agree laws (is_bzl file_type name) name a.0 (λ new. noted name a.0 (output_effect (file_out mode name a.0 new) (text_status mode a.0 new)))
     (λ new. if is_rewritten mode a.0 new then with_file folder name new else folder) folder one other after after' a.2
     (subst (λ (text : Bytes). FileAnswer mode file_type name folder text other after') (same_text folder name a.0 b.0 a.1 b.1) b.2)
 
@@ -216,7 +216,7 @@ files_agree laws mode file_type names one other folder after after' runs runs' w
 
 abbrev InputAnswer : Mode → FileType → Bytes → Folder → Effect → Type 0
 InputAnswer mode file_type input folder effect =
-    Answered (is_bzl file_type stdin) stdin input (λ new. output_effect (input_out mode input new) (text_status mode input new)) (λ new. folder) folder effect folder
+    Answered (is_bzl file_type stdin) stdin input (λ new. noted stdin input (output_effect (input_out mode input new) (text_status mode input new))) (λ new. folder) folder effect folder
 
 exactly : (mode : Mode) (file_type : FileType) (input : Bytes) (folder : Folder) (effect : Effect) → InputStep mode file_type (Some input) effect → effect.cut ≡ c.Whole
     → InputAnswer mode file_type input folder effect
@@ -226,7 +226,7 @@ exactly mode file_type input folder effect (input_unformatted text fault of form
     was_refused fault (subst (λ (t : Bytes). FormatsAs (is_bzl file_type stdin) t (Err fault)) of formats) (is ∙ ap (λ (t : Bytes). refused stdin t fault) of) whole refl
 exactly mode file_type input folder effect (input_printed text new of formats (inl is)) whole =
     was_formatted new (subst (λ (t : Bytes). FormatsAs (is_bzl file_type stdin) t (Ok new)) of formats)
-    (is ∙ ap (λ (t : Bytes). output_effect (input_out mode t new) (text_status mode t new)) of) refl
+    (is ∙ ap (λ (t : Bytes). noted stdin t (output_effect (input_out mode t new) (text_status mode t new))) of) refl
 exactly mode file_type input folder effect (input_printed text new of formats (inr failed)) whole = absurd (cc (sym (ap (λ (e : Effect). e.cut) failed.1) ∙ whole))
 
 -- a run over one text is whole where its effect is
@@ -241,7 +241,7 @@ run_of_agree : OneBzlReading → (mode : Mode) (file_type : FileType) (names : L
 run_of_agree laws mode file_type [] input one other folder after after' run run' whole whole' others =
     let w = begun_cut run.0 one run.2 whole in
     let w' = begun_cut run'.0 other run'.2 whole' in
-    let alike = (answers_agree laws (is_bzl file_type stdin) stdin input (λ new. output_effect (input_out mode input new) (text_status mode input new)) (λ new. folder) folder
+    let alike = (answers_agree laws (is_bzl file_type stdin) stdin input (λ new. noted stdin input (output_effect (input_out mode input new) (text_status mode input new))) (λ new. folder) folder
     run.0 run'.0 folder folder (exactly mode file_type input folder run.0 run.1 w) (exactly mode file_type input folder run'.0 run'.1 w')).0 in (
       subst (λ (r : Effect). Agree r other) (sym run.2) (subst (λ (r : Effect). Agree (grown begun run.0) r) (sym run'.2) (grown_agree begun begun run.0 run'.0 (same_effect begun begun refl) alike)),
       λ name aside. ap (λ (g : Folder). get g name) (run'.3 ∙ sym run.3),

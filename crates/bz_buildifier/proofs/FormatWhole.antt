@@ -9,7 +9,7 @@ use Rattle.std.proofs.lemmas.Cmp.{nat_list_cmp_total}
 use Rattle.std.proofs.lemmas.List.Elements.{All-head, All-tail}
 use Rattle.bz_buildifier.specs.Words.{Bytes, Folder, IsAside, SameFolders, SameBut, with_file, new_name, FileFault, first_cut, Cut}
 use Rattle.bz_files.specs.declared.files.FileFault.TheVariants as file
-use Rattle.bz_buildifier.specs.FormatRun.{Effect, FilesFormatted, FileStep, unread, without_memory, unformatted, kept, rewritten, grown, output_effect, file_out, text_status, is_rewritten, unread_file}
+use Rattle.bz_buildifier.specs.FormatRun.{Effect, FilesFormatted, FileStep, unread, without_memory, unformatted, kept, rewritten, grown, noted, output_effect, file_out, text_status, is_rewritten, unread_file}
 use Rattle.bz_buildifier.specs.Laws.{ExactStep, exact_absent, exact_unformatted, exact_formatted, Exact}
 use Rattle.bz_buildifier.proofs.FormatSteps.{unread_quiet, refused_quiet}
 use Rattle.bz_streams.specs.declared.exit.Cut.TheVariants as c
@@ -66,7 +66,7 @@ by_fault mode file_type name pure folder after effect file.Memory none is whole 
 
 -- Only in mode `fix` is a file rewritten.
 fixed_effect : (mode : Mode) (name text new : Bytes) → is_rewritten mode text new ≡ true
-    → output_effect [] 0 ≡ output_effect (file_out mode name text new) (text_status mode text new)
+    → noted name text (output_effect [] 0) ≡ noted name text (output_effect (file_out mode name text new) (text_status mode text new))
 fixed_effect m.Fix name text new differs = refl
 fixed_effect m.Check name text new differs = absurd (cc differs)
 fixed_effect m.PrintIfChanged name text new differs = absurd (cc differs)
@@ -158,7 +158,7 @@ failed_step mode file_type name closed pure folder after effect (kept text new t
     absurd (cc (sym (ap (λ (e : Effect). e.cut) is) ∙ cut))
 failed_step mode file_type name closed pure folder after effect (kept text new there formats unchanged (inr failed) stays) cut same other = record {
   closes = ap (λ (e : Effect). e.closes) failed.1;
-  exact = output_effect (file_out mode name text new) (text_status mode text new);
+  exact = noted name text (output_effect (file_out mode name text new) (text_status mode text new));
   step = exact_formatted text new (sym (same name other) ∙ there) formats refl (rw (unchanged) refl);
   whole = refl;
   out = sym (ap (λ (e : Effect). e.out) failed.1);

@@ -1,9 +1,9 @@
 -- What buildifier makes of standard input, or of files one after the other.
-use Rattle.std.specs.Prelude.{◌≡◌, ◌⊎◌, ◌==◌, ◌||◌, ℕ, List, [], ◌∷◌, ◌++◌, reverse, take_while, codes, bytes_eq, eqb, Bool, true, false, not, if◌then◌else◌, Option, Some, None, Result, Ok, Err}
+use Rattle.std.specs.Prelude.{◌≡◌, ◌⊎◌, ◌==◌, ◌||◌, ℕ, List, [], ◌∷◌, ◌++◌, reverse, take_while, codes, decimal, bytes_eq, eqb, Bool, true, false, not, if◌then◌else◌, Option, Some, None, Result, Ok, Err}
 use Rattle.std.specs.FinMap.{get}
 use Rattle.std.specs.List.{ends_with, list_any}
 use Rattle.std.specs.Option.{option_map_or}
-use Rattle.bz_buildifier.specs.Words.{IsAmong, fault_of, ErrorKind, Bytes, full_stop, Folder, SameBut, new_name, with_file, IsReplacing, FileFault, FormatFault, Cut, escaped_text, fault_excerpt, first_cut, Rises, nearest, IsInput, stdin, named_line, fault_line, FormatsTo, FormatsBzlTo}
+use Rattle.bz_buildifier.specs.Words.{IsAmong, fault_of, ErrorKind, Bytes, full_stop, Folder, SameBut, new_name, with_file, IsReplacing, FileFault, FormatFault, Cut, escaped_text, fault_excerpt, first_cut, Rises, nearest, note_line, odd_name_line, IsInput, stdin, named_line, fault_line, FormatsTo, FormatsBzlTo}
 use Rattle.bz_files.specs.declared.files.FileFault.TheVariants as file
 use Rattle.bz_build_format.specs.declared.formatter.FormatFault.TheVariants as f
 use Rattle.bz_streams.specs.declared.exit.Cut.TheVariants as c
@@ -18,6 +18,10 @@ FormatsAs true text answer = FormatsBzlTo text answer
 FormatsAs false text answer = FormatsTo text answer
 
 -- ---- what one text does, or a run so far
+
+-- what is said of such a name
+abbrev pub odd_name : Bytes
+odd_name = codes "a name has a character outside of ASCII, which Bazel refuses: curly quotation marks and no-break spaces are such"
 
 -- what it writes on standard output, what it prints on standard error, its status, and the failure that cuts it, if one
 -- does; a failure of standard output closes it
@@ -47,11 +51,19 @@ memory_effect name = report_effect (named_line name (codes "Memory")) 3 c.Memory
 abbrev pub unwritten : Bytes → Effect
 unwritten name = report_effect (named_line name (codes "cannot write")) 3 c.Files
 
+-- the note on the first line of a text that has a name with a character outside of ASCII
+abbrev pub name_notes : Bytes → Bytes → List Bytes
+name_notes name text = option_map_or (λ line. note_line (codes "buildifier") name (decimal line) odd_name ∷ []) (odd_name_line text) []
+
+-- an effect by a text that is formatted, after that note
+abbrev pub noted : Bytes → Bytes → Effect → Effect
+noted name text effect = record effect { lines = name_notes name text ++ effect.lines }
+
 -- a text that is not formatted; below the line on a fault that has a place is the line of the text, with a caret
 abbrev pub refused : Bytes → Bytes → FormatFault → Effect
 refused name text (f.Unread fault) = report_effect (fault_line name fault ++ fault_excerpt text fault) 1 c.Whole
-refused name text f.TooLarge = report_effect (named_line name (codes "TooLarge")) 3 c.Whole
-refused name text f.TooDeep = report_effect (named_line name (codes "TooDeep")) 3 c.Whole
+refused name text f.TooLarge = report_effect (named_line name (codes "TooLarge\n    the formatted text would have more than 67,108,864 bytes")) 3 c.Whole
+refused name text f.TooDeep = report_effect (named_line name (codes "TooDeep\n    the formatted text would be nested deeper than 500 levels")) 3 c.Whole
 refused name text f.Memory = memory_effect name
 
 -- ---- the modes
@@ -77,16 +89,17 @@ abbrev pub text_status : Mode → Bytes → Bytes → ℕ
 text_status Check text new = if bytes_eq new text then 0 else 4
 text_status _ text new = 0
 
--- Standard output takes a text, or fails, unless it is closed.
-abbrev pub Prints : Bool → Bytes → ℕ → Effect → Type 0
-Prints closed out status effect = (effect ≡ output_effect out status) ⊎ ((closed ≡ false) × (effect ≡ unprinted out))
+-- Standard output takes what a text of this name writes, or fails, unless it is closed.
+abbrev pub Prints : Bool → Bytes → Bytes → Bytes → ℕ → Effect → Type 0
+Prints closed name text out status effect =
+    (effect ≡ noted name text (output_effect out status)) ⊎ ((closed ≡ false) × (effect ≡ noted name text (unprinted out)))
 
 -- The file holds the text that was formatted right before it is written, and the folder then has the formatted text at its name; or that
 -- fails, and where the file doesn't hold the text the folder stays.
 abbrev pub Rewrites : Bytes → Bytes → Bytes → Folder → Effect → Folder → Type 0
 Rewrites name text new folder effect after =
-    ((effect ≡ output_effect [] 0) × (get folder name ≡ Some text) × SameBut (λ other. other ≡ new_name name) (with_file folder name new) after)
-    ⊎ ((effect ≡ unwritten name) × ((get folder name ≡ Some text → ⊥) → after ≡ folder) × IsReplacing name new folder after)
+    ((effect ≡ noted name text (output_effect [] 0)) × (get folder name ≡ Some text) × SameBut (λ other. other ≡ new_name name) (with_file folder name new) after)
+    ⊎ ((effect ≡ noted name text (unwritten name)) × ((get folder name ≡ Some text → ⊥) → after ≡ folder) × IsReplacing name new folder after)
 
 -- ---- one file
 
@@ -111,16 +124,27 @@ directory_words name =
     if is_directory_name name then Some (codes "names a directory: see buildifier-tree")
     else (if may_be_directory name then Some (codes "if this is a directory, see buildifier-tree") else None)
 
--- what is there and isn't opened; below that, what formats a directory
-abbrev pub unopened_there : Bytes → Effect
-unopened_there name = record (unopened name c.Files) {
-  lines = named_line name (codes "cannot open") ∷ option_map_or (λ words. named_line name words ∷ []) (directory_words name) [];
+-- what formats standard input, where the name is the one that other programs have for that
+abbrev pub absent_words : Bytes → Option Bytes
+absent_words name = if bytes_eq name (codes "-") then Some (codes "standard input is formatted where no file is named") else None
+
+-- a file that isn't opened, and below that these words on its name
+abbrev pub unopened_with : Bytes → Cut → Option Bytes → Effect
+unopened_with name cut words = record (unopened name cut) {
+  lines = named_line name (codes "cannot open") ∷ option_map_or (λ said. named_line name said ∷ []) words [];
 }
+
+-- what isn't there, and what is there and isn't opened
+abbrev pub absent : Bytes → Effect
+absent name = unopened_with name c.Whole (absent_words name)
+
+abbrev pub unopened_there : Bytes → Effect
+unopened_there name = unopened_with name c.Files (directory_words name)
 
 -- a file that is not read
 abbrev pub unread_file : Bytes → FileFault → Effect
 unread_file name file.Memory = memory_effect name
-unread_file name file.Absent = unopened name c.Whole
+unread_file name file.Absent = absent name
 unread_file name _ = unopened_there name
 
 -- A file that is not read is reported, an absent one among them. What is read is formatted, or reported. Where the mode rewrites
@@ -132,7 +156,7 @@ pub data FileStep (mode : Mode) (file_type : FileType) (name : Bytes) (closed : 
   unformatted : (text : Bytes) (fault : FormatFault) → get folder name ≡ Some text → FormatsAs (is_bzl file_type name) text (Err fault) → effect ≡ refused name text fault
       → after ≡ folder → FileStep mode file_type name closed folder effect after
   kept : (text new : Bytes) → get folder name ≡ Some text → FormatsAs (is_bzl file_type name) text (Ok new) → is_rewritten mode text new ≡ false
-      → Prints closed (file_out mode name text new) (text_status mode text new) effect → after ≡ folder
+      → Prints closed name text (file_out mode name text new) (text_status mode text new) effect → after ≡ folder
       → FileStep mode file_type name closed folder effect after
   rewritten : (text new : Bytes) → get folder name ≡ Some text → FormatsAs (is_bzl file_type name) text (Ok new) → is_rewritten mode text new ≡ true
       → Rewrites name text new folder effect after → FileStep mode file_type name closed folder effect after
@@ -145,7 +169,7 @@ pub data InputStep (mode : Mode) (file_type : FileType) (known : Option Bytes) (
   input_unformatted : (text : Bytes) (fault : FormatFault) → IsInput known text → FormatsAs (is_bzl file_type stdin) text (Err fault) → effect ≡ refused stdin text fault
       → InputStep mode file_type known effect
   input_printed : (text new : Bytes) → IsInput known text → FormatsAs (is_bzl file_type stdin) text (Ok new)
-      → Prints false (input_out mode text new) (text_status mode text new) effect → InputStep mode file_type known effect
+      → Prints false stdin text (input_out mode text new) (text_status mode text new) effect → InputStep mode file_type known effect
 
 -- ---- whole runs
 

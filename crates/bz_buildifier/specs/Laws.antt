@@ -4,7 +4,7 @@ use Rattle.std.specs.Prelude.{◌≡◌, ◌⊎◌, List, [], ◌∷◌, ◌++�
 use Rattle.std.specs.List.{All}
 use Rattle.std.specs.FinMap.{get}
 use Rattle.bz_buildifier.specs.Words.{Bytes, Folder, IsAside, SameFolders, with_file, FormatFault, ReadFault, fault_excerpt, fault_line}
-use Rattle.bz_buildifier.specs.FormatRun.{Effect, FilesFormatted, FormatOutcome, FormatsAs, begun, grown, output_effect, refused, unopened, file_out, text_status, is_rewritten}
+use Rattle.bz_buildifier.specs.FormatRun.{Effect, FilesFormatted, FormatOutcome, FormatsAs, begun, grown, noted, output_effect, refused, absent, file_out, text_status, is_rewritten}
 use Rattle.bz_buildifier.specs.Modes.{clap_fault, format_line, is_bzl}
 use Rattle.bz_streams.specs.declared.exit.Cut.TheVariants as c
 use Rattle.bz_buildifier.specs.declared.file_type.FileType.{FileType}
@@ -13,11 +13,11 @@ use Rattle.bz_buildifier.specs.declared.mode.Mode.{Mode}
 -- A file is absent, is not formatted, or is formatted; in the last case the folder has the formatted text there where the
 -- mode rewrites it, and all else leaves the folder.
 pub data ExactStep (mode : Mode) (file_type : FileType) (name : Bytes) (folder : Folder) (effect : Effect) (after : Folder) : Type 0 where
-  exact_absent : get folder name ≡ None → effect ≡ unopened name c.Whole → after ≡ folder → ExactStep mode file_type name folder effect after
+  exact_absent : get folder name ≡ None → effect ≡ absent name → after ≡ folder → ExactStep mode file_type name folder effect after
   exact_unformatted : (text : Bytes) (fault : FormatFault) → get folder name ≡ Some text → FormatsAs (is_bzl file_type name) text (Err fault) → effect ≡ refused name text fault
       → effect.cut ≡ c.Whole → after ≡ folder → ExactStep mode file_type name folder effect after
   exact_formatted : (text new : Bytes) → get folder name ≡ Some text → FormatsAs (is_bzl file_type name) text (Ok new)
-      → effect ≡ output_effect (file_out mode name text new) (text_status mode text new)
+      → effect ≡ noted name text (output_effect (file_out mode name text new) (text_status mode text new))
       → after ≡ (if is_rewritten mode text new then with_file folder name new else folder) → ExactStep mode file_type name folder effect after
 
 abbrev pub Exact : Mode → FileType → List Bytes → Effect → Folder → Effect → Folder → Type 0

@@ -1,5 +1,5 @@
 -- The command line of buildifier: what its words say.
-use Rattle.std.specs.Prelude.{◌==◌, Bool, false, List, [], ◌∷◌, length, codes, bytes_eq, eqb, if◌then◌else◌, unwrap_or, Option, Some, None, Result, Ok, Err, true}
+use Rattle.std.specs.Prelude.{◌==◌, ◌||◌, Bool, false, List, [], ◌∷◌, length, codes, bytes_eq, eqb, if◌then◌else◌, unwrap_or, Option, Some, None, Result, Ok, Err, true}
 use Rattle.std.specs.List.{ends_with}
 use Rattle.bz_buildifier.specs.Words.{App, Rule, Row, all_of, first_of, fault_of, matches_of, new_app, new_rule, with_rule, ErrorKind, Bytes, OptionTable, option_hint}
 use Rattle.clap.specs.declared.builder.action.ArgAction.TheVariants.{Append}
@@ -65,9 +65,8 @@ type_names = codes "auto" ∷ codes "build" ∷ codes "bzl" ∷ []
 
 -- the same of its types
 abbrev pub type_in_place : Bytes → Bytes
-type_in_place name = if bytes_eq name (codes "module") then codes "buildifier: such files are read with --type=build\n"
-    else (if bytes_eq name (codes "workspace") then codes "buildifier: such files are read with --type=build\n"
-    else (if bytes_eq name (codes "default") then codes "buildifier: Starlark of any kind is read with --type=bzl\n" else []))
+type_in_place name = if bytes_eq name (codes "module") || bytes_eq name (codes "workspace") then codes "buildifier: such files are read with --type=build\n"
+    else (if bytes_eq name (codes "default") then codes "buildifier: Starlark of any kind is read with --type=bzl\n" else [])
 
 -- a mode, a type, and files by their names
 pub record FormatLine : Type 0 where

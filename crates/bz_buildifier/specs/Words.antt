@@ -10,6 +10,7 @@ pub use Rattle.bz_streams.specs.Controls.{escaped_text}
 pub use Rattle.bz_streams.specs.Excerpts.{fault_excerpt}
 pub use Rattle.bz_streams.specs.Exits.{first_cut}
 pub use Rattle.bz_streams.specs.Faults.{AppendsUnlessFailed, Rises}
+pub use Rattle.bz_streams.specs.Names.{note_line, odd_name_line}
 pub use Rattle.bz_streams.specs.Near.{nearest}
 pub use Rattle.bz_streams.specs.Options.{option_hint, option_hint_text, OptionTable}
 pub use Rattle.bz_streams.specs.Outputs.{Counts, Reports, Writes, WritesUnlessClosed}

@@ -2,7 +2,7 @@
 ghost use Rattle.std.specs.Prelude.{◌≡◌, ◌||◌, ◌∷◌, ◌++◌, ◌==◌, [], false, codes, option_map, IfOk};
 ghost use Rattle.std.specs.List.{list_any};
 ghost use Rattle.bz_buildifier.specs.Words.{full_stop, first_cut, Reports, Counts, WritesUnlessClosed, named_line};
-ghost use Rattle.bz_buildifier.specs.FormatRun.{Prints, IsCutBy, is_directory_name, last_part, may_be_directory, directory_words, unopened_there, unread_file, refused, file_out, input_out, is_rewritten, text_status, worse};
+ghost use Rattle.bz_buildifier.specs.FormatRun.{Prints, IsCutBy, is_directory_name, last_part, may_be_directory, directory_words, absent_words, unopened_with, unread_file, refused, name_notes, file_out, input_out, is_rewritten, text_status, worse};
 ghost use Rattle.bz_buildifier.specs.FormatRun as r;
 ghost use Rattle.bz_buildifier.specs.private.FormatShown.{effect_seen};
 
@@ -12,7 +12,9 @@ use crate::{Cut, Sink};
 use bz_build_format::FormatFault;
 use bz_files::FileFault;
 use bz_items::{Memory, Text};
-use bz_streams::{STDIN, first_cut, report_fault_in, report_named, write_whole};
+use bz_streams::{
+    STDIN, first_cut, odd_name_line, report_fault_in, report_named, report_note, write_whole,
+};
 use std::alloc::Global;
 
 /// What becomes of one text, or of a run so far.
@@ -126,13 +128,24 @@ fn directory_words(name: &str) -> Option<&'static str>
     None
 }
 
-// Reports that what is there can't be opened, and what formats a directory.
-fn fail_to_open<E: Sink>(err: &mut E, name: &str) -> Effect
-    ensures effect { result ≡ effect_seen (unopened_there name.now) }
-    ensures reported { Reports (E.faults err.old) (E.faults err.new) (E.contents err.old) (E.contents err.new) (unopened_there name.now).lines }
+// What is said of a name that nothing has.
+fn absent_words(name: &str) -> Option<&'static str>
+    ensures { option_map (λ s. s.now) result ≡ absent_words name.now }
 {
-    let effect = fail(err, name, "cannot open", Cut::Files);
-    if let Some(words) = directory_words(name) {
+    if name == "-" {
+        return Some("standard input is formatted where no file is named");
+    }
+    None
+}
+
+// Reports that a file can't be opened, and these words on its name.
+fn fail_to_open<E: Sink>(err: &mut E, name: &str, cut: Cut, words: Option<&str>) -> Effect
+    ensures effect { result ≡ effect_seen (unopened_with name.now cut (option_map (λ s. s.now) words.entry)) }
+    ensures reported { Reports (E.faults err.old) (E.faults err.new) (E.contents err.old) (E.contents err.new)
+        (unopened_with name.now cut (option_map (λ s. s.now) words.entry)).lines }
+{
+    let effect = fail(err, name, "cannot open", cut);
+    if let Some(words) = words {
         report_named(err, name, words);
     }
     effect
@@ -145,10 +158,16 @@ pub(crate) fn unread_file<E: Sink>(err: &mut E, name: &str, fault: FileFault) ->
 {
     match fault {
         FileFault::Memory => fail(err, name, "Memory", Cut::Memory),
-        FileFault::Absent => fail(err, name, "cannot open", Cut::Whole),
-        FileFault::Open | FileFault::Write => fail_to_open(err, name),
+        FileFault::Absent => fail_to_open(err, name, Cut::Whole, absent_words(name)),
+        FileFault::Open | FileFault::Write => {
+            fail_to_open(err, name, Cut::Files, directory_words(name))
+        }
     }
 }
+
+const TOO_LARGE: &str = "TooLarge\n    the formatted text would have more than 67,108,864 bytes";
+
+const TOO_DEEP: &str = "TooDeep\n    the formatted text would be nested deeper than 500 levels";
 
 /// Reports why this text has no formatted text.
 pub(crate) fn refused<E: Sink>(err: &mut E, name: &str, text: &[u8], fault: &FormatFault) -> Effect
@@ -160,8 +179,8 @@ pub(crate) fn refused<E: Sink>(err: &mut E, name: &str, text: &[u8], fault: &For
             report_fault_in(err, name, text, fault);
             effect_of(REFUSED, Cut::Whole)
         }
-        FormatFault::TooLarge => fail(err, name, "TooLarge", Cut::Whole),
-        FormatFault::TooDeep => fail(err, name, "TooDeep", Cut::Whole),
+        FormatFault::TooLarge => fail(err, name, TOO_LARGE, Cut::Whole),
+        FormatFault::TooDeep => fail(err, name, TOO_DEEP, Cut::Whole),
         FormatFault::Memory => fail(err, name, "Memory", Cut::Memory),
     }
 }
@@ -223,25 +242,41 @@ pub(crate) fn input_out(alloc: Global, mode: Mode, text: &[u8], new: Text) -> Re
     }
 }
 
-/// Writes a text on standard output, unless that has failed before; a failure is reported.
+// What is said of a name with a character outside of ASCII.
+const ODD_NAME: &str =
+    "a name has a character outside of ASCII, which Bazel refuses: curly quotation marks and no-break spaces are such";
+
+/// Notes the first line of a text that has such a name, if one has.
+pub(crate) fn note_names<E: Sink>(err: &mut E, name: &str, text: &[u8])
+    ensures { Reports (E.faults err.old) (E.faults err.new) (E.contents err.old) (E.contents err.new) (name_notes name.now text.now) }
+{
+    if let Some(line) = odd_name_line(text) {
+        report_note(err, "buildifier", name, line, ODD_NAME);
+    }
+}
+
+/// Notes what is odd in a text of this name, and writes these bytes on standard output, unless that has failed before; a failure is reported.
 pub(crate) fn print<W: Sink, E: Sink>(
     out: &mut W,
     err: &mut E,
     closed: bool,
+    name: &str,
     text: &[u8],
+    bytes: &[u8],
     status: u8,
 ) -> Effect
-    ensures step { (effect : r.Effect) × Prints closed text.now status effect × (result ≡ effect_seen effect)
+    ensures step { (effect : r.Effect) × Prints closed name.now text.now bytes.now status effect × (result ≡ effect_seen effect)
         × WritesUnlessClosed closed effect.closes (W.faults out.old) (W.faults out.new) (W.contents out.old) (W.contents out.new) effect.out
         × Reports (E.faults err.old) (E.faults err.new) (E.contents err.old) (E.contents err.new) effect.lines }
     ensures cut { IsCutBy result.cut 0 0 (W.faults out.old) (W.faults out.new) }
     ensures counts { Counts (W.faults out.old) (W.faults out.new) }
 {
+    note_names(err, name, text);
     let done = effect_of(status, Cut::Whole);
     if closed {
         return done;
     }
-    match write_whole(out, text) {
+    match write_whole(out, bytes) {
         Ok(()) => done,
         Err(_) => {
             let mut effect = fail(err, "<stdout>", "cannot write", Cut::Write);

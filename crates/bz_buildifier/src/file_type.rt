@@ -22,8 +22,7 @@ pub(crate) fn type_in_place(name: &str) -> &'static str
     ensures { result.now ≡ type_in_place name.now }
 {
     match name {
-        "module" => "buildifier: such files are read with --type=build\n",
-        "workspace" => "buildifier: such files are read with --type=build\n",
+        "module" | "workspace" => "buildifier: such files are read with --type=build\n",
         "default" => "buildifier: Starlark of any kind is read with --type=bzl\n",
         _ => "",
     }

@@ -8,8 +8,8 @@ ghost use Rattle.bz_buildifier.specs.FormatRun as r;
 ghost use Rattle.bz_buildifier.specs.private.FormatShown.{effect_seen, IsUsageOf};
 
 use crate::effect::{
-    BEGUN, Effect, fail, file_out, grown, input_out, is_rewritten, print, refused, text_status,
-    unread_file,
+    BEGUN, Effect, fail, file_out, grown, input_out, is_rewritten, note_names, print, refused,
+    text_status, unread_file,
 };
 use crate::file_type::{FileType, TYPES, type_in_place};
 use crate::format_line::{FormatUsage, Options, clap_hint, read_format_line};
@@ -67,6 +67,7 @@ fn file_effect<F: Files, W: Sink, E: Sink>(
         Err(fault) => return refused(err, name, &text, &fault),
     };
     if is_rewritten(options.mode, &text, new.as_slice()) {
+        note_names(err, name, &text);
         match rewrite(files, name, &text, new.as_slice()) {
             Ok(()) => return BEGUN,
             Err(_) => return fail(err, name, "cannot write", Cut::Files),
@@ -74,7 +75,7 @@ fn file_effect<F: Files, W: Sink, E: Sink>(
     }
     let status = text_status(options.mode, &text, new.as_slice());
     match file_out(options.alloc, options.mode, name, &text, new) {
-        Ok(bytes) => print(out, err, closed, bytes.as_slice(), status),
+        Ok(bytes) => print(out, err, closed, name, &text, bytes.as_slice(), status),
         Err(_) => fail(err, name, "Memory", Cut::Memory),
     }
 }
@@ -110,7 +111,7 @@ fn input_effect<R: Source, W: Sink, E: Sink>(
     };
     let status = text_status(options.mode, &text, new.as_slice());
     match input_out(options.alloc, options.mode, &text, new) {
-        Ok(bytes) => print(out, err, false, bytes.as_slice(), status),
+        Ok(bytes) => print(out, err, false, STDIN, &text, bytes.as_slice(), status),
         Err(_) => fail(err, STDIN, "Memory", Cut::Memory),
     }
 }

@@ -1,6 +1,6 @@
-use Rattle.std.proofs.Common.{◌∷◌, [], Option, codes, refl, subst}
+use Rattle.std.proofs.Common.{◌∷◌, [], Option, Bor, ℕ, List, codes, refl, sym, subst, option_map}
 use Rattle.std.specs.Option.{option_map_or}
-use Rattle.bz_buildifier.specs.Words.{Bytes, Reports, named_line}
+use Rattle.bz_buildifier.specs.Words.{Reports, named_line}
 use Rattle.bz_streams.proofs.Outputs.{reports_more}
 use Rattle.bz_buildifier.proofs.effect.fail_to_open.Goals as goal
 
@@ -10,8 +10,7 @@ returns-in-Some-clause-reported g c =
     let held = g.E.Sink.contents in
     let name = c.args.name.now in
     let last = c.report_named.new.err in
-    subst (λ (words : Option Bytes). Reports (faults c.args.err.now) (faults last) (held c.args.err.now) (held last)
-    (named_line name (codes "cannot open") ∷ option_map_or (λ it. named_line name it ∷ []) words [])) c.in-Some.ensures
+    rw (c.in-Some.is)
     (reports_more (faults c.args.err.now) (faults c.fail-effect.new.err) (faults last) (held c.args.err.now) (held c.fail-effect.new.err) (held last)
     (named_line name (codes "cannot open") ∷ []) (named_line name c.in-Some.words.now ∷ []) c.fail-effect.ensures.reported
     (faults last, held last, c.report_named.ensures, (refl, refl)))

@@ -1,6 +1,8 @@
-use Rattle.std.proofs.Common.{◌≡◌, ◌∙◌, [], inl, inr, refl, sym, subst, ap, List, ℕ, true, false, Err}
+use Rattle.std.proofs.Common.{◌≡◌, ◌∙◌, ◌++◌, [], inl, inr, refl, sym, subst, ap, List, ℕ, true, false, Err}
 use Rattle.bz_buildifier.specs.FormatRun.{FormatsAs, unread, without_memory, unformatted, kept, rewritten, Rewrites, Prints, is_rewritten, file_out, text_status}
 use Rattle.bz_buildifier.specs.Modes.{is_bzl}
+use Rattle.bz_buildifier.specs.Words.{Reports}
+use Rattle.bz_streams.proofs.Outputs.{reports_more}
 use Rattle.bz_buildifier.specs.FormatRun as r
 use Rattle.bz_files.proofs.Orders.{reads_on, reads_one, rewrite_reads}
 use Rattle.bz_buildifier.proofs.FormatSteps.{nothing_more, quiet, unread_quiet, refused_quiet, same_rewrites, formatted_file, refused_file}
@@ -47,14 +49,20 @@ returns-in-Ok-rewrite-clause-step g c = λ honest.
     let differs : is_rewritten c.args.options.mode text new ≡ true =
     rw (c.deref-2.ensures.value, c.as_slice.ensures) at (sym c.is_rewritten.ensures ∙ c.if-is_rewritten.true) in
     let once = c.in-Ok.ensures.honest ∙ honest in
-    let effect = r.output_effect [] 0 in
-    let rewrites : Rewrites name c.deref-then-is_rewritten.result.now c.as_slice-then-is_rewritten.result.now (g.F.Files.folder c.read_most.new.self) effect after =
+    let slice = c.deref-then-is_rewritten-2.result.now in
+    let effect = r.noted name slice (r.output_effect [] 0) in
+    let faults = g.E.Sink.faults in
+    let held = g.E.Sink.contents in
+    let mid = c.note_names.new.err in
+    let rewrites : Rewrites name slice c.as_slice-then-is_rewritten.result.now (g.F.Files.folder c.read_most.new.self) effect after =
     inl (refl, c.in-Ok-rewrite.ensures.rewrites.held once, c.in-Ok-rewrite.ensures.rewrites.replaced once) in (
       effect,
-      rewritten text new file.0 file.1 differs (same_rewrites name text _ new _ before _ after effect c.deref-then-is_rewritten.ensures.value c.as_slice-then-is_rewritten.ensures (c.in-Ok.ensures.same honest) rewrites),
+      rewritten text new file.0 file.1 differs (same_rewrites name text _ new _ before _ after effect c.deref-then-is_rewritten-2.ensures.value c.as_slice-then-is_rewritten.ensures (c.in-Ok.ensures.same honest) rewrites),
       refl,
       nothing_more c.args.closed (g.W.Sink.faults c.args.out.now) (g.W.Sink.contents c.args.out.now),
-      (refl, refl),
+      subst (λ (t : List ℕ). Reports (faults c.args.err.now) (faults mid) (held c.args.err.now) (held mid) (r.name_notes name t ++ []))
+          (c.deref-then-is_rewritten.ensures.value ∙ sym c.deref-then-is_rewritten-2.ensures.value)
+          (reports_more (faults c.args.err.now) (faults mid) (faults mid) (held c.args.err.now) (held mid) (held mid) _ [] c.note_names.ensures (refl, refl)),
     )
 
 pub returns-in-Err-rewrite-clause-step : goal.returns-in-Err-rewrite-clause-step
@@ -69,14 +77,21 @@ returns-in-Err-rewrite-clause-step g c = λ honest.
     let differs : is_rewritten c.args.options.mode text new ≡ true =
     rw (c.deref-2.ensures.value, c.as_slice.ensures) at (sym c.is_rewritten.ensures ∙ c.if-is_rewritten.true) in
     let once = c.in-Ok.ensures.honest ∙ honest in
-    let effect = r.unwritten name in
-    let rewrites : Rewrites name c.deref-then-is_rewritten.result.now c.as_slice-then-is_rewritten.result.now (g.F.Files.folder c.read_most.new.self) effect after =
+    let slice = c.deref-then-is_rewritten-2.result.now in
+    let effect = r.noted name slice (r.unwritten name) in
+    let faults = g.E.Sink.faults in
+    let held = g.E.Sink.contents in
+    let mid = c.note_names.new.err in
+    let last = c.fail.new.err in
+    let rewrites : Rewrites name slice c.as_slice-then-is_rewritten.result.now (g.F.Files.folder c.read_most.new.self) effect after =
     inr (refl, c.in-Err-rewrite.ensures.rewrites.untouched once, c.in-Err-rewrite.ensures.rewrites.either once) in (
       effect,
-      rewritten text new file.0 file.1 differs (same_rewrites name text _ new _ before _ after effect c.deref-then-is_rewritten.ensures.value c.as_slice-then-is_rewritten.ensures (c.in-Ok.ensures.same honest) rewrites),
+      rewritten text new file.0 file.1 differs (same_rewrites name text _ new _ before _ after effect c.deref-then-is_rewritten-2.ensures.value c.as_slice-then-is_rewritten.ensures (c.in-Ok.ensures.same honest) rewrites),
       c.fail.ensures.effect,
       nothing_more c.args.closed (g.W.Sink.faults c.args.out.now) (g.W.Sink.contents c.args.out.now),
-      c.fail.ensures.reported,
+      subst (λ (t : List ℕ). Reports (faults c.args.err.now) (faults last) (held c.args.err.now) (held last) (r.name_notes name t ++ (r.unwritten name).lines))
+          (c.deref-then-is_rewritten.ensures.value ∙ sym c.deref-then-is_rewritten-2.ensures.value)
+          (reports_more (faults c.args.err.now) (faults mid) (faults last) (held c.args.err.now) (held mid) (held last) _ _ c.note_names.ensures c.fail.ensures.reported),
     )
 
 pub returns-in-Ok-file_out-clause-step : goal.returns-in-Ok-file_out-clause-step
@@ -95,9 +110,10 @@ returns-in-Ok-file_out-clause-step g c = λ honest.
     let status : c.text_status-status.result ≡ text_status mode text new =
     rw (c.deref-3.ensures.value, c.as_slice-2.ensures) at c.text_status-status.ensures in
     let step = c.print.ensures.step in
-    let prints : Prints c.args.closed (file_out mode name text new) (text_status mode text new) step.0 =
-    subst (λ (bytes : List ℕ). Prints c.args.closed bytes (text_status mode text new) step.0) out
-    (subst (λ (n : ℕ). Prints c.args.closed c.as_slice-in-Ok-file_out.result.now n step.0) status step.1) in
+    let prints : Prints c.args.closed name text (file_out mode name text new) (text_status mode text new) step.0 =
+    subst (λ (t : List ℕ). Prints c.args.closed name t (file_out mode name text new) (text_status mode text new) step.0) c.deref-in-Ok-file_out.ensures.value
+    (subst (λ (bytes : List ℕ). Prints c.args.closed name c.deref-in-Ok-file_out.result.now bytes (text_status mode text new) step.0) out
+    (subst (λ (n : ℕ). Prints c.args.closed name c.deref-in-Ok-file_out.result.now c.as_slice-in-Ok-file_out.result.now n step.0) status step.1)) in
     (step.0, kept text new file.0 file.1 stays prints (c.in-Ok.ensures.same honest), step.2, step.3, step.4)
 
 pub returns-clause-step : goal.returns-clause-step

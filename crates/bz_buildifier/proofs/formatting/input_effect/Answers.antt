@@ -46,12 +46,14 @@ returns-in-Ok-input_out-clause-step g c =
     let status : c.text_status-status.result ≡ text_status mode front new =
     rw (c.deref-2.ensures.value, c.as_slice.ensures) at c.text_status-status.ensures in
     let step = c.print.ensures.step in
-    let prints : Prints false (input_out mode front new) (text_status mode front new) step.0 =
-    subst (λ (bytes : List ℕ). Prints false bytes (text_status mode front new) step.0) out
-    (subst (λ (n : ℕ). Prints false c.as_slice-in-Ok-input_out.result.now n step.0) status step.1) in (
+    let slice = c.deref-in-Ok-input_out.result.now in
+    let prints : Prints false stdin front (input_out mode front new) (text_status mode front new) step.0 =
+    subst (λ (t : List ℕ). Prints false stdin t (input_out mode front new) (text_status mode front new) step.0) c.deref-in-Ok-input_out.ensures.value
+    (subst (λ (bytes : List ℕ). Prints false stdin slice bytes (text_status mode front new) step.0) out
+    (subst (λ (n : ℕ). Prints false stdin slice c.as_slice-in-Ok-input_out.result.now n step.0) status step.1)) in (
       step.0,
       input_printed some.0 new some.1 (subst (λ (text : List ℕ). FormatsAs (is_bzl c.args.options.file_type stdin) text (Ok new)) (sym some.2) formats)
-          (subst (λ (text : List ℕ). Prints false (input_out mode text new) (text_status mode text new) step.0) (sym some.2) prints),
+          (subst (λ (text : List ℕ). Prints false stdin text (input_out mode text new) (text_status mode text new) step.0) (sym some.2) prints),
       step.2,
       step.3,
       step.4,
