@@ -12,9 +12,10 @@ use Rattle.bz_command_syntax.specs.Words.{is_nonempty}
 use Rattle.bz_command_syntax.specs.Identifiers.{is_identifier, is_rule_kind}
 use Rattle.bz_command_syntax.specs.Commands as c
 use Rattle.bz_command_syntax.specs.Commands.{ReadCommand}
-use Rattle.bz_command_syntax.specs.Proper.{AreUtf8, EachIs, AreSome, IsAttribute, IsKind, IsPlace, AreAttributes, AreValues, AreMoved, IsEntry, IsSymbol, IsHost, IsField, IsProperCommand}
-use Rattle.bz_command_syntax.specs.declared.command.{Attributes.Attributes, Fixes.Fixes, Operation.Operation}
+use Rattle.bz_command_syntax.specs.Proper.{AreUtf8, EachIs, AreSome, IsAttribute, IsKind, IsPlace, AreAttributes, AreValues, AreMoved, IsEntry, IsSymbol, IsRepo, AreUsages, IsHost, IsField, IsProperCommand}
+use Rattle.bz_command_syntax.specs.declared.command.{Attributes.Attributes, Fixes.Fixes, Operation.Operation, Usages.Usages}
 use Rattle.bz_command_syntax.specs.declared.command.Values.TheVariants.{All, These}
+use Rattle.bz_command_syntax.specs.declared.command.Repo.TheVariants as rp
 use Rattle.bz_command_syntax.specs.declared.command.Operation.TheVariants as w
 use Rattle.bz_command_syntax.specs.declared.command.RuleOperation.TheVariants as wr
 use Rattle.bz_command_syntax.specs.declared.command.AttributeOperation.TheVariants as wa
@@ -177,6 +178,34 @@ symbols_proper (path ∷ words) u =
     either _ (is_nonempty words) _ _ (λ some.
     mapped (AreSome IsSymbol) _ (λ symbols. (path, symbols)) (c.each_of c.symbol_of words) (some_proper IsSymbol c.symbol_of symbol_proper words some u.1) (λ symbols s. (u.0, s))) tt
 
+repo_proper : (word : Bytes) → IsUtf8 word → IfSome (c.repo_of word) IsRepo
+repo_proper word u = by (c.cut_at equals_sign word) (cut_utf8 equals_sign word (omega arith) u)
+  where
+    by : (parts : Option (Bytes × Bytes)) → IfSome parts (λ both. IsUtf8 both.0 × IsUtf8 both.1)
+        → IfSome (option_map_or (λ both. c.given (is_identifier both.0 && c.is_repo_name both.1) (rp.Named both.0 both.1)) parts (c.given (c.is_repo_name word) (rp.Plain word))) IsRepo
+    by None h = given_is IsRepo _ _ (λ is. (is, u))
+    by (Some both) h = given_is IsRepo _ _ (λ is. let i = and_parts (is_identifier both.0) (c.is_repo_name both.1) is in ((i.0, h.0), i.1, h.1))
+
+abbrev HasUsages : Usages × List Bytes → Type 0
+HasUsages parts = AreUsages parts.0 × AreUtf8 parts.1
+
+extension_proper : (dev : Bool) → Gives (c.extension_of dev) HasUsages
+extension_proper dev (file ∷ name ∷ words) u =
+    given_is HasUsages _ _ (λ h. let i = and_parts (not (is_identifier file)) (is_identifier name) h in ((u.0, (i.1, u.1.0)), u.1.1))
+extension_proper dev _ u = tt
+
+usages_proper : Gives c.usages_of HasUsages
+usages_proper [] u = tt
+usages_proper (word ∷ words) u =
+    either HasUsages (c.begins_with_dev (word ∷ words)) _ _ (λ _. extension_proper true words u.1)
+    (either HasUsages (is_identifier word) _ _ (λ i. ((i, u.0), u.1)) (extension_proper false (word ∷ words) u))
+
+repos_proper : Gives c.usages_repos (λ parts. AreUsages parts.0 × AreSome IsRepo parts.1)
+repos_proper words u =
+    after HasUsages _ c.repos_of (c.usages_of words) (usages_proper words u) (λ parts p.
+    either _ (is_nonempty parts.1) _ _ (λ some.
+    mapped (AreSome IsRepo) _ (λ repos. (parts.0, repos)) (c.each_of c.repo_of parts.1) (some_proper IsRepo c.repo_of repo_proper parts.1 some p.1) (λ repos r. (p.0, r))) tt)
+
 host_proper : Gives c.host_of IsHost
 host_proper [] u = tt
 host_proper (attribute ∷ []) u = given_is IsHost _ _ (λ i. (i, u.0))
@@ -292,12 +321,15 @@ commands_proper =
     (with_row (by_form (λ parts. w.Dict (wd.ListAdd parts.0 parts.1 parts.2)) c.key_values key_values_proper)
     (with_row set_select_proper
     (with_row (by_form (λ parts. w.Load (wl.New parts.0 parts.1)) c.path_symbols symbols_proper)
+    (with_row (by_form (λ parts. w.Load (wl.Replace parts.0 parts.1)) c.path_symbols symbols_proper)
     (with_row (by_form (λ parts. w.Load (wl.Substitute parts.0 parts.1)) c.two_words two_words_proper)
+    (with_row (by_form (λ parts. w.Load (wl.AddRepos parts.0 parts.1)) c.usages_repos repos_proper)
+    (with_row (by_form (λ parts. w.Load (wl.RemoveRepos parts.0 parts.1)) c.usages_repos repos_proper)
     (with_row (by_form (λ parts. w.Comment (wc.Add parts.0 parts.1)) (λ words. option_and_then c.host_text (c.split_last words)) text_proper)
     (with_row (by_form (λ host. w.Comment (wc.Print host)) c.host_of host_proper)
     (with_row (by_form (λ host. w.Comment (wc.Remove host)) c.host_of host_proper)
     (with_row (by_form (λ fixes. w.Load (wl.Fix fixes)) c.fixes_of (λ words u. fixes_proper (c.fixes_of words)))
-    (with_row (by_form w.Print c.fields_of fields_proper) tt)))))))))))))))))))))))))
+    (with_row (by_form w.Print c.fields_of fields_proper) tt))))))))))))))))))))))))))))
 
 named_proper : (table : List (Bytes × (Bytes × Reader))) → AllReadProper table → (name : Bytes) → IfSome (c.row_named table name) (λ command. IsProperReader command.1)
 named_proper [] h name = tt

@@ -1,11 +1,12 @@
 -- The commands, by their words.
 use Rattle.std.specs.Prelude.{ℕ, ◌==◌, ◌+◌, take, drop, position, Bool, true, false, ◌&&◌, ◌||◌, not, if◌then◌else◌, List, [], ◌∷◌, length, Option, Some, None, Result, Ok, Err, codes, bytes_eq, nat_le, map, option_map}
-use Rattle.std.specs.List.{list_any}
+use Rattle.std.specs.Char.{is_ascii_alphabetic, is_ascii_alphanumeric}
+use Rattle.std.specs.List.{list_all, list_any}
 use Rattle.std.specs.Option.{option_and_then, option_map_or, ok_or}
 use Rattle.bz_items.specs.Characters.{Bytes, asterisk, colon, equals_sign, line_feed}
 use Rattle.bz_command_syntax.specs.Words.{words_of, is_nonempty}
 use Rattle.bz_command_syntax.specs.Identifiers.{is_identifier, is_rule_kind}
-use Rattle.bz_command_syntax.specs.declared.command.{Operation.Operation, RulePlace.RulePlace, Attributes.Attributes, Values.Values, Entry.Entry, Symbol.Symbol, Host.Host, Fixes.Fixes, Field.Field}
+use Rattle.bz_command_syntax.specs.declared.command.{Operation.Operation, RulePlace.RulePlace, Attributes.Attributes, Values.Values, Entry.Entry, Symbol.Symbol, Host.Host, Fixes.Fixes, Field.Field, Usages.Usages, Repo.Repo}
 use Rattle.bz_command_syntax.specs.declared.command.Operation.TheVariants as w
 use Rattle.bz_command_syntax.specs.declared.command.RuleOperation.TheVariants as wr
 use Rattle.bz_command_syntax.specs.declared.command.AttributeOperation.TheVariants as wa
@@ -18,6 +19,8 @@ use Rattle.bz_command_syntax.specs.declared.command.Attributes.TheVariants.{All 
 use Rattle.bz_command_syntax.specs.declared.command.Values.TheVariants.{All as AllValues, These}
 use Rattle.bz_command_syntax.specs.declared.command.Host.TheVariants as h
 use Rattle.bz_command_syntax.specs.declared.command.Field.TheVariants as f
+use Rattle.bz_command_syntax.specs.declared.command.Usages.TheVariants as u
+use Rattle.bz_command_syntax.specs.declared.command.Repo.TheVariants as rp
 use Rattle.bz_command_syntax.specs.declared.fault.CommandFault.{CommandFault}
 use Rattle.bz_command_syntax.specs.declared.fault.CommandFault.TheVariants.{Unknown, Arguments}
 
@@ -186,6 +189,45 @@ abbrev pub path_symbols : List Bytes → Option (Bytes × List Symbol)
 path_symbols [] = None
 path_symbols (path ∷ words) = if is_nonempty words then option_map (λ symbols. (path, symbols)) (each_of symbol_of words) else None
 
+-- a letter, digit, `_`, `-` or `.`
+abbrev pub is_repo_byte : ℕ → Bool
+is_repo_byte byte = is_ascii_alphanumeric byte || list_any (λ each. each == byte) (codes "_-.")
+
+-- The name that a repository has in its extension: a letter, then such bytes.
+abbrev pub is_repo_name : Bytes → Bool
+is_repo_name [] = false
+is_repo_name (first ∷ rest) = is_ascii_alphabetic first && list_all is_repo_byte rest
+
+-- REPO, or NAME=REPO
+abbrev pub repo_of : Bytes → Option Repo
+repo_of word =
+    option_map_or (λ parts. given (is_identifier parts.0 && is_repo_name parts.1) (rp.Named parts.0 parts.1)) (cut_at equals_sign word)
+    (given (is_repo_name word) (rp.Plain word))
+
+-- FILE EXTENSION, and the words after them. What is an identifier is a variable and no file.
+abbrev pub extension_of : Bool → List Bytes → Option (Usages × List Bytes)
+extension_of dev (file ∷ name ∷ words) = given (not (is_identifier file) && is_identifier name) (u.Extension dev file name, words)
+extension_of dev _ = None
+
+-- `dev` before three words or more; before fewer it is a variable
+abbrev pub begins_with_dev : List Bytes → Bool
+begins_with_dev (word ∷ _ ∷ _ ∷ _ ∷ words) = bytes_eq word (codes "dev")
+begins_with_dev _ = false
+
+-- VARIABLE or [dev] FILE EXTENSION, and the words after them
+abbrev pub usages_of : List Bytes → Option (Usages × List Bytes)
+usages_of [] = None
+usages_of (word ∷ words) =
+    if begins_with_dev (word ∷ words) then extension_of true words
+    else (if is_identifier word then Some (u.Variable word, words) else extension_of false (word ∷ words))
+
+abbrev pub repos_of : Usages × List Bytes → Option (Usages × List Repo)
+repos_of parts = if is_nonempty parts.1 then option_map (λ repos. (parts.0, repos)) (each_of repo_of parts.1) else None
+
+-- VARIABLE REPO.. or [dev] FILE EXTENSION REPO..
+abbrev pub usages_repos : List Bytes → Option (Usages × List Repo)
+usages_repos words = option_and_then repos_of (usages_of words)
+
 -- nothing, ATTRIBUTE, or ATTRIBUTE VALUE
 abbrev pub host_of : List Bytes → Option Host
 host_of [] = Some h.Rule
@@ -264,7 +306,10 @@ commands =
     ∷ (codes "dict_list_add", (codes "'dict_list_add ATTR KEY VALUE..'", λ words. operation_of (λ parts. w.Dict (wd.ListAdd parts.0 parts.1 parts.2)) (key_values words)))
     ∷ (codes "set_select", (codes "'set_select ATTR KEY VALUE [KEY VALUE]..'", set_select_of))
     ∷ (codes "new_load", (codes "'new_load PATH [TO=]FROM..'", λ words. operation_of (λ parts. w.Load (wl.New parts.0 parts.1)) (path_symbols words)))
+    ∷ (codes "replace_load", (codes "'replace_load PATH [TO=]FROM..'", λ words. operation_of (λ parts. w.Load (wl.Replace parts.0 parts.1)) (path_symbols words)))
     ∷ (codes "substitute_load", (codes "'substitute_load PATTERN TEMPLATE'", λ words. operation_of (λ parts. w.Load (wl.Substitute parts.0 parts.1)) (two_words words)))
+    ∷ (codes "use_repo_add", (codes "'use_repo_add [dev] FILE EXTENSION [NAME=]REPO..' or 'use_repo_add VARIABLE [NAME=]REPO..'", λ words. operation_of (λ parts. w.Load (wl.AddRepos parts.0 parts.1)) (usages_repos words)))
+    ∷ (codes "use_repo_remove", (codes "'use_repo_remove [dev] FILE EXTENSION [NAME=]REPO..' or 'use_repo_remove VARIABLE [NAME=]REPO..'", λ words. operation_of (λ parts. w.Load (wl.RemoveRepos parts.0 parts.1)) (usages_repos words)))
     ∷ (codes "comment", (codes "'comment [ATTR [VALUE]] TEXT'", λ words. operation_of (λ parts. w.Comment (wc.Add parts.0 parts.1)) (option_and_then host_text (split_last words))))
     ∷ (codes "print_comment", (codes "'print_comment [ATTR [VALUE]]'", λ words. operation_of (λ host. w.Comment (wc.Print host)) (host_of words)))
     ∷ (codes "remove_comment", (codes "'remove_comment [ATTR [VALUE]]'", λ words. operation_of (λ host. w.Comment (wc.Remove host)) (host_of words)))

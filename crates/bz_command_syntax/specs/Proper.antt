@@ -4,7 +4,7 @@ use Rattle.std.specs.Prelude.{◌≡◌, true, List, [], ◌∷◌, IsUtf8}
 use Rattle.bz_items.specs.Characters.{Bytes}
 use Rattle.bz_command_syntax.specs.Words.{is_nonempty}
 use Rattle.bz_command_syntax.specs.Identifiers.{is_identifier, is_rule_kind}
-use Rattle.bz_command_syntax.specs.declared.command.{Operation.Operation, Entry.Entry, Symbol.Symbol, Host.Host, Field.Field, RulePlace.RulePlace, Attributes.Attributes, Values.Values}
+use Rattle.bz_command_syntax.specs.declared.command.{Operation.Operation, Entry.Entry, Symbol.Symbol, Host.Host, Field.Field, RulePlace.RulePlace, Attributes.Attributes, Values.Values, Usages.Usages, Repo.Repo}
 use Rattle.bz_command_syntax.specs.declared.command.Operation.TheVariants as w
 use Rattle.bz_command_syntax.specs.declared.command.RuleOperation.TheVariants as wr
 use Rattle.bz_command_syntax.specs.declared.command.AttributeOperation.TheVariants as wa
@@ -14,7 +14,9 @@ use Rattle.bz_command_syntax.specs.declared.command.LoadOperation.TheVariants as
 use Rattle.bz_command_syntax.specs.declared.command.CommentOperation.TheVariants as wc
 use Rattle.bz_command_syntax.specs.declared.command.Host.TheVariants as h
 use Rattle.bz_command_syntax.specs.declared.command.Field.TheVariants as f
-use Rattle.bz_command_syntax.specs.Commands.{is_one_line}
+use Rattle.bz_command_syntax.specs.declared.command.Usages.TheVariants as u
+use Rattle.bz_command_syntax.specs.declared.command.Repo.TheVariants as rp
+use Rattle.bz_command_syntax.specs.Commands.{is_one_line, is_repo_name}
 use Rattle.bz_command_syntax.specs.declared.command.RulePlace.TheVariants.{End, Before, After}
 use Rattle.bz_command_syntax.specs.declared.command.Attributes.TheVariants.{All as AllAttributes, Named}
 use Rattle.bz_command_syntax.specs.declared.command.Values.TheVariants.{All as AllValues, These}
@@ -68,6 +70,15 @@ IsField f.StartLine = Unit {0}
 IsField f.Rule = Unit {0}
 IsField (f.Attribute name) = IsAttribute name
 
+-- the names of a repository
+abbrev pub IsRepo : Repo → Type 0
+IsRepo (rp.Plain repo) = (is_repo_name repo ≡ true) × IsUtf8 repo
+IsRepo (rp.Named name repo) = IsAttribute name × (is_repo_name repo ≡ true) × IsUtf8 repo
+
+abbrev pub AreUsages : Usages → Type 0
+AreUsages (u.Extension dev file name) = IsUtf8 file × IsAttribute name
+AreUsages (u.Variable name) = IsAttribute name
+
 -- one or more
 abbrev pub AreSome : {X : Type 0} → (X → Type 0) → List X → Type 0
 AreSome P xs = (is_nonempty xs ≡ true) × EachIs P xs
@@ -96,7 +107,10 @@ IsProperCommand (w.Dict (wd.ListAdd attribute key values)) = IsAttribute attribu
 IsProperCommand (w.Dict (wd.Select attribute entries)) = IsAttribute attribute × AreSome IsEntry entries
 IsProperCommand (w.Load (wl.New path symbols)) = IsUtf8 path × AreSome IsSymbol symbols
 IsProperCommand (w.Load (wl.Fix fixes)) = Unit {0}
+IsProperCommand (w.Load (wl.Replace path symbols)) = IsUtf8 path × AreSome IsSymbol symbols
 IsProperCommand (w.Load (wl.Substitute pattern template)) = IsUtf8 pattern × IsUtf8 template
+IsProperCommand (w.Load (wl.AddRepos usages repos)) = AreUsages usages × AreSome IsRepo repos
+IsProperCommand (w.Load (wl.RemoveRepos usages repos)) = AreUsages usages × AreSome IsRepo repos
 IsProperCommand (w.Comment (wc.Add host text)) = IsHost host × (is_one_line text ≡ true) × IsUtf8 text
 IsProperCommand (w.Comment (wc.Print host)) = IsHost host
 IsProperCommand (w.Comment (wc.Remove host)) = IsHost host

@@ -19,6 +19,8 @@ use Rattle.bz_command_syntax.specs.declared.command.Attributes.TheVariants.{All 
 use Rattle.bz_command_syntax.specs.declared.command.Values.TheVariants.{All as AllValues}
 use Rattle.bz_command_syntax.specs.declared.command.Host.TheVariants as h
 use Rattle.bz_command_syntax.specs.declared.command.Field.TheVariants as f
+use Rattle.bz_command_syntax.specs.declared.command.Usages.TheVariants as u
+use Rattle.bz_command_syntax.specs.declared.command.Repo.TheVariants as rp
 use Rattle.bz_command_syntax.specs.declared.fault.CommandFault.TheVariants.{Unknown, Arguments}
 
 abbrev pub WorkedWords : Type 0
@@ -81,6 +83,7 @@ Others =
     × is_refused (codes "set_select d K") × is_refused (codes "set_select d K x L") × is_refused (codes "set_select kind K x")
     × reads (codes "new_load p x y=z") (w.Load (wl.New (codes "p") (record { to = codes "x"; from = codes "x" } ∷ record { to = codes "y"; from = codes "z" } ∷ [])))
     × is_refused (codes "new_load p a=b=c")
+    × reads (codes "replace_load p x") (w.Load (wl.Replace (codes "p") (record { to = codes "x"; from = codes "x" } ∷ []))) × is_refused (codes "replace_load p")
     × reads (codes "substitute_load ^@a// @b//") (w.Load (wl.Substitute (codes "^@a//") (codes "@b//"))) × is_refused (codes "substitute_load a")
     × reads (codes "fix unusedLoads") (w.Load (wl.Fix (record { move_package_to_top = false; unused_loads = true })))
     × is_refused (codes "fix unusedLoads unusedLoads")
@@ -89,6 +92,15 @@ Others =
     × reads (codes "print_comment deps") (w.Comment (wc.Print (h.Attribute (codes "deps"))))
     × reads (codes "print") (w.Print (f.Attribute (codes "name") ∷ f.Kind ∷ [])) × is_refused (codes "print label")
 
+abbrev Repositories : Type 0
+Repositories =
+    reads (codes "use_repo_add go org.x y=z-1") (w.Load (wl.AddRepos (u.Variable (codes "go")) (rp.Plain (codes "org.x") ∷ rp.Named (codes "y") (codes "z-1") ∷ [])))
+    × reads (codes "use_repo_remove :f.bzl go x") (w.Load (wl.RemoveRepos (u.Extension false (codes ":f.bzl") (codes "go")) (rp.Plain (codes "x") ∷ [])))
+    -- `dev` before three words, and alone
+    × reads (codes "use_repo_add dev :f.bzl go x") (w.Load (wl.AddRepos (u.Extension true (codes ":f.bzl") (codes "go")) (rp.Plain (codes "x") ∷ [])))
+    × reads (codes "use_repo_add dev x") (w.Load (wl.AddRepos (u.Variable (codes "dev")) (rp.Plain (codes "x") ∷ []))) × is_refused (codes "use_repo_add dev go x y")
+    × is_refused (codes "use_repo_add :f.bzl go") × is_refused (codes "use_repo_add go @x") × is_refused (codes "use_repo_add go 1=x")
+
 abbrev Names : Type 0
 Names =
     (command_of [] ≡ Err Unknown) × (command_of (codes "Delete") ≡ Err Unknown)
@@ -96,7 +108,7 @@ Names =
     × (command_in false (codes "delete" ∷ []) ≡ Err Arguments) × (command_in false (codes "grow" ∷ []) ≡ Err Unknown)
 
 abbrev pub WorkedCommands : Type 0
-WorkedCommands = Rules × Attributes × Values × Others × Names
+WorkedCommands = Rules × Attributes × Values × Others × Repositories × Names
 
 abbrev pub WorkedStrings : Type 0
 WorkedStrings = (quoted_of [] ≡ codes "\"\"") × (quoted_of (codes "a\"b\\\n") ≡ codes "\"a\\\"b\\\\\\n\"")

@@ -183,15 +183,59 @@ pub enum DictOperation {
     },
 }
 
-/// What is done to what the file loads.
+/// What is done to the symbols that the file loads, and to the repositories that it imports.
 #[derive(Drop)]
 pub enum LoadOperation {
     /// Symbols, one or more, are loaded from a path.
     New { path: Text, symbols: Items<Symbol> },
     /// The file is mended.
     Fix { fixes: Fixes },
+    /// The same symbols as in `New`, and from no other path.
+    Replace { path: Text, symbols: Items<Symbol> },
     /// In the path of each load, each match of the pattern is replaced by the template.
     Substitute { pattern: Pattern, template: Text },
+    /// Repositories, one or more, are imported from an extension.
+    AddRepos { usages: Usages, repos: Items<Repo> },
+    /// Repositories, one or more, are imported from an extension no more.
+    RemoveRepos { usages: Usages, repos: Items<Repo> },
+}
+
+/// The usages of a module extension that a command is meant for.
+pub enum Usages {
+    /// Those of the extension of this name in this file; with `dev` the development ones alone, else the others alone.
+    Extension { dev: bool, file: Text, name: Text },
+    /// Those that are assigned to this variable.
+    Variable(Text),
+}
+
+impl Drop for Usages {
+    fn drop(self) {
+        match self {
+            Usages::Extension {
+                dev: _,
+                file: _,
+                name: _,
+            } => {}
+            Usages::Variable(_) => {}
+        }
+    }
+}
+
+/// A repository of an extension, as a command names it.
+pub enum Repo {
+    /// Under whatever name; what is new is imported under its own.
+    Plain(Text),
+    /// Under this name.
+    Named { name: Text, repo: Text },
+}
+
+impl Drop for Repo {
+    fn drop(self) {
+        match self {
+            Repo::Plain(_) => {}
+            Repo::Named { name: _, repo: _ } => {}
+        }
+    }
 }
 
 /// What is done to comments, or with them.

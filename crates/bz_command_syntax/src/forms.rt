@@ -1,12 +1,12 @@
 //! Identifiers and kinds, and the forms that the words of commands have.
 ghost use Rattle.std.specs.Prelude.{◌≡◌, ◌⊎◌, ◌∷◌, [], Some, None, IsUtf8, bytes_eq, position, MatchOption, MatchResult, ◌==◌};
-ghost use Rattle.std.specs.List.{list_any};
+ghost use Rattle.std.specs.List.{list_all, list_any};
 ghost use Rattle.bz_command_syntax.specs.Commands as c;
 ghost use Rattle.bz_command_syntax.specs.Identifiers.{is_identifier as is_identifier_in, is_rule_kind as is_kind_in};
 ghost use Rattle.bz_command_syntax.specs.Words.{is_nonempty};
 
 use crate::command::{
-    Attributes, Entries, Entry, Field, Fixes, Host, RulePlace, Symbol, Texts, Values,
+    Attributes, Entries, Entry, Field, Fixes, Host, Repo, RulePlace, Symbol, Texts, Usages, Values,
 };
 use crate::fault::CommandFault;
 use bz_items::{Items, Text};
@@ -376,6 +376,86 @@ pub(crate) fn attribute_pairs(mut words: Vec<Text>) -> Read<(Text, Entries)>
     ensure!(is_attribute(&attribute) && has_values(&words));
     let entries = pairs_of(*words.allocator(), &words)?;
     Ok((attribute, entries))
+}
+
+fn is_repo_byte(byte: &u8) -> bool
+    ensures { result ≡ c.is_repo_byte byte.now }
+{
+    byte.is_ascii_alphanumeric() || b"_-.".contains(byte)
+}
+
+fn are_repo_bytes(bytes: &[u8]) -> bool
+    ensures { result ≡ list_all c.is_repo_byte bytes.now }
+{
+    bytes.iter().all(is_repo_byte)
+}
+
+fn is_repo_name(word: &[u8]) -> bool
+    ensures { result ≡ c.is_repo_name word.now }
+{
+    match word {
+        [first, rest @ ..] => first.is_ascii_alphabetic() && are_repo_bytes(rest),
+        [] => false,
+    }
+}
+
+impl FromWord for Repo {
+    ghost use Rattle.bz_command_syntax.specs.Commands.{repo_of};
+
+    ghost form = { repo_of };
+
+    // The word is cut at its first equals sign, or is the name of a repository.
+    fn from_word(alloc: Global, word: &[u8]) -> Read<Repo> {
+        let Some((name, repo)) = cut(word, b'=') else {
+            ensure!(is_repo_name(word));
+            return Ok(Repo::Plain(Text::from_slice(alloc, word)?));
+        };
+        ensure!(is_identifier(name) && is_repo_name(repo));
+        Ok(Repo::Named {
+            name: Text::from_slice(alloc, name)?,
+            repo: Text::from_slice(alloc, repo)?,
+        })
+    }
+}
+
+// The file and the extension at the head of the words, which go.
+fn extension_of(dev: bool, words: &mut Vec<Text>) -> Read<Usages>
+    ensures { MatchResult result (λ usages. c.extension_of dev words.old.items ≡ Some (usages, words.new.items)) (λ fault. (c.extension_of dev words.old.items ≡ None) × (fault ≡ CommandFault.Arguments)) }
+{
+    let file = take_first(words)?;
+    let name = take_first(words)?;
+    ensure!(!is_attribute(&file) && is_attribute(&name));
+    Ok(Usages::Extension { dev, file, name })
+}
+
+fn begins_with_dev(words: &[Text]) -> bool
+    ensures { result ≡ c.begins_with_dev words.now }
+{
+    matches!(words, [word, _, _, _, ..] if is_text(word, b"dev"))
+}
+
+// The usages that the head of the words names, which goes.
+fn usages_of(words: &mut Vec<Text>) -> Read<Usages>
+    ensures { MatchResult result (λ usages. c.usages_of words.old.items ≡ Some (usages, words.new.items)) (λ fault. (c.usages_of words.old.items ≡ None) × (fault ≡ CommandFault.Arguments)) }
+{
+    if begins_with_dev(words) {
+        drop(take_first(words)?);
+        return extension_of(true, words);
+    }
+    match words.as_slice() {
+        [first, ..] if is_attribute(first) => Ok(Usages::Variable(take_first(words)?)),
+        _ => extension_of(false, words),
+    }
+}
+
+/// The usages of an extension, and its repositories, one or more.
+pub(crate) fn usages_repos(mut words: Vec<Text>) -> Read<(Usages, Items<Repo>)>
+    ensures { MatchResult result (λ parts. c.usages_repos words.items ≡ Some parts) (λ fault. ((c.usages_repos words.items ≡ None) × (fault ≡ CommandFault.Arguments)) ⊎ (fault ≡ CommandFault.Memory)) }
+{
+    let usages = usages_of(&mut words)?;
+    ensure!(has_values(&words));
+    let repos = each(*words.allocator(), &words)?;
+    Ok((usages, repos))
 }
 
 fn is_unknown_field(word: &[u8]) -> bool

@@ -12,7 +12,8 @@ mod words;
 
 pub use command::{
     AttributeOperation, Attributes, Command, CommentOperation, DictOperation, Entry, Field, Fixes,
-    Host, LoadOperation, Operation, RuleOperation, RulePlace, Symbol, ValueOperation, Values,
+    Host, LoadOperation, Operation, Repo, RuleOperation, RulePlace, Symbol, Usages, ValueOperation,
+    Values,
 };
 pub use fault::CommandFault;
 pub use forms::{as_text, is_identifier, is_kind_name};

@@ -13,7 +13,7 @@ use crate::forms::{
     Read, as_text, attribute_and_values, attribute_and_word, attribute_key_values,
     attribute_key_words, attribute_pairs, attributes_and_words, attributes_of, ensure, entries_of,
     fields_of, fixes_of, has_values, host_of, is_kind_name, is_text, moved_values, new_rule,
-    path_symbols, take_first, two_attributes, two_words,
+    path_symbols, take_first, two_attributes, two_words, usages_repos,
 };
 use crate::pattern::Pattern;
 use crate::words::read_words;
@@ -157,7 +157,13 @@ macro_rules! commands {
             "set_select" => "'set_select ATTR KEY VALUE [KEY VALUE]..'", operation = set_select_of => operation;
             "new_load" => "'new_load PATH [TO=]FROM..'",
                 (path, symbols) = path_symbols => Operation::Load(LoadOperation::New { path, symbols });
+            "replace_load" => "'replace_load PATH [TO=]FROM..'",
+                (path, symbols) = path_symbols => Operation::Load(LoadOperation::Replace { path, symbols });
             "substitute_load" => "'substitute_load PATTERN TEMPLATE'", operation = substitute_load_of => operation;
+            "use_repo_add" => "'use_repo_add [dev] FILE EXTENSION [NAME=]REPO..' or 'use_repo_add VARIABLE [NAME=]REPO..'",
+                (usages, repos) = usages_repos => Operation::Load(LoadOperation::AddRepos { usages, repos });
+            "use_repo_remove" => "'use_repo_remove [dev] FILE EXTENSION [NAME=]REPO..' or 'use_repo_remove VARIABLE [NAME=]REPO..'",
+                (usages, repos) = usages_repos => Operation::Load(LoadOperation::RemoveRepos { usages, repos });
             "comment" => "'comment [ATTR [VALUE]] TEXT'", operation = comment_of => operation;
             "print_comment" => "'print_comment [ATTR [VALUE]]'",
                 host = host_of => Operation::Comment(CommentOperation::Print { host });
