@@ -28,7 +28,8 @@ use Rattle.bz_grammar.specs.Spots.{Begins}
 use Rattle.bz_value.specs.Proper.{IsProperItem, IsProper}
 use Rattle.bz_value.specs.LineShapes.{whole_grammar}
 use Rattle.bz_load.specs.Fixes.{uses, is_used, is_commented, path_comments, has_own_comments, symbol_stays, with_used, is_emptied, used_alone, unused_loads, is_package_call, package_moved, move_package_to_top, fix}
-use Rattle.bz_load.proofs.ProperLoads.{used_statement, loads_stay_proper, load_none}
+use Rattle.bz_load.proofs.LawReplaced.{loads_stay_proper}
+use Rattle.bz_load.proofs.ProperLoads.{used_statement, load_none}
 
 -- ---- a new symbol is loaded
 
@@ -46,7 +47,7 @@ made_alias symbol h =
     ∙ (ap (λ (found : Option Bytes). option_map_or (is_symbol symbol) (option_map (symbol_named symbol.to) found) false) (body_quoted symbol.from h)
     ∙ and_from (bytes_eq symbol.to symbol.to) (bytes_eq symbol.from symbol.from) (equal_self symbol.to) (equal_self symbol.from))
 
-made_loads : (symbol : Symbol) → IsPlain symbol.from → loads_symbol symbol (symbol_made symbol) ≡ true
+pub made_loads : (symbol : Symbol) → IsPlain symbol.from → loads_symbol symbol (symbol_made symbol) ≡ true
 made_loads symbol h =
     by_case (λ x. loads_symbol symbol x ≡ true) (bytes_eq symbol.to symbol.from) (token c.String (quoted_of symbol.from))
     (node k.Alias (name symbol.to ∷ mark (codes "=") ∷ token c.String (quoted_of symbol.from) ∷ [])) (made_string symbol h) (λ e. made_alias symbol h)
@@ -147,7 +148,7 @@ module _ (path : Bytes) (more : List Expr) where
   abbrev made_items : List Expr
   made_items = token c.String (quoted_of path) ∷ more
 
-  new_from : IsPlain path → is_load_from path (load_made path more) ≡ true
+  pub new_from : IsPlain path → is_load_from path (load_made path more) ≡ true
   new_from h = ap (λ xs. is_text path (path_in xs)) (items_hidden-the_row-Expr-0 made_items) ∙ text_quoted path h
 
   new_loads : IsPlain path → (symbol : Symbol) → loads symbol (load_made path more) ≡ list_any (loads_symbol symbol) more

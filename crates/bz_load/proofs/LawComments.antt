@@ -1,4 +1,4 @@
--- The commands on loads keep each comment as often as it occurred there.
+-- new_load, fix and substitute_load keep each comment as often as it occurred there.
 use Rattle.std.proofs.Common.{◌≡◌, ℕ, zero, suc, ◌+◌, Bool, true, false, not, ◌&&◌, ◌||◌, List, [], ◌∷◌, ◌++◌, Option, Some, None, refl, sym, ap, ◌∙◌, map, codes, arith, true≢false}
 use Rattle.std.specs.Prelude.{IfSome, bytes_eq, if◌then◌else◌}
 use Rattle.std.specs.List.{AllByRecursion, list_any, filter, insert, find}
@@ -10,7 +10,7 @@ use Rattle.bz_grammar.specs.declared.kind.Kind.TheVariants as k
 use Rattle.bz_grammar.specs.Shapes as s
 use Rattle.bz_grammar.specs.Spots.{Begins}
 use Rattle.bz_value.specs.declared.value.Expr.{Expr, Token, Form', items-the_row-Expr}
-use Rattle.bz_load.specs.Words.{Item, Bytes, body_of, is_empty, is_none, quoted_of, substituted, Symbol, token, node, mark, name, on_first_that, without_first}
+use Rattle.bz_load.specs.Words.{Item, Bytes, Kind, body_of, is_empty, is_none, quoted_of, substituted, Symbol, token, node, mark, name, on_first_that, without_first}
 use Rattle.bz_value.specs.declared.value.Item.TheVariants as i
 use Rattle.bz_value.specs.Comments.{HostComments, no_comments}
 use Rattle.bz_value.specs.Counted.{total, suffix_amount, host_amount, row_amount, item_amount, one_if}
@@ -26,7 +26,6 @@ use Rattle.bz_load.specs.Loads.{is_load_from, is_loaded, after_path, leading_blo
 use Rattle.bz_load.specs.NewLoad.{new_symbols, symbol_made, load_made, with_symbols, new_load}
 use Rattle.bz_load.specs.SubstituteLoad.{path_substituted, string_substituted, substitute_load, with_string_body}
 use Rattle.bz_load.specs.Fixes.{is_used, is_commented, path_comments, end_of, has_own_comments, symbol_stays, is_emptied, used_alone, is_package_call, package_moved, move_package_to_top, fix}
-use Rattle.bz_load.specs.Laws.{LoadsKeepComments}
 use Rattle.bz_load.proofs.ProperLoads.{fix_keeps, IsAlias, alias_parts, load_parts, token_amount}
 
 -- ---- lists
@@ -50,16 +49,24 @@ module _ (number : Bytes → ℕ) where
       ap (λ a. host comments + (a + (row_amount number items + total number end))) (row_total number _ parts)
       ∙ ap (λ a. host comments + (total (whole number) (items-the_row-Expr _ parts) + (a + total number end))) (row_total number _ items)
 
-  items_same : (ys : List Expr) (x : Expr) → total (whole number) ys ≡ total (whole number) (items_of x) → whole number (with_items ys x) ≡ whole number x
+  pub items_same : (ys : List Expr) (x : Expr) → total (whole number) ys ≡ total (whole number) (items_of x) → whole number (with_items ys x) ≡ whole number x
   items_same ys (Token t) h = refl
   items_same ys (Form' kind s parts s' items end split open_break comments) h =
       form_amount number (made kind (items-the_row-Expr _ parts) ys end split open_break comments)
       ∙ (ap (λ a. host comments + (total (whole number) (items-the_row-Expr _ parts) + (a + total number end))) h
       ∙ sym (amount_answered (Form' kind s parts s' items end split open_break comments)))
 
+  -- with other items it is as often as in these
+  pub items_put : (kind : Kind) (ys : List Expr) (x : Expr) → has_kind kind x ≡ true → whole number (with_items ys x) + total (whole number) (items_of x) ≡ whole number x + total (whole number) ys
+  items_put own ys (Token t) is = absurd (true≢false (sym is))
+  items_put own ys (Form' kind s parts s' items end split open_break comments) is =
+      let a = form_amount number (made kind (items-the_row-Expr _ parts) ys end split open_break comments) in
+      let b = amount_answered (Form' kind s parts s' items end split open_break comments) in
+      omega (arith, a, b)
+
   -- ---- new symbols, and a new load
 
-  symbol_none : (symbol : Symbol) → whole number (symbol_made symbol) ≡ 0
+  pub symbol_none : (symbol : Symbol) → whole number (symbol_made symbol) ≡ 0
   symbol_none symbol =
       let parts : List Expr = name symbol.to ∷ mark (codes "=") ∷ token c.String (quoted_of symbol.from) ∷ [] in
       by_test (λ (x : Expr). whole number x ≡ 0) (bytes_eq symbol.to symbol.from) (token c.String (quoted_of symbol.from)) (node k.Alias parts) refl
@@ -73,7 +80,7 @@ module _ (number : Bytes → ℕ) where
       omega arith
 
   module _ (more : List Expr) (none : total (whole number) more ≡ 0) where
-    load_none : (path : Bytes) → item_amount number (load_made path more) ≡ 0
+    pub load_none : (path : Bytes) → item_amount number (load_made path more) ≡ 0
     load_none path =
         let h = form_amount number (made k.Load (token c.Keyword (codes "load") ∷ []) (token c.String (quoted_of path) ∷ more) [] false false no_comments) in
         omega arith
@@ -232,16 +239,9 @@ module _ (number : Bytes → ℕ) where
   moved_same : (items : List Item) → file (move_package_to_top items) ≡ file items
   moved_same items = moved_by items (find is_package_call items) (taken_total is_package_call items)
 
-  by_fixes : (top unused : Bool) (items : List Item) → AllByRecursion IsProperItem items → file (fix (record { move_package_to_top = top; unused_loads = unused }) items) ≡ file items
+  pub by_fixes : (top unused : Bool) (items : List Item) → AllByRecursion IsProperItem items → file (fix (record { move_package_to_top = top; unused_loads = unused }) items) ≡ file items
   by_fixes false false items h = refl
   by_fixes true false items h = moved_same items
   by_fixes false true items h = unused_amount (is_used items) items h
   by_fixes true true items h =
       unused_amount (is_used (move_package_to_top items)) (move_package_to_top items) (fix_keeps whole_grammar (record { move_package_to_top = true; unused_loads = false }) items h) ∙ moved_same items
-
-pub comments_stay : LoadsKeepComments
-comments_stay = (
-  λ path symbols items text. new_load_same (one_if text) path symbols items,
-  λ fixes items h text. by_fixes (one_if text) fixes.move_package_to_top fixes.unused_loads items (recursion_from_All IsProperItem items h),
-  λ pattern template items text. substitute_load_same (one_if text) pattern template items,
-)

@@ -14,12 +14,12 @@ use Rattle.bz_load.specs.Fixes.{is_package_call, package_moved, move_package_to_
 
 -- ---- an item that is put in
 
-pub any_put : (test : Item → Bool) (n : ℕ) (new : Item) (xs : List Item) → list_any test (insert xs n new) ≡ (test new || list_any test xs)
+pub any_put : {X : Type 0} (test : X → Bool) (n : ℕ) (new : X) (xs : List X) → list_any test (insert xs n new) ≡ (test new || list_any test xs)
 any_put test zero new xs = refl
 any_put test (suc n) new [] = refl
 any_put test (suc n) new (x ∷ xs) = ap (λ z. test x || z) (any_put test n new xs) ∙ or_turn (test x) (test new) (list_any test xs)
 
-pub all_put : (P : Item → Type 0) (n : ℕ) (new : Item) (xs : List Item) → P new → AllByRecursion P xs → AllByRecursion P (insert xs n new)
+pub all_put : {X : Type 0} (P : X → Type 0) (n : ℕ) (new : X) (xs : List X) → P new → AllByRecursion P xs → AllByRecursion P (insert xs n new)
 all_put P zero new xs p h = (p, h)
 all_put P (suc n) new [] p h = (p, tt)
 all_put P (suc n) new (x ∷ xs) p h = (h.0, all_put P n new xs p h.1)

@@ -1,6 +1,6 @@
 -- What the commands on loads make of proper items is proper, and what a proper load is made of.
 use Rattle.std.proofs.Common.{◌≡◌, Bool, true, false, not, List, [], ◌∷◌, ◌++◌, inr, refl, sym, subst, map, arith, true≢false, ◌||◌, ◌&&◌, inl, ap, ◌∙◌, ℕ, length}
-use Rattle.std.specs.Prelude.{IsUtf8, IfSome, Option, Some, None, codes, bytes_eq, if◌then◌else◌}
+use Rattle.std.specs.Prelude.{All, IsUtf8, IfSome, Option, Some, None, codes, bytes_eq, if◌then◌else◌}
 use Rattle.std.specs.List.{AllByRecursion, filter, list_any, find}
 use Rattle.std.specs.Option.{option_map_or}
 use Rattle.std.proofs.lemmas.Bool.{and_parts, eqb-true}
@@ -14,7 +14,7 @@ use Rattle.bz_value.specs.declared.value.Expr.{Expr, Token, Form', items-the_row
 use Rattle.bz_load.specs.Words.{Item, Bytes, body_of, quoted_of, substituted, Symbol, Fixes, is_text, token, node, mark, name, on_first_that, without_first, Kind}
 use Rattle.bz_value.specs.declared.value.Item.TheVariants as i
 use Rattle.bz_value.specs.Comments.{no_comments}
-use Rattle.bz_value.specs.Proper.{IsComment, IsProperItemIn, comments_of, ProperExpr}
+use Rattle.bz_value.specs.Proper.{AreComments, IsComment, IsProperItemIn, comments_of, ProperExpr}
 use Rattle.bz_value.specs.LineShapes.{Grammar, value_shape}
 use Rattle.bz_value.specs.Roots as r
 use Rattle.bz_value.proofs.FormParts.{ArePartsBy, form_proper_by}
@@ -36,7 +36,6 @@ use Rattle.bz_load.proofs.RenamedPaths.{string_body}
 use Rattle.bz_load.specs.Fixes.{is_used, has_own_comments, symbol_stays, with_used, is_emptied, used_alone, unused_loads, is_package_call, package_moved, move_package_to_top, fix, has_operand, end_of}
 use Rattle.bz_load.specs.private.Known.{operand_in}
 use Rattle.bz_load.proofs.Operands.{none_among, operands_answered}
-use Rattle.bz_load.specs.Laws.{LoadsStayProper}
 use Rattle.bz_load.proofs.PlaceSteps.{all_put}
 use Rattle.bz_token.specs.declared.class.Class.{Class}
 use Rattle.bz_grammar.specs.Shapes.{Terminal, has_token, is_one_of, is_class, is_kind}
@@ -108,7 +107,7 @@ module _ (grammar : Grammar) where
       (new_part grammar false Within Within right [] (string_new from u) tt)) in
       ((row_proper grammar Within k.Alias (name to ∷ sign ∷ right ∷ []) refl (refl, (refl, (refl, tt))) parts, none_there, refl), refl)
 
-  symbol_item : (symbol : Symbol) → IsSymbol symbol → IsItem grammar s.loaded (symbol_made symbol)
+  pub symbol_item : (symbol : Symbol) → IsSymbol symbol → IsItem grammar s.loaded (symbol_made symbol)
   symbol_item symbol h =
       by_test (IsItem grammar s.loaded) (bytes_eq symbol.to symbol.from) (token c.String (quoted_of symbol.from)) (node k.Alias (name symbol.to ∷ mark (codes "=") ∷ token c.String (quoted_of symbol.from) ∷ []))
       (((string_new symbol.from h.1.1).proper Within, none_there, refl), refl) (alias_item symbol.to symbol.from h.0 h.1.1)
@@ -119,7 +118,7 @@ module _ (grammar : Grammar) where
 
   -- ---- a new load
 
-  load_proper : (path : Bytes) (more : List Expr) → IsUtf8 path → AreOf grammar s.loaded more → IsProperItemIn grammar (load_made path more)
+  pub load_proper : (path : Bytes) (more : List Expr) → IsUtf8 path → AreOf grammar s.loaded more → IsProperItemIn grammar (load_made path more)
   load_proper path more u all =
       let word = token_new grammar c.Keyword (codes "load") refl load_coded in (
         refl,
@@ -217,7 +216,7 @@ module _ (grammar : Grammar) where
   -- ---- an alias and a load
 
   -- what is so of the lists of forms of a kind
-  of_kind : (kind : Kind) (here : Spot) (P : List Expr → List Expr → List Bytes → Type 0) → ((ps xs : List Expr) (end : List Bytes) (split open_break : Bool) → AsForm grammar here kind ps xs end split open_break → P ps xs end)
+  pub of_kind : (kind : Kind) (here : Spot) (P : List Expr → List Expr → List Bytes → Type 0) → ((ps xs : List Expr) (end : List Bytes) (split open_break : Bool) → AsForm grammar here kind ps xs end split open_break → P ps xs end)
       → (x : Expr) → has_kind kind x ≡ true → ProperExpr grammar here x → P (parts_of x) (items_of x) (end_of x)
   of_kind kind here P f (Token t) is h = absurd (true≢false (sym is))
   of_kind kind here P f (Form' own s parts s' items end split open_break comments) is h =
@@ -247,7 +246,7 @@ module _ (grammar : Grammar) where
   alias_parts = of_kind k.Alias Within IsAlias alias_of
 
   -- so does the word of a load, and after it are a path and symbols
-  pub record IsLoad (ps xs : List Expr) : Type 0 where
+  pub record IsLoad (ps xs : List Expr) (end : List Bytes) : Type 0 where
     pub unused : (text : Bytes) → operand_in k.Load text ps ≡ false
     pub bare : (number : Bytes → ℕ) → total (amount number) ps ≡ 0
     pub path : Expr
@@ -255,8 +254,10 @@ module _ (grammar : Grammar) where
     pub items : xs ≡ path ∷ symbols
     pub at_path : has_token s.string (root path) ≡ true
     pub loaded : AreOf grammar s.loaded symbols
+    pub said : AreComments (comments_of path)
+    pub ends : All IsComment end
 
-  load_of : (here : Spot) (ps xs : List Expr) (end : List Bytes) (split open_break : Bool) → AsForm grammar here k.Load ps xs end split open_break → IsLoad ps xs
+  load_of : (here : Spot) (ps xs : List Expr) (end : List Bytes) (split open_break : Bool) → AsForm grammar here k.Load ps xs end split open_break → IsLoad ps xs end
   load_of here [] xs end split open_break h = let n = lead_before k.Load [] (map root xs) h.0 in absurd (omega arith)
   load_of here (p ∷ []) [] end split open_break h = absurd (true≢false (sym h.0.1.1.0))
   load_of here (p ∷ []) (x ∷ xs) end split open_break ((w, (o, (t, inl i))), g) = absurd (true≢false (sym i.0))
@@ -268,11 +269,13 @@ module _ (grammar : Grammar) where
     items = refl;
     at_path = t;
     loaded = items_apart grammar s.loaded s.close_round (mark_leaf 41) xs g.1.3 i.1;
+    said = g.1.1;
+    ends = g.2;
   }
   load_of here (p ∷ q ∷ ps) xs end split open_break h = let n = lead_before k.Load (map root (p ∷ q ∷ ps)) (map root xs) h.0 in absurd (omega arith)
 
-  pub load_parts : (here : Spot) (x : Expr) → has_kind k.Load x ≡ true → ProperExpr grammar here x → IsLoad (parts_of x) (items_of x)
-  load_parts here = of_kind k.Load here (λ ps xs end. IsLoad ps xs) (load_of here)
+  pub load_parts : (here : Spot) (x : Expr) → has_kind k.Load x ≡ true → ProperExpr grammar here x → IsLoad (parts_of x) (items_of x) (end_of x)
+  load_parts here = of_kind k.Load here IsLoad (load_of here)
 
   -- ---- a proper load uses no name
 
@@ -293,10 +296,3 @@ module _ (grammar : Grammar) where
       operands_answered true text k.Load x is
       ∙ (both (λ y xs. y || operand_in k.Load text xs) (a.unused text) a.items
       ∙ none_among k.Load (length (a.path ∷ a.symbols)) 0 text (a.path ∷ a.symbols) (token_none text s.string (λ own. refl) a.path a.at_path, all_none text a.symbols a.loaded))
-
-pub loads_stay_proper : LoadsStayProper
-loads_stay_proper = (
-  λ grammar path symbols items u some h. All-from_recursion (IsProperItemIn grammar) (new_load path symbols items) (new_load_keeps grammar path symbols items u some (recursion_from_All (IsProperItemIn grammar) items h)),
-  λ grammar fixes items h. All-from_recursion (IsProperItemIn grammar) (fix fixes items) (fix_keeps grammar fixes items (recursion_from_All (IsProperItemIn grammar) items h)),
-  λ grammar pattern template items h. All-from_recursion (IsProperItemIn grammar) (substitute_load pattern template items) (substitute_load_keeps grammar pattern template items (recursion_from_All (IsProperItemIn grammar) items h)),
-)

@@ -3,7 +3,11 @@ pub mod Laws
 pub mod Loads
 pub mod NewLoad
 pub mod Paths
+pub mod ReplaceLoad
 pub mod SubstituteLoad
+pub mod UsageLaws
+pub mod Usages
 pub mod Words
 pub mod Worked
+pub mod WorkedUsages
 pub mod private

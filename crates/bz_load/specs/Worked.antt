@@ -1,11 +1,12 @@
 -- Worked rows: small files, and what the commands on loads make of them.
-use Rattle.std.specs.Prelude.{◌≡◌, true, false, List, [], ◌∷◌, Some, codes}
+use Rattle.std.specs.Prelude.{◌≡◌, true, false, List, [], ◌∷◌, None, Some, codes}
 use Rattle.bz_token.specs.declared.class.Class.TheVariants as c
 use Rattle.bz_grammar.specs.declared.kind.Kind.TheVariants as k
 use Rattle.bz_load.specs.Words.{Expr, Item, Bytes, Symbol, Fixes, substituted, token, node, sequence, name, mark}
 use Rattle.bz_value.specs.declared.value.Expr.TheVariants as e
 use Rattle.bz_value.specs.declared.value.Item.TheVariants as i
 use Rattle.bz_load.specs.NewLoad.{new_load}
+use Rattle.bz_load.specs.ReplaceLoad.{replace_load}
 use Rattle.bz_load.specs.SubstituteLoad.{substitute_load}
 use Rattle.bz_load.specs.Fixes.{unused_loads, move_package_to_top, fix}
 
@@ -64,3 +65,36 @@ WorkedLoads =
     × ((substituted (codes "a") (codes "b") (codes "b.bzl") ≡ codes "b.bzl")
     → substitute_load (codes "a") (codes "b") (load (plain (codes "'b.bzl'") ∷ a ∷ []) ∷ load (plain (codes "r\"a.bzl\"") ∷ a ∷ []) ∷ load [] ∷ [])
     ≡ load (plain (codes "'b.bzl'") ∷ a ∷ []) ∷ load (plain (codes "r\"a.bzl\"") ∷ a ∷ []) ∷ load [] ∷ [])
+
+-- a string with a comment above it and one after it
+abbrev said : Bytes → Bytes → Bytes → Expr
+said text above after = e.Token (record { class = c.String; text = text; line_break = false; comments = record { before = above ∷ []; suffix = Some after } })
+
+-- a load with a comment above it, one at its end and one after it
+abbrev said_load : List Expr → Item
+said_load items =
+    i.Stmt (e.Form (record { kind = k.Load; parts = token c.Keyword (codes "load") ∷ []; seq = record { items = items; end = codes "# end" ∷ []; split = false }; open_break = false; comments = record { before = codes "# why" ∷ []; suffix = Some (codes "# tail") } }))
+
+abbrev pub WorkedReplacements : Type 0
+WorkedReplacements =
+    let path : Expr = plain (codes "\"a.bzl\"") in
+    -- no plain string
+    let other_path : Expr = plain (codes "r\"b.bzl\"") in
+    let a : Expr = plain (codes "\"a\"") in
+    let b : Expr = plain (codes "\"b\"") in
+    let x : Expr = plain (codes "\"x\"") in
+    let alias : Expr = node k.Alias (name (codes "x") ∷ mark (codes "=") ∷ plain (codes "\"q\"") ∷ []) in
+    let asked : List Symbol = record { to = codes "x"; from = codes "x" } ∷ [] in
+    let twice : List Symbol = record { to = codes "x"; from = codes "x" } ∷ record { to = codes "b"; from = codes "b" } ∷ record { to = codes "x"; from = codes "q" } ∷ [] in
+    let rule : Item = call (codes "a") in
+    -- the comments of a load that goes are above the symbol with which it goes
+    (replace_load (codes "a.bzl") asked (said_load (said (codes "\"x.bzl\"") (codes "# o") (codes "# p") ∷ noted (codes "\"x\"") ∷ []) ∷ rule ∷ [])
+    ≡ load (path ∷ e.Token (record { class = c.String; text = codes "\"x\""; line_break = false; comments = record { before = codes "# why" ∷ codes "# o" ∷ codes "# p" ∷ codes "# end" ∷ codes "# tail" ∷ []; suffix = Some (codes "# c") } }) ∷ []) ∷ rule ∷ [])
+    -- another symbol that the load from the path has under that name goes too
+    × (replace_load (codes "a.bzl") asked (load (path ∷ alias ∷ []) ∷ []) ≡ load (path ∷ x ∷ []) ∷ [])
+    -- a new load is where the last one was before it went
+    × (replace_load (codes "a.bzl") asked (rule ∷ load (other_path ∷ x ∷ []) ∷ rule ∷ []) ≡ rule ∷ load (path ∷ x ∷ []) ∷ rule ∷ [])
+    -- a symbol that is loaded so already stays, and takes the comments of the other one
+    × (replace_load (codes "a.bzl") asked (load (path ∷ x ∷ b ∷ []) ∷ load (other_path ∷ said (codes "\"x\"") (codes "# m") (codes "# s") ∷ a ∷ []) ∷ []) ≡ load (path ∷ said (codes "\"x\"") (codes "# m") (codes "# s") ∷ b ∷ []) ∷ load (other_path ∷ a ∷ []) ∷ [])
+    -- of two symbols with one local name the later one is loaded
+    × (replace_load (codes "a.bzl") twice (load (other_path ∷ x ∷ []) ∷ rule ∷ []) ≡ load (path ∷ b ∷ alias ∷ []) ∷ rule ∷ [])

@@ -26,7 +26,7 @@ fn string(alloc: Global, word: &[u8]) -> Result<Expr, Memory>
 }
 
 /// The item of a load that loads the symbol: `to = "from"`, or where both names are one the string alone.
-fn symbol_made(alloc: Global, symbol: &Symbol) -> Result<Expr, Memory>
+pub(crate) fn symbol_made(alloc: Global, symbol: &Symbol) -> Result<Expr, Memory>
     ensures { IfOk result (λ x. x ≡ symbol_made symbol.now) }
 {
     let (to, from) = (symbol.to.as_slice(), symbol.from.as_slice());
@@ -41,7 +41,7 @@ fn symbol_made(alloc: Global, symbol: &Symbol) -> Result<Expr, Memory>
 }
 
 /// A load of these symbols from the path. The error: memory was refused.
-fn load_of(alloc: Global, path: &[u8], symbols: &mut Vec<Expr>) -> Result<Item, Memory>
+pub(crate) fn load_of(alloc: Global, path: &[u8], symbols: &mut Vec<Expr>) -> Result<Item, Memory>
     ensures { IfOk result (λ item. item ≡ load_made path.now symbols.old.items) }
 {
     let mut parts = Vec::with_capacity(alloc, 1)?;
@@ -140,20 +140,26 @@ fn new_symbols(
     Ok(made)
 }
 
-/// The items of a file with a load that has the new symbols.
+/// The items of a file with a load that has the symbols.
 #[derive(Drop)]
 pub struct WithLoad {
     pub items: Items<Item>,
-    /// Whether they are the items that there were: no symbol was new to a load that was there.
+    /// Whether they are the items that there were.
     pub same: bool,
-    /// After how many items the load is.
+    /// After how many items those are that changed: the load, where only that did.
     pub at: usize,
-    /// In the place of how many items it is: of one where there was such a load before, of none where it is put in.
+    /// How many there were: none where only a load is put in.
     pub gone: usize,
+    /// How many there are in their place.
+    pub come: usize,
 }
 
 /// Where the first load from the path is. Among paths that are those of the items it is looked up first.
-fn place_of_load(path: &[u8], paths: Option<&LoadedPaths>, items: &[Item]) -> Option<usize>
+pub(crate) fn place_of_load(
+    path: &[u8],
+    paths: Option<&LoadedPaths>,
+    items: &[Item],
+) -> Option<usize>
     requires { IfSome paths (λ loaded. AreListed loaded.now items.now) }
     ensures { result ≡ position (is_from path.now) items.now }
 {
@@ -191,7 +197,7 @@ pub fn new_load(
     requires { IfSome paths (λ loaded. AreListed loaded.now items) }
     ensures items { IfOk result (λ made. made.items ≡ new_load path.now symbols.now items) }
     ensures same { IfOk result (λ made. IsTrue made.same ↔ (made.items ≡ items)) }
-    ensures spliced { IfOk result (λ made. IsSpliced made.at made.gone 1 items made.items) }
+    ensures spliced { IfOk result (λ made. IsSpliced made.at made.gone made.come items made.items) }
 {
     let place = place_of_load(path, paths, items.as_slice());
     let mut more = new_symbols(alloc, path, symbols, place, items.as_slice())?;
@@ -205,6 +211,7 @@ pub fn new_load(
             same: false,
             at,
             gone: 0,
+            come: 1,
         });
     };
     let same = more.is_empty();
@@ -214,5 +221,6 @@ pub fn new_load(
         same,
         at,
         gone: 1,
+        come: 1,
     })
 }

@@ -1,18 +1,24 @@
-//! The loads of a file: symbols that are loaded too, paths in which a pattern is replaced, symbols that nothing uses, and the package after the loads.
+//! The loads of a file: symbols that are loaded too, or from one path alone, paths in which a pattern is replaced, symbols that nothing uses, and the package after the loads.
 #![tactic(auto)]
 
 mod adding;
 mod fixing;
 mod laws;
+mod looking;
 mod paths;
 mod readings;
 mod renaming;
+mod replacing;
+mod usages;
 
 pub use adding::{WithLoad, new_load};
 pub use fixing::fix;
 pub use laws::{
-    comments_stay, dropping_again, fixing_again, loading_again, loads_stay_proper, moving_again,
-    worked_loads,
+    adding_repos_again, comments_stay, dropping_again, fixing_again, loading_again, loading_alone,
+    loads_stay_proper, moving_again, replacing_again, repos_keep_comments, repos_there_and_back,
+    usages_stay_proper, worked_loads, worked_usages,
 };
+pub use looking::replace_load;
 pub use paths::LoadedPaths;
 pub use renaming::substitute_load;
+pub use usages::{use_repo_add, use_repo_remove};

@@ -3,7 +3,7 @@ ghost use Rattle.std.specs.Prelude.{◌≡◌, ◌≤◌, IfSome, is_some, lengt
 ghost use Rattle.std.specs.Option.{option_copied, option_map};
 ghost use Rattle.bz_load.specs.Words.{Bytes, is_text, body_of};
 ghost use Rattle.bz_load.specs.private.Known.{symbol_of_key};
-ghost use Rattle.bz_load.specs.Loads.{is_block, is_load_from, is_load_item, leading_blocks, loads_end, symbol_in, symbols_of};
+ghost use Rattle.bz_load.specs.Loads.{after_path, is_block, is_load_from, is_load_item, leading_blocks, loads_end, symbol_in, symbols_of};
 
 use bz_attribute::{body_of, first_text, has_kind, items_of, parts_of};
 use bz_grammar::{Class, Kind};
@@ -43,6 +43,26 @@ pub(crate) fn load_from<'a>(path: &[u8], item: &'a Item) -> Option<&'a [Expr]>
     }
 }
 
+/// The items of a load after the path.
+pub(crate) fn after_path(items: &[Expr]) -> &[Expr]
+    ensures { result.now ≡ after_path items.now }
+{
+    match items {
+        [_, symbols @ ..] => symbols,
+        [] => &[],
+    }
+}
+
+/// What a load has after its path.
+pub(crate) fn symbols_of(item: &Item) -> &[Expr]
+    ensures { result.now ≡ symbols_of item.now }
+{
+    match item {
+        Item::Stmt(x) => after_path(items_of(x)),
+        Item::Block(_) => &[],
+    }
+}
+
 /// The path of a load, where that is a plain string.
 pub(crate) fn path_of(item: &Item) -> Option<&[u8]>
     ensures { (path : Bytes) → is_text path (option_copied result) ≡ is_load_from path item.now }
@@ -72,7 +92,7 @@ pub(crate) fn symbol_in(x: &Expr) -> Option<Loaded<'_>>
     Some(Loaded { to, from })
 }
 
-fn is_load(item: &Item) -> bool
+pub(crate) fn is_load(item: &Item) -> bool
     ensures { result ≡ is_load_item item.now }
 {
     matches!(item, Item::Stmt(x) if has_kind(Kind::Load, x))

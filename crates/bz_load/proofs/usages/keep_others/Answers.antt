@@ -1,0 +1,9 @@
+use Rattle.std.proofs.Common.{rules}
+use Rattle.std.proofs.lemmas.Fn.{filter_same}
+use Rattle.bz_load.specs.Usages.{argument_stays}
+use Rattle.bz_load.proofs.usages.keep_others.Goals as goal
+
+pub returns : goal.returns
+returns c =
+    let kept = filter_same _ (argument_stays c.args.repos.now) _ (λ x b f h. search rules) _ _ c.retain.ensures.filtered in
+    search (rules, kept)

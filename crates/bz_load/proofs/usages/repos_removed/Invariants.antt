@@ -1,0 +1,7 @@
+use Rattle.std.proofs.Common.{◌≡◌, ◌++◌, take, drop, map}
+use Rattle.bz_load.specs.Usages.{repos_removed, without_repos}
+use Rattle.bz_load.proofs.usages.repos_removed.Given as goal
+
+abbrev pub invariant-loop-item : goal.invariant-loop-item
+invariant-loop-item l =
+    take l.item-index l.item-items ++ map (without_repos l.fn.variables l.fn.repos) (drop l.item-index l.item-items) ≡ repos_removed l.fn.variables l.fn.repos l.fn.items

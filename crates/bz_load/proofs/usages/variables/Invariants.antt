@@ -1,0 +1,6 @@
+use Rattle.std.proofs.Common.{◌≡◌, ◌++◌, drop}
+use Rattle.bz_load.specs.Usages.{variables}
+use Rattle.bz_load.proofs.usages.variables.Given as goal
+
+abbrev pub invariant-loop-item : goal.invariant-loop-item
+invariant-loop-item l = l.made ++ variables l.fn.current l.fn.usages (drop l.item-index l.items) ≡ variables l.fn.current l.fn.usages l.items
