@@ -1,11 +1,13 @@
 -- Commands that take nothing away lose no comment.
 use Rattle.std.proofs.Common.{◌≡◌, ◌≤◌, ◌+◌, ℕ, Bool, true, false, not, List, [], ◌∷◌, Option, Some, None, Result, Ok, Err, refl, sym, subst, map, true≢false, arith}
 use Rattle.std.specs.Prelude.{if◌then◌else◌, IfOk, bytes_eq}
-use Rattle.std.specs.List.{insert, list_any}
+use Rattle.std.specs.List.{AllByRecursion, insert, list_any}
 use Rattle.std.specs.Option.{option_map_or}
 use Rattle.bz_grammar.specs.declared.kind.Kind.TheVariants as k
 use Rattle.bz_value.specs.declared.value.Expr.{Expr, Token, Form', items-the_row-Expr}
-use Rattle.bz_command.specs.Words.{Item, Bytes, Operation, RulePlace, Rule as RuleRead, rule_of, attribute, has_name, Refusal, Arguments, with_comment, comment}
+use Rattle.std.proofs.lemmas.List.Elements.{recursion_from_All}
+use Rattle.bz_value.specs.Proper.{IsProperItemIn}
+use Rattle.bz_command.specs.Words.{Grammar, IsProperCommand, Item, Bytes, Operation, RulePlace, Rule as RuleRead, rule_of, attribute, has_name, Refusal, Arguments, with_comment, comment}
 use Rattle.bz_value.specs.declared.value.Item.TheVariants as i
 use Rattle.bz_value.specs.Counted.{total, amount, item_amount, one_if}
 use Rattle.bz_value.proofs.Totals.{form_amount}
@@ -30,8 +32,11 @@ use Rattle.bz_command_syntax.specs.declared.command.Host.TheVariants.{Rule, Attr
 use Rattle.bz_change.specs.Dicts.{dict_add, dict_list_add, dict_replace_if_equal}
 use Rattle.bz_change.proofs.ProperDicts.{dict_add_grows, dict_list_add_grows, dict_replace_if_equal_grows}
 use Rattle.bz_load.proofs.LawComments.{amount_answered, new_load_same, put_total, substitute_load_same}
+use Rattle.bz_load.proofs.LawReplaced.{replace_load_same}
+use Rattle.bz_load.proofs.LawUsages.{if_ok, use_repo_add_same}
+use Rattle.bz_load.specs.Usages.{use_repo_add}
 use Rattle.bz_comment.proofs.LawBack.{own_grows, comment_grows}
-use Rattle.bz_command.specs.Laws.{keeps_comments, CommentsStay}
+use Rattle.bz_command.specs.Laws.{keeps_comments, moves_comments, CommentsStay}
 use Rattle.bz_command.proofs.ProperEffects.{effect_by}
 use Rattle.bz_command.proofs.StatementRules.{Holds, before_in, before_in_call, before_in_row, in_item}
 use Rattle.bz_attribute.specs.Lists.{has_lists, items_in, is_no_list, with_more, body_of, is_item}
@@ -204,33 +209,39 @@ module _ (number : Bytes → ℕ) where
   statement_keeps text (i.Block lines) = itself (size (i.Block lines))
   statement_keeps text (i.Stmt x) = own_grows number text x
 
-  rules_keep : (operation : Operation) (current : Bytes) (marks : List Bool) (items : List Item) → keeps_comments operation ≡ true → MadeItems items (on_rules operation current marks items)
-  rules_keep (w.Rule (wr.New kind name place)) current marks items h = new_keeps kind name place items
-  rules_keep (w.Attribute (wa.SetIfAbsent name words)) current marks items h = by_arguments (set_if_absent current name words) (set_if_absent_keeps current name words) marks items
-  rules_keep (w.Attribute (wa.Rename from to)) current marks items h = by_arguments (rename from to) (rename_keeps from to) marks items
-  rules_keep (w.Attribute (wa.CopyNoOverwrite name rule)) current marks items h =
+  rules_keep : (grammar : Grammar) (operation : Operation) (current : Bytes) (marks : List Bool) (items : List Item) → keeps_comments operation ≡ true
+      → (moves_comments operation ≡ true → IsProperCommand operation × AllByRecursion (IsProperItemIn grammar) items) → MadeItems items (on_rules operation current marks items)
+  rules_keep grammar (w.Rule (wr.New kind name place)) current marks items h p = new_keeps kind name place items
+  rules_keep grammar (w.Attribute (wa.SetIfAbsent name words)) current marks items h p = by_arguments (set_if_absent current name words) (set_if_absent_keeps current name words) marks items
+  rules_keep grammar (w.Attribute (wa.Rename from to)) current marks items h p = by_arguments (rename from to) (rename_keeps from to) marks items
+  rules_keep grammar (w.Attribute (wa.CopyNoOverwrite name rule)) current marks items h p =
       by_arguments (copy_no_overwrite name (source name rule items)) (copy_keeps name (source name rule items)) marks items
-  rules_keep (w.Value (wv.Add name words)) current marks items h = by_arguments (add current name words) (added_keeps name (strings_added current name words)) marks items
-  rules_keep (w.Value (wv.Replace attributes old new)) current marks items h = by_arguments (replace current attributes old new) (replace_keeps current attributes old new) marks items
-  rules_keep (w.Value (wv.Substitute attributes pattern template)) current marks items h =
+  rules_keep grammar (w.Value (wv.Add name words)) current marks items h p = by_arguments (add current name words) (added_keeps name (strings_added current name words)) marks items
+  rules_keep grammar (w.Value (wv.Replace attributes old new)) current marks items h p = by_arguments (replace current attributes old new) (replace_keeps current attributes old new) marks items
+  rules_keep grammar (w.Value (wv.Substitute attributes pattern template)) current marks items h p =
       by_arguments (substitute current attributes pattern template) (substitute_keeps current attributes pattern template) marks items
-  rules_keep (w.Dict (wd.Add name entries)) current marks items h = by_arguments (dict_add current name entries) (dict_add_grows number current name entries) marks items
-  rules_keep (w.Dict (wd.ReplaceIfEqual name key old new)) current marks items h =
+  rules_keep grammar (w.Dict (wd.Add name entries)) current marks items h p = by_arguments (dict_add current name entries) (dict_add_grows number current name entries) marks items
+  rules_keep grammar (w.Dict (wd.ReplaceIfEqual name key old new)) current marks items h p =
       by_arguments (dict_replace_if_equal current name key old new) (dict_replace_if_equal_grows number current name key old new) marks items
-  rules_keep (w.Dict (wd.ListAdd name key words)) current marks items h = by_arguments (dict_list_add current name key words) (dict_list_add_grows number current name key words) marks items
-  rules_keep (w.Load (wl.New path symbols)) current marks items h =
+  rules_keep grammar (w.Dict (wd.ListAdd name key words)) current marks items h p = by_arguments (dict_list_add current name key words) (dict_list_add_grows number current name key words) marks items
+  rules_keep grammar (w.Load (wl.New path symbols)) current marks items h p =
       subst (λ n. total size items ≤ n) (sym (new_load_same number path symbols items)) (itself (total size items))
-  rules_keep (w.Load (wl.Substitute pattern template)) current marks items h =
+  rules_keep grammar (w.Load (wl.Replace path symbols)) current marks items h p =
+      subst (λ n. total size items ≤ n) (sym (replace_load_same number grammar path symbols items (p refl).0.0 (p refl).0.1 (p refl).1)) (itself (total size items))
+  rules_keep grammar (w.Load (wl.Substitute pattern template)) current marks items h p =
       subst (λ n. total size items ≤ n) (sym (substitute_load_same number pattern template items)) (itself (total size items))
-  rules_keep (w.Comment (wc.Add Rule text)) current marks items h = meant_keeps (λ item. Ok (on_statement (with_comment text) item)) (statement_keeps text) marks items
-  rules_keep (w.Comment (wc.Add (Attribute name) text)) current marks items h = by_arguments (comment current (Attribute name) text) (comment_grows number current (Attribute name) text) marks items
-  rules_keep (w.Comment (wc.Add (ItemHost name word) text)) current marks items h = by_arguments (comment current (ItemHost name word) text) (comment_grows number current (ItemHost name word) text) marks items
-  rules_keep (w.Comment (wc.Print host)) current marks items h = by_arguments (λ arguments. Ok arguments) (λ xs. itself (total whole xs)) marks items
-  rules_keep (w.Print fields) current marks items h = itself (total size items)
-  rules_keep _ current marks items h = absurd (true≢false (sym h))
+  rules_keep grammar (w.Load (wl.AddRepos usages repos)) current marks items h p =
+      if_ok (λ new. total size new ≡ total size items) (λ new. total size items ≤ total size new) (λ new same. subst (λ n. total size items ≤ n) (sym same) (itself (total size items))) (use_repo_add current usages repos items)
+      (use_repo_add_same number current usages repos items)
+  rules_keep grammar (w.Comment (wc.Add Rule text)) current marks items h p = meant_keeps (λ item. Ok (on_statement (with_comment text) item)) (statement_keeps text) marks items
+  rules_keep grammar (w.Comment (wc.Add (Attribute name) text)) current marks items h p = by_arguments (comment current (Attribute name) text) (comment_grows number current (Attribute name) text) marks items
+  rules_keep grammar (w.Comment (wc.Add (ItemHost name word) text)) current marks items h p = by_arguments (comment current (ItemHost name word) text) (comment_grows number current (ItemHost name word) text) marks items
+  rules_keep grammar (w.Comment (wc.Print host)) current marks items h p = by_arguments (λ arguments. Ok arguments) (λ xs. itself (total whole xs)) marks items
+  rules_keep grammar (w.Print fields) current marks items h p = itself (total size items)
+  rules_keep grammar _ current marks items h p = absurd (true≢false (sym h))
 
 pub comments_stay : CommentsStay
-comments_stay operation target current lines items new h e text =
+comments_stay grammar operation target current lines items new h p e text =
     subst (MadeItems (one_if text) items) e
     (effect_by (MadeItems (one_if text) items) operation target current lines items (itself (total (item_amount (one_if text)) items)) (λ refusal. tt)
-    (rules_keep (one_if text) operation current (meant target.which lines items) items h))
+    (rules_keep (one_if text) grammar operation current (meant target.which lines items) items h (λ is. ((p is).0, recursion_from_All (IsProperItemIn grammar) items (p is).1))))

@@ -26,7 +26,9 @@ use Rattle.bz_list.specs.Changes.{add, remove_everywhere, remove_if_equal, remov
 use Rattle.bz_command_syntax.specs.declared.command.Host.TheVariants as r
 use Rattle.bz_change.specs.Dicts.{dict_add, dict_list_add, dict_remove, dict_replace_if_equal, dict_set, set_select}
 use Rattle.bz_change.proofs.ProperDicts.{dict_add_keeps, dict_list_add_keeps, dict_remove_keeps, dict_replace_if_equal_keeps, dict_set_keeps, set_select_keeps}
+use Rattle.bz_load.proofs.LawReplaced.{replace_load_keeps}
 use Rattle.bz_load.proofs.ProperLoads.{new_load_keeps, fix_keeps, substitute_load_keeps}
+use Rattle.bz_load.proofs.ProperUsages.{use_repo_add_keeps, use_repo_remove_keeps}
 use Rattle.bz_load.proofs.PlaceSteps.{all_put}
 use Rattle.bz_comment.proofs.ProperComments.{comment_keeps, remove_comment_keeps, statement_keeps, remove_statement_keeps}
 use Rattle.bz_value.specs.declared.refusal.Refusal.TheVariants.{NoTarget, NameTaken}
@@ -184,7 +186,10 @@ module _ (grammar : Grammar) where
       rules_made (w.Dict operation) p = by_each (w.Dict operation) p
       rules_made (w.Load (wl.New path symbols)) p = new_load_keeps grammar path symbols items p.0 p.1 h
       rules_made (w.Load (wl.Fix fixes)) p = fix_keeps grammar fixes items h
+      rules_made (w.Load (wl.Replace path symbols)) p = replace_load_keeps grammar path symbols items p.0 p.1 h
       rules_made (w.Load (wl.Substitute pattern template)) p = substitute_load_keeps grammar pattern template items h
+      rules_made (w.Load (wl.AddRepos usages repos)) p = use_repo_add_keeps grammar current usages repos items p.1 h
+      rules_made (w.Load (wl.RemoveRepos usages repos)) p = use_repo_remove_keeps grammar current usages repos items h
       rules_made (w.Comment operation) p = by_each (w.Comment operation) p
       rules_made (w.Print fields) p = h
 

@@ -1,6 +1,6 @@
 -- Which rules a target means, and what a command prints of them and makes of a file value.
 use Rattle.std.specs.Prelude.{ℕ, ◌+◌, Bool, true, false, ◌&&◌, List, [], ◌∷◌, codes, length, map, is_some, nat_eq, ◌++◌, Option, Some, None, Result, Ok, Err, decimal, option_map, if◌then◌else◌, not, bytes_eq}
-use Rattle.bz_command.specs.Words.{Which, Item, rule_of, is_rule_of_kind, has_name, Rule as RuleRead, attribute, Bytes, comments_of, Operation, Host, Refusal, print_comment, with_comment, without_comments, comment, remove_comment, Target, Expr, LoadOperation, RulePlace, with_items, with_parts, on_row, on_first, function_of, rule_made, Arguments, attributes_changed, values_changed, dicts_changed, fix, new_load, substitute_load, prints}
+use Rattle.bz_command.specs.Words.{Which, Item, rule_of, is_rule_of_kind, has_name, Rule as RuleRead, attribute, Bytes, comments_of, Operation, Host, Refusal, print_comment, with_comment, without_comments, comment, remove_comment, Target, Expr, LoadOperation, RulePlace, with_items, with_parts, on_row, on_first, function_of, rule_made, Arguments, attributes_changed, values_changed, dicts_changed, fix, new_load, replace_load, substitute_load, use_repo_add, use_repo_remove, prints}
 use Rattle.bz_label.specs.declared.target.Which.TheVariants.{All, Kind, Line, Package, Name}
 use Rattle.bz_value.specs.declared.value.Item.TheVariants as i
 use Rattle.std.specs.Option.{option_map_or, option_or}
@@ -188,16 +188,19 @@ abbrev pub on_each : Operation → Bytes → List Bool → List Item → Result 
 on_each operation current marks items = on_meant (on_one operation current (source_of operation items)) marks items
 
 -- the commands on what the file loads
-abbrev pub loads_changed : LoadOperation → List Item → List Item
-loads_changed (wl.New path symbols) items = new_load path symbols items
-loads_changed (wl.Fix fixes) items = fix fixes items
-loads_changed (wl.Substitute pattern template) items = substitute_load pattern template items
+abbrev pub loads_changed : LoadOperation → Bytes → List Item → Result (List Item) Refusal
+loads_changed (wl.New path symbols) current items = Ok (new_load path symbols items)
+loads_changed (wl.Fix fixes) current items = Ok (fix fixes items)
+loads_changed (wl.Replace path symbols) current items = Ok (replace_load path symbols items)
+loads_changed (wl.Substitute pattern template) current items = Ok (substitute_load pattern template items)
+loads_changed (wl.AddRepos usages repos) current items = use_repo_add current usages repos items
+loads_changed (wl.RemoveRepos usages repos) current items = use_repo_remove current usages repos items
 
 -- what a command makes of the rules that are marked
 abbrev pub on_rules : Operation → Bytes → List Bool → List Item → Result (List Item) Refusal
 on_rules (w.Rule (wr.New kind name place)) current marks items = with_rule kind name place items
 on_rules (w.Rule wr.Delete) current marks items = Ok (unmarked marks items)
-on_rules (w.Load operation) current marks items = Ok (loads_changed operation items)
+on_rules (w.Load operation) current marks items = loads_changed operation current items
 on_rules (w.Print fields) current marks items = Ok items
 on_rules operation current marks items = on_each operation current marks items
 

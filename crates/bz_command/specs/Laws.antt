@@ -35,17 +35,24 @@ keeps_comments (w.Dict (wd.Add name entries)) = true
 keeps_comments (w.Dict (wd.ReplaceIfEqual name key old new)) = true
 keeps_comments (w.Dict (wd.ListAdd name key words)) = true
 keeps_comments (w.Load (wl.New path symbols)) = true
+keeps_comments (w.Load (wl.Replace path symbols)) = true
 keeps_comments (w.Load (wl.Substitute pattern template)) = true
+keeps_comments (w.Load (wl.AddRepos usages repos)) = true
 keeps_comments (w.Comment (wc.Add host text)) = true
 keeps_comments (w.Comment (wc.Print host)) = true
 keeps_comments (w.Print fields) = true
 keeps_comments _ = false
 
--- They leave each comment at least as often as it occurred there.
+-- of these the one that moves comments from what goes
+abbrev pub moves_comments : Operation → Bool
+moves_comments (w.Load (wl.Replace path symbols)) = true
+moves_comments _ = false
+
+-- They leave each comment at least as often as it occurred there; where some move, in a proper file.
 abbrev pub CommentsStay : Type 0
 CommentsStay =
-    (operation : Operation) (target : Target) (current : Bytes) (lines : List ℕ) (items new : List Item)
-    → keeps_comments operation ≡ true → effect operation target current lines items ≡ Ok new
+    (grammar : Grammar) (operation : Operation) (target : Target) (current : Bytes) (lines : List ℕ) (items new : List Item)
+    → keeps_comments operation ≡ true → (moves_comments operation ≡ true → IsProperCommand operation × IsProperIn grammar items) → effect operation target current lines items ≡ Ok new
     → (text : Bytes) → times text items ≤ times text new
 
 -- ---- which commands depend on the lines on which statements begin

@@ -52,7 +52,10 @@ command_rows =
     ∷ row (codes "dict_list_add") (codes "dicts" ∷ []) false true true
     ∷ row (codes "set_select") (codes "dicts" ∷ []) false true false
     ∷ row (codes "new_load") (codes "loads" ∷ []) false false true
+    ∷ row (codes "replace_load") (codes "loads" ∷ []) false false true
     ∷ row (codes "substitute_load") (codes "loads" ∷ []) false false true
+    ∷ row (codes "use_repo_add") (codes "loads" ∷ []) false false true
+    ∷ row (codes "use_repo_remove") (codes "loads" ∷ []) false false false
     ∷ row (codes "comment") (codes "comments" ∷ []) false true true
     ∷ row (codes "print_comment") (codes "comments" ∷ []) true true true
     ∷ row (codes "remove_comment") (codes "comments" ∷ []) false true false

@@ -24,7 +24,9 @@ pub use Rattle.bz_list.specs.Changes.{values_changed}
 pub use Rattle.bz_load.specs.Fixes.{fix}
 pub use Rattle.bz_load.specs.NewLoad.{new_load}
 pub use Rattle.bz_load.specs.Paths.{AreListed}
+pub use Rattle.bz_load.specs.ReplaceLoad.{replace_load}
 pub use Rattle.bz_load.specs.SubstituteLoad.{substitute_load}
+pub use Rattle.bz_load.specs.Usages.{use_repo_add, use_repo_remove}
 pub use Rattle.bz_rule.specs.Held.{held_name}
 pub use Rattle.bz_rule.specs.Index.{HaveSameNames, IsIndexOf, marked_places}
 pub use Rattle.bz_rule.specs.Rules.{attribute, has_name, is_rule_of_kind, Rule, rule_of}

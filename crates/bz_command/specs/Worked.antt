@@ -71,6 +71,13 @@ dict entries = argument_of (codes "env") (sequence k.Dict [] entries)
 abbrev selected : List Expr → Expr
 selected entries = call (name (codes "select")) (sequence k.Dict [] entries ∷ [])
 
+-- v = use_extension("//:e.bzl", "e"), and use_repo(v, "REPO", ..)
+abbrev usage : Item
+usage = i.Stmt (node k.Assign (name (codes "v") ∷ mark (codes "=") ∷ call (name (codes "use_extension")) (string (codes "//:e.bzl") ∷ string (codes "e") ∷ []) ∷ []))
+
+abbrev imports : List Bytes → Item
+imports repos = statement (call (name (codes "use_repo")) (name (codes "v") ∷ map string repos))
+
 -- load("PATH", "SYMBOL", ..), and load("//:d.bzl", "SYMBOL", ..)
 abbrev load_from : Expr → List Bytes → Item
 load_from path symbols = i.Stmt (sequence k.Load (token c.Keyword (codes "load") ∷ []) (path ∷ map string symbols))
@@ -224,11 +231,17 @@ Loads =
     -- A new load goes after the comments at the top of the file, a further symbol to the end of the first load of the path.
     (made (codes "new_load //:d.bzl a") (Name (codes "z")) (block ∷ x [] ∷ []) ≡ gives (block ∷ load (codes "a" ∷ []) ∷ x [] ∷ []))
     × (made (codes "new_load //:d.bzl a b") All (load (codes "a" ∷ []) ∷ x [] ∷ load [] ∷ []) ≡ gives (load (codes "a" ∷ codes "b" ∷ []) ∷ x [] ∷ load [] ∷ []))
+    -- A symbol leaves the other loads, and a load that loses its last one goes.
+    × (made (codes "replace_load //:d.bzl a") (Name (codes "z")) (load_from (string (codes "b")) (codes "a" ∷ []) ∷ x [] ∷ load (codes "b" ∷ []) ∷ []) ≡ gives (x [] ∷ load (codes "b" ∷ codes "a" ∷ []) ∷ []))
     -- The path of each load has another text; what a pattern makes of it is a premise.
     × ((substituted (codes "d") (codes "e") (codes "//:d.bzl") ≡ codes "//:e.bzl")
     → made (codes "substitute_load d e") (Name (codes "z")) (load (codes "a" ∷ []) ∷ x [] ∷ []) ≡ gives (load_from (string (codes "//:e.bzl")) (codes "a" ∷ []) ∷ x [] ∷ []))
     -- The rule x uses the symbol f alone; the package goes to the top.
     × (made (codes "fix") All (load (codes "a" ∷ codes "f" ∷ []) ∷ x [] ∷ settings ∷ []) ≡ gives (load (codes "f" ∷ []) ∷ settings ∷ x [] ∷ []))
+    -- Repositories of a usage, by its file and extension or by its variable; there is no usage of another one.
+    × (made (codes "use_repo_add //:e.bzl e r") (Name (codes "z")) (usage ∷ x [] ∷ []) ≡ gives (usage ∷ imports (codes "r" ∷ []) ∷ x [] ∷ []))
+    × (made (codes "use_repo_remove v r") All (usage ∷ imports (codes "r" ∷ []) ∷ []) ≡ gives (usage ∷ []))
+    × (made (codes "use_repo_add e r") All (usage ∷ []) ≡ refuses NoSource)
 
 abbrev Comments : Type 0
 Comments =

@@ -20,7 +20,10 @@ use bz_comment::{Change, change_comments, change_own};
 use bz_items::{Items, Memory, Text};
 use bz_label::Target;
 use bz_list::change_values;
-use bz_load::{LoadedPaths, fix, new_load, substitute_load};
+use bz_load::{
+    LoadedPaths, WithLoad, fix, new_load, replace_load, substitute_load, use_repo_add,
+    use_repo_remove,
+};
 use bz_rule::{attribute, has_name, held_name, is_rule_of_kind};
 use bz_value::{Expr, Item, Refusal, Window};
 use std::alloc::Global;
@@ -482,38 +485,60 @@ fn compared(alloc: Global, new: Items<Item>, items: &[Item]) -> Result<Changed, 
     })
 }
 
+/// Items that were made of others of which one part changed.
+fn with_load(alloc: Global, made: WithLoad) -> Result<Changed, Memory>
+    ensures items { IfOk result (λ changed. changed.items ≡ made.items) }
+    ensures compared { (before : List Item) → IsTrue made.same ↔ (made.items ≡ before) → IsSpliced made.at made.gone made.come before made.items → IfOk result (IsCompared before) }
+{
+    let window = Window {
+        from: made.at,
+        gone: made.gone,
+        come: made.come,
+    };
+    Ok(Changed {
+        windows: windows_of(alloc, made.same, window)?,
+        items: made.items,
+        same_names: false,
+    })
+}
+
 /// What an operation on what the file loads makes of its items, of which there may be the paths from which they load.
 fn on_loads(
-    alloc: Global,
+    work: Work<'_, '_>,
     operation: &LoadOperation,
     paths: Option<&LoadedPaths>,
     items: Items<Item>,
-) -> Result<Changed, Memory>
+) -> Result<Changed, Refusal>
     requires { IfSome paths (λ loaded. AreListed loaded.now items) }
-    ensures items { IfOk result (λ changed. changed.items ≡ loads_changed operation.now items) }
+    ensures ok { IfOk result (λ changed. loads_changed operation.now work.entry.current.now items ≡ Ok changed.items) }
     ensures compared { IfOk result (IsCompared items) }
+    ensures err { IfErr result (λ refusal. (loads_changed operation.now work.entry.current.now items ≡ Err refusal) ⊎ (refusal ≡ Refusal.Memory)) }
 {
+    let (alloc, current) = (work.alloc, work.current);
     match operation {
         LoadOperation::New { path, symbols } => {
             let made = new_load(alloc, path.as_slice(), symbols.as_slice(), paths, items)?;
-            let window = Window {
-                from: made.at,
-                gone: made.gone,
-                come: 1,
-            };
-            Ok(Changed {
-                windows: windows_of(alloc, made.same, window)?,
-                items: made.items,
-                same_names: false,
-            })
+            Ok(with_load(alloc, made)?)
+        }
+        LoadOperation::Replace { path, symbols } => {
+            let made = replace_load(alloc, path.as_slice(), symbols.as_slice(), items)?;
+            Ok(with_load(alloc, made)?)
         }
         LoadOperation::Fix { fixes } => {
             let new = fix(alloc, *fixes, items.as_slice())?;
-            compared(alloc, new, items.as_slice())
+            Ok(compared(alloc, new, items.as_slice())?)
         }
         LoadOperation::Substitute { pattern, template } => {
             let new = substitute_load(alloc, pattern, template.as_slice(), items.as_slice())?;
-            compared(alloc, new, items.as_slice())
+            Ok(compared(alloc, new, items.as_slice())?)
+        }
+        LoadOperation::AddRepos { usages, repos } => {
+            let new = use_repo_add(alloc, current, usages, repos.as_slice(), items.as_slice())?;
+            Ok(compared(alloc, new, items.as_slice())?)
+        }
+        LoadOperation::RemoveRepos { usages, repos } => {
+            let new = use_repo_remove(alloc, current, usages, repos.as_slice(), items.as_slice())?;
+            Ok(compared(alloc, new, items.as_slice())?)
         }
     }
 }
@@ -545,7 +570,7 @@ pub fn on_rules(
             Ok(inserted(alloc, at, rule, items)?)
         }
         Operation::Rule(RuleOperation::Delete) => Ok(delete(work, places, items)?),
-        Operation::Load(operation) => Ok(on_loads(alloc, operation, paths, items)?),
+        Operation::Load(operation) => on_loads(work, operation, paths, items),
         Operation::Rule(RuleOperation::SetKind { .. })
         | Operation::Attribute(_)
         | Operation::Value(_)

@@ -30,7 +30,11 @@ returns c = (
   (
     refl,
     refl,
+    refl,
     λ h. rw h refl,
+    refl,
+    refl,
+    refl,
     refl,
   ),
   (refl, refl, refl, refl, refl),
