@@ -86,9 +86,10 @@ Meant = answers (codes "print name label")
     (codes "buildozer: the form is 'comment [ATTR [VALUE]] TEXT'\nbuildozer: the text of a comment is one word, so put a backslash before each space of it\n")
     × answers (codes "comment a-b") (codes "buildozer: the form is 'comment [ATTR [VALUE]] TEXT'\n")
 
--- a target of another repository; a pattern that is refused
+-- no word; a target of another repository; a pattern that is refused
 abbrev Elsewhere : Type 0
-Elsewhere = (hint_for (refused_for (codes "@r//a:x") BadTarget) ≡ codes "buildozer: a target begins with no @: to edit another repository, run buildozer in its root\n")
+Elsewhere = (hint_for (refused_for (codes "  ") (Command Unknown)) ≡ codes "buildozer: there is no command of this name: see docs/buildozer.md, or man buildozer\n")
+    × (hint_for (refused_for (codes "@r//a:x") BadTarget) ≡ codes "buildozer: a target begins with no @: to edit another repository, run buildozer in its root\n")
     × (hint_for (record { operand = codes "substitute srcs a( x"; fault = Command BadPattern; pattern = Some (syntax 2 (codes "unclosed group")) })
     ≡ codes "buildozer: in the pattern, at byte 2: unclosed group\n")
 
@@ -101,6 +102,7 @@ Strange = (line_hint (codes "-kf" ∷ codes "--quiet" ∷ codes "-r" ∷ [])
 -- an escape sequence and a line feed in an operand
 abbrev Escaped : Type 0
 Escaped = operand_line (refused_for (codes "//a" ++ 27 ∷ codes "[31m\n/:x") BadTarget) ≡ codes "buildozer: //a\\x1b[31m\\n/:x: BadTarget (12)\n"
+    ++ codes "buildozer: the form of a target is //PACKAGE:NAME, without an empty part; a package has at most 65,536 bytes\n"
 
 abbrev pub WorkedCommandLines : Type 0
 WorkedCommandLines = Words × Groups × Lines × Faults × Forms × Meant × Elsewhere × Strange × Escaped

@@ -5,7 +5,7 @@ ghost use Rattle.bz_command_syntax.specs.Commands.{row_named};
 ghost use Rattle.bz_command_syntax.specs.Proper.{AreUtf8};
 ghost use Rattle.bz_streams.specs.Near.{nearest};
 ghost use Rattle.bz_command_line.specs.Operands.{begins_with, verb_of, of_command, count_of, file_verb_in, steps_of};
-ghost use Rattle.bz_command_line.specs.Hints.{verb_forms, fix_names, did_you_mean, repository_hint, target_hint, lines_in_place, place_hint, name_hint, is_fix, near_word, words_end, form_end, form_hint, words_hint, pattern_line, hint_in, hint_for};
+ghost use Rattle.bz_command_line.specs.Hints.{verb_forms, fix_names, did_you_mean, bad_target_hint, target_hint, name_hint, is_fix, near_word, words_end, form_end, form_hint, words_hint, pattern_line, hint_in, hint_for};
 ghost use Rattle.bz_command_line.specs.Refused.{IsPatternFault};
 ghost use Rattle.bz_command_line.specs.Shown.{refused_in, pattern_in};
 ghost use Rattle.bz_command_line.specs.Verbs.{prints, operand_fault_name, operand_fault_number};
@@ -196,11 +196,11 @@ const TARGET_HINT: &str =
 const REPOSITORY_HINT: &str =
     "buildozer: a target begins with no @: to edit another repository, run buildozer in its root\n";
 
-const REPLACE_LOAD_LINE: &str =
-    "buildozer: in place of replace_load there are new_load, set kind and fix unusedLoads: see docs/COMING.md\n";
+const TARGET_FORM: &str =
+    "buildozer: the form of a target is //PACKAGE:NAME, without an empty part; a package has at most 65,536 bytes\n";
 
-const USE_REPO_LINE: &str =
-    "buildozer: use_repo(..) of MODULE.bazel is written by hand here: see docs/COMING.md\n";
+const UNKNOWN_LINE: &str =
+    "buildozer: there is no command of this name: see docs/buildozer.md, or man buildozer\n";
 
 const NAME_ALONE: &str =
     "buildozer: on a command line, put a command and its words in one pair of quotation marks\n";
@@ -246,14 +246,14 @@ fn may_be_target(name: &str) -> bool
     name.as_bytes().contains(&b'/') || name.as_bytes().contains(&b':')
 }
 
-// What begins with an at sign may be meant as a target of another repository.
-fn repository_hint(name: &str) -> &'static str
-    ensures { result.now ≡ repository_hint name.now }
+// What is printed of a target that is none.
+fn bad_target_hint(target: &str) -> &'static str
+    ensures { result.now ≡ bad_target_hint target.now }
 {
-    if names_repository(name) {
+    if names_repository(target) {
         REPOSITORY_HINT
     } else {
-        ""
+        TARGET_FORM
     }
 }
 
@@ -264,28 +264,10 @@ fn target_hint(name: &str) -> &'static str
     if names_repository(name) {
         return REPOSITORY_HINT;
     }
-    if may_be_target(name) { TARGET_HINT } else { "" }
-}
-
-// What does the work of a command of bazelbuild's buildozer that is not here.
-fn line_in_place(name: &str) -> Option<&'static str>
-    ensures { option_map (λ s. s.now) result ≡ row_named lines_in_place name.now }
-{
-    match name {
-        "replace_load" => Some(REPLACE_LOAD_LINE),
-        "use_repo_add" => Some(USE_REPO_LINE),
-        "use_repo_remove" => Some(USE_REPO_LINE),
-        _ => None,
-    }
-}
-
-// What is in the place of such a command, else what a target has.
-fn place_hint(name: &str) -> &'static str
-    ensures { result.now ≡ place_hint name.now }
-{
-    match line_in_place(name) {
-        Some(line) => line,
-        None => target_hint(name),
+    if may_be_target(name) {
+        TARGET_HINT
+    } else {
+        UNKNOWN_LINE
     }
 }
 
@@ -298,7 +280,7 @@ fn name_hint(alloc: Global, name: &str) -> Result<String, AllocError>
     let mut names = Vec::from_slice(alloc, COMMAND_NAMES)?;
     names.extend_from_slice(&["undo", "redo", "journal", "format"])?;
     let near = nearest(alloc, name, &names)?;
-    did_you_mean(alloc, near, place_hint(name))
+    did_you_mean(alloc, near, target_hint(name))
 }
 
 fn is_fix(word: &str) -> bool
@@ -414,18 +396,18 @@ fn pattern_line(alloc: Global, fault: Option<PatternFault>) -> Result<String, Al
 }
 
 /// What is printed after the line of an operand that is refused. Of a name that no command has: the command that is nearest, where
-/// one is near, else what does the work of a command of bazelbuild's that is not here, else what a target has where the name has a
-/// slash or a colon, and where help is for `help`. Of words that don't fit: the one of `fix` that is nearest to a word that it doesn't
+/// one is near, else what a target has where the name has a slash or a colon, else that there is none of the name, and where help is for
+/// `help`. Of words that don't fit: the one of `fix` that is nearest to a word that it doesn't
 /// know, else the forms of the command, and where it has no words, that they go with it in one pair of quotation marks; of `print` the
 /// fields, of `fix` where other fixes are, and of `comment` how spaces are written in its text. Of a command that is too long: how long
-/// one may be. Of a pattern: where and why it is refused. Of a target that begins with a repository: where its packages are edited. The
-/// error: memory was refused.
+/// one may be. Of a pattern: where and why it is refused. Of a target that is none: its form, or, where it begins with a repository, where
+/// its packages are edited. The error: memory was refused.
 pub(crate) fn hint_for(alloc: Global, refused: &Refused<'_>) -> Result<String, AllocError>
     ensures { IfOk result (λ hint. string_bytes hint ≡ hint_for (refused_in refused.now)) }
 {
     match refused.fault {
         OperandFault::Command(fault) => Ok(command_hint(alloc, refused, fault)?),
-        OperandFault::BadTarget => Ok(joined(alloc, repository_hint(refused.operand), "", "")?),
+        OperandFault::BadTarget => Ok(joined(alloc, bad_target_hint(refused.operand), "", "")?),
         OperandFault::Memory => Ok(String::new(alloc)),
     }
 }
@@ -440,7 +422,7 @@ fn command_hint(
 {
     let words = read_words(alloc, refused.operand.as_bytes())?;
     let Some((name, words)) = words.split_first() else {
-        return Ok(String::new(alloc));
+        return Ok(joined(alloc, UNKNOWN_LINE, "", "")?);
     };
     let name = as_text(name);
     match fault {

@@ -12,7 +12,7 @@ returns c = (
   (refl, refl, refl, refl, refl),
   (refl, refl, refl, refl),
   (refl, refl, refl),
-  (refl, refl),
+  (refl, refl, refl),
   (refl, refl),
   refl,
 )
