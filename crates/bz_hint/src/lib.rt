@@ -3,7 +3,9 @@
 #![tactic(auto)]
 
 mod names;
+mod notes;
 mod refusing;
 mod reporting;
 
-pub use reporting::{report_hint, report_notes};
+pub use notes::report_notes;
+pub use reporting::report_hint;

@@ -1,5 +1,5 @@
 use Rattle.bz_streams.proofs.Outputs.{reports_more}
-use Rattle.bz_hint.proofs.reporting.note_template.Goals as goal
+use Rattle.bz_hint.proofs.notes.note_template.Goals as goal
 
 pub returns : goal.returns
 returns g c =
