@@ -196,7 +196,7 @@ is_whole options steps world ended whole performs =
 
 module _ (one : OneReading) (words : List Bytes) (bytes : Bytes) (options : Options) (steps : List RunStep) (world : World) (known : world.known ≡ Some bytes) where
   start : (journals : Bool) → Stays journals world.folder [] world.folder
-  start true = (tt, λ name unlike aside. refl)
+  start true = (tt, (λ name unlike aside. refl), λ place file at. absurd (let e = at in cc))
   start false = refl
 
   pub same_performed : (read read' : Option Bytes) (left other : Ended) → AreSeen world steps read → AreSeen world steps read'

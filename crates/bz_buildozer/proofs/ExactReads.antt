@@ -1,14 +1,15 @@
 -- Runs that standard input or standard output cuts: what is printed, and what a run leaves that nothing cuts.
-use Rattle.std.proofs.Common.{◌≡◌, inl, inr, ℕ, zero, suc, List, [], ◌∷◌, ◌++◌, map, Option, Some, None, Bool, false, true≢false, subst, sym, arith, ◌≢◌, ◌⊎◌, ◌∙◌, Result, Ok, Err, IfOk, refl, ap}
+use Rattle.std.proofs.Common.{◌≡◌, inl, inr, ℕ, zero, suc, List, [], ◌∷◌, ◌++◌, map, Option, None, Bool, false, subst, sym, arith, ◌≢◌, ◌⊎◌, ◌∙◌, Result, Ok, Err, IfOk, refl, ap}
 use Rattle.std.specs.List.{All, flat_map}
 use Rattle.std.proofs.lemmas.List.Elements.{All-head, All-tail}
 use Rattle.bz_buildozer.specs.Words.{Bytes, Folder, Target, Requested, Request, Usage, Cut, Given, operands, script, CommandLine, LineUsage, command_line_of, Options, first_cut}
 use Rattle.bz_streams.specs.declared.exit.Cut.TheVariants as c
 use Rattle.bz_buildozer.specs.Found.{Opened, Used, with_opened, file_at, package_number}
 use Rattle.bz_buildozer.specs.Outcome.{AreOfInput, GivenOutcome, IsOfInput, LineOutcome, NamesNoFile, WordsOutcome}
-use Rattle.bz_buildozer.specs.Run.{Answers, AnswersIn, Does, World, Progress, RunsSteps, Uses, nothing_done}
+use Rattle.bz_buildozer.specs.Run.{Answers, Does, World, Progress, RunsSteps, Uses, nothing_done}
 use Rattle.bz_buildozer.specs.Steps.{RunStep, step_of, steps_requested, all_steps, input_package, shows_input}
 use Rattle.bz_buildozer.proofs.FailSteps.{answers_stay, stay_used}
+use Rattle.bz_buildozer.proofs.StandSteps.{key_input, key_of_input}
 use Rattle.std.specs.Option.{option_map}
 use Rattle.std.proofs.lemmas.List.{append-nil}
 use Rattle.bz_buildozer.specs.Ending.{Ended, Left, Performs, TriesFile, TriesFiles, ended_whole, opened_out, is_input, status_of, texts_out}
@@ -43,12 +44,14 @@ used_on : (why : Cut) (world : World) (current : Bytes) (before : List Used) (nu
     → Uses why false world current before number lines after → AreInput before → AreInput after
 used_on c.Whole world current before number lines after is (place, inl again, at) are = subst AreInput (sym again.2) are
 used_on c.Whole world current before number lines after is (place, inr (absent, last, (found, file, finds, opens, new)), at) are =
-    subst AreInput (sym new) (one_more before _ is are)
+    subst AreInput (sym new) (one_more before _ (key_of_input before world.folder current is) are)
 used_on c.Memory world current before number lines after is (none, at, inl (same, told)) are = subst AreInput (sym same) are
-used_on c.Memory world current before number lines after is (none, at, inr (new, told)) are = subst AreInput (sym new) (one_more before _ is are)
+used_on c.Memory world current before number lines after is (none, at, inr (fresh, new, told)) are =
+    subst AreInput (sym new) (one_more before _ (key_of_input before world.folder current is) are)
 used_on c.Read world current before number lines after is (plain, of_input, none, at, told, new) are = subst AreInput (sym new) (one_more before _ is are)
 used_on c.Write world current before number lines after is uses are = absurd uses
-used_on c.Files world current before number lines after is (none, here, (file, opens, new, at)) are = subst AreInput (sym new) (one_more before _ is are)
+used_on c.Files world current before number lines after is (none, here, (file, opens, new, at)) are =
+    subst AreInput (sym new) (one_more before _ (key_of_input before world.folder current is) are)
 
 answers_on : (why : Cut) (step : RunStep) (number : Option ℕ) (folder : Folder) (state : Progress) (lines : List Bytes) (folder' : Folder) (after : Progress)
     → Answers why false step number folder state lines folder' after → AreInput state.used → AreInput after.used
@@ -250,10 +253,10 @@ module _ (journals : Bool) (world : World) (number : Option ℕ) (lines : List B
     subst IsUsed (sym same) used,
     (λ closed. let still = subst AreClosed (sym same) closed in (at ∙ ap (option_map (λ (_ : Opened). place)) (closed_at place after still), still)),
   )
-  used_again c.Whole before used (place, inr (none, last, opens), at) = absurd (used none)
+  used_again c.Whole before used (place, inr (none, last, opens), at) = absurd (used (sym (ap (λ (key : Bytes). package_number key before) (key_input before world.folder)) ∙ none))
   used_again c.Memory before used (none, gone, wants) = absurd (used none)
   used_again c.Read before used (plain, is, none, at, told, new) = absurd (used none)
-  used_again c.Files before used (none, inside, opened) = absurd (used none)
+  used_again c.Files before used (none, inside, opened) = absurd (used (sym (ap (λ (key : Bytes). package_number key before) (key_input before world.folder)) ∙ none))
   used_again c.Write before used uses = absurd uses
 
   one_used : (file : Option Opened) → after ≡ record { «package» = input_package; file = file } ∷ [] → IsUsed after
@@ -262,11 +265,12 @@ module _ (journals : Bool) (world : World) (number : Option ℕ) (lines : List B
   used_first : (why : Cut) → why ≢ c.Memory → Uses why journals world input_package [] number lines after → IsUsed after × (why ≡ c.Read → (number ≡ None) × AreClosed after)
   used_first c.Whole other (place, inl (is, told, same), at) = absurd (let e = is in cc)
   used_first c.Whole other (place, inr (none, last, (found, file, finds, opens, new)), at) =
-      (one_used file new, λ is. absurd (cc is))
+      (one_used file (new ∙ ap (λ (key : Bytes). record { «package» = key; file = file } ∷ []) (key_input [] world.folder)), λ is. absurd (cc is))
   used_first c.Memory other uses = absurd (other refl)
   used_first c.Read other (plain, is, absent, none, told, new) =
       (one_used None new, λ is. (none, subst AreClosed (sym new) (refl, tt)))
-  used_first c.Files other (absent, here, (file, opens, new, at)) = (one_used file new, λ is. absurd (cc is))
+  used_first c.Files other (absent, here, (file, opens, new, at)) =
+      (one_used file (new ∙ ap (λ (key : Bytes). record { «package» = key; file = file } ∷ []) (key_input [] world.folder)), λ is. absurd (cc is))
   used_first c.Write other uses = absurd uses
 
 module _ (journals : Bool) (world : World) (step : RunStep) (acted : Cut) (number : Option ℕ) (state after : Progress) (answer : List Bytes) (folder : Folder)

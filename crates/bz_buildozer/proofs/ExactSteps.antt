@@ -1,20 +1,20 @@
 -- Whole runs of steps do one thing, without journals and with them, and print the same lines but for what is left open.
-use Rattle.std.proofs.Common.{◌≡◌, inl, List, [], ◌∷◌, ◌++◌, refl, sym, subst, inr, Option, Some, None, Result, Ok, Err, ap, ◌∙◌, arith, ◌≢◌, ◌⊎◌, ℕ, zero, suc, Bool, true, false, true≢false, bytes_eq, codes}
+use Rattle.std.proofs.Common.{◌≡◌, inl, List, [], ◌∷◌, ◌++◌, refl, sym, subst, inr, Option, Some, None, Result, Ok, Err, ap, ◌∙◌, arith, ◌≢◌, ◌⊎◌, ℕ, Bool, true, false, true≢false, bytes_eq, codes}
 use Rattle.bz_buildozer.specs.Words.{Bytes, Refusal, lines_of, Node, view_of, refusal_hint, Folder, IsAside, journal_name, Holds, OthersStay, first_cut, fault_excerpt, IsInput, stdin, fault_line, named_line, Cut}
 use Rattle.bz_buildozer.specs.Exact.{SameLines}
 use Rattle.bz_buildozer.specs.Run.{World, LeadsBy, Answers, AnswersIn, AreHints, Does, Finds, Progress, RunsSteps, Uses, UsesWhole, reported_of, state_after}
 use Rattle.bz_grammar.specs.Laws.{OneReading}
 use Rattle.bz_value.specs.declared.value.Item.{Item}
 use Rattle.bz_buildozer.specs.Sessions.{Action, Do, Format, Undo, Redo, Meaning, EffectMeans, Formats, History, Answer, Makes, Leads, after_meaning, present}
-use Rattle.std.specs.Prelude.{◌||◌, IfSome, if◌then◌else◌, unwrap_or}
+use Rattle.std.specs.Prelude.{◌||◌, IfSome, if◌then◌else◌, is_some, unwrap_or}
 use Rattle.std.specs.Option.{option_map, option_map_or}
 use Rattle.std.specs.FinMap.{get}
 use Rattle.std.specs.List.{list_any}
 use Rattle.std.proofs.lemmas.Bool.{or_parts}
 use Rattle.std.proofs.lemmas.Slice.Eq.{bytes_eq-Decides}
 use Rattle.bz_streams.specs.declared.exit.Cut.TheVariants as c
-use Rattle.bz_buildozer.specs.Found.{PackagesFound, IsNameOf, first_name, found_in, root_above, second_name, Opened, Used, file_at, package_number, with_opened}
-use Rattle.bz_buildozer.specs.Journals.{OpensBeside, TakesBeside, file_of_journal, journal_beside, lines_of_journal}
+use Rattle.bz_buildozer.specs.Found.{PackagesFound, IsNameOf, Settled, first_name, folder_of, found_at, found_of, key_in, key_of, as_file, as_package, as_unedited, package_of, root_above, second_name, settled, Opened, Used, file_at, package_number, with_opened}
+use Rattle.bz_buildozer.specs.Journals.{OpensAs, TakesBeside, file_of_journal, journal_beside, lines_of_journal}
 use Rattle.bz_buildozer.specs.Keeps.{FolderAfter, file_after, left_out}
 use Rattle.bz_buildozer.specs.Moments.{AllAre}
 use Rattle.bz_buildozer.specs.Opens.{Takes}
@@ -23,7 +23,8 @@ use Rattle.bz_buildozer.specs.Steps.{RunStep, action_of, input_package, is_of_in
 use Rattle.bz_buildozer.proofs.CutSteps.{both_whole}
 use Rattle.bz_buildozer.proofs.ReadSteps.{one_given}
 use Rattle.bz_buildozer.proofs.ActSteps.{Leaves, acts_leaves}
-use Rattle.bz_buildozer.proofs.StandSteps.{root_stays, IsHeld, IsUnlike, OthersAre, all_after, all_last, apart_from, as_begun, file_in_front, found_by, found_holds, holds_still, names_stay, not_input, takes_stand, unlike_put}
+use Rattle.bz_buildozer.proofs.FileNames.{root_stays}
+use Rattle.bz_buildozer.proofs.StandSteps.{IsHeld, IsUnlike, OthersAre, WereThere, all_after, all_at, all_last, apart_from, as_begun, file_in_front, found_by, found_holds, holds_still, is_named, key_new, key_same, means_held, more_were, names_stay, not_input, not_named, own_holds, own_named, put_were, settled_begun, there_still, unlike_put}
 
 -- ---- lists of lines that are the same but for what is left open
 
@@ -143,33 +144,41 @@ first_whole one later journals world keep_going step steps before mid after firs
 
 -- ---- what stays the same in a run
 
--- Without journals the folder is as it was; with them each open file is held there, and each other name is as it was.
+-- Without journals the folder is as it was; with them each open file is held there, and was there, and each other name is as it was.
 abbrev pub Stays : Bool → Folder → List Used → Folder → Type 0
 Stays false began used folder = folder ≡ began
-Stays true began used folder = AllAre (IsHeld folder) used × OthersAre began used folder
+Stays true began used folder = AllAre (IsHeld folder) used × OthersAre began used folder × WereThere began used
 
 pub stays_at : (journals : Bool) (began : Folder) (used used' : List Used) (folder folder' : Folder) → used' ≡ used → folder' ≡ folder
     → Stays journals began used folder → Stays journals began used' folder'
 stays_at journals began used used' folder folder' same still stays =
     subst (λ (u : List Used). Stays journals began u folder') (sym same) (subst (Stays journals began used) (sym still) stays)
 
-stays_used : (journals : Bool) (began : Folder) (here : World) (current : Bytes) (before : List Used) (place : ℕ) (lines : List Bytes) (after : List Used)
-    → UsesWhole journals here current before place lines after → Stays journals began before here.folder → Stays journals began after here.folder
-stays_used false began here current before place lines after uses still = still
-stays_used true began here current before place lines after (inl again) stays = stays_at true began before after here.folder here.folder again.2 refl stays
-stays_used true began here current before place lines after (inr (none, last, (found, file, inl read, opens, new))) stays = absurd (true≢false read.0)
-stays_used true began here current before place lines after (inr (none, last, (found, file, inr (which, is), opens, new))) stays =
-    let one : Used = record { «package» = current; file = file } in
+-- each open file is there
+held_there : (folder : Folder) (used : List Used) → AllAre (IsHeld folder) used → WereThere folder used
+held_there folder used all place file at = ap (λ (held : Option Bytes). is_some held) (all_at (IsHeld folder) place used file at all).1.2.holds
+
+-- it is, where one is open
+one_there : (folder : Folder) (key : Bytes) (file : Option Opened) → IfSome file (IsHeld folder key)
+    → IfSome file (λ it. IsNameOf key it.name × (is_some (get folder it.name) ≡ true))
+one_there folder key None held = tt
+one_there folder key (Some file) held = (held.0, ap (λ (it : Option Bytes). is_some it) held.2.holds)
+
+stays_used : (journals : Bool) (began : Folder) (here : World) (path : Bytes) (before : List Used) (place : ℕ) (lines : List Bytes) (after : List Used)
+    → UsesWhole journals here path before place lines after → Stays journals began before here.folder → Stays journals began after here.folder
+stays_used false began here path before place lines after uses still = still
+stays_used true began here path before place lines after (inl again) stays = stays_at true began before after here.folder here.folder again.2 refl stays
+stays_used true began here path before place lines after (inr (none, last, (found, file, inl read, opens, new))) stays = absurd (true≢false read.0)
+stays_used true began here path before place lines after (inr (none, last, (found, file, inr (which, is), opens, new))) stays =
+    let key : Bytes = key_in before here.folder path in
+    let one : Used = record { «package» = key; file = file } in
+    let held = subst (λ (k : Bytes). IfSome file (IsHeld here.folder k)) (sym (key_new before here.folder path none))
+    (means_held here.folder path (settled here.folder path) found file lines refl (sym is) opens) in
     stays_at true began (before ++ one ∷ []) after here.folder here.folder new refl (
-      all_last (IsHeld here.folder) before one stays.0 (held found (sym is) opens) (apart_from current before none),
-      λ name unlike aside. stays.1 name (λ at it there. unlike at it (file_in_front at before one it there)) aside,
+      all_last (IsHeld here.folder) before one stays.0 held (apart_from key before none),
+      (λ name unlike aside. stays.1 name (λ at it there. unlike at it (file_in_front at before one it there)) aside),
+      more_were began here.folder before (held_there here.folder before stays.0) stays.2 stays.1 key file (one_there here.folder key file held),
     )
-  where
-    held : (found : Option PackagesFound) → found_in here.folder current ≡ found → OpensBeside true here.folder current found file lines → IfSome file (IsHeld here.folder current)
-    held None is opens = subst (λ (it : Option Opened). IfSome it (IsHeld here.folder current)) (sym opens.0) tt
-    held (Some there) is opens =
-        let it = found_holds here.folder current there.0 there.1 is in
-        takes_stand here.folder current there.0 there.1 (get here.folder (journal_name there.0)) file lines it.0 it.1 refl opens
 
 -- the file that isn't left alone
 not_left : (found : Option Opened) (file : Opened) → left_out true found ≡ Some file → found ≡ Some file
@@ -224,9 +233,10 @@ stays_answered true began step place (Some file) folder folder' state after line
           (λ current other it held differs same.
           let names = names_stay folder folder' current other file.name it.name held.0 differs same.0 made.1 in
           (same.0, same.1, holds_still folder folder' it.name it.history.«package» (present it.history) it.history.texts names.0 names.1 same.2)) stays.0,
-      λ name unlike aside.
+      (λ name unlike aside.
           let put = unlike_put place state.used (with_opened place (Some next) state.used) file next there refl made.0 name unlike in
-          made.1 name put.1.0 put.1.1 (λ e. aside (file.name, e)) (λ e. aside (journal_name file.name, e)) ∙ stays.1 name put.0 aside,
+          made.1 name put.1.0 put.1.1 (λ e. aside (file.name, e)) (λ e. aside (journal_name file.name, e)) ∙ stays.1 name put.0 aside),
+      put_were began place state.used file next there made.0 stays.2,
     )
 
 stays_done : (journals : Bool) (began : Folder) (step : RunStep) (here : World) (folder : Folder) (before after : Progress) (lines : List Bytes)
@@ -246,45 +256,85 @@ stays_run journals began keep_going (step ∷ steps) here folder before after li
     stays_run journals began keep_going steps (record here { folder = between }) folder mid after rest parts.1
     (stays_done journals began step here between before mid first parts.0 stays)
 
--- ---- a package is opened as when the run began
+-- ---- what a path means is opened as when the run began
 
 -- Standard input is as it was, or the package is another one.
 abbrev pub Seen : World → Option Bytes → Bytes → Type 0
 Seen world known current = (known ≡ world.known) ⊎ (current ≢ input_package)
 
-module _ (world here : World) (used : List Used) (current : Bytes) (none : package_number current used ≡ None) (file : Option Opened) (lines : List Bytes) where
-  seen : (journals : Bool) (found : Option PackagesFound) → Stays journals world.folder used here.folder → Seen world here.known current
-      → Finds journals here current found → OpensBeside journals here.folder current found file lines
-      → Finds journals world current found × OpensBeside journals world.folder current found file lines
-  seen false found still (inl known) (inl (plain, of_input, (text, input, is))) opens = (
+-- With journals: names of files that no open file has, nor its journal, hold what they held.
+module _ (began folder : Folder) (used : List Used) (all : AllAre (IsHeld folder) used) (others : OthersAre began used folder) (path : Bytes) where
+  begun : (key name : Bytes) → package_number key used ≡ None → IsNameOf key name
+      → (get folder name ≡ get began name) × (get folder (journal_name name) ≡ get began (journal_name name))
+  begun key name none named = as_begun (IsHeld folder) (λ other it held. held.0) began folder key name used named (apart_from key used none) all others
+
+  found_begun : (s : Settled) → settled folder path ≡ s → package_number (key_of path s) used ≡ None → found_of folder s ≡ found_of began s
+  found_begun (as_package current) is none = found_by folder current (get began (first_name current)) (get began (second_name current))
+      (begun current (first_name current) none (inl refl)).0 (begun current (second_name current) none (inr (inl refl))).0
+  found_begun (as_file name) is none = ap (λ (held : Option Bytes). found_at name held None) (begun name name none (own_named folder path name is)).0
+  found_begun (as_unedited why) is none = refl
+
+  module _ (rooted : root_above folder ≡ root_above began) (file : Option Opened) (lines : List Bytes) where
+    opens_begun : (s : Settled) (found : Option PackagesFound) → settled folder path ≡ s → package_number (key_of path s) used ≡ None → found_of folder s ≡ found
+        → OpensAs true folder path s found file lines → OpensAs true began path s found file lines
+    opens_begun (as_package current) None is none at opens =
+        (opens.0, opens.1 ∙ ap (λ (root : Option Bytes). (named_line (second_name current) (codes "cannot open") ++ absent_hint current root) ∷ []) rooted)
+    opens_begun (as_package current) (Some it) is none at opens = subst (λ (journal : Option Bytes). TakesBeside journal current it.0 it.1 file lines)
+        (begun current it.0 none (found_holds folder current it.0 it.1 at).0).1 opens
+    opens_begun (as_file name) None is none at opens = absurd opens
+    opens_begun (as_file name) (Some it) is none at opens = subst (λ (journal : Option Bytes). TakesBeside journal (folder_of it.0) it.0 it.1 file lines)
+        (begun name it.0 none (subst (IsNameOf name) (sym (own_holds folder name it.0 it.1 at).0) (own_named folder path name is))).1 opens
+    opens_begun (as_unedited why) found is none at opens = opens
+
+module _ (world here : World) (used : List Used) (path : Bytes) where
+  -- what a path means, and its key, are as when the run began
+  meant_seen : (journals : Bool) → Stays journals world.folder used here.folder → settled here.folder path ≡ settled world.folder path
+  meant_seen false still = ap (λ (f : Folder). settled f path) still
+  meant_seen true stays = settled_begun world.folder here.folder used (held_there here.folder used stays.0) stays.2 stays.1 path
+
+  rooted_seen : (journals : Bool) → Stays journals world.folder used here.folder → root_above here.folder ≡ root_above world.folder
+  rooted_seen false still = ap root_above still
+  rooted_seen true stays = root_stays here.folder world.folder (there_still world.folder here.folder used (held_there here.folder used stays.0) stays.2 stays.1)
+
+  finds_seen : (journals : Bool) (found : Option PackagesFound) (file : Option Opened) (lines : List Bytes) → Stays journals world.folder used here.folder
+      → Seen world here.known path → package_number (key_in used here.folder path) used ≡ None → Finds journals here path found
+      → OpensAs journals here.folder path (settled here.folder path) found file lines
+      → Finds journals world path found × OpensAs journals world.folder path (settled world.folder path) found file lines
+  finds_seen false found file lines still (inl known) none (inl (plain, of_input, (text, input, is))) opens = (
     inl (plain, of_input, (text, subst (λ (it : Option Bytes). IsInput it text) known input, is)),
-    subst (λ (f : Folder). OpensBeside false f current found file lines) still opens,
+    subst (λ (f : Folder). OpensAs false f path (settled f path) found file lines) still opens,
   )
-  seen false found still (inr other) (inl (plain, of_input, input)) opens = absurd (other of_input)
-  seen false found still known (inr (which, is)) opens = (
-    inr (which, is ∙ ap (λ (f : Folder). found_in f current) still),
-    subst (λ (f : Folder). OpensBeside false f current found file lines) still opens,
+  finds_seen false found file lines still (inr other) none (inl (plain, of_input, input)) opens = absurd (other of_input)
+  finds_seen false found file lines still known none (inr (which, is)) opens = (
+    inr (which, is ∙ ap (λ (f : Folder). found_of f (settled f path)) still),
+    subst (λ (f : Folder). OpensAs false f path (settled f path) found file lines) still opens,
   )
-  seen true found stays known (inl (plain, of_input, input)) opens = absurd (true≢false plain)
-  seen true found stays known (inr (which, is)) opens = (inr (which, is ∙ same), beside found is opens)
+  finds_seen true found file lines stays known none (inl (plain, of_input, input)) opens = absurd (true≢false plain)
+  finds_seen true found file lines stays known none (inr (which, is)) opens =
+      let s : Settled = settled here.folder path in
+      let meant = meant_seen true stays in
+      let new = sym (ap (λ (k : Bytes). package_number k used) (key_new used here.folder path none)) ∙ none in (
+        inr (which, is ∙ found_begun world.folder here.folder used stays.0 stays.1 path s refl new ∙ ap (found_of world.folder) meant),
+        subst (λ (it : Settled). OpensAs true world.folder path it found file lines) meant
+            (opens_begun world.folder here.folder used stays.0 stays.1 path (rooted_seen true stays) file lines s found refl new (sym is) opens),
+      )
+
+  pub seen : (journals : Bool) (place : ℕ) (lines : List Bytes) (after : List Used) → Stays journals world.folder used here.folder → Seen world here.known path
+      → UsesWhole journals here path used place lines after → UsesWhole journals world path used place lines after
+  seen journals place lines after stays known uses = go uses
     where
-      begun : (name : Bytes) → IsNameOf current name
-          → (get here.folder name ≡ get world.folder name) × (get here.folder (journal_name name) ≡ get world.folder (journal_name name))
-      begun name named =
-          as_begun (IsHeld here.folder) (λ other it held. held.0) world.folder here.folder current name used named (apart_from current used none) stays.0 stays.1
+      same : key_in used here.folder path ≡ key_in used world.folder path
+      same = key_same used here.folder world.folder path (meant_seen journals stays)
 
-      same : found_in here.folder current ≡ found_in world.folder current
-      same = found_by here.folder current (get world.folder (first_name current)) (get world.folder (second_name current)) (begun (first_name current) (inl refl)).0
-          (begun (second_name current) (inr refl)).0
-
-      rooted : root_above here.folder ≡ root_above world.folder
-      rooted = root_stays (IsHeld here.folder) (λ other it held. held.0) world.folder here.folder used stays.0 stays.1
-
-      beside : (there : Option PackagesFound) → there ≡ found_in here.folder current → OpensBeside true here.folder current there file lines
-          → OpensBeside true world.folder current there file lines
-      beside None is opens = (opens.0, opens.1 ∙ ap (λ (root : Option Bytes). (named_line (second_name current) (codes "cannot open") ++ absent_hint current root) ∷ []) rooted)
-      beside (Some it) is opens = subst (λ (journal : Option Bytes). TakesBeside journal current it.0 it.1 file lines)
-          (begun it.0 (found_holds here.folder current it.0 it.1 (sym is)).0).1 opens
+      go : UsesWhole journals here path used place lines after → UsesWhole journals world path used place lines after
+      go (inl (is, told, still)) = inl (sym (ap (λ (k : Bytes). package_number k used) same) ∙ is, told, still)
+      go (inr (none, last, (found, file, finds, opens, new))) =
+          let both = finds_seen journals found file lines stays known none finds opens in
+          inr (
+            sym (ap (λ (k : Bytes). package_number k used) same) ∙ none,
+            last,
+            (found, file, both.0, both.1, new ∙ ap (λ (k : Bytes). used ++ record { «package» = k; file = file } ∷ []) same),
+          )
 
 -- ---- one step is one
 
@@ -304,21 +354,21 @@ one_found journals world bytes current found found' known (inr (inl kept, here))
 one_found journals world bytes current found found' known (inr (inr other, here)) (inl (plain, is, input)) = absurd (other is)
 one_found journals world bytes current found found' known (inr (which, here)) (inr (which', here')) = here ∙ sym here'
 
-module _ (words : List Bytes) (world : World) (journals : Bool) (current : Bytes) (file file' : Option Opened) (lines lines' : List Bytes) where
+module _ (words : List Bytes) (world : World) (journals : Bool) (path : Bytes) (file file' : Option Opened) (lines lines' : List Bytes) where
   -- the same file, and the same lines
   abbrev TakesSame : Type 0
   TakesSame = (file ≡ file') × SameLines words world lines lines'
 
-  same_taken : (name text : Bytes) → Finds journals world current (Some (name, text)) → Takes current name text file lines → Takes current name text file' lines' → TakesSame
-  same_taken name text found (inl (accepted, is, none)) (inl (accepted', is', none')) = (is ∙ sym is', same_lines words world lines lines' (none ∙ sym none'))
-  same_taken name text found (inl (accepted, is, none)) (inr (fault, refused, is', reported)) = absurd (refused.0 accepted)
-  same_taken name text found (inr (fault, refused, is', reported)) (inl (accepted, is, none)) = absurd (refused.0 accepted)
-  same_taken name text found (inr (fault, one, is, reported)) (inr (fault', two, is', reported')) = (
+  same_taken : (current name text : Bytes) → Finds journals world path (Some (name, text)) → Takes current name text file lines → Takes current name text file' lines' → TakesSame
+  same_taken current name text found (inl (accepted, is, none)) (inl (accepted', is', none')) = (is ∙ sym is', same_lines words world lines lines' (none ∙ sym none'))
+  same_taken current name text found (inl (accepted, is, none)) (inr (fault, refused, is', reported)) = absurd (refused.0 accepted)
+  same_taken current name text found (inr (fault, refused, is', reported)) (inl (accepted, is, none)) = absurd (refused.0 accepted)
+  same_taken current name text found (inr (fault, one, is, reported)) (inr (fault', two, is', reported')) = (
     is ∙ sym is',
     same_as words world lines lines' ((fault_line name fault ++ fault_excerpt text fault) ∷ []) ((fault_line name fault' ++ fault_excerpt text fault') ∷ []) reported reported' (
       inr (inl (record {
         journals = journals;
-        current = current;
+        current = path;
         name = name;
         text = text;
         first = fault;
@@ -333,19 +383,24 @@ module _ (words : List Bytes) (world : World) (journals : Bool) (current : Bytes
     ),
   )
 
-  same_beside : (name text : Bytes) (journal : Option Bytes) → Finds journals world current (Some (name, text)) → TakesBeside journal current name text file lines
+  same_beside : (current name text : Bytes) (journal : Option Bytes) → Finds journals world path (Some (name, text)) → TakesBeside journal current name text file lines
       → TakesBeside journal current name text file' lines' → TakesSame
-  same_beside name text None found takes takes' = same_taken name text found takes takes'
-  same_beside name text (Some bytes) found (given, comes, is, reported) (given', comes', is', reported') =
+  same_beside current name text None found takes takes' = same_taken current name text found takes takes'
+  same_beside current name text (Some bytes) found (given, comes, is, reported) (given', comes', is', reported') =
       let one = one_given current bytes text given given' comes comes' in (
         is ∙ ap (file_of_journal name text) one ∙ sym is',
         same_lines words world lines lines' (reported ∙ ap (lines_of_journal name) one ∙ sym reported'),
       )
 
-  same_opened : (found : Option PackagesFound) → Finds journals world current found → OpensBeside journals world.folder current found file lines
-      → OpensBeside journals world.folder current found file' lines' → TakesSame
-  same_opened None found opens opens' = (opens.0 ∙ sym opens'.0, same_lines words world lines lines' (opens.1 ∙ sym opens'.1))
-  same_opened (Some there) found opens opens' = same_beside there.0 there.1 (journal_beside journals world.folder there.0) found opens opens'
+  same_opened : (s : Settled) (found : Option PackagesFound) → Finds journals world path found → OpensAs journals world.folder path s found file lines
+      → OpensAs journals world.folder path s found file' lines' → TakesSame
+  same_opened (as_package current) None found opens opens' = (opens.0 ∙ sym opens'.0, same_lines words world lines lines' (opens.1 ∙ sym opens'.1))
+  same_opened (as_package current) (Some there) found opens opens' =
+      same_beside current there.0 there.1 (journal_beside journals world.folder there.0) found opens opens'
+  same_opened (as_file name) None found opens opens' = absurd opens
+  same_opened (as_file name) (Some there) found opens opens' =
+      same_beside (folder_of there.0) there.0 there.1 (journal_beside journals world.folder there.0) found opens opens'
+  same_opened (as_unedited why) there found opens opens' = (opens.0 ∙ sym opens'.0, same_lines words world lines lines' (opens.1 ∙ sym opens'.1))
 
 abbrev pub reads_input : RunStep → Bool
 reads_input step = is_of_input step.target
@@ -368,27 +423,25 @@ one_hint one (Err refusal) (Some (Do operation target)) name h hint other (inl l
 one_hint one (Err refusal) (Some (Do operation target)) name h hint other (inl long) (inr (short, helps)) = absurd (short long.0)
 one_hint one (Err refusal) (Some (Do operation target)) name h hint other (inr (short, helps)) (inl long) = absurd (short long.0)
 one_hint one (Err refusal) (Some (Do operation target)) name h hint other (inr (short, (n, reads, is))) (inr (short', (n', reads', is'))) =
-    is ∙ ap (λ (m : Node). refusal_hint name refusal operation target.which target.«package» (lines_of m) (view_of m)) (one (present h) n n' reads reads') ∙ sym is'
+    is ∙ ap (λ (m : Node). refusal_hint name refusal operation target.which (package_of target.«package» name) (lines_of m) (view_of m)) (one (present h) n n' reads reads') ∙ sym is'
 one_hint one (Err refusal) _ name h hint other is is' = is ∙ sym is'
 
 module _ (one : OneReading) (words : List Bytes) (world : World) (bytes : Bytes) (known : world.known ≡ Some bytes) (journals : Bool) where
-  same_used : (here there : World) (current : Bytes) (before : List Used) (place place' : ℕ) (lines lines' : List Bytes) (after after' : List Used)
-      → Seen world here.known current → Seen world there.known current → Stays journals world.folder before here.folder → Stays journals world.folder before there.folder
-      → UsesWhole journals here current before place lines after → UsesWhole journals there current before place' lines' after'
+  same_used : (path : Bytes) (before : List Used) (place place' : ℕ) (lines lines' : List Bytes) (after after' : List Used)
+      → UsesWhole journals world path before place lines after → UsesWhole journals world path before place' lines' after'
       → (place ≡ place') × SameLines words world lines lines' × (after ≡ after')
-  same_used here there current before place place' lines lines' after after' reads reads' stays stays' (inl (is, none, same)) (inl (is', none', same')) =
+  same_used path before place place' lines lines' after after' (inl (is, none, same)) (inl (is', none', same')) =
       (ap (λ (found : Option ℕ). unwrap_or found 0) (sym is ∙ is'), same_lines words world lines lines' (none ∙ sym none'), same ∙ sym same')
-  same_used here there current before place place' lines lines' after after' reads reads' stays stays' (inl (is, none, same)) (inr (new, last, opens)) =
+  same_used path before place place' lines lines' after after' (inl (is, none, same)) (inr (new, last, opens)) =
       absurd (let e = sym is ∙ new in cc)
-  same_used here there current before place place' lines lines' after after' reads reads' stays stays' (inr (new, last, opens)) (inl (is, none, same)) =
+  same_used path before place place' lines lines' after after' (inr (new, last, opens)) (inl (is, none, same)) =
       absurd (let e = sym is ∙ new in cc)
-  same_used here there current before place place' lines lines' after after' reads reads' stays stays' (inr (new, is, (found, file, finds, opens, same))) (inr (new', is', (found', file', finds', opens', same'))) =
-      let first = seen world here before current new file lines journals found stays reads finds opens in
-      let second = seen world there before current new' file' lines' journals found' stays' reads' finds' opens' in
-      let one_there : found ≡ found' = one_found journals world bytes current found found' known first.0 second.0 in
-      let opened = same_opened words world journals current file file' lines lines' found first.0 first.1
-      (subst (λ (it : Option PackagesFound). OpensBeside journals world.folder current it file' lines') (sym one_there) second.1) in
-      (is ∙ sym is', opened.1, same ∙ ap (λ (it : Option Opened). before ++ record { «package» = current; file = it } ∷ []) opened.0 ∙ sym same')
+  same_used path before place place' lines lines' after after' (inr (new, is, (found, file, finds, opens, same))) (inr (new', is', (found', file', finds', opens', same'))) =
+      let one_there : found ≡ found' = one_found journals world bytes path found found' known finds finds' in
+      let s : Settled = settled world.folder path in
+      let opened = same_opened words world journals path file file' lines lines' s found finds opens
+      (subst (λ (it : Option PackagesFound). OpensAs journals world.folder path s it file' lines') (sym one_there) opens') in
+      (is ∙ sym is', opened.1, same ∙ ap (λ (it : Option Opened). before ++ record { «package» = key_in before world.folder path; file = it } ∷ []) opened.0 ∙ sym same')
 
   one_answered : (step : RunStep) (place : ℕ) (file : Option Opened) (state : Progress) (folder folder' past past' : Folder) (lines lines' : List Bytes) (after after' : Progress)
       → AnswersIn journals step place file folder state lines past after → AnswersIn journals step place file folder' state lines' past' after'
@@ -409,7 +462,9 @@ module _ (one : OneReading) (words : List Bytes) (world : World) (bytes : Bytes)
       → Stays journals world.folder before.used here.folder → Stays journals world.folder before.used there.folder
       → DoesWhole journals here step before lines past after → DoesWhole journals there step before lines' past' after' → SameLines words world lines lines' × (after ≡ after')
   same_done here there step past past' before lines lines' after after' reads reads' stays stays' (place, used, opening, answer, uses, answers, told) (place', used', opening', answer', uses', answers', told') =
-      let same = same_used here there step.target.«package» before.used place place' opening opening' used used' reads reads' stays stays' uses uses' in
+      let path = step.target.«package» in
+      let same = same_used path before.used place place' opening opening' used used' (seen world here before.used path journals place opening used stays reads uses)
+      (seen world there before.used path journals place' opening' used' stays' reads' uses') in
       let at_place = subst (λ (p : ℕ). AnswersIn journals step p (left_out journals (file_at p used')) there.folder (record before { used = used' }) answer' past' after') (sym same.0) answers' in
       let second = subst (λ (u : List Used). AnswersIn journals step place (left_out journals (file_at place u)) there.folder (record before { used = u }) answer' past' after') (sym same.2) at_place in
       let answered = one_answered step place (left_out journals (file_at place used)) (record before { used = used }) here.folder there.folder past past' answer answer' after after' answers second in (
@@ -442,17 +497,6 @@ module _ (one : OneReading) (words : List Bytes) (world : World) (bytes : Bytes)
       (same_parts words world lines lines' first first' rest rest' told told' done.0 same.0, same.1)
 
 -- ---- folders
-
-abbrev is_named : Bytes → Used → Bool
-is_named name used = option_map_or (λ (file : Opened). bytes_eq name file.name) used.file false
-
-not_named : (name : Bytes) (used : List Used) → list_any (is_named name) used ≡ false → (place : ℕ) (file : Opened) → file_at place used ≡ Some file → name ≢ file.name
-not_named name [] none place file at = absurd (let e = at in cc)
-not_named name (used ∷ more) none zero file at = λ same.
-    let is = ap (λ (found : Option Opened). option_map_or (λ (it : Opened). bytes_eq name it.name) found false) at ∙ (bytes_eq-Decides name file.name).1 same in
-    true≢false (sym is ∙ (or_parts (is_named name used) (list_any (is_named name) more) none).0)
-not_named name (used ∷ more) none (suc place) file at =
-    not_named name more (or_parts (is_named name used) (list_any (is_named name) more) none).1 place file at
 
 module _ (folder folder' : Folder) (name : Bytes) where
   -- an open file of this name is held in both

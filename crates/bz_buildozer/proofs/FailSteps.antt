@@ -8,12 +8,12 @@ use Rattle.bz_buildozer.specs.Words.{Bytes, Folder, journal_name, Cut, limit, fi
 use Rattle.bz_buildozer.specs.Sessions.{History, Pair}
 use Rattle.bz_streams.specs.declared.exit.Cut.TheVariants as c
 use Rattle.bz_streams.specs.declared.sink.Sink.{Ghosts as SinkOf}
-use Rattle.bz_buildozer.specs.Found.{IsNameOf, PackagesFound, found_at, found_in, found_second, second_name, Opened, Used, file_at, opened_with, first_name, in_package, package_number, with_opened}
-use Rattle.bz_buildozer.specs.Journals.{IsOpenedIn, JournalFault, OpensBeside, TakesBeside, file_of_journal, journal_beside, lines_of_journal}
+use Rattle.bz_buildozer.specs.Found.{IsNameOf, PackagesFound, Settled, folder_of, found_at, found_in, found_of, found_second, key_in, key_of, as_file, as_package, as_unedited, second_name, settled, Opened, Used, file_at, opened_with, first_name, in_package, package_number, with_opened}
+use Rattle.bz_buildozer.specs.Journals.{IsOpenedIn, JournalFault, OpensAs, OpensBeside, TakesBeside, file_of_journal, journal_beside, lines_of_journal}
 use Rattle.bz_buildozer.specs.Keeps.{after_keeping, file_after, left_out}
-use Rattle.bz_buildozer.specs.Run.{FindsUntil, IsInFolder, LeavesUnkept, OpensUntil, SecondUntil, Answers, AnswersIn, Does, Finds, Progress, RunsSteps, TakesUntil, Uses, UsesWhole, World, ends_run, unreadable, wanting, wanting_name}
+use Rattle.bz_buildozer.specs.Run.{FileUntil, FindsUntil, IsInFolder, MeansUntil, LeavesUnkept, OpensUntil, SecondUntil, Answers, AnswersIn, Does, Finds, Progress, RunsSteps, TakesUntil, Uses, UsesWhole, World, ends_run, unreadable, wanting, wanting_name}
 use Rattle.bz_buildozer.proofs.PlaceSteps.{last_place, left_after_input, left_after_use, place_stays}
-use Rattle.bz_buildozer.proofs.StandSteps.{found_holds, second_holds}
+use Rattle.bz_buildozer.proofs.StandSteps.{found_holds, key_input, own_named, second_holds}
 use Rattle.bz_streams.proofs.Outputs.{reports_more}
 use Rattle.bz_buildozer.specs.Calls.{ReportsLine, ReportsLines, IsLeft}
 use Rattle.bz_buildozer.specs.Reported.{unread_status}
@@ -22,7 +22,7 @@ use Rattle.bz_buildozer.specs.Unread.{RunActs, IsUnreadInRun}
 use Rattle.bz_buildozer.specs.declared.reading.Taken.{Taken}
 use Rattle.bz_buildozer.specs.private.Taking.{Brings, InputUntil, NamedUntil, base_of}
 use Rattle.bz_buildozer.specs.private.ShownFiles.{taken_in}
-use Rattle.bz_buildozer.proofs.ReadSteps.{first_opens, second_opens}
+use Rattle.bz_buildozer.proofs.ReadSteps.{first_opens, front_beside, second_opens}
 
 -- ---- the file that an opening leaves, whatever comes
 
@@ -45,20 +45,27 @@ takes_some (Some bytes) current name text file lines (given, comes, is, reported
 
 -- ---- what was found and opened
 
+-- the file of this name, whose labels are of its folder
+opened_one : (journals : Bool) (folder : Folder) (key name text : Bytes) (file : Opened) (lines : List Bytes) → IsNameOf key name → get folder name ≡ Some text
+    → TakesBeside (journal_beside journals folder name) (folder_of name) name text (Some file) lines → IsOpenedIn journals folder key file
+opened_one journals folder key name text file lines named held takes =
+    let at = takes_some (journal_beside journals folder name) (folder_of name) name text file lines takes in record {
+      named = subst (IsNameOf key) (sym at.0) named;
+      there = ap (get folder) at.0 ∙ held ∙ ap Some (sym at.1);
+      opens = subst (TakesBeside (journal_beside journals folder file.name) (folder_of file.name) file.name file.read (Some file)) at.2
+          (subst (λ (t : Bytes). TakesBeside (journal_beside journals folder file.name) (folder_of file.name) file.name t (Some file) lines) (sym at.1)
+          (subst (λ (n : Bytes). TakesBeside (journal_beside journals folder n) (folder_of n) n text (Some file) lines) (sym at.0) takes));
+    }
+
 opened_found : (journals : Bool) (folder : Folder) (current : Bytes) (found : Option PackagesFound) (file : Option Opened) (lines : List Bytes)
-    → ((name text : Bytes) → found ≡ Some (name, text) → IsNameOf current name × (get folder name ≡ Some text)) → OpensBeside journals folder current found file lines
-    → IfSome file (IsOpenedIn journals folder current)
+    → ((name text : Bytes) → found ≡ Some (name, text) → IsNameOf current name × (get folder name ≡ Some text) × (folder_of name ≡ current))
+    → OpensBeside journals folder current found file lines → IfSome file (IsOpenedIn journals folder current)
 opened_found journals folder current found None lines holds opens = tt
 opened_found journals folder current None (Some file) lines holds opens = absurd (let e = opens.0 in cc)
 opened_found journals folder current (Some (name, text)) (Some file) lines holds takes =
     let there = holds name text refl in
-    let at = takes_some (journal_beside journals folder name) current name text file lines takes in record {
-      named = subst (IsNameOf current) (sym at.0) there.0;
-      there = ap (get folder) at.0 ∙ there.1 ∙ ap Some (sym at.1);
-      opens = subst (TakesBeside (journal_beside journals folder file.name) current file.name file.read (Some file)) at.2
-          (subst (λ (t : Bytes). TakesBeside (journal_beside journals folder file.name) current file.name t (Some file) lines) (sym at.1)
-          (subst (λ (n : Bytes). TakesBeside (journal_beside journals folder n) current n text (Some file) lines) (sym at.0) takes));
-    }
+    opened_one journals folder current name text file lines there.0 there.1
+    (subst (λ (labels : Bytes). TakesBeside (journal_beside journals folder name) labels name text (Some file) lines) (sym there.2) takes)
 
 none_opened : (journals : Bool) (folder : Folder) (current : Bytes) (file : Option Opened) → file ≡ None → IfSome file (IsOpenedIn journals folder current)
 none_opened journals folder current file is = subst (λ (it : Option Opened). IfSome it (IsOpenedIn journals folder current)) (sym is) tt
@@ -105,6 +112,32 @@ opened_until c.Files journals acts folder current file lines (inl (why, more, to
 opened_until c.Files journals acts folder current file lines (inr (inl gone)) = opened_second c.Files journals acts folder current file lines gone.1
 opened_until c.Files journals acts folder current file lines (inr (inr (text, held, unread))) = none_opened journals folder current file unread.1
 opened_until _ journals acts folder current file lines opens = absurd opens
+
+-- where memory is refused none is open
+memory_file : (journals : Bool) (acts : RunActs) (folder : Folder) (path : Bytes) (s : Settled) (file : Option Opened) (lines : List Bytes)
+    → MeansUntil c.Memory journals acts folder path s file lines → file ≡ None
+memory_file journals acts folder path (as_package current) file lines opens = memory_closes journals acts folder current file lines opens
+memory_file journals acts folder path (as_file name) file lines opens =
+    none_found c.Memory journals acts folder (folder_of name) name file lines (λ is. absurd (cc is)) opens
+memory_file journals acts folder path (as_unedited why) file lines opens = opens.1
+
+own_opened : (why : Cut) (journals : Bool) (acts : RunActs) (folder : Folder) (name : Bytes) (file : Option Opened) (lines : List Bytes) → IsNameOf name name
+    → FileUntil why journals acts folder name file lines → IfSome file (IsOpenedIn journals folder name)
+own_opened c.Whole journals acts folder name None lines named opens = tt
+own_opened c.Whole journals acts folder name (Some file) lines named (text, held, takes) = opened_one journals folder name name text file lines named held takes
+own_opened c.Files journals acts folder name file lines named opens =
+    none_opened journals folder name file (none_found c.Files journals acts folder (folder_of name) name file lines (λ is. absurd (cc is)) opens)
+own_opened c.Memory journals acts folder name file lines named opens =
+    none_opened journals folder name file (none_found c.Memory journals acts folder (folder_of name) name file lines (λ is. absurd (cc is)) opens)
+own_opened _ journals acts folder name file lines named opens = absurd opens
+
+-- an open file is one that the folder has, for what the path means
+pub means_opened : (why : Cut) (journals : Bool) (acts : RunActs) (folder : Folder) (path : Bytes) (s : Settled) (file : Option Opened) (lines : List Bytes)
+    → settled folder path ≡ s → MeansUntil why journals acts folder path s file lines → IfSome file (IsOpenedIn journals folder (key_of path s))
+means_opened why journals acts folder path (as_package current) file lines is opens = opened_until why journals acts folder current file lines opens
+means_opened why journals acts folder path (as_file name) file lines is opens =
+    own_opened why journals acts folder name file lines (own_named folder path name is) opens
+means_opened why journals acts folder path (as_unedited reason) file lines is opens = none_opened journals folder path file opens.1
 
 -- the journal of a file is there
 pub journal_there : (journals : Bool) (folder : Folder) (name journal bytes : Bytes) → journals ≡ true → journal ≡ journal_name name → get folder journal ≡ Some bytes
@@ -203,6 +236,24 @@ first_until c.Memory journals acts current name front text folder now file lines
     inr (inr (inr (found_until c.Memory journals acts current name (first_name current) front text folder now file lines is held same (λ is. absurd (cc is)) takes)))
 first_until _ journals acts current name front text folder now file lines is held cut same takes = absurd takes
 
+-- the file of this name, by the package of its labels
+pub own_until : (why : Cut) (journals : Bool) (acts : RunActs) (labels name front text : Bytes) (folder now : Folder) (file : Option Opened) (lines : List Bytes) → labels ≡ folder_of name
+    → get folder name ≡ Some text → front ≡ take (limit + 1) text → now ≡ folder → TakesUntil why journals acts now labels name front file lines
+    → FileUntil why journals acts folder name file lines
+own_until why journals acts labels name front text folder now file lines is held cut same takes =
+    go why (subst (λ (current : Bytes). TakesUntil why journals acts now current name front file lines) is takes)
+  where
+    go : (why : Cut) → TakesUntil why journals acts now (folder_of name) name front file lines → FileUntil why journals acts folder name file lines
+    go c.Whole takes = (
+      text,
+      held,
+      subst (λ (f : Folder). TakesBeside (journal_beside journals f name) (folder_of name) name text file lines) same
+          (front_beside (journal_beside journals now name) (folder_of name) name front text file lines cut takes),
+    )
+    go c.Files takes = inr (found_until c.Files journals acts (folder_of name) name name front text folder now file lines refl held same (λ is. absurd (cc is)) takes)
+    go c.Memory takes = inr (found_until c.Memory journals acts (folder_of name) name name front text folder now file lines refl held same (λ is. absurd (cc is)) takes)
+    go _ takes = absurd takes
+
 -- Where the first file isn't there, what comes of the second one is what comes of both.
 pub absent_until : (why : Cut) (journals : Bool) (acts : RunActs) (folder : Folder) (current : Bytes) (file : Option Opened) (lines : List Bytes) → get folder (first_name current) ≡ None
     → SecondUntil why journals acts folder current file lines → OpensUntil why journals acts folder current file lines
@@ -251,10 +302,19 @@ tried_on sink Trusted Now journals acts folder now current name why file old mid
 
 -- ---- the package of a step
 
-pub used_first : (journals : Bool) (world : World) (current : Bytes) (before after : List Used) (found : Option PackagesFound) (file : Option Opened) (lines : List Bytes)
-    → package_number current before ≡ None → Finds journals world current found → OpensBeside journals world.folder current found file lines
-    → after ≡ before ++ record { «package» = current; file = file } ∷ [] → UsesWhole journals world current before (length before) lines after
-used_first journals world current before after found file lines none finds opens added = inr (none, refl, (found, file, finds, opens, added))
+pub used_first : (journals : Bool) (world : World) (path : Bytes) (before after : List Used) (found : Option PackagesFound) (file : Option Opened) (lines : List Bytes)
+    → package_number (key_in before world.folder path) before ≡ None → Finds journals world path found
+    → OpensAs journals world.folder path (settled world.folder path) found file lines
+    → after ≡ before ++ record { «package» = key_in before world.folder path; file = file } ∷ [] → UsesWhole journals world path before (length before) lines after
+used_first journals world path before after found file lines none finds opens added = inr (none, refl, (found, file, finds, opens, added))
+
+-- what was found for it is opened
+whole_as : (journals : Bool) (acts : RunActs) (folder : Folder) (path : Bytes) (s : Settled) (file : Option Opened) (lines : List Bytes)
+    → MeansUntil c.Whole journals acts folder path s file lines → OpensAs journals folder path s (found_of folder s) file lines
+whole_as journals acts folder path (as_package current) file lines opens = opens
+whole_as journals acts folder path (as_file name) file lines (text, held, takes) =
+    subst (λ (found : Option Bytes). OpensAs journals folder path (as_file name) (found_at name found None) file lines) (sym held) takes
+whole_as journals acts folder path (as_unedited why) file lines opens = (opens.1, opens.2)
 
 -- the file of a package that isn't read from standard input
 in_folder : (journals : Bool) (current : Bytes) → (journals ≡ false → current ≡ input_package → ⊥) → IsInFolder journals current
@@ -266,39 +326,64 @@ closed_added : (current : Bytes) (before after : List Used) (file : Option Opene
     → after ≡ before ++ record { «package» = current; file = None } ∷ []
 closed_added current before after file added closed = added ∙ ap (λ (f : Option Opened). before ++ record { «package» = current; file = f } ∷ []) closed
 
--- what was opened of a package that was not used before
-uses_until : (why : Cut) (journals : Bool) (world : World) (current : Bytes) (before after : List Used) (file : Option Opened) (number : Option ℕ) (lines : List Bytes)
-    → (journals ≡ false → current ≡ input_package → ⊥) → package_number current before ≡ None → OpensUntil why journals world.acts world.folder current file lines
-    → after ≡ before ++ record { «package» = current; file = file } ∷ [] → number ≡ option_map (λ (_ : Opened). length before) file
-    → Uses why journals world current before number lines after
-uses_until c.Whole journals world current before after file number lines other none opens added at =
-    let found = found_in world.folder current in
-    let uses = used_first journals world current before after found file lines none (inr (in_folder journals current other, refl)) opens added in
-    (length before, uses, last_place before after current file number added at)
-uses_until c.Memory journals world current before after file number lines other none opens added at =
-    let closed = memory_closes journals world.acts world.folder current file lines opens in (
-      none,
+-- neither standard input nor output cuts what is opened in the folder
+means_cut : (why : Cut) (journals : Bool) (acts : RunActs) (folder : Folder) (path : Bytes) (s : Settled) (file : Option Opened) (lines : List Bytes)
+    → (why ≡ c.Read) ⊎ (why ≡ c.Write) → MeansUntil why journals acts folder path s file lines → ⊥
+means_cut why journals acts folder path s file lines (inl is) opens = go s (subst (λ (it : Cut). MeansUntil it journals acts folder path s file lines) is opens)
+  where
+    go : (s : Settled) → MeansUntil c.Read journals acts folder path s file lines → ⊥
+    go (as_package current) never = never
+    go (as_file name) never = never
+    go (as_unedited reason) never = absurd (let e = never.0 in cc)
+means_cut why journals acts folder path s file lines (inr is) opens = go s (subst (λ (it : Cut). MeansUntil it journals acts folder path s file lines) is opens)
+  where
+    go : (s : Settled) → MeansUntil c.Write journals acts folder path s file lines → ⊥
+    go (as_package current) never = never
+    go (as_file name) never = never
+    go (as_unedited reason) never = absurd (let e = never.0 in cc)
+
+-- what was opened of a path that means something new
+uses_until : (why : Cut) (journals : Bool) (world : World) (path : Bytes) (before after : List Used) (file : Option Opened) (number : Option ℕ) (lines : List Bytes)
+    → (journals ≡ false → path ≡ input_package → ⊥) → package_number path before ≡ None → package_number (key_in before world.folder path) before ≡ None
+    → MeansUntil why journals world.acts world.folder path (settled world.folder path) file lines
+    → after ≡ before ++ record { «package» = key_in before world.folder path; file = file } ∷ [] → number ≡ option_map (λ (_ : Opened). length before) file
+    → Uses why journals world path before number lines after
+uses_until c.Whole journals world path before after file number lines other unknown none opens added at =
+    let found = found_of world.folder (settled world.folder path) in
+    let uses = used_first journals world path before after found file lines none (inr (in_folder journals path other, refl))
+    (whole_as journals world.acts world.folder path (settled world.folder path) file lines opens) added in
+    (length before, uses, last_place before after (key_in before world.folder path) file number added at)
+uses_until c.Memory journals world path before after file number lines other unknown none opens added at =
+    let closed = memory_file journals world.acts world.folder path (settled world.folder path) file lines opens in (
+      unknown,
       at ∙ ap (option_map (λ (_ : Opened). length before)) closed,
       inr (
-        closed_added current before after file added closed,
-        inr (in_folder journals current other, subst (λ (f : Option Opened). OpensUntil c.Memory journals world.acts world.folder current f lines) closed opens),
+        none,
+        closed_added (key_in before world.folder path) before after file added closed,
+        inr (
+          in_folder journals path other,
+          subst (λ (f : Option Opened). MeansUntil c.Memory journals world.acts world.folder path (settled world.folder path) f lines) closed opens,
+        ),
       ),
     )
-uses_until c.Files journals world current before after file number lines other none opens added at =
-    (none, in_folder journals current other, (file, opens, added, at))
-uses_until _ journals world current before after file number lines other none opens added at = absurd opens
+uses_until c.Files journals world path before after file number lines other unknown none opens added at =
+    (none, in_folder journals path other, (file, opens, added, at))
+uses_until c.Read journals world path before after file number lines other unknown none opens added at = absurd (means_cut c.Read journals world.acts world.folder path (settled world.folder path) file lines (inl refl) opens)
+uses_until c.Write journals world path before after file number lines other unknown none opens added at = absurd (means_cut c.Write journals world.acts world.folder path (settled world.folder path) file lines (inr refl) opens)
 
--- the file of a package that was not used before was read, or memory is refused
-pub uses_read : {E : Type 0} (sink : SinkOf E) (Trusted : Type 0) (world : World) (journals : Bool) (current : Bytes) (remaining : Option Bytes) (before after : List Used)
-    (why : Cut) (file : Option Opened) (number : Option ℕ) (old new : E) → Trusted → (journals ≡ false → current ≡ input_package → ⊥)
-    → package_number current before ≡ None → after ≡ before ++ record { «package» = current; file = file } ∷ []
-    → number ≡ option_map (λ (_ : Opened). length before) file
-    → Brings sink (λ found lines. Trusted → OpensUntil why journals world.acts world.folder current found lines) file old new → IsLeft world.known before remaining
-    → (lines : List Bytes) × Uses why journals world current before number lines after × IsLeft world.known after remaining × ReportsLines sink old new lines
-uses_read sink Trusted world journals current remaining before after why file number old new trusted other none added at (lines, opens, told) left = (
+-- What a path means that is new was read, or memory is refused. (Its key, as the folder is.)
+pub uses_read : {E : Type 0} (sink : SinkOf E) (Trusted : Type 0) (world : World) (journals : Bool) (path key : Bytes) (remaining : Option Bytes) (before after : List Used)
+    (why : Cut) (file : Option Opened) (number : Option ℕ) (old new : E) → Trusted → (journals ≡ false → path ≡ input_package → ⊥)
+    → package_number path before ≡ None → key ≡ key_in before world.folder path → package_number key before ≡ None
+    → after ≡ before ++ record { «package» = key; file = file } ∷ [] → number ≡ option_map (λ (_ : Opened). length before) file
+    → Brings sink (λ found lines. Trusted → MeansUntil why journals world.acts world.folder path (settled world.folder path) found lines) file old new
+    → IsLeft world.known before remaining
+    → (lines : List Bytes) × Uses why journals world path before number lines after × IsLeft world.known after remaining × ReportsLines sink old new lines
+uses_read sink Trusted world journals path key remaining before after why file number old new trusted other unknown is none added at (lines, opens, told) left = (
   lines,
-  uses_until why journals world current before after file number lines other none (opens trusted) added at,
-  left_after_use world.known remaining before after (record { «package» = current; file = file }) added left,
+  uses_until why journals world path before after file number lines other unknown (subst (λ (k : Bytes). package_number k before ≡ None) is none) (opens trusted)
+      (added ∙ ap (λ (k : Bytes). before ++ record { «package» = k; file = file } ∷ []) is) at,
+  left_after_use world.known remaining before after (record { «package» = key; file = file }) added left,
   told,
 )
 
@@ -309,9 +394,13 @@ input_uses : (why : Cut) (world : World) (before after : List Used) (file : Opti
     → InputUntil why world.known file lines → Uses why false world input_package before number lines after
 input_uses c.Whole world before after file number lines none added at (text, is, takes) = (
   length before,
-  used_first false world input_package before after (Some (stdin, text)) file lines none (inl (refl, refl, (text, is, refl))) takes added,
+  used_first false world input_package before after (Some (stdin, text)) file lines (subst (λ (key : Bytes). package_number key before ≡ None) key none)
+      (inl (refl, refl, (text, is, refl))) takes (added ∙ ap (λ (k : Bytes). before ++ record { «package» = k; file = file } ∷ []) key),
   last_place before after input_package file number added at,
 )
+  where
+    key : input_package ≡ key_in before world.folder input_package
+    key = sym (key_input before world.folder)
 input_uses c.Read world before after file number lines none added at (closed, told) = (
   refl,
   refl,
@@ -323,7 +412,12 @@ input_uses c.Read world before after file number lines none added at (closed, to
 input_uses c.Memory world before after file number lines none added at (closed, told) = (
   none,
   at ∙ ap (option_map (λ (_ : Opened). length before)) closed,
-  inr (closed_added input_package before after file added closed, inl (refl, refl, told)),
+  inr (
+    subst (λ (key : Bytes). package_number key before ≡ None) (sym (key_input before world.folder)) none,
+    closed_added input_package before after file added closed
+        ∙ ap (λ (key : Bytes). before ++ record { «package» = key; file = None } ∷ []) (sym (key_input before world.folder)),
+    inl (refl, refl, told),
+  ),
 )
 input_uses _ world before after file number lines none added at reads = absurd reads
 

@@ -6,6 +6,7 @@ pub mod ExactOutcomes
 pub mod ExactReads
 pub mod ExactSteps
 pub mod FailSteps
+pub mod FileNames
 pub mod KeepSteps
 pub mod NamedLines
 pub mod Outcomes

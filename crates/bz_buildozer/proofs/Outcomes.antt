@@ -53,7 +53,7 @@ of_script Is words line name is same takes =
 
 -- where no package was used, each name is as it is
 pub unused_yet : (folder : Folder) → IsMeanwhile folder [] [] folder
-unused_yet folder = record { files = λ place file then here there. absurd (let e = here in cc); others = λ name unlike aside. refl }
+unused_yet folder = record { files = λ place file then here there. absurd (let e = here in cc); there = λ place file at. absurd (let e = at in cc); others = λ name unlike aside. refl }
 
 -- a folder at a moment of what a text of lines requests, in a run that began with one
 abbrev pub IsMomentOfText : Folder → Bytes → Folder → Type 0

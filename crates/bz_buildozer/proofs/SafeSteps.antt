@@ -1,6 +1,6 @@
 -- One step of a run with journals: each open file is safe at each moment.
-use Rattle.std.proofs.Common.{arith, ◌≡◌, ◌≢◌, ◌⊎◌, inl, inr, ◌∙◌, ◌++◌, ◌+◌, ◌≤◌, ℕ, suc, List, [], ◌∷◌, length, Option, Some, None, Bool, true, false, true≢false, Result, Ok, Err, refl, sym, ap, subst, bytes_eq}
-use Rattle.std.specs.Prelude.{IfSome, if◌then◌else◌, unwrap_or}
+use Rattle.std.proofs.Common.{arith, ◌≡◌, ◌≢◌, ◌⊎◌, inl, inr, ◌∙◌, ◌++◌, ◌+◌, ◌≤◌, ℕ, suc, List, [], ◌∷◌, length, Option, Some, None, Bool, true, false, true≢false, Result, Ok, Err, refl, sym, ap, subst}
+use Rattle.std.specs.Prelude.{IfSome, if◌then◌else◌, is_some, unwrap_or}
 use Rattle.std.specs.FinMap.{get}
 use Rattle.std.specs.Option.{option_map, option_map_or}
 use Rattle.std.proofs.lemmas.Bool.Decides.{eqb_tells}
@@ -9,15 +9,15 @@ use Rattle.bz_buildozer.specs.Words.{Bytes, Elapses, Folder, IsAside, Ghosts as 
 use Rattle.bz_files.proofs.Elapsing.{elapsed_on, stays, weakened}
 use Rattle.bz_buildozer.specs.Sessions.{KeepFault, Refused, Pair, Keeps, KeepsFile, Action, History, Reply, present}
 use Rattle.bz_resume.specs.Resuming.{Holds, OthersStay, Resumes, Survives}
-use Rattle.bz_buildozer.specs.Found.{IsNameOf, Opened, Used, file_at, package_number, with_opened}
-use Rattle.bz_buildozer.specs.Journals.{IsOpenedIn, TakesBeside}
+use Rattle.bz_buildozer.specs.Found.{IsNameOf, Opened, Used, file_at, folder_of, key_in, package_number, with_opened}
+use Rattle.bz_buildozer.specs.Journals.{Adds, IsOpenedIn, TakesBeside}
 use Rattle.bz_buildozer.specs.Keeps.{KeepsAt, KeepsFolder, after_keeping, file_left}
 use Rattle.bz_buildozer.proofs.ActSteps.{acts_leaves, file_put}
 use Rattle.bz_buildozer.specs.Calls.{KeepsStep, UsesSome}
 use Rattle.bz_buildozer.specs.Moments.{AllAreSafe, IsApart, IsBetween, IsMeanwhile, IsMomentOfSteps, IsSafe, Joins, MayAct}
 use Rattle.bz_buildozer.specs.Steps.{RunStep}
 use Rattle.bz_buildozer.proofs.PlaceSteps.{none_here}
-use Rattle.bz_buildozer.proofs.StandSteps.{IsUnlike, OthersAre, all_after, all_at, all_last, apart_from, as_begun, file_in_front, holds_still, names_stay, one_file, other_at, takes_stand, two_apart, unlike_put}
+use Rattle.bz_buildozer.proofs.StandSteps.{IsUnlike, OthersAre, WereThere, all_after, all_at, all_last, apart_from, as_begun, file_in_front, holds_still, key_begun, more_were, names_stay, one_file, other_at, put_were, takes_stand, two_apart, unlike_put}
 
 -- ---- a file in another folder
 
@@ -57,21 +57,40 @@ all_safe_after place used file next folder now at same safe stay =
     all_after (IsSafeOf folder) (IsSafeOf now) place used file next at (λ current is. (subst (IsNameOf current) (sym same) is.0, safe))
     (λ current other it is differs held. (held.0, other_safe folder now current other file.name it is.0 differs held.0 stay held.1))
 
--- where each file is safe, and other names are as they were when the run began
-all_meanwhile : (began folder : Folder) (used : List Used) → AllAreSafe folder used → OthersAre began used folder → IsMeanwhile began used used folder
-all_meanwhile began folder used all others =
-    record { files = λ place file next here there. inl (safe_at folder place used next there all).1.1; others = others }
+-- a file that is safe is there
+between_there : (folder : Folder) (name : Bytes) (h after : History) → IsBetween folder name h after → is_some (get folder name) ≡ true
+between_there folder name h after (inl first) = ap (λ (held : Option Bytes). is_some held) first.holds
+between_there folder name h after (inr (inl reported)) = ap (λ (held : Option Bytes). is_some held) reported.holds
+between_there folder name h after (inr (inr done)) = ap (λ (held : Option Bytes). is_some held) done.holds
+
+safe_there : (folder : Folder) (used : List Used) → AllAreSafe folder used → WereThere folder used
+safe_there folder used all place file at = go (safe_at folder place used file at all).1.1
+  where
+    go : IsSafe folder file → is_some (get folder file.name) ≡ true
+    go (inl (stays, holds)) = ap (λ (held : Option Bytes). is_some held) holds.holds
+    go (inr (left, (h, action, note, fault, keeps, between))) = between_there folder file.name h file.history between
+
+-- where each file is safe, and was there, and other names are as they were when the run began
+all_meanwhile : (began folder : Folder) (used : List Used) → AllAreSafe folder used → WereThere began used → OthersAre began used folder → IsMeanwhile began used used folder
+all_meanwhile began folder used all were others =
+    record { files = λ place file next here there. inl (safe_at folder place used next there all).1.1; there = were; others = others }
 
 -- a run may begin where each file is safe
 pub began_safely : (folder : Folder) (used : List Used) → AllAreSafe folder used → IsMeanwhile folder used used folder
-began_safely folder used all = all_meanwhile folder folder used all (λ name unlike aside. refl)
+began_safely folder used all = all_meanwhile folder folder used all (safe_there folder used all) (λ name unlike aside. refl)
+
+-- what a run knows a path by is that of its beginning
+safe_key : (began folder : Folder) (path : Bytes) (used : List Used) → AllAreSafe folder used → IsMeanwhile began used used folder
+    → key_in used folder path ≡ key_in used began path
+safe_key began folder path used all mean = key_begun began folder used (safe_there folder used all) mean.there mean.others path
 
 -- ---- a package that is opened
 
 opened_safe : (folder : Folder) (current : Bytes) (file : Option Opened) → IfSome file (IsOpenedIn true folder current) → IfSome file (IsSafeOf folder current)
 opened_safe folder current None opened = tt
 opened_safe folder current (Some file) opened =
-    let kept = takes_stand folder current file.name file.read (get folder (journal_name file.name)) (Some file) [] opened.named opened.there refl opened.opens in
+    let kept = takes_stand folder current (folder_of file.name) file.name file.read (get folder (journal_name file.name)) (Some file) [] opened.named opened.there refl
+    opened.opens in
     (kept.0, inl (kept.1, kept.2))
 
 -- its file is as it was when the run began
@@ -82,25 +101,39 @@ opened_began began folder current used (Some file) apart all others opened =
     let same = as_begun (IsSafeOf folder) (λ other it safe. safe.0) began folder current file.name used opened.named apart all others in record {
       named = opened.named;
       there = sym same.0 ∙ opened.there;
-      opens = subst (λ (beside : Option Bytes). TakesBeside beside current file.name file.read (Some file) []) same.1 opened.opens;
+      opens = subst (λ (beside : Option Bytes). TakesBeside beside (folder_of file.name) file.name file.read (Some file) []) same.1 opened.opens;
     }
 
-joined : (began folder : Folder) (current : Bytes) (before after : List Used) (found : Option ℕ) → UsesSome folder current found before after
-    → AllAreSafe folder before → IsMeanwhile began before before folder
-    → Joins began current before after × AllAreSafe folder after × IsMeanwhile began after after folder
-joined began folder current before after found (inl (place, number, same, at)) all mean =
-    (inl same, subst (AllAreSafe folder) (sym same) all, subst (λ (used : List Used). IsMeanwhile began used used folder) (sym same) mean)
-joined began folder current before after found (inr (none, inl (same, at))) all mean =
-    (inl same, subst (AllAreSafe folder) (sym same) all, subst (λ (used : List Used). IsMeanwhile began used used folder) (sym same) mean)
-joined began folder current before after found (inr (none, inr (file, is, at, opened))) all mean =
-    let apart = apart_from current before none in
-    let one : Used = record { «package» = current; file = file } in
-    let more = all_last (IsSafeOf folder) before one all (opened_safe folder current file opened) apart in (
-      inr (none, (file, opened_began began folder current before file apart all mean.others opened, is)),
-      subst (AllAreSafe folder) (sym is) more,
-      subst (λ (used : List Used). IsMeanwhile began used used folder) (sym is) (all_meanwhile began folder (before ++ one ∷ []) more
-          (λ name unlike aside. mean.others name (λ place it there. unlike place it (file_in_front place before one it there)) aside)),
-    )
+-- an open file is there
+opened_there : (folder : Folder) (key : Bytes) (file : Option Opened) → IfSome file (IsOpenedIn true folder key)
+    → IfSome file (λ it. IsNameOf key it.name × (is_some (get folder it.name) ≡ true))
+opened_there folder key None opened = tt
+opened_there folder key (Some file) opened = (opened.named, ap (λ (held : Option Bytes). is_some held) opened.there)
+
+module _ (began folder : Folder) (path : Bytes) (before after : List Used) (found : Option ℕ) where
+  joined_as : (key : Bytes) → Adds key (IsOpenedIn true folder key) found before after → AllAreSafe folder before → IsMeanwhile began before before folder
+      → Joins began key before after × AllAreSafe folder after × IsMeanwhile began after after folder
+  joined_as key (inl (same, at)) all mean =
+      (inl same, subst (AllAreSafe folder) (sym same) all, subst (λ (used : List Used). IsMeanwhile began used used folder) (sym same) mean)
+  joined_as key (inr (none, file, is, at, opened)) all mean =
+      let apart = apart_from key before none in
+      let one : Used = record { «package» = key; file = file } in
+      let more = all_last (IsSafeOf folder) before one all (opened_safe folder key file opened) apart in
+      let were = more_were began folder before (safe_there folder before all) mean.there mean.others key file (opened_there folder key file opened) in (
+        inr (none, (file, opened_began began folder key before file apart all mean.others opened, is)),
+        subst (AllAreSafe folder) (sym is) more,
+        subst (λ (used : List Used). IsMeanwhile began used used folder) (sym is) (all_meanwhile began folder (before ++ one ∷ []) more were
+            (λ name unlike aside. mean.others name (λ place it there. unlike place it (file_in_front place before one it there)) aside)),
+      )
+
+  -- (The key is that of the folder as the run began.)
+  joined : UsesSome folder path found before after → AllAreSafe folder before → IsMeanwhile began before before folder
+      → Joins began (key_in before began path) before after × AllAreSafe folder after × IsMeanwhile began after after folder
+  joined (inl (place, number, same, at)) all mean =
+      (inl same, subst (AllAreSafe folder) (sym same) all, subst (λ (used : List Used). IsMeanwhile began used used folder) (sym same) mean)
+  joined (inr adds) all mean =
+      let made = joined_as (key_in before folder path) adds all mean in
+      (subst (λ (key : Bytes). Joins began key before after) (safe_key began folder path before all mean) made.0, made.1, made.2)
 
 pub opened_safely : (folder now : Folder) (current : Bytes) (found : Option ℕ) (before after : List Used) → now ≡ folder → UsesSome folder current found before after
     → AllAreSafe folder before → AllAreSafe now after
@@ -124,13 +157,14 @@ placed : (place at : ℕ) (file : Option Opened) → option_map (λ (_ : Opened)
 placed place at None is = absurd (let e = is in cc)
 placed place at (Some file) is = ap (λ (found : Option ℕ). unwrap_or found 0) is
 
-pub number_there : (folder : Folder) (current : Bytes) (before after : List Used) (found : Option ℕ) (at : ℕ) → UsesSome folder current found before after
-    → found ≡ Some at → package_number current after ≡ Some at
-number_there folder current before after found at (inl (place, number, same, is)) there =
-    ap (package_number current) same ∙ number ∙ ap Some (placed place at (file_at place before) (sym is ∙ there))
-number_there folder current before after found at (inr (none, inl (same, is))) there = absurd (let e = sym is ∙ there in cc)
-number_there folder current before after found at (inr (none, inr (file, new, is, opened))) there =
-    ap (package_number current) new ∙ number_last current file before none ∙ ap Some (placed (length before) at file (sym is ∙ there))
+pub number_there : (folder : Folder) (path : Bytes) (before after : List Used) (found : Option ℕ) (at : ℕ) → UsesSome folder path found before after
+    → found ≡ Some at → package_number (key_in before folder path) after ≡ Some at
+number_there folder path before after found at (inl (place, number, same, is)) there =
+    ap (package_number (key_in before folder path)) same ∙ number ∙ ap Some (placed place at (file_at place before) (sym is ∙ there))
+number_there folder path before after found at (inr (inl (same, is))) there = absurd (let e = sym is ∙ there in cc)
+number_there folder path before after found at (inr (inr (none, file, new, is, opened))) there =
+    let key : Bytes = key_in before folder path in
+    ap (package_number key) new ∙ number_last key file before none ∙ ap Some (placed (length before) at file (sym is ∙ there))
 
 -- ---- an action that is kept
 
@@ -163,6 +197,7 @@ module _ (began folder : Folder) (place : ℕ) (before after : List Used) (file 
             (stay (journal_name two.name) apart.1.file_is apart.1.journal apart.1.new apart.1.new_journal)
             (safe_at folder at before two two_there all).1.1)
       ];
+      there = subst (WereThere began) (sym put) (put_were began place before file next there named mean.there);
       others = others_then;
     }
 
@@ -248,7 +283,7 @@ module _ {F : Type 0} (files : FilesOf F) (counts : (held : F) (t : ℕ) → t �
       let is_between = λ (now : Folder). λ (is : IsBetween now file.name file.history history).
       subst (IsBetween now file.name file.history) (sym (history_kept answer history file)) is in (
         safe,
-        all_meanwhile began (files.folder new) after safe
+        all_meanwhile began (files.folder new) after safe (subst (WereThere began) (sym done.kept) (put_were began place before file next done.there named mean.there))
             (others_then began folder place before after file next done.there done.kept named stays all mean (files.folder new) (is_between (files.folder new) last.0) last.1),
         weakened (files.moment old) (files.moment new) (files.since old) (files.since new)
             (λ (now : Folder). (now ≡ folder) ⊎ Survives file.name file.history history folder now) (IsMeanwhile began before after)
@@ -268,7 +303,7 @@ module _ {F : Type 0} (files : FilesOf F) (counts : (held : F) (t : ℕ) → t �
   Steps step before after old new =
       AllAreSafe (files.folder old) before → IsMeanwhile began before before (files.folder old) → Passed step before after old new
 
-  module _ (step : RunStep) (before mid after : List Used) (old between new : F) (joins : Joins began step.target.«package» before mid) (moves : MayAct step mid after)
+  module _ (step : RunStep) (before mid after : List Used) (old between new : F) (joins : Joins began (key_in before began step.target.«package») before mid) (moves : MayAct (key_in before began step.target.«package») step mid after)
       (safe : AllAreSafe (files.folder between) mid) (mean : IsMeanwhile began mid mid (files.folder between)) (same : files.folder between ≡ files.folder old)
       (first : KeepsFolder files old between) where
     stepped : AllAreSafe (files.folder new) after → IsMeanwhile began after after (files.folder new)
@@ -305,7 +340,9 @@ module _ {F : Type 0} (files : FilesOf F) (counts : (held : F) (t : ℕ) → t �
       let safe = subst (λ (f : Folder). AllAreSafe f mid) (sym same) opened.1 in
       let still = subst (IsMeanwhile began mid mid) (sym same) opened.2 in
       let left : done.file.left ≡ false = sym (ap (λ (found : Option Opened). option_map_or (λ (file : Opened). file.left) found false) done.there) ∙ stays in
-      let number = number_there (files.folder old) step.target.«package» before mid found at uses there in
+      let path = step.target.«package» in
+      let number = ap (λ (key : Bytes). package_number key mid) (sym (safe_key began (files.folder old) path before all mean))
+      ∙ number_there (files.folder old) path before mid found at uses there in
       let moved = acted at action step.request.text mid after answer between new done left honest safe still in
       stepped step before mid after old between new opened.0
       (inr (at, done.file, action, answer, done.history, number, done.there, left, requested, done.keeps, done.kept)) safe still same first moved.0 moved.1 moved.2

@@ -1,169 +1,24 @@
--- The names of the files of different packages, what is held under them, and what stays as it was when the run began.
-use Rattle.std.proofs.Common.{arith, ◌≡◌, ◌≢◌, ◌⊎◌, inl, inr, ◌∙◌, ◌+◌, ◌++◌, ◌∷◌, ℕ, [], codes, refl, sym, ap, subst, append_assoc, zero, suc, List, Option, Some, None, Bool, true, false, true≢false, Result, Ok, Err, bytes_eq, ◌||◌, is_some}
-use Rattle.std.proofs.lemmas.List.{append_cancel_right}
+-- What is held under the names of the files of different packages, and what stays as it was when the run began.
+use Rattle.std.proofs.Common.{◌≡◌, ◌≢◌, ◌⊎◌, inl, inr, ◌∙◌, ◌++◌, ◌∷◌, ℕ, [], refl, sym, ap, subst, zero, suc, List, Option, Some, None, Bool, true, false, true≢false, Result, Ok, Err, bytes_eq, ◌||◌, is_some}
 use Rattle.bz_buildozer.specs.Words.{Bytes, new_name, Folder, IsAside, journal_name}
-use Rattle.bz_buildozer.specs.Found.{in_package, first_name, second_name, IsNameOf, PackagesAreApart, PackagesFound, IsApartFrom, found_at, found_in, found_second, Opened, Used, file_at, package_number, with_opened, is_root, root_above, root_from}
+use Rattle.bz_buildozer.specs.Found.{is_own_name, first_name, second_name, folder_of, is_kept_name, IsNameOf, PackagesFound, IsApartFrom, Settled, found_at, found_in, found_of, found_second, key_in, key_of, as_file, as_package, as_unedited, settled, Opened, Used, file_at, package_number, with_opened}
 use Rattle.std.specs.Prelude.{IfSome, if◌then◌else◌, unwrap_or}
 use Rattle.std.specs.FinMap.{get}
-use Rattle.std.specs.Option.{option_map}
+use Rattle.std.specs.Option.{option_map_or}
+use Rattle.std.specs.List.{list_any}
+use Rattle.std.proofs.lemmas.Bool.{or_parts}
 use Rattle.std.proofs.lemmas.Bool.Decides.{eqb_tells}
 use Rattle.std.proofs.lemmas.Slice.Eq.{bytes_eq-Decides}
 use Rattle.bz_resume.specs.Resuming.{Holds, IsRecordedBy, OthersStay}
 use Rattle.bz_resume.specs.Journals.{stands, text_at}
-use Rattle.bz_buildozer.specs.Journals.{JournalFault, JournalGives, TakesBeside, file_of_journal}
+use Rattle.bz_buildozer.specs.Journals.{JournalFault, JournalGives, OpensAs, TakesBeside, file_of_journal}
 use Rattle.bz_buildozer.specs.Moments.{AllAre, IsApart}
 use Rattle.bz_buildozer.specs.Sessions.{History, present}
 use Rattle.bz_buildozer.specs.Steps.{input_package}
 use Rattle.bz_buildozer.proofs.ActSteps.{file_put}
+use Rattle.bz_buildozer.proofs.FileNames.{file_there, folder_first, folder_second, journal_is, journal_not_new, named_plain, new_is, not_kept, packages_apart, settled_stays}
 use Rattle.bz_buildozer.proofs.ReadSteps.{stands_text}
 use Rattle.bz_buildozer.proofs.PlaceSteps.{none_here}
-
--- ---- the names of files of different packages
-
--- what is before the name in the folder of a package
-abbrev front : Bytes → Bytes
-front [] = []
-front (first ∷ rest) = (first ∷ rest) ++ codes "/"
-
-in_front : (current name : Bytes) → in_package current name ≡ front current ++ name
-in_front [] name = refl
-in_front (first ∷ rest) name = refl
-
-one_front : (p q : Bytes) → front p ≡ front q → p ≡ q
-one_front [] [] is = refl
-one_front [] (y ∷ q) is = absurd (cc is)
-one_front (x ∷ p) [] is = absurd (cc is)
-one_front (x ∷ p) (y ∷ q) is = append_cancel_right (x ∷ p) (y ∷ q) (codes "/") is
-
-same_name : (p q name : Bytes) → in_package p name ≡ in_package q name → p ≡ q
-same_name p q name is = one_front p q (append_cancel_right (front p) (front q) name (sym (in_front p name) ∙ is ∙ in_front q name))
-
--- ---- the last two letters, which the four kinds of names differ in: they sum up to other numbers
-
-abbrev sum_after : ℕ → ℕ → Bytes → ℕ
-sum_after a b [] = a + b
-sum_after a b (c ∷ rest) = sum_after b c rest
-
-sum_over : (a b c d : ℕ) (text rest : Bytes) → sum_after a b (text ++ c ∷ d ∷ rest) ≡ sum_after c d rest
-sum_over a b c d [] rest = refl
-sum_over a b c d (e ∷ text) rest = sum_over b e c d text rest
-
-abbrev last_sum : Bytes → ℕ
-last_sum = sum_after 0 0
-
-sum_of_first : (current : Bytes) → last_sum (first_name current) ≡ 209
-sum_of_first current = ap last_sum (in_front current (codes "BUILD.bazel")) ∙ sum_over 0 0 66 85 (front current) (codes "ILD.bazel")
-
-sum_of_second : (current : Bytes) → last_sum (second_name current) ≡ 144
-sum_of_second current = ap last_sum (in_front current (codes "BUILD")) ∙ sum_over 0 0 66 85 (front current) (codes "ILD")
-
-sum_of_journal : (file : Bytes) → last_sum (journal_name file) ≡ 205
-sum_of_journal file = sum_over 0 0 46 106 file (codes "ournal")
-
-sum_of_new : (file : Bytes) → last_sum (new_name file) ≡ 220
-sum_of_new file = sum_over 0 0 46 98 file (codes "znew")
-
-unlike : (one other : Bytes) (m n : ℕ) → last_sum one ≡ m → last_sum other ≡ n → m ≢ n → one ≢ other
-unlike one other m n is was apart same = apart (sym is ∙ ap last_sum same ∙ was)
-
--- a name of a file is one of these two
-sum_of_name : (current name : Bytes) → IsNameOf current name → (last_sum name ≡ 209) ⊎ (last_sum name ≡ 144)
-sum_of_name current name (inl is) = inl (ap last_sum is ∙ sum_of_first current)
-sum_of_name current name (inr is) = inr (ap last_sum is ∙ sum_of_second current)
-
-pub not_journal : (current name file : Bytes) → IsNameOf current name → name ≢ journal_name file
-not_journal current name file named same = elim (sum_of_name current name named) [
-  | inl is ↦ unlike name (journal_name file) 209 205 is (sum_of_journal file) (λ e. omega (arith, e)) same
-  | inr is ↦ unlike name (journal_name file) 144 205 is (sum_of_journal file) (λ e. omega (arith, e)) same
-]
-
-pub not_new : (current name file : Bytes) → IsNameOf current name → name ≢ new_name file
-not_new current name file named same = elim (sum_of_name current name named) [
-  | inl is ↦ unlike name (new_name file) 209 220 is (sum_of_new file) (λ e. omega (arith, e)) same
-  | inr is ↦ unlike name (new_name file) 144 220 is (sum_of_new file) (λ e. omega (arith, e)) same
-]
-
-pub journal_not_new : (name file : Bytes) → journal_name name ≢ new_name file
-journal_not_new name file = unlike (journal_name name) (new_name file) 205 220 (sum_of_journal name) (sum_of_new file) (λ e. omega (arith, e))
-
--- ---- two packages
-
-pub one_package : (p q name : Bytes) → IsNameOf p name → IsNameOf q name → p ≡ q
-one_package p q name (inl this) (inl that) = same_name p q (codes "BUILD.bazel") (sym this ∙ that)
-one_package p q name (inl this) (inr that) =
-    absurd (unlike name name 209 144 (ap last_sum this ∙ sum_of_first p) (ap last_sum that ∙ sum_of_second q) (λ e. omega (arith, e)) refl)
-one_package p q name (inr this) (inl that) =
-    absurd (unlike name name 144 209 (ap last_sum this ∙ sum_of_second p) (ap last_sum that ∙ sum_of_first q) (λ e. omega (arith, e)) refl)
-one_package p q name (inr this) (inr that) = same_name p q (codes "BUILD") (sym this ∙ that)
-
-pub packages_apart : PackagesAreApart
-packages_apart one other name file differ named is_file =
-    let unlike_file : name ≢ file = λ same. differ (one_package one other file (subst (IsNameOf one) same named) is_file) in (
-      record {
-        file_is = unlike_file;
-        journal = not_journal one name file named;
-        new = not_new one name file named;
-        new_journal = not_new one name (journal_name file) named;
-      },
-      record {
-        file_is = λ same. not_journal other file name is_file (sym same);
-        journal = λ same. unlike_file (append_cancel_right name file (codes ".journal") same);
-        new = journal_not_new name file;
-        new_journal = journal_not_new name (journal_name file);
-      },
-    )
-
--- ---- the files by which a folder is a root
-
--- a name that no file of a package has, no journal and no new file
-abbrev pub IsOther : Bytes → Type 0
-IsOther name =
-    ((current file : Bytes) → IsNameOf current file → name ≢ file) × ((file : Bytes) → name ≢ journal_name file) × ((file : Bytes) → name ≢ new_name file)
-
-module _ (path : Bytes) where
-  -- one that ends in `.bazel`, by what is before that
-  ends_in_bazel : (a b : ℕ) (rest : Bytes) → sum_after a b rest ≢ 144 → IsOther (path ++ a ∷ b ∷ (rest ++ codes ".bazel"))
-  ends_in_bazel a b rest differs = (
-    (λ current file named same. elim named [
-      | inl is ↦ differs (sym (sum_over 0 0 a b path rest) ∙ ap last_sum (append_cancel_right (path ++ a ∷ b ∷ rest) (front current ++ codes "BUILD") (codes ".bazel")
-          (append_assoc path (a ∷ b ∷ rest) (codes ".bazel") ∙ same ∙ is ∙ in_front current (codes "BUILD.bazel") ∙ sym (append_assoc (front current) (codes "BUILD") (codes ".bazel"))))
-          ∙ sum_over 0 0 66 85 (front current) (codes "ILD"))
-      | inr is ↦ unlike name (second_name current) 209 144 sum (sum_of_second current) (λ e. omega (arith, e)) (same ∙ is)
-    ]),
-    (λ file. unlike name (journal_name file) 209 205 sum (sum_of_journal file) (λ e. omega (arith, e))),
-    (λ file. unlike name (new_name file) 209 220 sum (sum_of_new file) (λ e. omega (arith, e))),
-  )
-    where
-      name : Bytes
-      name = path ++ a ∷ b ∷ (rest ++ codes ".bazel")
-
-      sum : last_sum name ≡ 209
-      sum = sum_over 0 0 a b path (rest ++ codes ".bazel") ∙ sum_over a b 46 98 rest (codes "azel")
-
-  pub module_other : IsOther (path ++ codes "MODULE.bazel")
-  module_other = ends_in_bazel 77 79 (codes "DULE") (λ e. omega (arith, e))
-
-  pub repo_other : IsOther (path ++ codes "REPO.bazel")
-  repo_other = ends_in_bazel 82 69 (codes "PO") (λ e. omega (arith, e))
-
-  pub workspace_bazel_other : IsOther (path ++ codes "WORKSPACE.bazel")
-  workspace_bazel_other = ends_in_bazel 87 79 (codes "RKSPACE") (λ e. omega (arith, e))
-
-  pub workspace_other : IsOther (path ++ codes "WORKSPACE")
-  workspace_other = (
-    (λ current file named same. elim named [
-      | inl is ↦ unlike name (first_name current) 136 209 sum (sum_of_first current) (λ e. omega (arith, e)) (same ∙ is)
-      | inr is ↦ unlike name (second_name current) 136 144 sum (sum_of_second current) (λ e. omega (arith, e)) (same ∙ is)
-    ]),
-    (λ file. unlike name (journal_name file) 136 205 sum (sum_of_journal file) (λ e. omega (arith, e))),
-    (λ file. unlike name (new_name file) 136 220 sum (sum_of_new file) (λ e. omega (arith, e))),
-  )
-    where
-      name : Bytes
-      name = path ++ codes "WORKSPACE"
-
-      sum : last_sum name ≡ 136
-      sum = sum_over 0 0 87 79 path (codes "RKSPACE")
 
 -- ---- packages
 
@@ -177,25 +32,32 @@ found_by folder current one two first second =
     ap (λ (bytes : Option Bytes). found_at (first_name current) bytes (found_at (second_name current) (get folder (second_name current)) None)) first
     ∙ ap (λ (bytes : Option Bytes). found_at (first_name current) one (found_at (second_name current) bytes None)) second
 
-pub second_holds : (folder : Folder) (current name text : Bytes) → found_second folder current ≡ Some (name, text) → IsNameOf current name × (get folder name ≡ Some text)
+pub second_holds : (folder : Folder) (current name text : Bytes) → found_second folder current ≡ Some (name, text)
+    → IsNameOf current name × (get folder name ≡ Some text) × (folder_of name ≡ current)
 second_holds folder current name text is = go (get folder (second_name current)) refl is
   where
     go : (held : Option Bytes) → get folder (second_name current) ≡ held → found_at (second_name current) held None ≡ Some (name, text)
-        → IsNameOf current name × (get folder name ≡ Some text)
+        → IsNameOf current name × (get folder name ≡ Some text) × (folder_of name ≡ current)
     go (Some bytes) there is =
-        let named : second_name current ≡ name = ap (λ (found : Option PackagesFound). (unwrap_or found ([], [])).0) is in
-        (inr (sym named), ap (get folder) (sym named) ∙ there ∙ ap (λ (found : Option PackagesFound). Some (unwrap_or found ([], [])).1) is)
+        let named : second_name current ≡ name = ap (λ (found : Option PackagesFound). (unwrap_or found ([], [])).0) is in (
+          inr (inl (sym named)),
+          ap (get folder) (sym named) ∙ there ∙ ap (λ (found : Option PackagesFound). Some (unwrap_or found ([], [])).1) is,
+          ap folder_of (sym named) ∙ folder_second current,
+        )
     go None there is = absurd (cc is)
 
 pub found_holds : (folder : Folder) (current name text : Bytes) → found_in folder current ≡ Some (name, text)
-    → IsNameOf current name × (get folder name ≡ Some text)
+    → IsNameOf current name × (get folder name ≡ Some text) × (folder_of name ≡ current)
 found_holds folder current name text is = go (get folder (first_name current)) refl is
   where
     go : (held : Option Bytes) → get folder (first_name current) ≡ held → found_at (first_name current) held (found_second folder current) ≡ Some (name, text)
-        → IsNameOf current name × (get folder name ≡ Some text)
+        → IsNameOf current name × (get folder name ≡ Some text) × (folder_of name ≡ current)
     go (Some bytes) there is =
-        let named : first_name current ≡ name = ap (λ (found : Option PackagesFound). (unwrap_or found ([], [])).0) is in
-        (inl (sym named), ap (get folder) (sym named) ∙ there ∙ ap (λ (found : Option PackagesFound). Some (unwrap_or found ([], [])).1) is)
+        let named : first_name current ≡ name = ap (λ (found : Option PackagesFound). (unwrap_or found ([], [])).0) is in (
+          inl (sym named),
+          ap (get folder) (sym named) ∙ there ∙ ap (λ (found : Option PackagesFound). Some (unwrap_or found ([], [])).1) is,
+          ap folder_of (sym named) ∙ folder_first current,
+        )
     go None there is = second_holds folder current name text is
 
 pub apart_from : (current : Bytes) (used : List Used) → package_number current used ≡ None → IsApart current used
@@ -278,6 +140,13 @@ file_in_front place [] one file at = absurd (let e = at in cc)
 file_in_front zero (used ∷ more) one file at = at
 file_in_front (suc place) (used ∷ more) one file at = file_in_front place more one file at
 
+-- an open file is one of those before, or the last
+pub last_or : (place : ℕ) (used : List Used) (one : Used) (file : Opened) → file_at place (used ++ one ∷ []) ≡ Some file → (file_at place used ≡ Some file) ⊎ (one.file ≡ Some file)
+last_or zero [] one file at = inr at
+last_or (suc place) [] one file at = absurd (let e = at in cc)
+last_or zero (used ∷ more) one file at = inl at
+last_or (suc place) (used ∷ more) one file at = last_or place more one file at
+
 pub other_at : (place at : ℕ) (file : Option Opened) (used : List Used) → at ≢ place → file_at at (with_opened place file used) ≡ file_at at used
 other_at place at file [] differ = refl
 other_at zero zero file (one ∷ more) differ = absurd (differ refl)
@@ -327,7 +196,7 @@ module _ (P : Bytes → Opened → Type 0) (is_named : (current : Bytes) (file :
   pub as_begun : (began folder : Folder) (current name : Bytes) (used : List Used) → IsNameOf current name → IsApart current used → AllAre P used
       → OthersAre began used folder → (get folder name ≡ get began name) × (get folder (journal_name name) ≡ get began (journal_name name))
   as_begun began folder current name used named apart all others = (
-    others name (λ place file at. let is = (apart_of place file at).0 in (is.file_is, is.journal)) (λ aside. not_new current name aside.0 named aside.1),
+    others name (λ place file at. let is = (apart_of place file at).0 in (is.file_is, is.journal)) (λ aside. not_kept name (new_name aside.0) (named_plain current name named) (new_is aside.0) aside.1),
     others (journal_name name) (λ place file at. let is = (apart_of place file at).1 in (is.file_is, is.journal)) (λ aside. journal_not_new name aside.0 aside.1),
   )
     where
@@ -364,58 +233,165 @@ abbrev pub IsHeld : Folder → Bytes → Opened → Type 0
 IsHeld folder current file =
     IsNameOf current file.name × (file.left ≡ false) × Holds folder file.name file.history.«package» (present file.history) file.history.texts
 
-given_stands : (folder : Folder) (current name text bytes : Bytes) (given : Result History JournalFault) → IsNameOf current name → get folder name ≡ Some text
-    → get folder (journal_name name) ≡ Some bytes → JournalGives current bytes text given → IfSome (file_of_journal name text given) (IsHeld folder current)
-given_stands folder current name text bytes (Err fault) named there beside comes = tt
-given_stands folder current name text bytes (Ok history) named there beside (h, at, ((es, journal), stood), of, is) =
+-- (The package by which the file is known, and that of its labels.)
+given_stands : (folder : Folder) (key current name text bytes : Bytes) (given : Result History JournalFault) → IsNameOf key name → get folder name ≡ Some text
+    → get folder (journal_name name) ≡ Some bytes → JournalGives current bytes text given → IfSome (file_of_journal name text given) (IsHeld folder key)
+given_stands folder key current name text bytes (Err fault) named there beside comes = tt
+given_stands folder key current name text bytes (Ok history) named there beside (h, at, ((es, journal), stood), of, is) =
     let here : text_at h at ≡ text = stands_text h text at stood in
     let goes : Holds folder name h.«package» (text_at h at) h.texts = record {
       holds = there ∙ ap Some (sym here);
       history = inr (bytes, h, es, at, beside, journal, refl, refl, ap (stands h) here ∙ stood);
     } in (named, refl, subst (λ (it : History). Holds folder name it.«package» (present it) it.texts) (sym is) goes)
 
-pub takes_stand : (folder : Folder) (current name text : Bytes) (journal : Option Bytes) (file : Option Opened) (lines : List Bytes) → IsNameOf current name
-    → get folder name ≡ Some text → get folder (journal_name name) ≡ journal → TakesBeside journal current name text file lines → IfSome file (IsHeld folder current)
-takes_stand folder current name text None file lines named there beside (inl opens) =
-    subst (λ (it : Option Opened). IfSome it (IsHeld folder current)) (sym opens.1) (named, refl, record { holds = there; history = inl (beside, refl) })
-takes_stand folder current name text None file lines named there beside (inr (fault, refused, is, reported)) =
-    subst (λ (it : Option Opened). IfSome it (IsHeld folder current)) (sym is) tt
-takes_stand folder current name text (Some bytes) file lines named there beside (given, comes, is, reported) =
-    subst (λ (it : Option Opened). IfSome it (IsHeld folder current)) (sym is) (given_stands folder current name text bytes given named there beside comes)
+pub takes_stand : (folder : Folder) (key current name text : Bytes) (journal : Option Bytes) (file : Option Opened) (lines : List Bytes) → IsNameOf key name
+    → get folder name ≡ Some text → get folder (journal_name name) ≡ journal → TakesBeside journal current name text file lines → IfSome file (IsHeld folder key)
+takes_stand folder key current name text None file lines named there beside (inl opens) =
+    subst (λ (it : Option Opened). IfSome it (IsHeld folder key)) (sym opens.1) (named, refl, record { holds = there; history = inl (beside, refl) })
+takes_stand folder key current name text None file lines named there beside (inr (fault, refused, is, reported)) =
+    subst (λ (it : Option Opened). IfSome it (IsHeld folder key)) (sym is) tt
+takes_stand folder key current name text (Some bytes) file lines named there beside (given, comes, is, reported) =
+    subst (λ (it : Option Opened). IfSome it (IsHeld folder key)) (sym is) (given_stands folder key current name text bytes given named there beside comes)
 
--- ---- the root that is found during a run is that of its beginning
+-- ---- what a path means
 
--- whether a folder is one, by what its four files hold
-abbrev has_one : Option Bytes → Option Bytes → Option Bytes → Option Bytes → Bool
-has_one a b c d = (is_some a || is_some b) || (is_some c || is_some d)
+-- the file of this name is found
+pub own_holds : (folder : Folder) (file name text : Bytes) → found_of folder (as_file file) ≡ Some (name, text) → (name ≡ file) × (get folder name ≡ Some text)
+own_holds folder file name text is = go (get folder file) refl is
+  where
+    go : (held : Option Bytes) → get folder file ≡ held → found_at file held None ≡ Some (name, text) → (name ≡ file) × (get folder name ≡ Some text)
+    go (Some bytes) there is =
+        let named : file ≡ name = ap (λ (found : Option PackagesFound). (unwrap_or found ([], [])).0) is in
+        (sym named, ap (get folder) (sym named) ∙ there ∙ ap (λ (found : Option PackagesFound). Some (unwrap_or found ([], [])).1) is)
+    go None there is = absurd (cc is)
 
-module _ (P : Bytes → Opened → Type 0) (is_named : (current : Bytes) (file : Opened) → P current file → IsNameOf current file.name) (began folder : Folder) (used : List Used)
-    (all : AllAre P used) (others : OthersAre began used folder) where
-  other_stays : (name : Bytes) → IsOther name → get folder name ≡ get began name
-  other_stays name other = others name
-      (λ place file at. let found = all_at P place used file at all in (other.0 found.0 file.name (is_named found.0 file found.1), other.1 file.name))
-      (λ aside. other.2 aside.0 aside.1)
+-- that is its name
+pub own_named : (folder : Folder) (path name : Bytes) → settled folder path ≡ as_file name → IsNameOf name name
+own_named folder path name is =
+    let there = file_there folder path name is in inr (inr (refl, subst (λ (n : Bytes). is_own_name n ≡ true) (sym there.0) there.2))
 
-  same_root : (path : Bytes) → is_root folder path ≡ is_root began path
-  same_root path =
-      let at : Folder → Bytes → Option Bytes = λ f mark. get f (path ++ mark) in
-      ap (λ (it : Option Bytes). has_one it (at folder (codes "REPO.bazel")) (at folder (codes "WORKSPACE.bazel")) (at folder (codes "WORKSPACE")))
-      (other_stays (path ++ codes "MODULE.bazel") (module_other path))
-      ∙ ap (λ (it : Option Bytes). has_one (at began (codes "MODULE.bazel")) it (at folder (codes "WORKSPACE.bazel")) (at folder (codes "WORKSPACE")))
-      (other_stays (path ++ codes "REPO.bazel") (repo_other path))
-      ∙ ap (λ (it : Option Bytes). has_one (at began (codes "MODULE.bazel")) (at began (codes "REPO.bazel")) it (at folder (codes "WORKSPACE")))
-      (other_stays (path ++ codes "WORKSPACE.bazel") (workspace_bazel_other path))
-      ∙ ap (λ (it : Option Bytes). has_one (at began (codes "MODULE.bazel")) (at began (codes "REPO.bazel")) (at began (codes "WORKSPACE.bazel")) it)
-      (other_stays (path ++ codes "WORKSPACE") (workspace_other path))
+-- what was found is held
+pub means_held : (folder : Folder) (path : Bytes) (s : Settled) (found : Option PackagesFound) (file : Option Opened) (lines : List Bytes) → settled folder path ≡ s
+    → found_of folder s ≡ found → OpensAs true folder path s found file lines → IfSome file (IsHeld folder (key_of path s))
+means_held folder path (as_package current) None file lines is at opens = subst (λ (it : Option Opened). IfSome it (IsHeld folder current)) (sym opens.0) tt
+means_held folder path (as_package current) (Some there) file lines is at opens =
+    let it = found_holds folder current there.0 there.1 at in
+    takes_stand folder current current there.0 there.1 (get folder (journal_name there.0)) file lines it.0 it.1 refl opens
+means_held folder path (as_file name) None file lines is at opens = absurd opens
+means_held folder path (as_file name) (Some there) file lines is at opens =
+    let it = own_holds folder name there.0 there.1 at in
+    takes_stand folder name (folder_of there.0) there.0 there.1 (get folder (journal_name there.0)) file lines
+    (subst (IsNameOf name) (sym it.0) (own_named folder path name is)) it.1 refl opens
+means_held folder path (as_unedited why) found file lines is at opens = subst (λ (it : Option Opened). IfSome it (IsHeld folder path)) (sym opens.0) tt
 
-  same_from : (count : ℕ) (path : Bytes) → root_from count folder path ≡ root_from count began path
-  unfolding root_from
-  same_from zero path = refl
-  same_from (suc count) path =
-      ap (λ (b : Bool). if b then Some path else root_from count folder (path ++ codes "../")) (same_root path)
-      ∙ ap (λ (root : Option Bytes). if is_root began path then Some path else root) (same_from count (path ++ codes "../"))
+-- ---- what a run knows a path by
 
-  pub root_stays : root_above folder ≡ root_above began
-  root_stays =
-      ap (λ (b : Bool). if b then None else root_from 16 folder (codes "../")) (same_root [])
-      ∙ ap (λ (root : Option Bytes). if is_root began [] then None else root) (same_from 16 (codes "../"))
+module _ (used : List Used) where
+  key_by : (folder : Folder) (path : Bytes) (found : Option ℕ) → package_number path used ≡ found → key_in used folder path ≡ (if is_some found then path else key_of path (settled folder path))
+  key_by folder path found is = ap (λ (it : Option ℕ). if is_some it then path else key_of path (settled folder path)) is
+
+  pub key_known : (folder : Folder) (path : Bytes) (place : ℕ) → package_number path used ≡ Some place → key_in used folder path ≡ path
+  key_known folder path place = key_by folder path (Some place)
+
+  pub key_unknown : (folder : Folder) (path : Bytes) → package_number path used ≡ None → key_in used folder path ≡ key_of path (settled folder path)
+  key_unknown folder path = key_by folder path None
+
+  -- one that is new is what the path is settled to
+  pub key_new : (folder : Folder) (path : Bytes) → package_number (key_in used folder path) used ≡ None → key_in used folder path ≡ key_of path (settled folder path)
+  key_new folder path none = go (package_number path used) refl
+    where
+      go : (found : Option ℕ) → package_number path used ≡ found → key_in used folder path ≡ key_of path (settled folder path)
+      go None is = key_unknown folder path is
+      go (Some place) is =
+          absurd (let known = sym (ap (λ (key : Bytes). package_number key used) (key_known folder path place is) ∙ is) ∙ none in cc)
+
+  pub key_same : (folder began : Folder) (path : Bytes) → settled folder path ≡ settled began path → key_in used folder path ≡ key_in used began path
+  key_same folder began path = ap (λ (it : Settled). if is_some (package_number path used) then path else key_of path it)
+
+  pub key_input : (folder : Folder) → key_in used folder input_package ≡ input_package
+  key_input folder = go (is_some (package_number input_package used))
+    where
+      go : (b : Bool) → (if b then input_package else key_of input_package (settled folder input_package)) ≡ input_package
+      go true = refl
+      go false = refl
+
+  pub key_of_input : (folder : Folder) (path : Bytes) → path ≡ input_package → key_in used folder path ≡ input_package
+  key_of_input folder path is = ap (key_in used folder) is ∙ key_input folder
+
+-- ---- which files are there, during a run as when it began
+
+-- each open file was there when the run began
+abbrev pub WereThere : Folder → List Used → Type 0
+WereThere began used = (place : ℕ) (file : Opened) → file_at place used ≡ Some file → is_some (get began file.name) ≡ true
+
+abbrev pub is_named : Bytes → Used → Bool
+is_named name used = option_map_or (λ (file : Opened). bytes_eq name file.name) used.file false
+
+pub not_named : (name : Bytes) (used : List Used) → list_any (is_named name) used ≡ false → (place : ℕ) (file : Opened) → file_at place used ≡ Some file → name ≢ file.name
+not_named name [] none place file at = absurd (let e = at in cc)
+not_named name (used ∷ more) none zero file at = λ same.
+    let is = ap (λ (found : Option Opened). option_map_or (λ (it : Opened). bytes_eq name it.name) found false) at ∙ (bytes_eq-Decides name file.name).1 same in
+    true≢false (sym is ∙ (or_parts (is_named name used) (list_any (is_named name) more) none).0)
+not_named name (used ∷ more) none (suc place) file at =
+    not_named name more (or_parts (is_named name used) (list_any (is_named name) more) none).1 place file at
+
+-- an open file of this name
+abbrev NamedAt : Bytes → List Used → Type 0
+NamedAt name used = (place : ℕ) × (file : Opened) × (file_at place used ≡ Some file) × (name ≡ file.name)
+
+named_later : (name : Bytes) (used : Used) (more : List Used) → NamedAt name more → NamedAt name (used ∷ more)
+named_later name used more (place, file, at, same) = (suc place, file, at, same)
+
+named_at : (name : Bytes) (used : List Used) → list_any (is_named name) used ≡ true → NamedAt name used
+named_at name [] is = absurd (true≢false (sym is))
+named_at name (used ∷ more) is = go used.file refl is (named_at name more)
+  where
+    by_name : (file : Opened) → used.file ≡ Some file → (b : Bool) → bytes_eq name file.name ≡ b → b || list_any (is_named name) more ≡ true
+        → (list_any (is_named name) more ≡ true → NamedAt name more) → NamedAt name (used ∷ more)
+    by_name file at true same is rest = (0, file, at, (bytes_eq-Decides name file.name).0 same)
+    by_name file at false same is rest = named_later name used more (rest is)
+
+    go : (found : Option Opened) → used.file ≡ found → option_map_or (λ (file : Opened). bytes_eq name file.name) found false || list_any (is_named name) more ≡ true
+        → (list_any (is_named name) more ≡ true → NamedAt name more) → NamedAt name (used ∷ more)
+    go None at is rest = named_later name used more (rest is)
+    go (Some file) at is rest = by_name file at (bytes_eq name file.name) refl is rest
+
+module _ (began folder : Folder) (used : List Used) (here : WereThere folder used) (were : WereThere began used) (others : OthersAre began used folder) where
+  pub there_still : (name : Bytes) → is_kept_name name ≡ false → is_some (get folder name) ≡ is_some (get began name)
+  there_still name plain = go (list_any (is_named name) used) refl
+    where
+      go : (b : Bool) → list_any (is_named name) used ≡ b → is_some (get folder name) ≡ is_some (get began name)
+      go true is =
+          let it = named_at name used is in
+          ap (λ (n : Bytes). is_some (get folder n)) it.3 ∙ here it.0 it.1 it.2 ∙ sym (ap (λ (n : Bytes). is_some (get began n)) it.3 ∙ were it.0 it.1 it.2)
+      go false is = ap (λ (held : Option Bytes). is_some held) (others name
+          (λ place file at. (not_named name used is place file at, not_kept name (journal_name file.name) plain (journal_is file.name)))
+          (λ aside. not_kept name (new_name aside.0) plain (new_is aside.0) aside.1))
+
+  -- What a path means is as when the run began.
+  pub settled_begun : (path : Bytes) → settled folder path ≡ settled began path
+  settled_begun = settled_stays folder began there_still
+
+  pub key_begun : (path : Bytes) → key_in used folder path ≡ key_in used began path
+  key_begun path = key_same used folder began path (settled_begun path)
+
+  -- one more that is there is there when the run began
+  pub more_were : (key : Bytes) (file : Option Opened) → IfSome file (λ it. IsNameOf key it.name × (is_some (get folder it.name) ≡ true))
+      → WereThere began (used ++ record { «package» = key; file = file } ∷ [])
+  more_were key file is place it at = elim (last_or place used (record { «package» = key; file = file }) it at) [
+    | inl before ↦ were place it before
+    | inr last ↦
+        let one = subst (λ (found : Option Opened). IfSome found (λ it. IsNameOf key it.name × (is_some (get folder it.name) ≡ true))) last is in
+        sym (there_still it.name (named_plain key it.name one.0)) ∙ one.1
+  ]
+
+-- an open file is exchanged for one of its name
+pub put_were : (began : Folder) (place : ℕ) (used : List Used) (file next : Opened) → file_at place used ≡ Some file → next.name ≡ file.name → WereThere began used
+    → WereThere began (with_opened place (Some next) used)
+put_were began place used file next there named were at one here = elim (eqb_tells at place) [
+  | inl same ↦
+      let is : next ≡ one = one_file (file_at place (with_opened place (Some next) used)) next one (file_put place used (with_opened place (Some next) used) file next there refl)
+      (subst (λ (n : ℕ). file_at n (with_opened place (Some next) used) ≡ Some one) same.1 here) in
+      ap (λ (n : Bytes). is_some (get began n)) (ap (λ (f : Opened). f.name) (sym is) ∙ named) ∙ were place file there
+  | inr other ↦ were at one (sym (other_at place at (Some next) used other.1) ∙ here)
+]

@@ -1,7 +1,7 @@
 -- How runs end, for the worked rows.
 use Rattle.std.specs.Str.{is_utf8, chars}
 use lib.Utf8.{encode}
-use Rattle.std.proofs.Common.{◌≡◌, inl, inr, ℕ, ◌≤◌, List, [], ◌∷◌, ◌++◌, length, map, codes, leb, leb-true, Bool, true, false, Option, Some, None, Result, Ok, Err, refl, sym, ap, subst}
+use Rattle.std.proofs.Common.{◌≡◌, ◌∙◌, inl, inr, ℕ, ◌≤◌, List, [], ◌∷◌, ◌++◌, ◌&&◌, ◌||◌, not, is_some, if◌then◌else◌, length, map, codes, leb, leb-true, Bool, true, false, Option, Some, None, Result, Ok, Err, refl, sym, ap, subst}
 use Rattle.std.proofs.lemmas.List.{append-nil}
 use Rattle.std.proofs.lemmas.Str.{IsUtf8-from_is_utf8}
 use Rattle.std.specs.FinMap.{get}
@@ -23,7 +23,8 @@ use Rattle.bz_command_syntax.specs.declared.command.AttributeOperation.TheVarian
 use Rattle.bz_command_syntax.specs.declared.command.Operation.TheVariants as w
 use Rattle.bz_command_syntax.specs.declared.command.RuleOperation.TheVariants as wr
 use Rattle.bz_command_syntax.specs.declared.fault.CommandFault.TheVariants.{Unknown, Arguments}
-use Rattle.bz_buildozer.specs.Found.{found_in, root_above, second_name, opened_with, Opened, Used, package_number, file_at}
+use Rattle.bz_buildozer.specs.Found.{Settled, found_in, found_of, has_package, is_kept_name, key_in, key_of, may_be_file, as_package, root_above, second_name, settled, settled_file, opened_with, Opened, Used, package_number, file_at}
+use Rattle.bz_buildozer.specs.Journals.{OpensAs}
 use Rattle.bz_buildozer.specs.Opens.{opened_fresh}
 use Rattle.bz_buildozer.specs.Ending.{Ended, TriesFile, TriesFiles, fixed_lines, status_of, texts_out}
 use Rattle.bz_buildozer.specs.Outcome.{WordsOutcome, IsText, LineOutcome, ScriptOutcome, unread, unused}
@@ -32,9 +33,9 @@ use Rattle.bz_buildozer.specs.Run.{World, Progress, Answers, AnswersIn, AreHints
 use Rattle.bz_buildozer.specs.Steps.{RunStep, action_of, all_steps, shows_input}
 use Rattle.bz_buildozer.specs.Unread.{no_acts}
 use Rattle.bz_buildozer.specs.Reported.{absent_hint, output_lines, usage_line}
-use Rattle.bz_buildozer.specs.WorkedParts.{text_read, text_made}
+use Rattle.bz_buildozer.specs.WorkedParts.{Settles, text_read, text_made}
 use Rattle.bz_buildozer.specs.WorkedRuns.{WorkedUsage, WorkedWholeRuns, HasBuild, OverBuild, BesideNone, OverInput}
-use Rattle.bz_buildozer.proofs.StandSteps.{found_by, not_input}
+use Rattle.bz_buildozer.proofs.StandSteps.{found_by, key_known, key_unknown, not_input}
 use Rattle.bz_buildozer.proofs.WorkedText.{accepted, is_made}
 
 -- ---- the file of a package
@@ -48,6 +49,26 @@ found_second folder = found_by folder (codes "a") None (Some text_read)
 
 pub found_none : (folder : Folder) → get folder (codes "a/BUILD.bazel") ≡ None → get folder (codes "a/BUILD") ≡ None → found_in folder (codes "a") ≡ None
 found_none folder = found_by folder (codes "a") None None
+
+-- ---- what a path means
+
+-- by what the folder has of that name, and below it
+by_folder : (folder : Folder) (path : Bytes) (held : Option Bytes) (has : Bool) → get folder path ≡ held → has_package folder path ≡ has
+    → settled folder path ≡ (if (may_be_file path && (is_kept_name path || is_some held)) && not has then settled_file folder path else as_package path)
+by_folder folder path held has is of_package_is =
+    ap (λ (it : Option Bytes). if (may_be_file path && (is_kept_name path || is_some it)) && not (has_package folder path) then settled_file folder path else as_package path) is
+    ∙ ap (λ (it : Bool). if (may_be_file path && (is_kept_name path || is_some held)) && not it then settled_file folder path else as_package path) of_package_is
+
+pub settles : Settles
+settles = (
+  refl,
+  refl,
+  (λ folder text is none. by_folder folder (codes "MODULE.bazel") (Some text) false is none),
+  (λ folder text is none. by_folder folder (codes "app/BUILD") (Some text) false is none),
+  (λ folder none. by_folder folder (codes "app/BUILD.journal") (get folder (codes "app/BUILD.journal")) false refl none),
+  (λ folder text is none. by_folder folder (codes "a.bzl") (Some text) false is none),
+  (λ folder is. by_folder folder (codes "app") None (has_package folder (codes "app")) is refl),
+)
 
 -- ---- usage faults
 
@@ -129,9 +150,9 @@ usage =
             inr (not_input lines refl, sym there),
             inr (inl (read_text (codes "# none\ndelete\n") refl delete_is_text, (in_line 2 no_target, inl refl, refl))),
           ))),
-      (λ world text there long. by_script lines world (unused world.folder (codes "lines: TooLarge\n")) refl
+      (λ world text there long. by_script lines world (unused world.folder (codes "lines: TooLarge\n    a text that is read has at most 67,108,864 bytes\n")) refl
           (inl (text, inr (not_input lines refl, sym there), inl (TooLarge, inl (long, refl), refl)))),
-      (λ folder text long. by_script (codes "-") (record { folder = folder; known = Some text; acts = no_acts }) (unused folder (codes "<stdin>: TooLarge\n")) refl
+      (λ folder text long. by_script (codes "-") (record { folder = folder; known = Some text; acts = no_acts }) (unused folder (codes "<stdin>: TooLarge\n    a text that is read has at most 67,108,864 bytes\n")) refl
           (inl (text, inl (refl, (text, refl, refl)), inl (TooLarge, inl (long, refl), refl)))),
       (λ folder. by_script (codes "-") (record { folder = folder; known = Some (codes "undo|-:x\n"); acts = no_acts })
           (unused folder (codes "buildozer: package - cannot be edited beside -f -\n")) refl
@@ -208,10 +229,25 @@ module _ (world : World) where
       inr (going, (c.Whole, c.Whole, world.folder, mid, first, rest, done, more, refl, refl))
 
   -- A package is used for the first time, and its file is opened.
-  opens : (current name : Bytes) (used : List Used) → package_number current used ≡ None → Finds false world current (Some (name, text_read))
-      → UsesWhole false world current used (length used) [] (used ++ file_with current name (opened current text_read) ∷ [])
-  opens current name used new finds =
-      inr (new, refl, (Some (name, text_read), Some (opened_fresh current name text_read), finds, inl (accepted, refl, refl), refl))
+  opens : (current name : Bytes) (used : List Used) → package_number current used ≡ None → settled world.folder current ≡ as_package current
+      → Finds false world current (Some (name, text_read)) → UsesWhole false world current used (length used) [] (used ++ file_with current name (opened current text_read) ∷ [])
+  opens current name used new meant finds =
+      let key : key_in used world.folder current ≡ current = key_unknown used world.folder current new ∙ ap (key_of current) meant in
+      let file : Opened = opened_fresh current name text_read in
+      inr (
+        ap (λ (k : Bytes). package_number k used) key ∙ new,
+        refl,
+        (
+          Some (name, text_read),
+          Some file,
+          finds,
+          subst (λ (s : Settled). OpensAs false world.folder current s (Some (name, text_read)) (Some file) []) (sym meant) (inl (accepted, refl, refl)),
+          ap (λ (k : Bytes). used ++ record { «package» = k; file = Some file } ∷ []) (sym key),
+        ),
+      )
+
+  again : (current : Bytes) (used : List Used) (place : ℕ) → package_number current used ≡ Some place → UsesWhole false world current used place [] used
+  again current used place there = inl (ap (λ (k : Bytes). package_number k used) (key_known used world.folder current place there) ∙ there, refl, refl)
 
   no_hints : (count : ℕ) (name : Bytes) (h : History) (answer : Answer) → AreHints answer (Some (Undo count)) name h []
   no_hints count name h (Ok reply) = refl
@@ -253,10 +289,10 @@ after_back current name = state_of (file_with current name (back_history current
 abbrev steps_on : Bytes → List Request → List RunStep
 steps_on current requests = map (step_at current) requests
 
-module _ (world : World) (current name : Bytes) (finds : Finds false world current (Some (name, text_read))) where
+module _ (world : World) (current name : Bytes) (meant : settled world.folder current ≡ as_package current) (finds : Finds false world current (Some (name, text_read))) where
   set_first : DoesHere world (step_at current set_size) nothing_done [] (after_set current name)
   set_first = acts world current name set_size (opened current text_read) (set_history current) (Ok Changed) nothing_done 0
-      (file_with current name (opened current text_read) ∷ []) refl (opens world current name [] refl finds) refl (sets current)
+      (file_with current name (opened current text_read) ∷ []) refl (opens world current name [] refl meant finds) refl (sets current)
 
   run_set : (keep_going : Bool) → RunsHere world keep_going (steps_on current (set_size ∷ [])) nothing_done [] (after_set current name)
   run_set keep_going = one_step world keep_going (step_at current set_size) [] nothing_done (after_set current name) (after_set current name) [] [] refl set_first
@@ -271,7 +307,7 @@ module _ (world : World) (current name : Bytes) (finds : Finds false world curre
       let after = state_after false 0 (opened_with name text_read (set_history current)) answer history (after_set current name) in
       one_step world false (step_at current set_size) (steps_on current (undo count text ∷ [])) nothing_done (after_set current name) after [] (reported_of false name text answer [] ++ []) refl
       set_first (one_step world false (step_at current (undo count text)) [] (after_set current name) after after (reported_of false name text answer []) [] refl
-      (acts world current name (undo count text) (set_history current) history answer (after_set current name) 0 (after_set current name).used (no_hints world count name history answer) (inl (there, refl, refl)) refl
+      (acts world current name (undo count text) (set_history current) history answer (after_set current name) 0 (after_set current name).used (no_hints world count name history answer) (again world current (after_set current name).used 0 there) refl
       (inr (short, is))) (refl, refl, refl, refl))
 
 -- ---- whole runs
@@ -357,26 +393,26 @@ module _ (world : World) (has : HasBuild world) where
       let set : Requested = requested_of (set_size ∷ []) (rule_x [] ∷ []) in
       let words : List Bytes = set_text ∷ rule_word ∷ [] in
       let two : Bytes = codes "undo 2" in (
-        run_of words words false false false set world c.Whole [] made_lines (after_set [] build) written refl refl (run_set world [] build finds_build false)
+        run_of words words false false false set world c.Whole [] made_lines (after_set [] build) written refl refl (run_set world [] build refl finds_build false)
             (writes_build false false made_lines refl),
-        run_of (codes "--quiet" ∷ words) words false false true set world c.Whole [] [] (after_set [] build) written refl refl (run_set world [] build finds_build false)
+        run_of (codes "--quiet" ∷ words) words false false true set world c.Whole [] [] (after_set [] build) written refl refl (run_set world [] build refl finds_build false)
             (writes_build false true [] refl),
-        run_of (codes "--stdout" ∷ words) words false true false set world c.Whole [] [] (after_set [] build) world.folder refl refl (run_set world [] build finds_build false)
+        run_of (codes "--stdout" ∷ words) words false true false set world c.Whole [] [] (after_set [] build) world.folder refl refl (run_set world [] build refl finds_build false)
             (tries_one false true false (file_with [] build (set_history [])) world.folder [] world.folder (refl, refl)),
-        run_of (codes "--stdout" ∷ words) words false true false set world c.Write [] [] (after_set [] build) world.folder refl refl (run_set world [] build finds_build false)
+        run_of (codes "--stdout" ∷ words) words false true false set world c.Write [] [] (after_set [] build) world.folder refl refl (run_set world [] build refl finds_build false)
             (tries_one false true false (file_with [] build (set_history [])) world.folder [] world.folder (refl, refl)),
         run_of (set_text ∷ undo_text ∷ rule_word ∷ []) (set_text ∷ undo_text ∷ rule_word ∷ []) false false false (requested_of (set_size ∷ undo_one ∷ []) (rule_x [] ∷ [])) world
-            c.Whole [] [] (after_back [] build) world.folder refl refl (run_back world [] build finds_build 1 undo_text (Ok Moved) (back_history []) refl short_undo refl)
+            c.Whole [] [] (after_back [] build) world.folder refl refl (run_back world [] build refl finds_build 1 undo_text (Ok Moved) (back_history []) refl short_undo refl)
             (tries_one false false false (file_with [] build (back_history [])) world.folder [] world.folder (refl, refl)),
         run_of (set_text ∷ two ∷ rule_word ∷ []) (set_text ∷ two ∷ rule_word ∷ []) false false false (requested_of (set_size ∷ undo 2 two ∷ []) (rule_x [] ∷ [])) world
             c.Whole ((codes "buildozer: BUILD: undo 2: TooFar (61)\n" ++ hint) ∷ []) made_lines (state_of (file_with [] build (set_history []) ∷ []) true) written refl refl
-            (run_back world [] build finds_build 2 two (Err TooFar) (set_history []) refl (leb-true (length two) note_limit refl) refl) (writes_build false false made_lines refl),
+            (run_back world [] build refl finds_build 2 two (Err TooFar) (set_history []) refl (leb-true (length two) note_limit refl) refl) (writes_build false false made_lines refl),
         run_of (undo_text ∷ rule_word ∷ []) (undo_text ∷ rule_word ∷ []) false false false (requested_of (undo_one ∷ []) (rule_x [] ∷ [])) world c.Whole
             ((codes "buildozer: BUILD: undo: TooFar (61)\n" ++ hint) ∷ []) [] (state_of (file_with [] build (opened [] text_read) ∷ []) true) world.folder refl refl
             (one_step world false (step_at [] undo_one) [] nothing_done (state_of (file_with [] build (opened [] text_read) ∷ []) true) (state_of (file_with [] build (opened [] text_read) ∷ []) true)
             ((codes "buildozer: BUILD: undo: TooFar (61)\n" ++ hint) ∷ []) [] refl
             (acts world [] build undo_one (opened [] text_read) (opened [] text_read) (Err TooFar) nothing_done 0 (file_with [] build (opened [] text_read) ∷ []) refl
-            (opens world [] build [] refl finds_build) refl (inr (short_undo, refl))) (refl, refl, refl, refl))
+            (opens world [] build [] refl refl finds_build) refl (inr (short_undo, refl))) (refl, refl, refl, refl))
             (tries_one false false false (file_with [] build (opened [] text_read)) world.folder [] world.folder (refl, refl)),
       )
 
@@ -397,10 +433,26 @@ after_none = state_of (none_used ∷ []) true
 abbrev after_both : Progress
 after_both = state_of (none_used ∷ file_with [] build (set_history []) ∷ []) true
 
-module _ (world : World) (has : HasBuild world) (gone : found_in world.folder none ≡ None) where
+module _ (world : World) (has : HasBuild world) (bare : get world.folder none ≡ None) (gone : found_in world.folder none ≡ None) where
   fails_first : (request : Request) → DoesHere world (step_at none request) nothing_done (none_line world ∷ []) after_none
   fails_first request = does world (step_at none request) nothing_done after_none 0 (none_used ∷ []) None (none_line world ∷ []) []
-      (inr (refl, refl, (None, None, inr (inr (not_input none refl), sym gone), (refl, refl), refl))) refl (refl, refl, refl)
+      (inr (
+        ap (λ (k : Bytes). package_number k []) key,
+        refl,
+        (
+          None,
+          None,
+          inr (inr (not_input none refl), sym (ap (found_of world.folder) meant ∙ gone)),
+          subst (λ (s : Settled). OpensAs false world.folder none s None None (none_line world ∷ [])) (sym meant) (refl, refl),
+          ap (λ (k : Bytes). record { «package» = k; file = None } ∷ []) (sym key),
+        ),
+      )) refl (refl, refl, refl)
+    where
+      meant : settled world.folder none ≡ as_package none
+      meant = by_folder world.folder none None (has_package world.folder none) bare refl
+
+      key : key_in [] world.folder none ≡ none
+      key = ap (key_of none) meant
 
   beside_none : BesideNone world
   unfolding clap_on_literals
@@ -418,7 +470,7 @@ module _ (world : World) (has : HasBuild world) (gone : found_in world.folder no
             (one_step world true (step_at none set_size) (next ∷ []) nothing_done after_none after_both lines [] refl (fails_first set_size)
             (one_step world true next [] after_none after_both after_both [] [] refl
             (acts world [] build set_size (opened [] text_read) (set_history []) (Ok Changed) after_none 1 (none_used ∷ file_with [] build (opened [] text_read) ∷ []) refl
-            (opens world [] build (none_used ∷ []) refl (finds_build world has)) refl (sets [])) (refl, refl, refl, refl)))
+            (opens world [] build (none_used ∷ []) refl refl (finds_build world has)) refl (sets [])) (refl, refl, refl, refl)))
             (c.Whole, c.Whole, [], made_lines, folder, (refl, refl), writes_build world has true false made_lines refl, refl, refl),
         run_of (codes "-k" ∷ again) again true false false (requested_of (undo_one ∷ redo ∷ []) (rule_x none ∷ [])) world c.Whole lines [] after_none folder refl refl
             (one_step world true (step_at none undo_one) (step_at none redo ∷ []) nothing_done after_none after_none lines [] refl (fails_first undo_one)
@@ -436,11 +488,11 @@ over_input folder =
     let world : World = record { folder = folder; known = Some text_read; acts = no_acts } in
     let finds : Finds false world dash (Some (stdin, text_read)) = inl (refl, refl, (text_read, refl, refl)) in (
       run_of (codes "--" ∷ set_text ∷ codes "-:x" ∷ []) (set_text ∷ codes "-:x" ∷ []) false false false (requested_of (set_size ∷ []) (rule_x dash ∷ [])) world c.Whole [] []
-          (after_set dash stdin) folder refl refl (run_set world dash stdin finds false)
+          (after_set dash stdin) folder refl refl (run_set world dash stdin refl finds false)
           (tries_one false false false (file_with dash stdin (set_history dash)) folder [] folder (refl, refl)),
       run_of (codes "--" ∷ set_text ∷ undo_text ∷ codes "-:x" ∷ []) (set_text ∷ undo_text ∷ codes "-:x" ∷ []) false false false
           (requested_of (set_size ∷ undo_one ∷ []) (rule_x dash ∷ [])) world c.Whole [] [] (after_back dash stdin) folder refl refl
-          (run_back world dash stdin finds 1 undo_text (Ok Moved) (back_history dash) refl short_undo refl)
+          (run_back world dash stdin refl finds 1 undo_text (Ok Moved) (back_history dash) refl short_undo refl)
           (tries_one false false false (file_with dash stdin (back_history dash)) folder [] folder (refl, refl)),
     )
 

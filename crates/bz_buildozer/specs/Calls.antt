@@ -11,7 +11,7 @@ use Rattle.bz_streams.specs.declared.source.Source.{Ghosts as SourceOf}
 use Rattle.bz_buildozer.specs.Sessions.{KeepFault, Action, Reply}
 use Rattle.bz_buildozer.specs.Journals.{Adds, IsOpenedIn}
 use Rattle.bz_buildozer.specs.Keeps.{KeepsAt, is_left_at}
-use Rattle.bz_buildozer.specs.Found.{Used, file_at, package_number}
+use Rattle.bz_buildozer.specs.Found.{Used, file_at, key_in, package_number}
 use Rattle.bz_buildozer.specs.Ending.{Ended}
 use Rattle.bz_buildozer.specs.Moments.{AllAreSafe, IsMeanwhile, IsMomentOfSteps}
 use Rattle.bz_buildozer.specs.Run.{World, Progress}
@@ -116,11 +116,12 @@ pub record WorksOn {F : Type 0} (files : FilesOf F) (why : Cut) (old new : F) : 
 
 -- ---- steps
 
--- A package is opened where it is used first, whatever comes. (The folder, and the number of the package where its file is open.)
+-- What a path means is opened where it is used first, whatever comes. (The folder, and the number of what it means where its file is open.)
 abbrev pub UsesSome : Folder → Bytes → Option ℕ → List Used → List Used → Type 0
-UsesSome folder current number before after =
-    ((place : ℕ) × (package_number current before ≡ Some place) × (after ≡ before) × (number ≡ option_map (λ _. place) (file_at place before)))
-    ⊎ ((package_number current before ≡ None) × Adds current (IsOpenedIn true folder current) number before after)
+UsesSome folder path number before after =
+    let key : Bytes = key_in before folder path in
+    ((place : ℕ) × (package_number key before ≡ Some place) × (after ≡ before) × (number ≡ option_map (λ _. place) (file_at place before)))
+    ⊎ Adds key (IsOpenedIn true folder key) number before after
 
 -- An action with a note is done in the open file of the package with this number, and kept there or not.
 abbrev pub KeepsSome : {F : Type 0} → FilesOf F → ℕ → Action → Bytes → List Used → List Used → F → F → Type 0

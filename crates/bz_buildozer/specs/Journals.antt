@@ -6,8 +6,9 @@ use Rattle.std.specs.FinMap.{get}
 use Rattle.std.specs.Fmt.Cut.{floor_char_boundary}
 use Rattle.bz_buildozer.specs.Words.{Edit, IsOtherVersion, ResumeFault, Journal, NoJournal, stands, IsStale, Bytes, Accepted, Folder, journal_name, Holds, escaped_text, named_line, History, present}
 use Rattle.bz_resume.specs.declared.fault.ResumeFault.TheVariants as f
-use Rattle.bz_buildozer.specs.Found.{IsNameOf, PackagesFound, Opened, Used, opened_with}
+use Rattle.bz_buildozer.specs.Found.{IsNameOf, PackagesFound, Settled, as_package, as_file, as_unedited, folder_of, Opened, Used, opened_with, package_number}
 use Rattle.bz_buildozer.specs.Opens.{Opens, Takes}
+use Rattle.bz_buildozer.specs.Reported.{unedited_lines}
 
 -- the bytes are a journal of this history, which matches the text at this number
 abbrev pub StandsAt : Bytes → Bytes → History → ℕ → Type 0
@@ -70,19 +71,28 @@ abbrev pub OpensBeside : Bool → Folder → Bytes → Option PackagesFound → 
 OpensBeside journals folder current (Some found) file lines = TakesBeside (journal_beside journals folder found.0) current found.0 found.1 file lines
 OpensBeside journals folder current None file lines = Opens folder current None file lines
 
+-- What a path means is opened so: the file that was found for its package, or the file of this name, whose labels are of its folder. One that
+-- isn't edited is reported.
+abbrev pub OpensAs : Bool → Folder → Bytes → Settled → Option PackagesFound → Option Opened → List Bytes → Type 0
+OpensAs journals folder path (as_package current) found file lines = OpensBeside journals folder current found file lines
+OpensAs journals folder path (as_file name) (Some found) file lines =
+    TakesBeside (journal_beside journals folder found.0) (folder_of found.0) found.0 found.1 file lines
+OpensAs journals folder path (as_file name) None file lines = ⊥
+OpensAs journals folder path (as_unedited why) found file lines = (file ≡ None) × (lines ≡ unedited_lines path why)
+
 -- ---- what an opening leaves, whatever comes
 
--- an open file of this package: it has one of the two names and the text that the folder has there, and its history is what its
--- journal says, where journals are kept and there is one, else it begins with that text
+-- an open file of this package, or the file of this name: it has a name of it and the text that the folder has there, and its history is
+-- what its journal says, where journals are kept and there is one, else it begins with that text; its package is its folder
 pub record IsOpenedIn (journals : Bool) (folder : Folder) (current : Bytes) (file : Opened) : Type 0 where
   pub named : IsNameOf current file.name
   pub there : get folder file.name ≡ Some file.read
-  pub opens : TakesBeside (journal_beside journals folder file.name) current file.name file.read (Some file) []
+  pub opens : TakesBeside (journal_beside journals folder file.name) (folder_of file.name) file.name file.read (Some file) []
 
--- A package is the last one from now on, with such a file or none; or memory was refused, and nothing changes.
+-- A package that was not used is the last one from now on, with such a file or none; or memory was refused, and nothing changes.
 abbrev pub Adds : Bytes → (Opened → Type 0) → Option ℕ → List Used → List Used → Type 0
 Adds current Is number before after = ((after ≡ before) × (number ≡ None))
-    ⊎ ((file : Option Opened) × (after ≡ before ++ record { «package» = current; file = file } ∷ [])
+    ⊎ ((package_number current before ≡ None) × (file : Option Opened) × (after ≡ before ++ record { «package» = current; file = file } ∷ [])
     × (number ≡ option_map (λ _. length before) file) × IfSome file Is)
 
 -- ---- laws

@@ -1,9 +1,9 @@
 -- The folder at each moment of a run with journals, whatever cuts the run or stops it.
-use Rattle.std.specs.Prelude.{◌≡◌, ◌≢◌, ◌⊎◌, true, false, ℕ, List, [], ◌∷◌, ◌++◌, Option, Some, None, Result, Ok, Err, IfSome}
+use Rattle.std.specs.Prelude.{◌≡◌, ◌≢◌, ◌⊎◌, is_some, true, false, ℕ, List, [], ◌∷◌, ◌++◌, Option, Some, None, Result, Ok, Err, IfSome}
 use Rattle.std.specs.FinMap.{get}
 use Rattle.bz_buildozer.specs.Words.{Bytes, Folder, IsAside, PairFault, journal_name, Holds, Requested, operand_group, Given, operands, script, script_of}
 use Rattle.bz_buildozer.specs.Sessions.{KeepFault, Pair, Keeps, Action, History, Reply, present}
-use Rattle.bz_buildozer.specs.Found.{IsNameOf, Opened, Used, package_number, file_at, with_opened}
+use Rattle.bz_buildozer.specs.Found.{IsNameOf, Opened, Used, key_in, package_number, file_at, with_opened}
 use Rattle.bz_buildozer.specs.Journals.{IsOpenedIn}
 use Rattle.bz_buildozer.specs.Keeps.{after_keeping}
 use Rattle.bz_buildozer.specs.Outcome.{IsScript, IsText}
@@ -25,11 +25,12 @@ IsSafe folder file = ((file.left ≡ false) × Holds folder file.name file.histo
     × Keeps action note h (Err (Pair fault)) file.history × IsBetween folder file.name h file.history))
 
 -- A step leads a run from these packages to those, and this is the folder meanwhile: each open file is safe, or between its history
--- before the step and the one after it; and each name but those of open files, of their journals, and those set aside is as it was
--- when the run began.
+-- before the step and the one after it, and was there when the run began; and each name but those of open files, of their journals, and
+-- those set aside is as it was then.
 pub record IsMeanwhile (began : Folder) (before after : List Used) (now : Folder) : Type 0 where
   pub files : (place : ℕ) (file then : Opened) → file_at place before ≡ Some file → file_at place after ≡ Some then
       → IsSafe now then ⊎ ((file.left ≡ false) × IsBetween now file.name file.history then.history)
+  pub there : (place : ℕ) (file : Opened) → file_at place after ≡ Some file → is_some (get began file.name) ≡ true
   pub others : (name : Bytes) → ((place : ℕ) (file : Opened) → file_at place after ≡ Some file → (name ≢ file.name) × (name ≢ journal_name file.name))
       → (IsAside name → ⊥) → get now name ≡ get began name
 
@@ -57,18 +58,19 @@ Joins began current before after = (after ≡ before)
     × (after ≡ before ++ record { «package» = current; file = file } ∷ [])))
 
 -- Nothing is done; or in the open file of the step's package, which isn't left alone, its action is done and kept, or not kept, or refused.
-abbrev pub MayAct : RunStep → List Used → List Used → Type 0
-MayAct step before after = (after ≡ before)
+abbrev pub MayAct : Bytes → RunStep → List Used → List Used → Type 0
+MayAct current step before after = (after ≡ before)
     ⊎ ((place : ℕ) × (file : Opened) × (action : Action) × (answer : Result Reply KeepFault) × (history : History)
-    × (package_number step.target.«package» before ≡ Some place) × (file_at place before ≡ Some file) × (file.left ≡ false)
+    × (package_number current before ≡ Some place) × (file_at place before ≡ Some file) × (file.left ≡ false)
     × (action_of step.target step.request.verb ≡ Some action) × Keeps action step.request.text file.history answer history
     × (after ≡ with_opened place (Some (after_keeping answer history file)) before))
 
 -- a folder at a moment of a run of these steps, which has used these packages: in the first step, or once that is done in the others
 abbrev pub IsMomentOfSteps : Folder → List RunStep → List Used → Folder → Type 0
 IsMomentOfSteps began [] used now = IsMeanwhile began used used now
-IsMomentOfSteps began (step ∷ steps) used now = (mid : List Used) × (after : List Used) × Joins began step.target.«package» used mid × MayAct step mid after
-    × (IsMeanwhile began mid after now ⊎ IsMomentOfSteps began steps after now)
+IsMomentOfSteps began (step ∷ steps) used now =
+    let current : Bytes = key_in used began step.target.«package» in
+    (mid : List Used) × (after : List Used) × Joins began current used mid × MayAct current step mid after × (IsMeanwhile began mid after now ⊎ IsMomentOfSteps began steps after now)
 
 -- ---- runs
 

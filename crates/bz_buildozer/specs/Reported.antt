@@ -3,6 +3,7 @@ use Rattle.std.specs.Prelude.{◌==◌, ◌&&◌, ◌||◌, ℕ, Bool, not, List
 use Rattle.std.specs.List.{concat, ends_with}
 use Rattle.bz_buildozer.specs.Words.{Bytes, refusal_name, refusal_number, Refusal, PairFault, escaped_text, stdin, named_line, Cut}
 use Rattle.bz_value.specs.declared.refusal.Refusal.TheVariants.{TooFar}
+use Rattle.bz_buildozer.specs.Found.{Unedited, beside, kept, bzl}
 pub use Rattle.bz_command_line.specs.Reported.{numbered, operand_line, nul_line, refused_place, usage_line, IsLineUsageLine}
 use Rattle.bz_resume.specs.declared.pair_fault.PairFault.TheVariants as f
 use Rattle.bz_streams.specs.declared.exit.Cut.TheVariants as c
@@ -29,6 +30,16 @@ package_hint current =
 abbrev pub absent_hint : Bytes → Option Bytes → Bytes
 absent_hint current None = package_hint current
 absent_hint current (Some root) = package_hint current ++ (codes "buildozer: the root of the workspace is " ++ (root ++ codes "\n"))
+
+-- why a file isn't edited
+abbrev pub unedited_line : Unedited → Bytes
+unedited_line (beside current) = concat (codes "buildozer: the file of //" ∷ escaped_text current ∷ codes " is its BUILD.bazel\n" ∷ [])
+unedited_line kept = codes "buildozer: no journal is edited, and no new file that waits to be renamed\n"
+unedited_line bzl = codes "buildozer: a .bzl file is not edited: to format it, see buildifier\n"
+
+-- a file that isn't edited, and below it why
+abbrev pub unedited_lines : Bytes → Unedited → List Bytes
+unedited_lines name why = named_line name (codes "cannot open") ∷ unedited_line why ∷ []
 
 -- a file that was written
 abbrev pub fixed_line : Bytes → Bytes

@@ -8,10 +8,10 @@ use Rattle.bz_buildozer.specs.Sessions.{Pair, Keeps, Action, Do, present, Reply,
 use Rattle.bz_resume.specs.declared.fault.ResumeFault.TheVariants as r
 use Rattle.bz_resume.specs.declared.pair_fault.PairFault.TheVariants as f
 use Rattle.bz_streams.specs.declared.exit.Cut.TheVariants as c
-use Rattle.bz_buildozer.specs.Found.{PackagesFound, first_name, found_in, found_second, second_name, Opened, Used, package_number, file_at, with_opened}
-use Rattle.bz_buildozer.specs.Journals.{OpensBeside, TakesBeside, fault_lines, journal_beside, of_resuming}
+use Rattle.bz_buildozer.specs.Found.{PackagesFound, Settled, as_package, as_file, as_unedited, settled, folder_of, first_name, found_in, found_of, found_second, second_name, Opened, Used, key_in, package_number, package_of, file_at, with_opened}
+use Rattle.bz_buildozer.specs.Journals.{OpensAs, OpensBeside, TakesBeside, fault_lines, journal_beside, of_resuming}
 use Rattle.bz_buildozer.specs.Keeps.{FolderAfter, file_after, left_out, after_keeping}
-use Rattle.bz_buildozer.specs.Reported.{refusal_line, unkept_line, unread_line}
+use Rattle.bz_buildozer.specs.Reported.{refusal_line, unedited_lines, unkept_line, unread_line}
 use Rattle.bz_buildozer.specs.Steps.{RunStep, action_of, input_package}
 use Rattle.bz_buildozer.specs.Unread.{RunActs, IsUnreadInRun}
 
@@ -48,11 +48,11 @@ wanting_name current = wanting (if bytes_eq current input_package then stdin els
 abbrev pub IsInFolder : Bool → Bytes → Type 0
 IsInFolder journals current = (journals ≡ true) ⊎ (current ≢ input_package)
 
--- Without journals package `-` is read from standard input; each other one is read from its file in the folder.
+-- Without journals package `-` is read from standard input; what each other path means is read from its file in the folder.
 abbrev pub Finds : Bool → World → Bytes → Option PackagesFound → Type 0
-Finds journals world current found =
-    ((journals ≡ false) × (current ≡ input_package) × ((text : Bytes) × IsInput world.known text × (found ≡ Some (stdin, text))))
-    ⊎ (IsInFolder journals current × (found ≡ found_in world.folder current))
+Finds journals world path found =
+    ((journals ≡ false) × (path ≡ input_package) × ((text : Bytes) × IsInput world.known text × (found ≡ Some (stdin, text))))
+    ⊎ (IsInFolder journals path × (found ≡ found_of world.folder (settled world.folder path)))
 
 -- Memory is refused for a file or for its journal, which the line names. That of a journal that is there may be refused as it is resumed.
 abbrev pub WantsMemory : Bool → Folder → Bytes → List Bytes → Type 0
@@ -98,32 +98,50 @@ OpensUntil c.Memory journals acts folder current file lines = ((file ≡ None) �
     ⊎ FindsUntil c.Memory journals acts folder current (first_name current) file lines)
 OpensUntil why journals acts folder current file lines = ⊥
 
--- A package is read and opened where it is used first, with the journal of its file where journals are kept; it gets the next number.
+-- The file of this name is opened, or it or its journal can't be read, or memory is refused. Its labels are of its folder.
+abbrev pub FileUntil : Cut → Bool → RunActs → Folder → Bytes → Option Opened → List Bytes → Type 0
+FileUntil c.Whole journals acts folder name file lines =
+    (text : Bytes) × (get folder name ≡ Some text) × TakesBeside (journal_beside journals folder name) (folder_of name) name text file lines
+FileUntil c.Files journals acts folder name file lines = FindsUntil c.Files journals acts folder (folder_of name) name file lines
+FileUntil c.Memory journals acts folder name file lines = FindsUntil c.Memory journals acts folder (folder_of name) name file lines
+FileUntil why journals acts folder name file lines = ⊥
+
+-- What a path means is opened, or can't be read, or memory is refused; or it is a file that isn't edited, which is reported.
+abbrev pub MeansUntil : Cut → Bool → RunActs → Folder → Bytes → Settled → Option Opened → List Bytes → Type 0
+MeansUntil why journals acts folder path (as_package current) file lines = OpensUntil why journals acts folder current file lines
+MeansUntil why journals acts folder path (as_file name) file lines = FileUntil why journals acts folder name file lines
+MeansUntil why journals acts folder path (as_unedited reason) file lines = (why ≡ c.Whole) × (file ≡ None) × (lines ≡ unedited_lines path reason)
+
+-- What a path means is read and opened where it is used first, with the journal of its file where journals are kept; it gets the next number.
 abbrev pub UsesWhole : Bool → World → Bytes → List Used → ℕ → List Bytes → List Used → Type 0
-UsesWhole journals world current before place lines after =
-    ((package_number current before ≡ Some place) × (lines ≡ []) × (after ≡ before))
-    ⊎ ((package_number current before ≡ None) × (place ≡ length before)
-    × ((found : Option PackagesFound) × (file : Option Opened) × Finds journals world current found × OpensBeside journals world.folder current found file lines
-    × (after ≡ before ++ record { «package» = current; file = file } ∷ [])))
+UsesWhole journals world path before place lines after =
+    let key : Bytes = key_in before world.folder path in
+    ((package_number key before ≡ Some place) × (lines ≡ []) × (after ≡ before))
+    ⊎ ((package_number key before ≡ None) × (place ≡ length before)
+    × ((found : Option PackagesFound) × (file : Option Opened) × Finds journals world path found
+    × OpensAs journals world.folder path (settled world.folder path) found file lines × (after ≡ before ++ record { «package» = key; file = file } ∷ [])))
 
--- Memory is refused for a package, which has no file then: for its name, for standard input, or for its file in the folder.
+-- Memory is refused for what a path means, which has no file then: for its name, for standard input, or for its file in the folder.
 abbrev pub UsesNone : Bool → World → Bytes → List Bytes → Type 0
-UsesNone journals world current lines = ((journals ≡ false) × (current ≡ input_package) × (lines ≡ wanting stdin))
-    ⊎ (IsInFolder journals current × OpensUntil c.Memory journals world.acts world.folder current None lines)
+UsesNone journals world path lines = ((journals ≡ false) × (path ≡ input_package) × (lines ≡ wanting stdin))
+    ⊎ (IsInFolder journals path × MeansUntil c.Memory journals world.acts world.folder path (settled world.folder path) None lines)
 
--- The package of a step is used, and this is its number where its file is open. One that can't be read has none from now on.
+-- What the path of a step means is used, and this is its number where its file is open. What can't be read has none from now on. (Memory may
+-- be refused before that is known.)
 abbrev pub Uses : Cut → Bool → World → Bytes → List Used → Option ℕ → List Bytes → List Used → Type 0
-Uses c.Whole journals world current before number lines after =
-    (place : ℕ) × UsesWhole journals world current before place lines after × (number ≡ option_map (λ _. place) (file_at place after))
-Uses c.Files journals world current before number lines after = (package_number current before ≡ None) × IsInFolder journals current
-    × ((file : Option Opened) × OpensUntil c.Files journals world.acts world.folder current file lines
-    × (after ≡ before ++ record { «package» = current; file = file } ∷ []) × (number ≡ option_map (λ _. length before) file))
-Uses c.Read journals world current before number lines after = (journals ≡ false) × (current ≡ input_package) × (package_number current before ≡ None)
-    × (number ≡ None) × (lines ≡ unreadable stdin) × (after ≡ before ++ record { «package» = current; file = None } ∷ [])
-Uses c.Memory journals world current before number lines after = (package_number current before ≡ None) × (number ≡ None)
-    × (((after ≡ before) × (lines ≡ wanting_name current))
-    ⊎ ((after ≡ before ++ record { «package» = current; file = None } ∷ []) × UsesNone journals world current lines))
-Uses c.Write journals world current before number lines after = ⊥
+Uses c.Whole journals world path before number lines after =
+    (place : ℕ) × UsesWhole journals world path before place lines after × (number ≡ option_map (λ _. place) (file_at place after))
+Uses c.Files journals world path before number lines after =
+    let key : Bytes = key_in before world.folder path in (package_number key before ≡ None) × IsInFolder journals path
+    × ((file : Option Opened) × MeansUntil c.Files journals world.acts world.folder path (settled world.folder path) file lines
+    × (after ≡ before ++ record { «package» = key; file = file } ∷ []) × (number ≡ option_map (λ _. length before) file))
+Uses c.Read journals world path before number lines after = (journals ≡ false) × (path ≡ input_package) × (package_number path before ≡ None)
+    × (number ≡ None) × (lines ≡ unreadable stdin) × (after ≡ before ++ record { «package» = path; file = None } ∷ [])
+Uses c.Memory journals world path before number lines after =
+    let key : Bytes = key_in before world.folder path in (package_number path before ≡ None) × (number ≡ None)
+    × (((after ≡ before) × (lines ≡ wanting_name path))
+    ⊎ ((package_number key before ≡ None) × (after ≡ before ++ record { «package» = key; file = None } ∷ []) × UsesNone journals world path lines))
+Uses c.Write journals world path before number lines after = ⊥
 
 -- ---- one step
 
@@ -168,7 +186,7 @@ abbrev pub AreHints : Answer → Option Action → Bytes → History → List By
 AreHints (Ok reply) action name h hint = hint ≡ reply_notes action reply name
 AreHints (Err refusal) (Some (Do operation target)) name h hint = ((refusal ≡ NoteTooLong) × (hint ≡ []))
     ⊎ ((refusal ≢ NoteTooLong) × ((n : Node) × Reads (present h) n
-    × (hint ≡ refusal_hint name refusal operation target.which target.«package» (lines_of n) (view_of n))))
+    × (hint ≡ refusal_hint name refusal operation target.which (package_of target.«package» name) (lines_of n) (view_of n))))
 AreHints (Err refusal) _ name h hint = hint ≡ []
 
 -- In a package without an open file a step does nothing and fails; with one its command is done there, and kept where journals are.

@@ -1,13 +1,13 @@
 -- Worked rows: what each part of a run of buildozer gives. Above a row is what is typed (in a shell), or what was done.
-use Rattle.std.specs.Prelude.{◌≡◌, ℕ, true, false, List, [], ◌∷◌, map, codes, Some, None, Result, Ok, Err}
+use Rattle.std.specs.Prelude.{◌≡◌, ℕ, is_some, true, false, List, [], ◌∷◌, map, codes, Some, None, Result, Ok, Err}
 use Rattle.std.specs.FinMap.{get}
 use Rattle.bz_value.specs.declared.refusal.Refusal.TheVariants.{Memory, NotAList, TooFar, NoTarget}
 use Rattle.bz_buildozer.specs.Words.{Folder, Requested, Usage, operand_group, stdin, fault_line, Bytes}
 use Rattle.bz_buildozer.specs.Sessions.{changed, undone, redone, Same, Printed}
 use Rattle.bz_streams.specs.declared.exit.Cut.TheVariants as c
-use Rattle.bz_buildozer.specs.Found.{found_in, first_name, second_name, Opened, Used, package_number}
+use Rattle.bz_buildozer.specs.Found.{beside, bzl, first_name, folder_of, found_in, has_package, kept, as_file, as_package, as_unedited, second_name, settled, settled_second, Opened, Used, package_number}
 use Rattle.bz_buildozer.specs.Opens.{opened_fresh}
-use Rattle.bz_buildozer.specs.Reported.{absent_hint, package_hint, refusal_line, operand_line, fixed_line}
+use Rattle.bz_buildozer.specs.Reported.{absent_hint, package_hint, refusal_line, operand_line, fixed_line, unedited_lines}
 use Rattle.bz_buildozer.specs.Ending.{texts_out, writing_of, status_of}
 use Rattle.bz_buildozer.specs.Run.{Finds, reported_of, printed_by, state_after, wanting_name}
 use Rattle.bz_buildozer.specs.Steps.{RunStep, all_steps, shows_input}
@@ -122,21 +122,39 @@ Files =
     -- A package that was used is used again; under another path it is another package.
     × (package_number (codes "app") (root app_read ∷ app app_read ∷ []) ≡ Some 1) × (package_number (codes "./app") (root app_read ∷ app app_read ∷ []) ≡ None)
 
+abbrev pub Settles : Type 0
+Settles =
+    -- The folders of third_party/zlib.BUILD and of MODULE.bazel.
+    (folder_of (codes "third_party/zlib.BUILD") ≡ codes "third_party") × (folder_of (codes "MODULE.bazel") ≡ [])
+    -- //MODULE.bazel:all is that file, where it is there.
+    × ((folder : Folder) (text : Bytes) → get folder (codes "MODULE.bazel") ≡ Some text → has_package folder (codes "MODULE.bazel") ≡ false
+    → settled folder (codes "MODULE.bazel") ≡ as_file (codes "MODULE.bazel"))
+    -- //app/BUILD:x is //app:x; it isn't edited where app/BUILD.bazel is there.
+    × ((folder : Folder) (text : Bytes) → get folder (codes "app/BUILD") ≡ Some text → has_package folder (codes "app/BUILD") ≡ false
+    → settled folder (codes "app/BUILD") ≡ settled_second (is_some (get folder (codes "app/BUILD.bazel"))) (codes "app"))
+    -- A journal isn't edited, nor is a .bzl file.
+    × ((folder : Folder) → has_package folder (codes "app/BUILD.journal") ≡ false → settled folder (codes "app/BUILD.journal") ≡ as_unedited kept)
+    × ((folder : Folder) (text : Bytes) → get folder (codes "a.bzl") ≡ Some text → has_package folder (codes "a.bzl") ≡ false → settled folder (codes "a.bzl") ≡ as_unedited bzl)
+    -- Where no such file is there it is a package.
+    × ((folder : Folder) → get folder (codes "app") ≡ None → settled folder (codes "app") ≡ as_package (codes "app"))
+
 abbrev pub WorkedParts : Type 0
-WorkedParts = Statuses × TextsOut × Reported × Steps × Files
+WorkedParts = Statuses × TextsOut × Reported × Steps × Files × Settles
 
 -- ---- worked rows: how refusals and faults are reported
 
 abbrev pub WorkedRefusals : Type 0
 WorkedRefusals = (fault_line stdin (Unexpected 12 305) ≡ codes "<stdin>:12:305: Unexpected\n")
-    × (fault_line (codes "a/BUILD") (NotUtf8 67108863) ≡ codes "a/BUILD: NotUtf8 at 67108863\n")
+    × (fault_line (codes "a/BUILD") (NotUtf8 67108863) ≡ codes "a/BUILD: NotUtf8 at 67108863\n    the byte after that many is not UTF-8: save the file as text in UTF-8\n")
     × (refusal_line false stdin (codes "undo 3") TooFar ≡ codes "buildozer: <stdin>: undo 3: TooFar (61)\n")
     × (refusal_line false (codes "a/BUILD") (codes "redo") TooFar
     ≡ codes "buildozer: a/BUILD: redo: TooFar (61)\nbuildozer: to undo or redo what earlier runs did, give --journal, as in those runs\n")
     × (refusal_line false (codes "a/BUILD") (codes "add deps b") NoTarget ≡ codes "buildozer: a/BUILD: add deps b: NoTarget (41)\n")
     × (refusal_line true (codes "a/BUILD") (codes "redo") TooFar ≡ codes "buildozer: a/BUILD: redo: TooFar (61)\n")
-    × (operand_line (record { operand = codes "//a::b"; fault = BadTarget; pattern = None }) ≡ codes "buildozer: //a::b: BadTarget (12)\n")
+    × (operand_line (record { operand = codes "//a::b"; fault = BadTarget; pattern = None })
+    ≡ codes "buildozer: //a::b: BadTarget (12)\nbuildozer: the form of a target is //PACKAGE:NAME, without an empty part; a package has at most 65,536 bytes\n")
     × (fixed_line (codes "a/BUILD") ≡ codes "fixed a/BUILD\n")
+    × (unedited_lines (codes "app/BUILD") (beside (codes "app")) ≡ codes "app/BUILD: cannot open\n" ∷ codes "buildozer: the file of //app is its BUILD.bazel\n" ∷ [])
     -- Memory is refused: to a command; before a file of //a has its name; for standard input.
     × (refusal_line false (codes "a/BUILD") (codes "add deps b") Memory ≡ codes "buildozer: a/BUILD: add deps b: Memory (8)\n")
     × (wanting_name (codes "a") ≡ codes "a/BUILD: Memory\n" ∷ []) × (wanting_name (codes "-") ≡ codes "<stdin>: Memory\n" ∷ [])

@@ -31,7 +31,8 @@ WorkedUsage =
     × IsUsage (codes "//:x" ∷ []) (codes "buildozer: no command\n") × IsUsage [] (codes "buildozer: no command\n")
     -- 'add deps' grow //:x: the first refused operand is reported; delete //a/:x; help //:x
     × IsUsage (codes "add deps" ∷ codes "grow" ∷ codes "//:x" ∷ []) (codes "buildozer: add deps: Arguments (32)\nbuildozer: the form is 'add ATTR VALUE..'\n")
-    × IsUsage (codes "delete" ∷ codes "//a/:x" ∷ []) (codes "buildozer: //a/:x: BadTarget (12)\n")
+    × IsUsage (codes "delete" ∷ codes "//a/:x" ∷ [])
+    (codes "buildozer: //a/:x: BadTarget (12)\nbuildozer: the form of a target is //PACKAGE:NAME, without an empty part; a package has at most 65,536 bytes\n")
     × IsUsage (codes "help" ∷ codes "//:x" ∷ []) (codes "buildozer: help: Unknown (31)\nbuildozer: see buildozer --help, or man buildozer\n")
     -- delete -f lines; --stdout --journal undo //:x
     × IsUsage (codes "delete" ∷ codes "-f" ∷ codes "lines" ∷ []) (codes "buildozer: operands beside -f\n")
@@ -54,9 +55,9 @@ WorkedUsage =
     → Unused (codes "-f" ∷ codes "lines" ∷ []) (codes "buildozer: no target\nlines:2: refused\n") world)
     -- -f lines, and -f -: the text is longer than one may be.
     × ((world : World) (text : Bytes) → get world.folder (codes "lines") ≡ Some text → limit < length text
-    → Unused (codes "-f" ∷ codes "lines" ∷ []) (codes "lines: TooLarge\n") world)
+    → Unused (codes "-f" ∷ codes "lines" ∷ []) (codes "lines: TooLarge\n    a text that is read has at most 67,108,864 bytes\n") world)
     × ((folder : Folder) (text : Bytes) → limit < length text
-    → Unused (codes "-f" ∷ codes "-" ∷ []) (codes "<stdin>: TooLarge\n") (record { folder = folder; known = Some text; acts = no_acts }))
+    → Unused (codes "-f" ∷ codes "-" ∷ []) (codes "<stdin>: TooLarge\n    a text that is read has at most 67,108,864 bytes\n") (record { folder = folder; known = Some text; acts = no_acts }))
     -- -f - with the line undo|-:x
     × ((folder : Folder) → Unused (codes "-f" ∷ codes "-" ∷ []) (codes "buildozer: package - cannot be edited beside -f -\n")
     (record { folder = folder; known = Some (codes "undo|-:x\n"); acts = no_acts }))
@@ -116,5 +117,5 @@ OverInput world =
 
 abbrev pub WorkedWholeRuns : Type 0
 WorkedWholeRuns = ((current : Bytes) → IsMade current) × ((world : World) → HasBuild world → OverBuild world)
-    × ((world : World) → HasBuild world → found_in world.folder (codes "none") ≡ None → BesideNone world)
+    × ((world : World) → HasBuild world → get world.folder (codes "none") ≡ None → found_in world.folder (codes "none") ≡ None → BesideNone world)
     × ((folder : Folder) → OverInput (record { folder = folder; known = Some text_read; acts = no_acts }))

@@ -17,7 +17,9 @@ ghost use Rattle.bz_buildozer.specs.Unread.{ActsGrow};
 
 use crate::reported::{fail, report_refusal};
 use crate::run::Run;
-use crate::step::{Step, action_of, package_of};
+use crate::script::INPUT;
+use crate::settling::folder_of;
+use crate::step::{Step, action_of, is_of_input, package_of};
 use crate::used::{Opened, Used};
 use crate::workspace::Workspace;
 use bz_command_line::Verb;
@@ -90,6 +92,16 @@ fn refuse<E: Sink>(
     }
 }
 
+// The package of the labels in the file of this name, in which a target is.
+fn label_package<'a>(target: &Target, name: &'a str) -> &'a [u8]
+    ensures { result.now ≡ p.package_of target.now.«package» name.entry.now }
+{
+    if is_of_input(target) {
+        return INPUT.as_bytes();
+    }
+    folder_of(name).as_bytes()
+}
+
 // Reports what helps below the line of a command that is refused, where its note isn't too long. Memory may be refused for that, or was to
 // the command; then nothing is reported.
 fn help<E: Sink>(
@@ -119,7 +131,8 @@ fn help<E: Sink>(
     let Ok(()) = file.past.text_into(&mut text) else {
         return Cut::Memory;
     };
-    let (name, package) = (file.name.as_str(), target.package.as_slice());
+    let name = file.name.as_str();
+    let package = label_package(target, name);
     match report_hint(alloc, err, name, &text, command, target, package, refusal) {
         Ok(()) => Cut::Whole,
         Err(_) => Cut::Memory,

@@ -13,6 +13,7 @@ mod rooting;
 mod run;
 mod running;
 mod script;
+mod settling;
 mod step;
 mod used;
 mod workspace;

@@ -1,18 +1,24 @@
 //! The file of a package, which is read and opened.
-ghost use Rattle.std.specs.Prelude.{◌≡◌, ◌≢◌, ◌⊎◌, ◌≤◌, ℕ, None, Some, true, codes, length};
+ghost use Rattle.std.specs.Prelude.{◌≡◌, ◌≢◌, ◌⊎◌, ◌≤◌, ℕ, None, Some, true, codes, is_some, length};
+ghost use Rattle.std.specs.FinMap.{get};
 ghost use Rattle.bz_buildozer.specs.Words.{journal_name, Counts, named_line};
 ghost use Rattle.bz_buildozer.specs.Calls.{ReportsLine, AreCutBy};
 ghost use Rattle.bz_buildozer.specs.Journals.{TakesBeside};
 ghost use Rattle.bz_buildozer.specs.Keeps.{ReadsFiles};
 ghost use Rattle.bz_buildozer.specs.Opens.{Takes};
-ghost use Rattle.bz_buildozer.specs.Run.{TakesUntil};
+ghost use Rattle.bz_buildozer.specs.Found as f;
+ghost use Rattle.bz_buildozer.specs.Run.{FileUntil, MeansUntil, TakesUntil};
 ghost use Rattle.bz_buildozer.specs.Unread.{RunActs, ActsAreAmong, ActsGrow};
 ghost use Rattle.bz_buildozer.specs.private.Taking.{Brings, InputUntil, NamedUntil, base_of};
+ghost use Rattle.bz_buildozer.specs.private.Settling.{settled_in};
 ghost use Rattle.bz_buildozer.specs.private.ShownFiles.{taken_in};
 
-use crate::reading::{Taken, bytes_of, fail, fail_absent, misplaced, name_in, unnamed, unresumed};
+use crate::reading::{
+    Taken, bytes_of, fail, fail_absent, fail_unedited, misplaced, name_in, unnamed, unresumed,
+};
 use crate::rooting::root_above;
 use crate::script::INPUT;
+use crate::settling::{Settled, folder_of};
 use crate::used::Opened;
 use bz_files::{FileFault, Files};
 use bz_items::Text;
@@ -168,6 +174,53 @@ pub(crate) fn open_named<F: Files, E: Sink>(
                 cut: Cut::Files,
             }
         }
+    }
+}
+
+// Reads and opens the file of this name, which is there and is no package's, as `open_named` does; its labels are those of its folder.
+fn open_own<F: Files, E: Sink>(
+    alloc: Global,
+    own: &str,
+    journals: bool,
+    files: &mut F,
+    err: &mut E,
+) -> Taken
+    requires { length own.now ≤ 65536 }
+    ensures opens { (acts : RunActs) → ActsAreAmong (F.acts files.old) (F.acts files.new) acts → Brings E.Sink (λ file lines. F.honest files.old ≡ true
+        → is_some (get (F.folder files.old) own.now) ≡ true → FileUntil result.cut journals acts (F.folder files.old) own.now file lines) (taken_in result) err.old err.new }
+    ensures files { ReadsFiles F.Files result.cut files.old files.new }
+    ensures grows { ActsGrow (F.acts files.old) (F.acts files.new) }
+{
+    let package = folder_of(own);
+    match bytes_of(alloc, files, own, MOST) {
+        Ok(text) => open_found(package, own, text, journals, files, err),
+        Err(FileFault::Memory) => fail(err, own, "Memory", Cut::Memory),
+        Err(FileFault::Absent) => fail(err, own, "cannot open", Cut::Whole),
+        Err(_) => fail(err, own, "cannot open", Cut::Files),
+    }
+}
+
+/// Reads and opens what a path means: the file of a package as `open_named` does, or the file of this name. That a file isn't edited is
+/// reported, and why: no file is open then.
+pub(crate) fn open_settled<F: Files, E: Sink>(
+    alloc: Global,
+    path: &str,
+    settled: Settled<'_>,
+    journals: bool,
+    files: &mut F,
+    err: &mut E,
+) -> Taken
+    requires { length (f.key_of path.now (settled_in settled)) ≤ 65536 }
+    ensures opens { (acts : RunActs) → ActsAreAmong (F.acts files.old) (F.acts files.new) acts → Brings E.Sink (λ file lines. F.honest files.old ≡ true
+        → settled_in settled.entry ≡ f.settled (F.folder files.old) path.now
+        → MeansUntil result.cut journals acts (F.folder files.old) path.now (settled_in settled.entry) file lines) (taken_in result) err.old err.new }
+    ensures files { ReadsFiles F.Files result.cut files.old files.new }
+    ensures grows { ActsGrow (F.acts files.old) (F.acts files.new) }
+{
+    match settled {
+        Settled::Package(package) => open_named(alloc, package, false, journals, files, err),
+        Settled::File(name) => open_own(alloc, name, journals, files, err),
+        Settled::Refused(why) => fail_unedited(err, path, why),
     }
 }
 

@@ -7,11 +7,13 @@ ghost use Rattle.bz_files.specs.Orders.{Read, with_act};
 ghost use Rattle.bz_buildozer.specs.Found.{in_package};
 ghost use Rattle.bz_buildozer.specs.Journals.{fault_lines, of_package, of_resuming, shown_package};
 ghost use Rattle.bz_buildozer.specs.Keeps.{KeepsFolder};
-ghost use Rattle.bz_buildozer.specs.Reported.{absent_hint, package_hint};
+ghost use Rattle.bz_buildozer.specs.Reported.{absent_hint, package_hint, unedited_lines};
 ghost use Rattle.bz_buildozer.specs.Run.{wanting_name};
+ghost use Rattle.bz_buildozer.specs.private.Settling.{unedited_in};
 ghost use Rattle.bz_buildozer.specs.private.Taking.{slash_after};
 
 use crate::script::INPUT;
+use crate::settling::Unedited;
 use crate::used::Opened;
 use bz_files::{FileFault, FileKind, Files};
 use bz_items::Memory;
@@ -183,6 +185,42 @@ pub(crate) fn unresumed<E: Sink>(err: &mut E, journal: &str, fault: &ResumeFault
                 LinePiece::Outside(journal),
                 LinePiece::Own(" to begin a new history\n"),
             ],
+        ),
+    }
+}
+
+/// Reports that a file isn't edited, and below it why; no file is open.
+pub(crate) fn fail_unedited<E: Sink>(err: &mut E, name: &str, why: Unedited<'_>) -> Taken
+    ensures taken { result ≡ record { file = None; cut = Cut.Whole } }
+    ensures reported { Reports (E.faults err.old) (E.faults err.new) (E.contents err.old) (E.contents err.new)
+        (unedited_lines name.now (unedited_in why.entry)) }
+{
+    match why {
+        Unedited::Beside(package) => fail_with_hint(
+            err,
+            name,
+            "cannot open",
+            &[
+                LinePiece::Own("buildozer: the file of //"),
+                LinePiece::Outside(package),
+                LinePiece::Own(" is its BUILD.bazel\n"),
+            ],
+        ),
+        Unedited::Kept => fail_with_hint(
+            err,
+            name,
+            "cannot open",
+            &[LinePiece::Own(
+                "buildozer: no journal is edited, and no new file that waits to be renamed\n",
+            )],
+        ),
+        Unedited::Bzl => fail_with_hint(
+            err,
+            name,
+            "cannot open",
+            &[LinePiece::Own(
+                "buildozer: a .bzl file is not edited: to format it, see buildifier\n",
+            )],
         ),
     }
 }

@@ -41,8 +41,8 @@ pub(crate) fn package_of(target: &Target) -> &str
     str::from_utf8(target.package.as_slice()).unwrap()
 }
 
-// Whether rules of standard input are meant.
-fn is_of_input(target: &Target) -> bool
+/// Whether rules of standard input are meant.
+pub(crate) fn is_of_input(target: &Target) -> bool
     ensures { result ≡ is_of_input target.now }
 {
     target.package.as_slice() == INPUT.as_bytes()

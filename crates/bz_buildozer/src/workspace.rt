@@ -6,14 +6,15 @@ ghost use Rattle.bz_buildozer.specs.Calls.{AreCutOver, IsLeft, MayRun, ReadsNoth
 ghost use Rattle.bz_buildozer.specs.Run.{Uses};
 ghost use Rattle.bz_buildozer.specs.Steps.{input_package};
 ghost use Rattle.bz_buildozer.specs.private.ShownFiles.{opened_in, used_in};
-ghost use Rattle.bz_buildozer.specs.Keeps.{KeepsAt, KeepsFolder};
+ghost use Rattle.bz_buildozer.specs.Keeps.{KeepsAt, KeepsFolder, ReadsFiles};
 ghost use Rattle.bz_buildozer.specs.Unread.{RunActs, ActsGrow, ActsAreAmong};
 ghost use Rattle.bz_buildozer.specs.Found as p;
 ghost use Rattle.bz_buildozer.specs.Found.{file_at, package_number, with_opened};
 
-use crate::opening::{open_input, open_named};
+use crate::opening::{open_input, open_settled};
 use crate::reading::{Taken, unnamed};
 use crate::script::INPUT;
+use crate::settling::{key_of, settle};
 use crate::step::OneStep;
 use crate::used::{Opened, Used, put_file};
 use bz_files::Files;
@@ -129,9 +130,55 @@ impl Workspace {
         self.opened_at(place)
     }
 
-    /// A package: one that was used is not read again; a new one is read as `open_named` says, or as `open_input` where it means standard input
-    /// and no journals are kept, and it is a used one from then on, whatever comes. Where there is no file, that was reported at its first
-    /// use. Where memory was refused for the package itself, that is reported.
+    // What a path means that isn't known yet, and isn't standard input: the package or the file is used again, or is read as `open_settled` says.
+    fn open_file<F: Files, E: Sink>(
+        &mut self,
+        path: &str,
+        journals: bool,
+        files: &mut F,
+        err: &mut E,
+    ) -> Opening
+        requires fits { length path.now ≤ 65536 }
+        requires new { package_number path.now self.old ≡ None }
+        requires other { journals ≡ false → path.now ≡ input_package → ⊥ }
+        ensures uses { F.honest files.old ≡ true → (known : Option (List ℕ)) (acts : RunActs) (remaining : Option (List ℕ))
+            → IsLeft known self.old remaining → ActsAreAmong (F.acts files.old) (F.acts files.new) acts → (lines : List (List ℕ))
+            × Uses result.cut journals (world_with F.Files files.old known acts) path.now self.old result.place lines self.new
+            × IsLeft known self.new remaining × ReportsLines E.Sink err.old err.new lines }
+        ensures some { journals ≡ true → F.honest files.old ≡ true → UsesSome (F.folder files.old) path.now result.place self.old self.new }
+        ensures there { IfSome result.place (λ at. IsSome (file_at at self.new)) }
+        ensures files { ReadsFiles F.Files result.cut files.old files.new }
+        ensures grows { ActsGrow (F.acts files.old) (F.acts files.new) }
+    {
+        let alloc = *self.used.allocator();
+        let Ok(settled) = settle(alloc, files, path) else {
+            return Opening {
+                place: None,
+                cut: unnamed(err, path).cut,
+            };
+        };
+        let key = key_of(path, settled);
+        if let Some(place) = self.place(key.as_bytes()) {
+            let place = self.opened_at(place);
+            return Opening {
+                place,
+                cut: Cut::Whole,
+            };
+        }
+        let Ok(place) = self.add(key.as_bytes()) else {
+            return Opening {
+                place: None,
+                cut: unnamed(err, path).cut,
+            };
+        };
+        let Taken { file, cut } = open_settled(alloc, path, settled, journals, files, err);
+        let place = self.put(place, file);
+        Opening { place, cut }
+    }
+
+    /// What the path before a target's colon means: what was used is not read again; else it is read as `open_settled` says, or as `open_input`
+    /// where it is standard input and no journals are kept, and it is a used one from then on, whatever comes. Where there is no file, that
+    /// was reported at its first use. Where memory was refused for the package itself, that is reported.
     pub(crate) fn open<R: Source, F: Files, E: Sink>(
         &mut self,
         package: &str,
@@ -164,6 +211,9 @@ impl Workspace {
                 cut: Cut::Whole,
             };
         }
+        if !reads_input(journals, package) {
+            return self.open_file(package, journals, files, err);
+        }
         let Ok(place) = self.add(package.as_bytes()) else {
             return Opening {
                 place: None,
@@ -171,12 +221,7 @@ impl Workspace {
             };
         };
         let alloc = *self.used.allocator();
-        if reads_input(journals, package) {
-            let Taken { file, cut } = open_input(alloc, input, err);
-            let place = self.put(place, file);
-            return Opening { place, cut };
-        }
-        let Taken { file, cut } = open_named(alloc, package, false, journals, files, err);
+        let Taken { file, cut } = open_input(alloc, input, err);
         let place = self.put(place, file);
         Opening { place, cut }
     }

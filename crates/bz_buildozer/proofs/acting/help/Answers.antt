@@ -1,7 +1,7 @@
 use Rattle.std.proofs.Common.{◌≡◌, ◌∙◌, ◌++◌, List, ℕ, Some, refl, inl, inr, sym, ap, subst}
-use Rattle.bz_buildozer.specs.Words.{Reads, lines_of, view_of, refusal_hint}
+use Rattle.bz_buildozer.specs.Words.{Bytes, Reads, lines_of, view_of, refusal_hint}
 use Rattle.bz_buildozer.specs.Calls.{ReportsLines}
-use Rattle.bz_buildozer.specs.Found.{Opened}
+use Rattle.bz_buildozer.specs.Found.{Opened, package_of}
 use Rattle.bz_buildozer.specs.Sessions.{present}
 use Rattle.bz_buildozer.specs.private.ShownFiles.{opened_in}
 use Rattle.bz_buildozer.proofs.acting.help.Goals as goal
@@ -17,11 +17,15 @@ returns-in-Ok-report_hint g c = record {
       let same : own ≡ file = cc in
       let text : c.deref.result.now ≡ present own.history =
       c.deref.ensures.value ∙ (c.in-Ok.ensures.ok ∙ ap (λ (front : List ℕ). front ++ present own.history) c.new-text.ensures.items) in
-      let helped : Opened → List (List ℕ) = λ (f : Opened). refusal_hint f.name c.args.refusal c.args.command.now c.args.target.now.which c.args.target.now.«package» (lines_of found.0) (view_of found.0) in
+      let helped : Opened → List (List ℕ) = λ (f : Opened). refusal_hint f.name c.args.refusal c.args.command.now c.args.target.now.which (package_of c.args.target.now.«package» f.name) (lines_of found.0) (view_of found.0) in
       let hints = c.in-Ok-report_hint.ensures.ok found.0 (subst (λ (t : List ℕ). Reads t found.0) (sym (text ∙ ap (λ (f : Opened). present f.history) same)) found.1) in (
         helped file,
-        subst (λ (f : Opened). ReportsLines g.E.Sink c.args.err.now c.report_hint.new.err (helped f)) same
-            (rw (sym c.as_str-name.ensures.value, sym c.as_slice-package.ensures) hints),
+        subst (λ (f : Opened). ReportsLines g.E.Sink c.args.err.now c.report_hint.new.err (helped f)) same (
+            subst (λ (n : Bytes). ReportsLines g.E.Sink c.args.err.now c.report_hint.new.err (refusal_hint n c.args.refusal c.args.command.now c.args.target.now.which
+            (package_of c.args.target.now.«package» n) (lines_of found.0) (view_of found.0))) c.as_str-name.ensures.value
+            (subst (λ (current : Bytes). ReportsLines g.E.Sink c.args.err.now c.report_hint.new.err (refusal_hint c.as_str-name.result.now c.args.refusal c.args.command.now
+            c.args.target.now.which current (lines_of found.0) (view_of found.0))) c.label_package-package.ensures hints)
+            ),
         (λ memory. absurd (let e = memory in cc)),
         (λ _. inr (c.in_default.not-NoteTooLong, (found.0, found.1, refl))),
       );

@@ -1,4 +1,4 @@
-use Rattle.bz_buildozer.proofs.StandSteps.{packages_apart}
+use Rattle.bz_buildozer.proofs.FileNames.{packages_apart}
 use Rattle.bz_buildozer.proofs.laws.packages_are_apart.Goals as goal
 
 pub returns : goal.returns

@@ -1,7 +1,7 @@
 use Rattle.std.proofs.Common.{inl, refl}
 use Rattle.std.specs.Fmt.{digits}
 use Rattle.bz_buildozer.specs.WorkedParts.{text_read}
-use Rattle.bz_buildozer.proofs.WorkedEnds.{found_first, found_second, found_none, usage, whole}
+use Rattle.bz_buildozer.proofs.WorkedEnds.{found_first, found_second, found_none, settles, usage, whole}
 use Rattle.bz_buildozer.proofs.laws.worked_runs.Goals as goal
 
 pub returns-clause-parts : goal.returns-clause-parts
@@ -12,6 +12,7 @@ returns-clause-parts c = (
   (refl, refl, refl, refl, refl, refl, refl, refl, refl),
   (refl, refl, refl, refl, refl, refl),
   (refl, refl, refl, refl, found_first, found_second, found_none, (λ folder. inl (refl, refl, (text_read, refl, refl))), refl, refl),
+  settles,
 )
 
 pub returns-clause-usage : goal.returns-clause-usage

@@ -1,27 +1,42 @@
-use Rattle.std.proofs.Common.{◌≡◌, ◌∙◌, ◌∷◌, [], true, Bool, List, None, inl, inr, refl, ap, sym, subst, true≢false}
-use Rattle.std.specs.Prelude.{IfSome}
+use Rattle.std.proofs.Common.{◌∙◌, [], List, None, inl, inr, refl, ap, sym, subst, true≢false}
 use Rattle.bz_items.specs.Characters.{Bytes}
 use Rattle.bz_buildozer.specs.Found.{Used, package_number}
-use Rattle.bz_buildozer.specs.Calls.{IsLeft, acts_over}
-use Rattle.bz_buildozer.specs.Journals.{IsOpenedIn}
+use Rattle.bz_buildozer.specs.Calls.{IsLeft}
 use Rattle.bz_buildozer.specs.Run.{Uses, World, wanting_name}
 use Rattle.bz_buildozer.specs.declared.reading.Taken.{Taken}
 use Rattle.bz_buildozer.specs.private.ShownFiles.{taken_in}
-use Rattle.bz_buildozer.proofs.FailSteps.{last_within, opened_until, uses_input, uses_read}
+use Rattle.bz_buildozer.proofs.FailSteps.{last_within, uses_input}
 use Rattle.bz_buildozer.proofs.PlaceSteps.{opened_last, place_last}
-use Rattle.bz_buildozer.proofs.UnreadSteps.{among_all, grows_none}
+use Rattle.bz_buildozer.proofs.StandSteps.{key_known}
+use Rattle.bz_buildozer.proofs.UnreadSteps.{grows_none}
 use Rattle.bz_buildozer.proofs.workspace.Workspace.open.Goals as goal
 
 pub put-place-requires : goal.put-place-requires
 put-place-requires g c = last_within c.in-Ok.place c.args.self.now c.add.new.self (record { «package» = c.as_bytes-2.result.now; file = None }) c.in-Ok.ensures.place c.in-Ok.ensures.ok
 
-pub put-place-requires-2 : goal.put-place-requires-2
-put-place-requires-2 g c = last_within c.in-Ok.place c.args.self.now c.add.new.self (record { «package» = c.as_bytes-2.result.now; file = None }) c.in-Ok.ensures.place c.in-Ok.ensures.ok
+pub open_file-requires-clause-new : goal.open_file-requires-clause-new
+open_file-requires-clause-new g c = sym (c.place.ensures ∙ ap (λ (name : Bytes). package_number name c.args.self.now) c.as_bytes.ensures.value) ∙ c.in_default.is
+
+pub open_file-requires-clause-other : goal.open_file-requires-clause-other
+open_file-requires-clause-other g c = c.reads_input.ensures.other c.if-not-reads_input.true
 
 pub returns-in-Some-clause-uses : goal.returns-in-Some-clause-uses
 returns-in-Some-clause-uses g c = λ can known acts left among.
     let number = sym (c.place.ensures ∙ ap (λ (name : Bytes). package_number name c.args.self.now) c.as_bytes.ensures.value) ∙ c.in-Some.is in
-    ([], (c.in-Some.place, inl (number, refl, refl), c.opened_at.ensures.at), left, (refl, refl))
+    let key = key_known c.args.self.now (g.F.Files.folder c.args.files.now) c.args.package.now c.in-Some.place number in
+    ([], (c.in-Some.place, inl (ap (λ (name : Bytes). package_number name c.args.self.now) key ∙ number, refl, refl), c.opened_at.ensures.at), left, (refl, refl))
+
+pub returns-then-not-reads_input-clause-uses : goal.returns-then-not-reads_input-clause-uses
+returns-then-not-reads_input-clause-uses g c = λ can known acts left among. elim can [
+  | inl honest ↦ c.open_file.ensures.uses honest known acts (g.R.Source.remaining c.args.input.now) left among
+  | inr is ↦ absurd (c.reads_input.ensures.other c.if-not-reads_input.true is.0 is.1)
+]
+
+pub returns-then-not-reads_input-clause-folder : goal.returns-then-not-reads_input-clause-folder
+returns-then-not-reads_input-clause-folder g c = λ can. elim can [
+  | inl honest ↦ c.open_file.ensures.files.folder honest
+  | inr is ↦ absurd (c.reads_input.ensures.other c.if-not-reads_input.true is.0 is.1)
+]
 
 pub returns-in_default-add-clause-uses : goal.returns-in_default-add-clause-uses
 returns-in_default-add-clause-uses g c = λ can known acts left among.
@@ -36,64 +51,31 @@ returns-in_default-add-clause-uses g c = λ can known acts left among.
       c.unnamed.ensures.told,
     )
 
-pub returns-then-reads_input-clause-uses : goal.returns-then-reads_input-clause-uses
-returns-then-reads_input-clause-uses g c = λ can known acts left among.
+pub returns-clause-uses : goal.returns-clause-uses
+returns-clause-uses g c = λ can known acts left among.
     let old = c.args.self.now in
     let file = taken_in c.open_input-file.result in
     let number = c.put-place in
     uses_input g.E.Sink (record { folder = g.F.Files.folder c.args.files.now; known = known; acts = acts }) c.args.journals c.args.package.now (g.R.Source.remaining c.args.input.now)
     (g.R.Source.remaining c.open_input-file.new.input) old number.new.self c.open_input-file.result.cut file number.result c.args.err.now c.open_input-file.new.err
-    (c.reads_input.ensures.yes c.if-reads_input.true) (sym (c.place.ensures ∙ ap (λ (name : Bytes). package_number name c.args.self.now) c.as_bytes.ensures.value) ∙ c.in_default.is)
+    (c.reads_input.ensures.yes c.if-not-reads_input.false) (sym (c.place.ensures ∙ ap (λ (name : Bytes). package_number name c.args.self.now) c.as_bytes.ensures.value) ∙ c.in_default.is)
     (opened_last c.in-Ok.place old c.add.new.self number.new.self c.as_bytes-2.result.now c.args.package.now file c.in-Ok.ensures.place c.as_bytes-2.ensures.value c.in-Ok.ensures.ok number.ensures.put)
     (place_last c.in-Ok.place old file number.result c.in-Ok.ensures.place number.ensures.place) c.open_input-file.ensures.takes left
 
-pub returns-clause-uses : goal.returns-clause-uses
-returns-clause-uses g c = λ can known acts left among.
-    let old = c.args.self.now in
-    let file = taken_in c.open_named-file.result in
-    let number = c.put-place-2 in
-    let other = c.reads_input.ensures.other c.if-reads_input.false in
-    elim can [
-      | inl honest ↦ uses_read g.E.Sink (g.F.Files.honest c.args.files.now ≡ true) (record { folder = g.F.Files.folder c.args.files.now; known = known; acts = acts }) c.args.journals
-          c.args.package.now (g.R.Source.remaining c.args.input.now) old number.new.self c.open_named-file.result.cut file number.result c.args.err.now c.open_named-file.new.err honest other (sym (c.place.ensures ∙ ap (λ (name : Bytes). package_number name c.args.self.now) c.as_bytes.ensures.value) ∙ c.in_default.is)
-          (opened_last c.in-Ok.place old c.add.new.self number.new.self c.as_bytes-2.result.now c.args.package.now file c.in-Ok.ensures.place c.as_bytes-2.ensures.value c.in-Ok.ensures.ok
-          number.ensures.put) (place_last c.in-Ok.place old file number.result c.in-Ok.ensures.place number.ensures.place) (c.open_named-file.ensures.opens acts among) left
-      | inr is ↦ absurd (other is.0 is.1)
-    ]
+pub returns-in_default-add-clause-some : goal.returns-in_default-add-clause-some
+returns-in_default-add-clause-some g c = λ kept honest. absurd (true≢false (sym kept ∙ (c.reads_input.ensures.yes c.if-not-reads_input.false).0))
 
-pub returns-clause-folder : goal.returns-clause-folder
-returns-clause-folder g c = λ can. elim can [
-  | inl honest ↦ c.open_named-file.ensures.files.folder honest
-  | inr is ↦ absurd (c.reads_input.ensures.other c.if-reads_input.false is.0 is.1)
-]
+pub returns-clause-some : goal.returns-clause-some
+returns-clause-some g c = λ kept honest. absurd (true≢false (sym kept ∙ (c.reads_input.ensures.yes c.if-not-reads_input.false).0))
 
-pub returns-then-reads_input-clause-some : goal.returns-then-reads_input-clause-some
-returns-then-reads_input-clause-some g c = λ kept honest. absurd (true≢false (sym kept ∙ (c.reads_input.ensures.yes c.if-reads_input.true).0))
-
-pub returns-then-reads_input-clause-time : goal.returns-then-reads_input-clause-time
-returns-then-reads_input-clause-time g c = λ kept honest. absurd (true≢false (sym kept ∙ (c.reads_input.ensures.yes c.if-reads_input.true).0))
+pub returns-clause-time : goal.returns-clause-time
+returns-clause-time g c = λ kept honest. absurd (true≢false (sym kept ∙ (c.reads_input.ensures.yes c.if-not-reads_input.false).0))
 
 pub returns-in-Some-clause-some : goal.returns-in-Some-clause-some
 returns-in-Some-clause-some g c = λ kept honest.
     let number = sym (c.place.ensures ∙ ap (λ (name : Bytes). package_number name c.args.self.now) c.as_bytes.ensures.value) ∙ c.in-Some.is in
-    inl (c.in-Some.place, number, refl, c.opened_at.ensures.at)
-
-pub returns-clause-some : goal.returns-clause-some
-returns-clause-some g c = λ kept honest.
-    let old = c.args.self.now in
-    let file = taken_in c.open_named-file.result in
-    let all = acts_over g.F.Files c.args.files.now c.open_named-file.new.files in
-    let done = c.open_named-file.ensures.opens all (among_all (g.F.Files.acts c.args.files.now) (g.F.Files.acts c.open_named-file.new.files)) in inr (
-      (sym (c.place.ensures ∙ ap (λ (name : Bytes). package_number name c.args.self.now) c.as_bytes.ensures.value) ∙ c.in_default.is),
-      inr (
-        file,
-        opened_last c.in-Ok.place old c.add.new.self c.put-place-2.new.self c.as_bytes-2.result.now c.args.package.now file c.in-Ok.ensures.place c.as_bytes-2.ensures.value
-            c.in-Ok.ensures.ok c.put-place-2.ensures.put,
-        place_last c.in-Ok.place old file c.put-place-2.result c.in-Ok.ensures.place c.put-place-2.ensures.place,
-        subst (λ (b : Bool). IfSome file (IsOpenedIn b (g.F.Files.folder c.args.files.now) c.args.package.now)) kept
-            (opened_until c.open_named-file.result.cut c.args.journals all (g.F.Files.folder c.args.files.now) c.args.package.now file done.0 (done.1 honest)),
-      ),
-    )
+    let key = key_known c.args.self.now (g.F.Files.folder c.args.files.now) c.args.package.now c.in-Some.place number in
+    inl (c.in-Some.place, ap (λ (name : Bytes). package_number name c.args.self.now) key ∙ number, refl, c.opened_at.ensures.at)
 
 pub returns-in-Some-clause-grows : goal.returns-in-Some-clause-grows
 returns-in-Some-clause-grows g c = grows_none (g.F.Files.acts c.args.files.now)
@@ -101,8 +83,8 @@ returns-in-Some-clause-grows g c = grows_none (g.F.Files.acts c.args.files.now)
 pub returns-in_default-add-clause-grows : goal.returns-in_default-add-clause-grows
 returns-in_default-add-clause-grows g c = grows_none (g.F.Files.acts c.args.files.now)
 
-pub returns-then-reads_input-clause-grows : goal.returns-then-reads_input-clause-grows
-returns-then-reads_input-clause-grows g c = grows_none (g.F.Files.acts c.args.files.now)
-
 pub returns-clause-grows : goal.returns-clause-grows
-returns-clause-grows g c = c.open_named-file.ensures.grows
+returns-clause-grows g c = grows_none (g.F.Files.acts c.args.files.now)
+
+pub returns-then-not-reads_input-clause-grows : goal.returns-then-not-reads_input-clause-grows
+returns-then-not-reads_input-clause-grows g c = c.open_file.ensures.grows
