@@ -110,10 +110,17 @@ fn call_effects() {
     bz_load::worked_loads();
     bz_load::loads_stay_proper();
     bz_load::loading_again();
+    bz_load::loading_alone();
+    bz_load::replacing_again();
     bz_load::dropping_again();
     bz_load::moving_again();
     bz_load::fixing_again();
     bz_load::comments_stay();
+    bz_load::worked_usages();
+    bz_load::usages_stay_proper();
+    bz_load::repos_keep_comments();
+    bz_load::adding_repos_again();
+    bz_load::repos_there_and_back();
     bz_comment::comment_taken_away();
     bz_comment::own_comment_taken_away();
     bz_comment::comment_loses_none();

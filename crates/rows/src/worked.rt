@@ -17,7 +17,11 @@ pub(crate) const INPUT: &str = "cc_library( name=\"x\" )\n# keep\ncc_binary( nam
 
 pub(crate) const WITHOUT_X: &str = "# keep\ncc_binary(name = \"y\")\n";
 
-const NO_TARGET: &str = "buildozer: <stdin>: delete: NoTarget (41)\n";
+const NO_TARGET: &str =
+    "buildozer: <stdin>: delete: NoTarget (41)\nbuildozer: the target means no rule of the file\n";
+
+const UNKNOWN: &str =
+    "buildozer: grow: Unknown (31)\nbuildozer: there is no command of this name: see docs/buildozer.md, or man buildozer\n";
 
 const NO_RULE: &str =
     "buildozer: <stdin>: delete: NoTarget (41)\nbuildozer: no rule of <stdin> has the name 'z': did you mean 'x'?\n";
@@ -70,9 +74,9 @@ static ROWS: [Row; 9] = [
         devices: SOUND,
         output: "",
         status: 1,
-        errors: Some("buildozer: grow: Unknown (31)\n"),
+        errors: Some(UNKNOWN),
     },
-    // A fault of standard error is passed over: its second byte is not taken, and the line ends there.
+    // A fault of standard error is passed over: its second byte is not taken, and the line ends there; the next one is whole.
     Row {
         words: &["--", "delete", "-:__pkg__"],
         devices: Devices {
@@ -81,7 +85,7 @@ static ROWS: [Row; 9] = [
         },
         output: INPUT,
         status: 2,
-        errors: Some("b"),
+        errors: Some("bbuildozer: the target means no rule of the file\n"),
     },
     // Words that are no line of the program's leave the reader and standard output alone, which would fail at once.
     Row {
