@@ -31,10 +31,14 @@ function! s:format() abort
   let b:buildifier_refusal = ''
   let l:old = getline(1, '$')
   let l:type = bufname('%') =~# '\.bzl$' ? 'bzl' : 'build'
-  let l:new = systemlist('buildifier --type=' . l:type, l:old)
-  call s:list(v:shell_error ? l:new : [])
-  if v:shell_error
-    let b:buildifier_refusal = 'buildifier: ' . get(l:new, 0, '')
+  let l:command = 'buildifier --type=' . l:type
+  " what Vim takes of a command has its standard error too, and a note of an accepted text is no part of that
+  let l:new = systemlist('sh -c "' . l:command . ' 2> /dev/null"', l:old)
+  let l:fails = v:shell_error
+  let l:refusal = l:fails ? systemlist(l:command, l:old) : []
+  call s:list(l:refusal)
+  if l:fails
+    let b:buildifier_refusal = 'buildifier: ' . get(l:refusal, 0, '')
     return
   endif
   if l:new ==# l:old

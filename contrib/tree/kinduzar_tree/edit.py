@@ -2,10 +2,10 @@
 import os
 
 from .files import digest_of
-from .names import BUILD_NAMES, build_file, files_among
+from .names import BUILD_NAMES, build_file
 from .processes import NOT_RUN, batches
 from .refusals import by_name, lines_of, without_notes
-from .targets import Target, of_kinds, packages_below, place, written
+from .targets import Target, names_of, of_kinds, packages_below, place, settled, written
 from .terminal import shown
 
 WELL, FAILED, SAME = 0, 2, 3
@@ -18,8 +18,7 @@ class Plan:
     def __init__(self, root, refusals):
         self.root, self.refusals = root, refusals
         self.steps, self.links, self.below = {}, set(), {}
-        # the patterns that mean nothing, and what is noted of others
-        self.missing, self.notes = [], []
+        self.missing, self.notes = [], []  # the patterns that mean nothing, and what is noted of others
 
     def add(self, line, target):
         """A line's commands are for a target too."""
@@ -56,8 +55,7 @@ class Plan:
         self.refusals.add(pattern.package, [f"{pattern}: {what}"])
 
     def files(self):
-        """The names of the files that may be each package's, of which one that cannot be opened leaves the turn to the next."""
-        return [place(package, name) for package in self.steps for name in files_among(os.path.join(self.root, package), BUILD_NAMES)]
+        return [name for package in self.steps for name in names_of(self.root, package) if os.path.isfile(os.path.join(self.root, name))]
 
 
 class Batch:
@@ -90,10 +88,8 @@ class Editor:
         lacking = set()
         for _, batch, ended in self.pool.each(self.kinds_of, list(batches(targets, self.pool.processes, lambda target: target.package))):
             err = set(lines_of(ended.err))
-            for target in batch:
-                lines = {f"buildozer: {shown(place(target.package, name))}: print kind: NoTarget (41)" for name in BUILD_NAMES}
-                if lines & err:
-                    lacking.add(target.package)
+            lack = "buildozer: {}: print kind: NoTarget (41)".format
+            lacking |= {target.package for target in batch if err & {lack(shown(place(target.package, name))) for name in BUILD_NAMES}}
         return [target for target in targets if target.package not in lacking]
 
     def of_kinds(self, targets, kinds):
@@ -112,7 +108,7 @@ class Editor:
             self.only, self.flags = lines[0].targets[0], [*self.flags, "-k"] if "-k" not in self.flags else self.flags
         for line in lines:
             for target in line.targets:
-                meant = plan.meant_by(target) if target.is_pattern else [target]
+                meant = plan.meant_by(target) if target.is_pattern else [settled(self.root, target)]
                 if target.names_rules(line) and meant:
                     meant = self.had(plan, target, meant)
                 for one in self.of_kinds(meant, kinds) if kinds else meant:
@@ -138,7 +134,7 @@ class Editor:
             return Batch(FAILED, untried=packages, lack=ended.how())
         done.notes, err = without_notes(ended.err)
         for package in packages:
-            for name in (place(package, name) for name in BUILD_NAMES):
+            for name in names_of(self.root, package):
                 is_there, err = without_line(err, b"fixed " + os.fsencode(shown(name)))
                 done.fixed += [name] * is_there
         self.add_refused(done, packages, err)
@@ -149,7 +145,7 @@ class Editor:
         changed = done.fixed
         if ended.status not in (WELL, FAILED, SAME):
             self.add_odd(done, packages, ended)
-            changed = [place(package, name) for package in packages for name in BUILD_NAMES]
+            changed = [name for package in packages for name in names_of(self.root, package)]
         done.after = {name: digest_of(os.path.join(self.root, name)) for name in changed}
         return done
 
@@ -166,9 +162,7 @@ class Editor:
 
     def add_refused(self, done, packages, err):
         """Adds what was refused; without -k a refusal ends the run, so what comes after it was not tried."""
-        fronts = {}
-        for package in packages:
-            fronts.update(dict.fromkeys(fronts_of(place(package, name) for name in BUILD_NAMES), package))
+        fronts = {front: package for package in packages for front in fronts_of(names_of(self.root, package))}
         for package, lines in by_name(err, fronts).items():
             done.refused.setdefault(packages[0] if package is None else package, []).extend(lines)
         ends = [package for package, lines in done.refused.items() if "--journal" in self.flags or not all(line.endswith(": cannot write") for line in lines)]
@@ -183,7 +177,7 @@ class Editor:
             done.refused, done.untried = {}, packages
             return
         for package in packages:
-            done.refused.setdefault(package, []).append(f"{place(package, 'BUILD')}: buildozer {ended.how()}")
+            done.refused.setdefault(package, []).append(f"{names_of(self.root, package)[-1]}: buildozer {ended.how()}")
 
 
 def fronts_of(names):

@@ -16,11 +16,7 @@ def is_formatted(name, with_bzl):
 
 def is_text(name):
     """Whether a name of the system is UTF-8, as both programs need it."""
-    try:
-        os.fsencode(name).decode("utf-8")
-    except UnicodeDecodeError:
-        return False
-    return True
+    return not any("\ud800" <= sign <= "\udfff" for sign in name)
 
 
 def files_among(folder, names):

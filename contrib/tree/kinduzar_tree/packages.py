@@ -130,8 +130,7 @@ class Run:
         self.statuses, self.after = set(), {}
         self.has_printed = False
         self.plan = self.record = None
-        # the files of which a text before or after the run isn't known
-        self.unkept = []
+        self.unkept = []  # the files of which a text before or after the run isn't known
 
     def over(self, lines):
         """Runs the commands of the lines, and gives the signal that stopped it, or None."""
@@ -292,7 +291,7 @@ def list_journals(request, lines, path, screen):
     with Pool(request.processes) as pool:
         editor = Editor(pool, path, request.root, [])
         names = [name for name in editor.plan(lines, request.kinds, refusals).files() if os.path.lexists(os.path.join(request.root, name + ".journal"))]
-        for target in [target for target in lines[0].targets if not target.is_pattern and target.package not in map(os.path.dirname, names)]:
+        for target in [target for target in lines[0].targets if not target.is_pattern and target.package not in {*names, *map(os.path.dirname, names)}]:
             refusals.add(target.package, [f"{place(target.package, 'BUILD')}: there is no journal"])
         moves = Moves(editor, runs, screen, 0)
         for name, texts in sorted(moves.journals(names)):

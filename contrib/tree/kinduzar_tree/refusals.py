@@ -7,8 +7,8 @@ from .terminal import command_line, counted, shown
 # the command line that goes on has at most so many names; more go into a file
 MOST_NAMES = 20
 
-# how a line begins that is no refusal: it notes something of an edit that was done
-NOTE = b"buildozer: note: "
+# how a line begins that is no refusal: it notes something of an edit that was done, or of a file that was formatted
+NOTE = b"buildozer: note: ", b"buildifier: note: "
 
 
 def by_name(err, fronts):

@@ -16,7 +16,6 @@ import time
 
 from . import files, state
 from .files import UNREAD
-from .names import BUILD_NAMES
 from .processes import stops
 from .state import Unreadable
 
@@ -66,9 +65,8 @@ class Record:
 
 
 def is_inside(name):
-    """Whether it is the name of a package's file, from the root."""
-    *folders, last = name.split("/")
-    return last in BUILD_NAMES and "\0" not in name and not {"", ".", ".."} & set(folders)
+    """Whether it is the name of a file that buildozer edits, from the root."""
+    return not name.endswith((".journal", ".bznew", ".bzl")) and "\0" not in name and not {"", ".", ".."} & set(name.split("/"))
 
 
 def is_pair(pair):

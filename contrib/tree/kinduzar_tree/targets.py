@@ -15,7 +15,7 @@ DOTS = "..."
 # the words after a colon by which no rule may be meant, so that a package without any is no fault
 MAY_MEAN_NONE = ("all", "*")
 # commands that look at the package of their target alone
-OF_PACKAGES = ("new", "new_load", "substitute_load", "fix", "format", "undo", "redo", "journal")
+OF_PACKAGES = ("new", "new_load", "replace_load", "substitute_load", "use_repo_add", "use_repo_remove", "fix", "format", "undo", "redo", "journal")
 
 
 @dataclasses.dataclass
@@ -126,6 +126,17 @@ def packages_below(root, front):
 def place(package, name):
     """A name below a package, from the root."""
     return "/".join(filter(None, [package, name]))
+
+
+def names_of(root, package):
+    """The file that a target names in the place of a package, or those that may be the package's: one that cannot be opened leaves the turn to the next."""
+    return [package] if os.path.isfile(os.path.join(root, package)) else [place(package, name) for name in BUILD_NAMES]
+
+
+def settled(root, one):
+    """A target of which the package is written as its BUILD file, by the package."""
+    folder, base = os.path.split(one.package)
+    return Target(folder, base if one.which is None else one.which) if base == build_file(os.path.join(root, folder)) else one
 
 
 def inside(front, root):

@@ -8,7 +8,7 @@ from .files import MOST_TEXT, content, given
 from .ignored import IGNORE, SETTINGS
 from .names import is_formatted, is_text
 from .processes import NOT_RUN, PROCESSES, Pool, batches, program, room_beside, worked
-from .refusals import Refusals, by_name, go_on, lines_of, summary
+from .refusals import Refusals, by_name, go_on, lines_of, summary, without_notes
 from .running import STOPPED, run_as
 from .terminal import shown
 from .words import Usage, count, read
@@ -106,13 +106,12 @@ def listed_in(file):
 
 
 class Batch:
-    """What came of some files: what goes to standard output, the names that differ, what was refused, the statuses, and the files that a run
-    that was stopped had not reached, or may not have."""
+    """What came of some files: what goes to standard output, the names that differ, what was refused, what was noted, the statuses, and the
+    files that a run that was stopped had not reached, or may not have."""
 
     def __init__(self):
-        self.out, self.differing, self.refused, self.statuses, self.rest = [], [], {}, set(), []
-        # why no process could be started
-        self.lack = ""
+        self.out, self.differing, self.refused, self.notes, self.statuses, self.rest = [], [], {}, [], set(), []
+        self.lack = ""  # why no process could be started
 
 
 class Formatter:
@@ -142,7 +141,8 @@ class Formatter:
             self.add_alone(done, names, ended)
             return
         done.statuses.add(ended.status)
-        refused = by_name(ended.err, {os.fsencode(f"{shown(name)}:"): name for name in names})
+        done.notes, err = without_notes(ended.err)
+        refused = by_name(err, {os.fsencode(f"{shown(name)}:"): name for name in names})
         done.refused.update({name or names[0]: lines for name, lines in refused.items()})
         done.differing += self.rewritten(names) if self.mode == "fix" else told(ended.out, names)
         if self.mode == "check":
@@ -230,6 +230,7 @@ class Run:
         self.same += len(set(names) - set(batch.differing) - set(batch.refused) - set(batch.rest))
         self.statuses |= batch.statuses
         self.rest += batch.rest
+        self.refusals.notes += batch.notes
         if batch.lack:
             self.refusals.notes.append(f"{NAME}: buildifier {batch.lack}")
             self.statuses.add(UNREAD)

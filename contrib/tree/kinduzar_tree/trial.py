@@ -6,7 +6,7 @@ import tempfile
 
 from .edit import Editor
 from .files import MOST_TEXT, content
-from .names import BUILD_NAMES, files_among
+from .targets import names_of
 
 # a field that no rule has, before what a line of a rule begins with: the line where the rule begins, and its name
 MARK = "__label__"
@@ -31,15 +31,16 @@ class Trial(Editor):
 
     def copy(self, package, folder):
         """Copies what a run may read of a package; what cannot be read is not there, and refused as such."""
-        here, there = os.path.join(self.root, package), os.path.join(folder, package)
-        for name in files_among(here, BUILD_NAMES) if os.pardir not in package.split("/") else []:
-            os.makedirs(there, exist_ok=True)
+        names = names_of(self.root, package)
+        names += names_of(self.root, os.path.dirname(package)) if names == [package] else []
+        for name in [name for name in names if os.path.isfile(os.path.join(self.root, name)) and os.pardir not in package.split("/")]:
+            os.makedirs(os.path.dirname(os.path.join(folder, name)), exist_ok=True)
             for each in [name] + [f"{name}.journal"] * ("--journal" in self.flags):
                 try:
-                    text = content(os.path.join(here, each), MOST_TEXT)
+                    text = content(os.path.join(self.root, each), MOST_TEXT)
                 except OSError:
                     continue
-                with open(os.path.join(there, each), "wb") as copy:
+                with open(os.path.join(folder, each), "wb") as copy:
                     copy.write(text)
 
 

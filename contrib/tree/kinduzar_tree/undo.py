@@ -7,6 +7,7 @@ import re
 
 from .edit import FAILED, SAME, WELL, fronts_of
 from .files import UNREAD, digest_of
+from .names import BUILD_NAMES
 from .processes import NOT_RUN, batches, room_beside, worked
 from .refusals import by_name, summary
 from .runs import DONE, UNDONE
@@ -15,7 +16,6 @@ from .terminal import shown
 
 ENTRY = re.compile(rb"([* ]) (\d+) ([0-9a-f]{64})(?: (.*))?", re.DOTALL)
 Text = collections.namedtuple("Text", "is_present digest note")
-
 
 # How a run is gone through: the command, which digest of a file is the one to start at and which the goal, the words for it, and the state that comes.
 Way = collections.namedtuple("Way", "command start goal told state")
@@ -255,5 +255,5 @@ class Moves:
 
 
 def target_of(name):
-    """A target of the package that a file is of."""
-    return f"//{os.path.dirname(name)}:all"
+    """A target of the package that a file is of, or of the file."""
+    return f"//{os.path.dirname(name) if os.path.basename(name) in BUILD_NAMES else name}:all"
