@@ -55,6 +55,7 @@ def of_file(command, count):
 
 ADD = "add deps :v%d"
 LOAD = "new_load //:d%d.bzl s%d"
+REPLACE_LOAD = "replace_load //:d%d.bzl s%d"
 DELETE = "delete"
 COMMENT = "comment deps why\\ not"
 RENAME = "rename deps data"
@@ -95,6 +96,7 @@ LONG = [
     # twice the commands: what they cost beside the half
     *((f"{count:,} `add` to one list", 1, spread(ADD, count, 1), CHANGED) for count in (1000, 2000)),
     *((f"{count:,} `new_load` of other files", 1, of_file(LOAD, count), CHANGED) for count in (1000, 2000)),
+    *((f"{count:,} `replace_load`, each of another file", 1, of_file(REPLACE_LOAD, count), CHANGED) for count in (1000, 2000)),
     *((f"{count:,} `print` by `%LINE`", count, by_line(PRINT, count), SAME) for count in (2000, 4000)),
     *((f"{count:,} `replace` by `%LINE`", count, by_line(REPLACE, count), CHANGED) for count in (1000, 2000)),
     *((f"{count:,} `print`", 400, spread(PRINT, count, 400), SAME) for count in (2000, 4000)),

@@ -154,6 +154,7 @@ print rule
 print startline size env
 new_load //:defs.bzl a my_b=b
 new_load :b.bzl unused_too new_one
+replace_load :b.bzl a my_b=b
 substitute_load b\\.bzl$ c.bzl
 new f w after __pkg__
 fix

@@ -27,6 +27,7 @@ import signal
 
 from lib.disks import Disk, Recording, Stored, is_new, seen_in
 from lib.folders import in_folder, put
+from lib.lines import NO_TOKEN, TOO_LARGE
 from lib.preloaded import preloaded
 from lib.runs import NOBODY
 from lib.scenes import Scenes, named
@@ -236,7 +237,7 @@ def a_byte_is_appended(p, name):
 def the_last_byte_of_the_longest_text(p):
     """A text of the most bytes is read, and one byte more is too much; of both programs, where the first byte is refused in either."""
     for program, words in (("buildifier", [FILE]), ("buildozer", add(":a")), ("buildozer", ["--journal", *add(":a")])):
-        for length, line in ((LONGEST, b"BUILD:1:1: BadCharacter\n"), (LONGEST + 1, b"BUILD: TooLarge\n")):
+        for length, line in ((LONGEST, b"BUILD:1:1: BadCharacter\n" + NO_TOKEN), (LONGEST + 1, b"BUILD: TooLarge\n" + TOO_LARGE)):
             put(p.folder, {FILE: b"$"})
             os.truncate(p.folder / FILE, length)
             p.expect(f"{program} {words}, {length} bytes", p.ended(words, program), (1 if program == "buildifier" else 2, b"", line))

@@ -12,7 +12,7 @@ import os
 import resource
 import subprocess
 
-from lib.lines import COMMENT_HINT, PACKAGE_HINT, UNKEPT, fixed, lines_of
+from lib.lines import COMMENT_HINT, NOT_UTF8, PACKAGE_HINT, TARGET_FORM, UNKEPT, UNKNOWN, fixed, lines_of
 from lib.runs import copies, held_to
 from lib.scenes import Scenes, named
 from lib.workspaces import in_workspace
@@ -85,8 +85,8 @@ FAULTS = [
     ([], b"buildozer: no command\n", b""),
     (["//a:x"], b"buildozer: no command\n", b""),
     (["delete"], b"buildozer: no target\n", b""),
-    (["delete", "//a:x", "//a/:x"], b"buildozer: //a/:x: BadTarget (12)\n", b""),
-    (["delete", "//a:x", "make it"], b"buildozer: make it: Unknown (31)\n", b""),
+    (["delete", "//a:x", "//a/:x"], b"buildozer: //a/:x: BadTarget (12)\n" + TARGET_FORM, b""),
+    (["delete", "//a:x", "make it"], b"buildozer: make it: Unknown (31)\n" + UNKNOWN, b""),
     (["delete", "//a:x", "udno 2"], b"buildozer: udno 2: Unknown (31)\nbuildozer: did you mean 'undo'?\n", b""),
     (["fix unusedLoad", "//a:x"], b"buildozer: fix unusedLoad: Arguments (32)\nbuildozer: did you mean 'unusedLoads'?\n", b""),
     (
@@ -116,13 +116,13 @@ FAULTS = [
     (["-f", "lines", "//a:x"], b"buildozer: operands beside -f\n", b""),
     (["-f", "none"], b"none: cannot open\n", b""),
     (["-f", "a"], b"a: cannot open\n", b""),
-    (["-f", "odd"], b"odd: NotUtf8 at 13\n", b""),
+    (["-f", "odd"], b"odd: NotUtf8 at 13\n" + NOT_UTF8, b""),
     (["-f", "comments"], b"comments: no operands\n", b""),
     (["-f", "-"], b"<stdin>: no operands\n", b""),
-    (["-f", "-"], b"<stdin>: NotUtf8 at 13\n", b"delete|//a:x\n\xff"),
+    (["-f", "-"], b"<stdin>: NotUtf8 at 13\n" + NOT_UTF8, b"delete|//a:x\n\xff"),
     (["-f", "-"], b"buildozer: package - cannot be edited beside -f -\n", lines_of("delete|//a:x", "delete|-:x")),
     (["-f", "-"], b"buildozer: no target\n<stdin>:2: refused\n", lines_of("delete|//a:x", "delete")),
-    (["-f", "-"], b"buildozer: : Unknown (31)\n<stdin>:2: refused\n", lines_of("delete|//a:x", "delete||//a:x")),
+    (["-f", "-"], b"buildozer: : Unknown (31)\n" + UNKNOWN + b"<stdin>:2: refused\n", lines_of("delete|//a:x", "delete||//a:x")),
     (["--journal", "--stdout", "delete", "//a:x"], b"buildozer: --stdout beside --journal\n", b""),
     (["--journal", "--", "delete", "-:x"], b"buildozer: package - has no journal\n", b"x()\n"),
     (["--none", "delete", "//a:x"], b"error: unexpected argument '--none' found\n", b""),
@@ -216,6 +216,33 @@ def a_file_by_a_second_path_keeps_the_first_edit(w):
     return w.leaves(["add deps :q", "//:x", "//.:y"], 2, err=fixed("BUILD") + b"./BUILD: cannot write\n", after={"BUILD": DEPS_X})
 
 
+# Files that may not be edited, where they are named in the place of a package, and why.
+UNEDITED = {
+    "a/BUILD": b"the file of //a is its BUILD.bazel",
+    "a/BUILD.bazel.journal": b"no journal is edited, and no new file that waits to be renamed",
+    "a/BUILD.bazel.bznew": b"no journal is edited, and no new file that waits to be renamed",
+    "a/rules.bzl": b"a .bzl file is not edited: to format it, see buildifier",
+}
+
+
+def files_in_the_place_of_packages(w):
+    """A file may be named so, and its labels are those of its folder. The file of a package is that package, in either order, also in a later run."""
+    (w.path / "third_party").mkdir()
+    for name in ("MODULE.bazel", "third_party/zlib.BUILD", *list(UNEDITED)[1:]):
+        (w.path / name).write_bytes(ODD)
+    runs = [w.leaves(["--quiet", "delete", "//MODULE.bazel:x"], 0, after={"MODULE.bazel": NO_X})]
+    runs.append(w.leaves(["add deps //third_party:q", "//third_party/zlib.BUILD:x"], 0, err=fixed("third_party/zlib.BUILD"), after={"third_party/zlib.BUILD": DEPS_X}))
+    for one, other in (("//a/b", "//a/b/BUILD"), ("//a/b/BUILD", "//a/b")):
+        runs.append(w.leaves(["delete", f"{one}:x", f"{other}:y"], 0, err=fixed("a/b/BUILD"), after={"a/b/BUILD": b""}))
+        (w.path / "a/b/BUILD").write_bytes(ODD)
+    ended = w.ended(["--journal", "delete", "//a/b/BUILD:x", "//a/b:y"])
+    runs.append(ended == (0, b"", fixed("a/b/BUILD")) and b"\npackage 3 a/b\n" in w.left()["a/b/BUILD.journal"])
+    runs.append(w.ended(["--journal", "undo 2", "//a/b:all"])[0] == 0 and w.left()["a/b/BUILD"] == ODD)
+    for name, why in UNEDITED.items():
+        runs.append(w.leaves(["-k", "delete", f"//{name}:x", f"//{name}:y"], 2, err=b"%s: cannot open\nbuildozer: %s\n" % (name.encode(), why)))
+    return all(runs)
+
+
 def a_refused_text_is_told(w):
     """Its place is reported, it stays, and with -k the others are edited."""
     (w.path / "a/b/BUILD").write_bytes(b'f(name="x")\ng(\n')
@@ -245,13 +272,59 @@ def a_usage_fault_leaves_all(w):
     return all([w.leaves(words, 1, err=err, text=text, begins=b"buildozer" not in err) for words, err, text in FAULTS])
 
 
+# A MODULE.bazel as projects have it, laid out, and lines of commands on it with what each has the text become.
+MODULE = b"""\
+# Licensed as the rest is.
+
+module(
+    name = "words",
+    compatibility_level = 1,
+    version = "2024-07-02",
+)
+
+bazel_dep(
+    name = "platforms",
+    version = "0.0.10",
+)
+
+# Until the toolchain is found by itself.
+cc_configure = use_extension("@bazel_tools//tools/cpp:cc_configure.bzl", "cc_configure_extension")
+
+use_repo(cc_configure, "local_config_cc")  # ours
+"""
+EXTENSION = "@bazel_tools//tools/cpp:cc_configure.bzl cc_configure_extension"
+EDITS_OF_MODULE = [
+    (f"use_repo_add {EXTENSION} local_config_cc local_config_cc_toolchains", "all", b'"local_config_cc")', b'"local_config_cc", "local_config_cc_toolchains")'),
+    ("set version 2024-08-01", "words", b'"2024-07-02"', b'"2024-08-01"'),
+    ("use_repo_remove cc_configure local_config_cc", "all", b'"local_config_cc", ', b""),
+]
+
+
+def a_module_file_is_edited_and_taken_back(w):
+    """Each command changes its place alone, and all are taken back byte for byte by a later run."""
+    file, text = w.path / "MODULE.bazel", MODULE
+    file.write_bytes(text)
+    runs = []
+    for command, which, old, new in EDITS_OF_MODULE:
+        text = text.replace(old, new)
+        runs.append(w.ended(["--journal", command, f"//MODULE.bazel:{which}"]) == (0, b"", fixed("MODULE.bazel")) and file.read_bytes() == text)
+    runs.append(w.ended(["--journal", "new bazel_dep rules_cc", "set version 0.0.9", "//MODULE.bazel:rules_cc"])[0] == 0)
+    runs.append(file.read_bytes() == text + b'\nbazel_dep(\n    name = "rules_cc",\n    version = "0.0.9",\n)\n')
+    runs.append(w.ended(["--journal", "undo 5", "//MODULE.bazel:all"])[0] == 0 and file.read_bytes() == MODULE)
+    return all(runs)
+
+
+GROWN = b"buildozer: the file would have more than 67,108,864 bytes\n"
+NO_ATTRIBUTE = b"buildozer: the rule has no such attribute, or the attribute no such value\n"
+NO_LIST = b"buildozer: the value is no list\n"
+
 # how much memory a run may take that is refused as too large, in bytes
 REFUSED_WITHIN = 1 << 30
 
 
 def refuses_within(w, command, text, refusal, addresses=REFUSED_WITHIN, rule=b""):
     """A command on all rules of a file is refused within this memory and these addresses, and the file stays; the rule is told that refuses
-    it. What it says of others goes to `wrong`."""
+    it, or that the file would be too large. What it says of others goes to `wrong`."""
     (w.path / "d").mkdir(exist_ok=True)
     (w.path / "d/BUILD").write_bytes(text)
     how = {"cwd": w.path, "stdout": subprocess.PIPE, "stderr": subprocess.PIPE, "preexec_fn": held_to(resource.RLIMIT_AS, addresses)}
@@ -259,7 +332,7 @@ def refuses_within(w, command, text, refusal, addresses=REFUSED_WITHIN, rule=b""
         err, out = run.stderr.read(), run.stdout.read()
         _, status, used = os.wait4(run.pid, 0)
         run.returncode = os.waitstatus_to_exitcode(status)
-    told = b"buildozer: d/BUILD: %s: %s\n" % (command.encode(), refusal) + rule
+    told = b"buildozer: d/BUILD: %s: %s\n" % (command.encode(), refusal) + (rule or GROWN)
     if (run.returncode, out, err) != (2, b"", told) or (w.path / "d/BUILD").read_bytes() != text:
         w.wrong.append(f"{command[:20]}: {run.returncode}, {err[-60:]}, and not {refusal}")
     if used.ru_maxrss * 1024 > REFUSED_WITHIN:
@@ -277,7 +350,7 @@ def copies_of_a_comment_past_the_limit(w):
     long = "c" * 60_000
     refuses_within(w, f"comment {long}", rules, b"TooLarge (21)")
     refuses_within(w, f"comment k {long}", rules, b"TooLarge (21)")
-    refuses_within(w, f"comment k {long}", rules + b'f(name = "z")\n', b"NoAttribute (42)", rule=refusing(75_001) + COMMENT_HINT)
+    refuses_within(w, f"comment k {long}", rules + b'f(name = "z")\n', b"NoAttribute (42)", rule=refusing(75_001) + NO_ATTRIBUTE + COMMENT_HINT)
     return not w.wrong
 
 
@@ -293,7 +366,7 @@ def words_past_the_limit_in_each_rule(w):
     refuses_within(w, "set tags " + " ".join(f"c{number:05d}" for number in range(9_000)), b"".join(some[:1_000]), b"TooLarge (21)")
     first = b'f(name = "first", deps = [%s])\n' % b", ".join(b'"c%05d"' % number for number in range(7_000))
     refuses_within(w, "copy deps first", b"".join([first, *some]), b"TooLarge (21)")
-    refuses_within(w, f"add tags {long}", b"".join([*some, b'f(name = "z", tags = 1)\n']), b"NotAList (44)", rule=refusing(2_501))
+    refuses_within(w, f"add tags {long}", b"".join([*some, b'f(name = "z", tags = 1)\n']), b"NotAList (44)", rule=refusing(2_501) + NO_LIST)
     return not w.wrong
 
 
@@ -355,7 +428,7 @@ EDITS |= {name: a_run(["-f", "-"], status, {**left, "text": text}) for name, tex
 EDITS |= named(
     a_hundred_lines, an_unchanged_file_is_not_written, permission_bits_stay, a_closed_folder_is_told, an_unreadable_file_is_told,
     a_folder_for_the_first_name_is_told, a_folder_for_the_second_name_is_told, a_link_becomes_a_file, a_left_file_is_written_over,
-    a_file_by_a_second_path_keeps_the_first_edit, a_refused_text_is_told, the_root_above_is_told, a_usage_fault_leaves_all, copies_of_a_comment_past_the_limit,
+    a_file_by_a_second_path_keeps_the_first_edit, files_in_the_place_of_packages, a_module_file_is_edited_and_taken_back, a_refused_text_is_told, the_root_above_is_told, a_usage_fault_leaves_all, copies_of_a_comment_past_the_limit,
     words_past_the_limit_in_each_rule, a_match_that_grows_past_the_limit, thousands_of_items_added_to_one_list,
     thousands_of_rules_named_by_their_lines, thousands_of_files_loaded, thousands_of_lines_printed_of_a_short_file,
 )  # fmt: skip

@@ -275,7 +275,7 @@ def endless_files(place):
         place.expect(words, (run[0], run[2][0]), (status, f"{command}: /dev/zero: it has more than 16,777,216 bytes"))
     place.expect("a pipe", place.run("buildifier-tree", "--from=pipe"), (0, b"", ["no BUILD files were found"]))
     status, _, err = place.run("buildozer-tree", "-k", *SMALL)
-    place.expect("a long one", (status, err[:3]), (2, ["fixed a/BUILD", "b/BUILD: TooLarge", "1 file fixed, 1 refused"]))
+    place.expect("a long one", (status, err[:4]), (2, ["fixed a/BUILD", "b/BUILD: TooLarge", "    a text that is read has at most 67,108,864 bytes", "1 file fixed, 1 refused"]))
 
 
 FORGED = ["a\nfixed forged", "b\x1b[31m", "c\u009bm", "d\rfixed e", "tab\tbed"]

@@ -10,6 +10,7 @@ import os
 import tempfile
 
 from lib.folders import in_folder
+from lib.lines import INDENTED
 from lib.runs import ended
 from lib.scenes import Scenes, Wrong, named
 
@@ -112,7 +113,7 @@ def by_its_name(folder):
     before = file.stat()
     folder.file("g.bzl", b"if x:\ny = 1\n")
     folder.file("bzl", EVEN_BZL)
-    err = b"g.bzl:2:1: Indented\n    y = 1\n    ^ the word 'y'\nbzl:1:1: Unexpected\n    def f(a, b = 1, *c):  # doc\n    ^ the word 'def'\n"
+    err = b"g.bzl:2:1: Indented\n    y = 1\n    ^ the word 'y'\n" + INDENTED + b"bzl:1:1: Unexpected\n    def f(a, b = 1, *c):  # doc\n    ^ the word 'def'\n"
     after = folder.leaves(["p/f.bzl", "g.bzl", "bzl"], 1, err=err) and file.stat()
     return after and (after.st_ino, after.st_mtime_ns) == (before.st_ino, before.st_mtime_ns)
 

@@ -39,9 +39,10 @@ LEVELS = 500
 
 PIECES = ["a", "load", '"x"', "1.", "(", ")", "[", "]", ",", "=", "+", ".", " ", "\n", "# c\n", "\\\n"]
 
-# what may be reported of a text that is refused: a line, below it that of the text with a caret and what is there, and a bracket that is open there
+# what may be reported of a text that is refused: a line, below it that of the text with a caret and what is there, and what that means, or a bracket that is open there
 NAMES = rb"(?:BadCharacter|OpenString|Indented|Unexpected|TooDeep)"
-REFUSED = re.compile(rb"p(\d+)/BUILD:(?: (?:NotUtf8 at \d+|TooLarge)\n|\d+:\d+: " + NAMES + rb"\n(?:    [^\n]*\n    [ ]*\^ [^\n]*\n)?(?:    inside the '[(\[{]' at \d+:\d+\n)?)")
+SENSES = rb"    (?:no name, |the string that |a statement |what begins )[^\n]*\n"
+REFUSED = re.compile(rb"p(\d+)/BUILD:(?: (?:NotUtf8 at \d+|TooLarge)\n    [at][^\n]*\n|\d+:\d+: " + NAMES + rb"\n(?:    [^\n]*\n    [ ]*\^ [^\n]*\n)?(?:" + SENSES + rb")?(?:    inside the '[(\[{]' at \d+:\d+\n)?)")
 # a string between three marks, or one; or a comment
 QUOTED = re.compile(rb"('''|\"\"\")(?:\\.|(?!\1).)*\1|(['\"])(?:\\\r\n|\\.|(?!\2).)*\2|(#[^\n]*)", re.DOTALL)
 
@@ -87,12 +88,17 @@ class Runs(Wrong):
             self.expect(f"{name} after an undo", after, before)
         return refused
 
+    def without_notes(self, words, folder):
+        """What a run leaves, but for notes on names with characters outside of ASCII, which texts of pieces have."""
+        left = ended(words, folder)
+        return left._replace(err=b"".join(line for line in left.err.splitlines(True) if not line.startswith(b"buildifier: note: ")))
+
     def format(self, folder, refused):
         lines = b"".join(refused[number] for number in sorted(refused))
         wanted = (1 if refused else 0, b"", lines)
-        self.expect("formatting", ended([self.buildifier, *self.names], folder), wanted)
+        self.expect("formatting", self.without_notes([self.buildifier, *self.names], folder), wanted)
         formatted = self.left(folder)
-        self.expect("formatting twice", ended([self.buildifier, "--mode=check", *self.names], folder), wanted)
+        self.expect("formatting twice", self.without_notes([self.buildifier, "--mode=check", *self.names], folder), wanted)
         for number, (before, after) in enumerate(zip(self.texts, formatted)):
             if number in refused:
                 self.expect("a refused text", after, before)

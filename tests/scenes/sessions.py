@@ -108,6 +108,8 @@ FIXED = [
      "new_load //:defs.bzl a my_b=b|new_load //:b.bzl fifth other|undo|redo|new_load //:b.bzl fifth|undo 2|new_load c.bzl z|redo"),
     ("loads come where there is none", "many on a line", "-:__pkg__", "new_load //:defs.bzl a|undo|redo|new_load //:defs.bzl a b|undo 2"),
     ("paths of loads change", "loads", "-:__pkg__", "substitute_load b.bzl$ c.bzl|undo|redo|substitute_load none x|substitute_load ^(.*)$ @r$1|undo 2"),
+    ("symbols come from another path", "loads", "-:__pkg__", "replace_load //:defs.bzl a my_b=b|undo|redo|replace_load //:b.bzl fifth a|undo 2|redo|replace_load //:b.bzl a"),
+    ("repositories without an extension", "loads", "-:__pkg__", "use_repo_add deps org_a|new_load //:b.bzl b|use_repo_remove deps org_a|undo|use_repo_add //:e.bzl deps c=d"),
     ("rules come next to the package", "loads", "-:__pkg__", "new f z before __pkg__|undo|new f z after __pkg__|new f y after __pkg__|undo|redo"),
     ("loads go, and the package goes up", "loads", "-:__pkg__",
      "fix unusedLoads|undo|fix movePackageToTop|fix|undo 2|redo|fix|undo|undo|fix|fix|undo"),

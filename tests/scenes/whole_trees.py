@@ -338,6 +338,22 @@ def targets_mean_packages(place):
     place.wants_files("files", {"WORKSPACE": b"", **texts})
 
 
+def targets_mean_files(place):
+    """A file in the place of a package is edited, shown and taken back as a package is; that of a package is the package."""
+    texts = {"MODULE.bazel": ODD, "a/BUILD": ODD, "b/BUILD": ODD, "b/BUILD.bazel": ODD}
+    place.put(texts)
+    place.git("init", "-q")
+    words = ["set size small", "//MODULE.bazel:x", "//a/BUILD:x", "//a:x"]
+    shown = place.run("buildozer-tree", "--stdout", *words)[1]
+    place.expect("shown", [shown.count(b"==> %s <==" % name) for name in (b"MODULE.bazel", b"a/BUILD")], [1, 1])
+    place.expect("edit", place.run("buildozer-tree", "--journal", *words)[2][:3], ["fixed MODULE.bazel", "fixed a/BUILD", "2 files fixed"])
+    place.expect("undo", place.run("buildozer-tree", "undo")[2][:2], ["fixed MODULE.bazel", "fixed a/BUILD"])
+    place.expect("texts", {name: place.files()[name] for name in texts}, texts)
+    beside = ["b/BUILD: cannot open", "buildozer: the file of //b is its BUILD.bazel", "1 file refused"]
+    for flags in ([], ["--diff"]):
+        place.expect(f"beside {flags}", place.run("buildozer-tree", *flags, "delete", "//b/BUILD:x")[2][:3], beside)
+
+
 def names_that_no_target_has(place):
     """They are told, and the others are edited."""
     place.put({"a/BUILD": ODD, **{f"{name}/BUILD": ODD for name in ODD_NAMES}})
@@ -371,6 +387,9 @@ def notes_are_no_refusals(place):
     notes = [line for line in err if line.startswith("buildozer: note: ")]
     place.expect("run", (status, len(notes), len(set(notes)), err[-1]), (0, FEW, FEW, f"{FEW} files fixed"))
     place.expect("lines", len(err), 2 * FEW + 1)
+    place.put({"n1/BUILD": "f(name=“x”)\n".encode(), "n2/BUILD": b"x()\n"})
+    status, _, err = place.run("buildifier-tree", "n1", "n2")
+    place.expect("formatted", (status, err[0].startswith("buildifier: note: n1/BUILD:1: a name has "), err[1:]), (0, True, ["1 file reformatted, 1 left unchanged"]))
 
 
 def failures_end_a_run(place):
@@ -670,7 +689,7 @@ def sources_are_of_python_3_9(place):
 
 TREES = named(
     all_files_are_formatted, paths_and_usage, refusals_are_sorted, differences, only_what_changed, a_process_that_is_killed, formats_stopped_and_run_again,
-    slow_processes_are_ended, two_formats_at_once, on_a_terminal, the_bar_is_below_lines, a_closed_output, all_packages_are_edited, targets_mean_packages, names_that_no_target_has,
+    slow_processes_are_ended, two_formats_at_once, on_a_terminal, the_bar_is_below_lines, a_closed_output, all_packages_are_edited, targets_mean_packages, targets_mean_files, names_that_no_target_has,
     lines_in_their_order, notes_are_no_refusals, failures_end_a_run, changed_and_taken_back, formatted_and_taken_back, edits_stopped_and_taken_back, an_undo_that_is_stopped, two_edits_at_once, where_runs_are_kept,
     edits_that_are_looked_at, labels_of_lines, what_is_not_said, a_run_without_a_journal, journals_that_git_knows, journals_for_people, processes_for_names, a_text_on_standard_input,
     sources_are_of_python_3_9,
