@@ -1,9 +1,9 @@
 -- Comments that are joined, in the steps of the code.
-use Rattle.std.proofs.Common.{◌≡◌, ◌∙◌, true, false, List, [], ◌∷◌, ◌++◌, ap, refl, sym, true≢false, map}
+use Rattle.std.proofs.Common.{◌≡◌, ◌∙◌, true, false, List, [], ◌∷◌, ◌++◌, ap, refl, sym, true≢false}
 use Rattle.std.specs.Prelude.{None, Option, Some, is_some}
 use Rattle.std.specs.Option.{option_map_or}
 use Rattle.std.proofs.lemmas.List.{append-nil, append_assoc}
-use Rattle.bz_load.specs.Words.{Bytes, HostComments}
+use Rattle.bz_load.specs.Words.{Bytes, HostComments, no_comments}
 use Rattle.bz_load.specs.ReplaceLoad.{above, all_comments_joined, comments_joined, suffix_alone}
 
 joined_none : (before : List Bytes) (own : Option Bytes) → comments_joined (record { before = before; suffix = own }) (suffix_alone None) ≡ record { before = before; suffix = own }
@@ -52,15 +52,21 @@ lines_above own lines = by own.suffix
     by None = refl
     by (Some suffix) = ap (λ (before : List Bytes). record { before = own.before ++ before; suffix = Some suffix }) (sym (append-nil lines))
 
--- the comments of a load: those above it and the path's, those of its symbols, those at its end, the one after it
-pub load_joined : (old between new : HostComments) (first path end : List Bytes) (symbols : List HostComments) (suffix : Option Bytes)
-    → between ≡ all_comments_joined (record { before = (old.before ++ first) ++ path; suffix = old.suffix }) symbols
-    → new ≡ comments_joined (record { before = between.before ++ end; suffix = between.suffix }) (suffix_alone suffix)
-    → new ≡ all_comments_joined old (above (first ++ path) ∷ symbols ++ above end ∷ suffix_alone suffix ∷ [])
-load_joined old between new first path end symbols suffix b n =
-    let begun : record { before = (old.before ++ first) ++ path; suffix = old.suffix } ≡ comments_joined old (above (first ++ path)) =
-    ap (λ (lines : List Bytes). record { before = lines; suffix = old.suffix }) (append_assoc old.before first path) ∙ lines_above old (first ++ path) in
+-- the comments of a load: those above it, the path's, those above its symbols and at its end, and the suffixes
+pub load_joined : (old between new : HostComments) (first path over end : List Bytes) (symbols : List HostComments) (suffix : Option Bytes)
+    → between ≡ all_comments_joined (record { before = (((old.before ++ first) ++ path) ++ over) ++ end; suffix = old.suffix }) symbols
+    → new ≡ comments_joined between (suffix_alone suffix)
+    → new ≡ all_comments_joined old (above (first ++ (path ++ (over ++ end))) ∷ symbols ++ suffix_alone suffix ∷ [])
+load_joined old between new first path over end symbols suffix b n =
+    let begun : record { before = (((old.before ++ first) ++ path) ++ over) ++ end; suffix = old.suffix } ≡ comments_joined old (above (first ++ (path ++ (over ++ end)))) =
+    ap (λ (lines : List Bytes). record { before = lines; suffix = old.suffix }) (append_assoc ((old.before ++ first) ++ path) over end ∙ (append_assoc (old.before ++ first) path (over ++ end) ∙ append_assoc old.before first (path ++ (over ++ end)))) ∙ lines_above old (first ++ (path ++ (over ++ end))) in
     n
-    ∙ (ap (λ own. comments_joined own (suffix_alone suffix)) (lines_above between end)
-    ∙ (ap (λ own. comments_joined (comments_joined own (above end)) (suffix_alone suffix)) (b ∙ ap (λ own. all_comments_joined own symbols) begun)
-    ∙ sym (all_joined_more (comments_joined old (above (first ++ path))) symbols (above end ∷ suffix_alone suffix ∷ []))))
+    ∙ (ap (λ own. comments_joined own (suffix_alone suffix)) (b ∙ ap (λ own. all_comments_joined own symbols) begun)
+    ∙ joined_last (comments_joined old (above (first ++ (path ++ (over ++ end))))) symbols (suffix_alone suffix))
+
+-- those of what goes around a load
+pub all_around : (f g h : List HostComments) (one two three : HostComments) → one ≡ all_comments_joined no_comments f → two ≡ all_comments_joined one g → three ≡ all_comments_joined two h
+    → three ≡ all_comments_joined no_comments (f ++ (g ++ h))
+all_around f g h one two three a b c =
+    c ∙ (ap (λ cs. all_comments_joined cs h) (b ∙ ap (λ cs. all_comments_joined cs g) a)
+    ∙ (sym (all_joined_more (all_comments_joined no_comments f) g h) ∙ sym (all_joined_more no_comments f (g ++ h))))

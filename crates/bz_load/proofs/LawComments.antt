@@ -4,7 +4,6 @@ use Rattle.std.specs.Prelude.{IfSome, bytes_eq, if◌then◌else◌}
 use Rattle.std.specs.List.{AllByRecursion, list_any, filter, insert, find}
 use Rattle.std.specs.Option.{option_map_or}
 use Rattle.std.proofs.lemmas.Bool.{and_parts, or_parts, not-true, not-false}
-use Rattle.std.proofs.lemmas.List.Elements.{recursion_from_All}
 use Rattle.bz_token.specs.declared.class.Class.TheVariants as c
 use Rattle.bz_grammar.specs.declared.kind.Kind.TheVariants as k
 use Rattle.bz_grammar.specs.Shapes as s
@@ -13,7 +12,7 @@ use Rattle.bz_value.specs.declared.value.Expr.{Expr, Token, Form', items-the_row
 use Rattle.bz_load.specs.Words.{Item, Bytes, Kind, body_of, is_empty, is_none, quoted_of, substituted, Symbol, token, node, mark, name, on_first_that, without_first}
 use Rattle.bz_value.specs.declared.value.Item.TheVariants as i
 use Rattle.bz_value.specs.Comments.{HostComments, no_comments}
-use Rattle.bz_value.specs.Counted.{total, suffix_amount, host_amount, row_amount, item_amount, one_if}
+use Rattle.bz_value.specs.Counted.{total, suffix_amount, host_amount, row_amount, item_amount}
 use Rattle.bz_value.specs.Proper.{comments_of, IsProperItem}
 use Rattle.bz_value.specs.LineShapes.{whole_grammar}
 use Rattle.bz_value.proofs.Totals.{append_total, form_amount}

@@ -1,5 +1,5 @@
 -- What replace_load makes of proper items is proper and has each comment as often; so do the other commands on loads.
-use Rattle.std.proofs.Common.{◌≡◌, ◌∙◌, ◌+◌, ℕ, zero, suc, Bool, true, false, ◌||◌, ◌&&◌, not, List, [], ◌∷◌, ◌++◌, ap, refl, sym, subst, true≢false, take, drop, map, arith, inl, inr}
+use Rattle.std.proofs.Common.{◌≡◌, ◌∙◌, ◌+◌, ℕ, zero, suc, Bool, true, false, ◌||◌, List, [], ◌∷◌, ◌++◌, ap, refl, sym, subst, true≢false, take, drop, map, arith, inl, inr}
 use Rattle.std.specs.Prelude.{All, IfSome, IsUtf8, None, Option, Some, bytes_eq, if◌then◌else◌}
 use Rattle.std.specs.List.{AllByRecursion, flat_map, list_any}
 use Rattle.std.specs.Option.{option_map_or}
@@ -9,7 +9,7 @@ use Rattle.std.proofs.lemmas.List.Elements.{All-append, All-cons, All-from_recur
 use Rattle.bz_grammar.specs.declared.kind.Kind.TheVariants as k
 use Rattle.bz_grammar.specs.Shapes as s
 use Rattle.bz_grammar.specs.Spots.{Begins}
-use Rattle.bz_value.specs.declared.value.Expr.{Expr, Token, Form', items-the_row-Expr}
+use Rattle.bz_value.specs.declared.value.Expr.{Expr, Token, Form'}
 use Rattle.bz_value.specs.declared.value.Item.TheVariants as i
 use Rattle.bz_value.specs.Counted.{total, host_amount, item_amount, one_if, suffix_amount}
 use Rattle.bz_value.specs.LineShapes.{Grammar}
@@ -29,10 +29,10 @@ use Rattle.bz_load.specs.Laws.{LoadsKeepComments, LoadsStayProper}
 use Rattle.bz_load.specs.Loads.{after_path, is_load_from, is_load_item, leading_blocks, loads_end, loads_symbol, symbols_of}
 use Rattle.bz_load.specs.NewLoad.{load_made, new_load, symbol_made}
 use Rattle.bz_load.specs.SubstituteLoad.{substitute_load}
-use Rattle.bz_load.specs.ReplaceLoad.{ItemCut, above, all_comments, all_comments_joined, comments_around, comments_without, cut_of_first, each_replaced, further, goes, gone_comments, gone_from, is_lost, comments_joined, joined_beside, last_of_each, left_symbols, on_symbols, own_lines, may_have, new_around, path_lines, put_symbol, replace_load, replace_symbol, replaced_around, suffix_alone, with_joined, without_symbol}
+use Rattle.bz_load.specs.ReplaceLoad.{ItemCut, all_comments, all_comments_joined, comments_above, comments_around, comments_without, cut_of_first, each_replaced, further, goes, gone_comments, gone_from, is_lost, comments_joined, joined_beside, last_of_each, left_symbols, on_symbols, own_lines, may_have, new_around, path_lines, put_symbol, replace_load, replace_symbol, replaced_around, suffix_alone, suffix_host, with_joined, without_symbol}
 use Rattle.bz_load.proofs.LawComments.{amount_answered, by_fixes, items_put, load_none, new_load_same, substitute_load_same, symbol_none}
 use Rattle.bz_load.proofs.ProperLoads.{alias_parts, fix_keeps, load_parts, load_proper, new_load_keeps, substitute_load_keeps, symbol_item, token_amount}
-use Rattle.bz_load.proofs.ReplacedParts.{cut_from, is_load_by, stays_load}
+use Rattle.bz_load.proofs.OtherItems.{cut_from, is_load_by, stays_load}
 
 -- ---- comments that are joined
 
@@ -98,9 +98,13 @@ module _ (grammar : Grammar) (symbol : Symbol) where
   without_fine : (item : Item) → IsProperItemIn grammar item → AreFine (without_symbol symbol item)
   without_fine item h = by_test AreFine (is_lost symbol item) [] (on_symbols (left_symbols symbol true) item ∷ []) tt (change_fine (left_symbols symbol true) (left_fine true) item h, tt)
 
-  each_said : (xs : List Expr) → AreLoaded xs → AllByRecursion AreComments (map comments_of xs)
-  each_said [] h = tt
-  each_said (x ∷ xs) h = (h.0.0.1, each_said xs h.1)
+  above_fine : (xs : List Expr) → AreLoaded xs → All IsComment (comments_above xs)
+  above_fine [] h = All-nil IsComment
+  above_fine (x ∷ xs) h = All-append IsComment (comments_of x).before (comments_above xs) h.0.0.1.0 (above_fine xs h.1)
+
+  suffixes_fine : (xs : List Expr) → AreLoaded xs → AllByRecursion AreComments (map suffix_host xs)
+  suffixes_fine [] h = tt
+  suffixes_fine (x ∷ xs) h = ((All-nil IsComment, h.0.0.1.1), suffixes_fine xs h.1)
 
   symbols_fine : (item : Item) → IsProperItemIn grammar item → is_load_item item ≡ true → AreLoaded (symbols_of item)
   symbols_fine (i.Block lines) h is = tt
@@ -114,9 +118,15 @@ module _ (grammar : Grammar) (symbol : Symbol) where
   load_fine (i.Block lines) h is = tt
   load_fine (i.Stmt x) h is =
       let l = load_parts grammar Begins x is h.1 in
+      let symbols : List Expr = after_path (items_of x) in
+      let fine = symbols_fine (i.Stmt x) h is in
       let lines : All IsComment (path_lines (items_of x)) = subst (λ xs. All IsComment (path_lines xs)) (sym l.items) (lines_fine (comments_of l.path) l.said) in (
-        (All-append IsComment (comments_of x).before (path_lines (items_of x)) h.2.0 lines, tt),
-        joined_all AreComments (map comments_of (after_path (items_of x))) (above (end_of x) ∷ suffix_alone (comments_of x).suffix ∷ []) (each_said (after_path (items_of x)) (symbols_fine (i.Stmt x) h is)) ((l.ends, tt), ((All-nil IsComment, h.2.1), tt)),
+        (
+          All-append IsComment (comments_of x).before (path_lines (items_of x) ++ (comments_above symbols ++ end_of x)) h.2.0
+              (All-append IsComment (path_lines (items_of x)) (comments_above symbols ++ end_of x) lines (All-append IsComment (comments_above symbols) (end_of x) (above_fine symbols fine) l.ends)),
+          tt,
+        ),
+        joined_all AreComments (map suffix_host symbols) (suffix_alone (comments_of x).suffix ∷ []) (suffixes_fine symbols fine) ((All-nil IsComment, h.2.1), tt),
       )
 
   comments_fine : (item : Item) → IsProperItemIn grammar item → AllByRecursion AreComments (comments_without symbol item)
@@ -288,9 +298,13 @@ module _ (number : Bytes → ℕ) where
         let c = symbol_none number symbol in
         omega (arith, a, b, c))
 
-    each_comment : (xs : List Expr) → AreOf grammar s.loaded xs → all_said (map comments_of xs) ≡ wholes xs
+    each_comment : (xs : List Expr) → AreOf grammar s.loaded xs → total number (comments_above xs) + all_said (map suffix_host xs) ≡ wholes xs
     each_comment [] h = refl
-    each_comment (x ∷ xs) h = let a = loaded_said grammar x h.0 in let b = each_comment xs h.1 in omega (arith, a, b)
+    each_comment (x ∷ xs) h =
+        let a = loaded_said grammar x h.0 in
+        let b = each_comment xs h.1 in
+        let c = append_total number (comments_of x).before (comments_above xs) in
+        omega (arith, a, b, c)
 
     -- a load that goes
     lost_said : (item : Item) → IsProperItemIn grammar item → is_load_item item ≡ true → all_said (all_comments item) ≡ item_amount number item
@@ -304,10 +318,12 @@ module _ (number : Bytes → ℕ) where
         let symbols : List Expr = after_path (items_of x) in
         let rest = ap (λ xs. wholes (after_path xs)) l.items in
         let lines = ap (λ xs. total number (path_lines xs)) l.items ∙ lines_said (comments_of l.path) in
-        let a = append_total number (comments_of x).before (path_lines (items_of x)) in
-        let b = append_total said (map comments_of symbols) (above (end_of x) ∷ suffix_alone (comments_of x).suffix ∷ []) in
-        let c = each_comment symbols (symbols_fine grammar symbol (i.Stmt x) h is) in
-        omega (arith, all, bare, own, items, rest, lines, a, b, c)
+        let a = append_total number (comments_of x).before (path_lines (items_of x) ++ (comments_above symbols ++ end_of x)) in
+        let b = append_total number (path_lines (items_of x)) (comments_above symbols ++ end_of x) in
+        let c = append_total number (comments_above symbols) (end_of x) in
+        let d = append_total said (map suffix_host symbols) (suffix_alone (comments_of x).suffix ∷ []) in
+        let e = each_comment symbols (symbols_fine grammar symbol (i.Stmt x) h is) in
+        omega (arith, all, bare, own, items, rest, lines, a, b, c, d, e)
 
     -- one that loses some symbols, and any other item
     kept_said : (found : Bool) (item : Item) → IsProperItemIn grammar item → item_amount number (on_symbols (left_symbols symbol found) item) + all_said (gone_from symbol found item) ≡ item_amount number item

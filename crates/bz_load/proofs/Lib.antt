@@ -1,5 +1,6 @@
 pub mod GatheredComments
 pub mod ImportSteps
+pub mod JoinedWindows
 pub mod KnownSteps
 pub mod LawAgain
 pub mod LawBack
@@ -7,7 +8,9 @@ pub mod LawComments
 pub mod LawReplaced
 pub mod LawRepos
 pub mod LawUsages
+pub mod OneMore
 pub mod Operands
+pub mod OtherItems
 pub mod PathSteps
 pub mod PlaceSteps
 pub mod ProperLoads
@@ -15,5 +18,4 @@ pub mod ProperUsages
 pub mod PutSteps
 pub mod RenamedPaths
 pub mod ReplacedAgain
-pub mod ReplacedParts
 pub mod ReplacedSymbols

@@ -5,7 +5,7 @@ use Rattle.std.specs.List.{AllByRecursion, filter, list_any, find}
 use Rattle.std.specs.Option.{option_map_or}
 use Rattle.std.proofs.lemmas.Bool.{and_parts, eqb-true}
 use Rattle.std.proofs.Math.Bool.{and-false}
-use Rattle.std.proofs.lemmas.List.Elements.{All-nil, All-from_recursion, recursion_from_All}
+use Rattle.std.proofs.lemmas.List.Elements.{All-nil}
 use Rattle.bz_token.specs.declared.class.Class.TheVariants as c
 use Rattle.bz_grammar.specs.declared.kind.Kind.TheVariants as k
 use Rattle.bz_grammar.specs.Shapes as s

@@ -1,5 +1,5 @@
 -- What the commands on repositories make of proper items is proper.
-use Rattle.std.proofs.Common.{◌≡◌, ◌&&◌, Bool, true, false, not, List, [], ◌∷◌, ◌++◌, refl, sym, true≢false, ◌∙◌}
+use Rattle.std.proofs.Common.{◌≡◌, ◌&&◌, Bool, false, not, List, [], ◌∷◌, ◌++◌, refl, sym, true≢false, ◌∙◌}
 use Rattle.std.specs.Prelude.{IsUtf8, IfOk, IfSome, Option, Some, None, Result, Ok, Err, codes, bytes_eq, if◌then◌else◌}
 use Rattle.std.specs.List.{AllByRecursion, cons_option, filter, insert, list_any, position_or_len}
 use Rattle.std.proofs.lemmas.List.Elements.{All-nil, All-from_recursion, recursion_from_All}

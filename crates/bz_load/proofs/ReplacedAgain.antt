@@ -1,6 +1,6 @@
 -- Afterwards one symbol has each local name, and the same symbols replaced once more change nothing.
-use Rattle.std.proofs.Common.{◌≡◌, ◌∙◌, ◌+◌, ◌≤◌, ℕ, zero, suc, Bool, true, false, ◌||◌, ◌&&◌, not, List, [], ◌∷◌, ◌++◌, ap, refl, sym, subst, true≢false, ◌⊎◌, take, drop, length, nat_eq, arith, inl, inr}
-use Rattle.std.specs.Prelude.{All, IfSome, None, Option, Some, bytes_eq, if◌then◌else◌, is_some, nat_le, option_map}
+use Rattle.std.proofs.Common.{◌≡◌, ◌∙◌, ◌+◌, ◌≤◌, ℕ, suc, Bool, true, false, ◌||◌, ◌&&◌, not, List, [], ◌∷◌, ◌++◌, ap, refl, sym, subst, true≢false, ◌⊎◌, take, drop, length, nat_eq, arith, inl, inr}
+use Rattle.std.specs.Prelude.{IfSome, None, Option, Some, bytes_eq, if◌then◌else◌, is_some, nat_le, option_map}
 use Rattle.std.specs.List.{AllByRecursion, filter, flat_map, list_all, list_any}
 use Rattle.std.specs.Option.{option_and_then, option_map_or}
 use Rattle.std.proofs.lemmas.Bool.{and_from, and_parts, cases_Bool, eq-eqb, eqb-true, not-true, or_left, or_parts, or_right}
@@ -12,22 +12,22 @@ use Rattle.std.proofs.lemmas.Slice.Eq.{bytes_eq-Decides}
 use Rattle.bz_token.specs.declared.class.Class.TheVariants as c
 use Rattle.bz_grammar.specs.declared.kind.Kind.TheVariants as k
 use Rattle.bz_items.specs.Characters.{apostrophe, backslash, quotation_mark}
-use Rattle.bz_value.specs.declared.value.Expr.{Expr, Form', Token, items_hidden-the_row-Expr-0}
+use Rattle.bz_value.specs.declared.value.Expr.{Expr, Form', Token}
 use Rattle.bz_value.specs.declared.value.Item.TheVariants as i
 use Rattle.bz_rule.specs.Values.{first_text}
 use Rattle.bz_rule.specs.QuoteMarks.{begins_thrice, between, inside, is_quote_mark, marks_of, unprefixed}
 use Rattle.bz_rule.specs.Rules.{body, inner, is_plain_in}
 use Rattle.bz_rule.proofs.ProperChanges.{by_case}
 use Rattle.bz_attribute.proofs.FormsAgain.{both, if_false, if_true, items_changed, items_filled}
-use Rattle.bz_attribute.proofs.PlainWords.{IsPlain, body_quoted, equal_self}
-use Rattle.bz_load.specs.Words.{Bytes, HostComments, Item, Symbol, body_of, comments_of, has_kind, is_class, is_empty, is_escaped, is_text, items_of, local_name, no_comments, on_first_that, on_rest, parts_of, quoted_of, text_of, token, with_comments}
+use Rattle.bz_attribute.proofs.PlainWords.{IsPlain}
+use Rattle.bz_load.specs.Words.{Bytes, HostComments, Item, Symbol, body_of, comments_of, has_kind, is_class, is_empty, is_escaped, is_text, items_of, local_name, no_comments, on_first_that, on_rest, parts_of, text_of, with_comments}
 use Rattle.bz_load.specs.Laws.{IsLoadedAlone, ReplacedAgain, ReplacedAlone, becomes_plain}
 use Rattle.bz_load.specs.Loads.{after_path, alias_in, is_load_from, is_load_item, is_loaded, is_symbol, leading_blocks, loads_end, loads_symbol, path_in, symbol_named, symbols_of}
 use Rattle.bz_load.specs.NewLoad.{load_made, symbol_made}
 use Rattle.bz_load.specs.ReplaceLoad.{ItemCut, all_comments_joined, comments_around, comments_joined, cut_of_first, each_replaced, further, goes, gone_comments, is_local, is_lost, last_of_each, left_symbols, may_have, new_around, on_symbols, put_symbol, replace_load, replace_symbol, replaced_around, with_joined, without_symbol}
-use Rattle.bz_load.proofs.GatheredComments.{none_taken}
+use Rattle.bz_load.proofs.ReplacedSymbols.{none_made, nothing_joined}
 use Rattle.bz_load.proofs.LawAgain.{made_loads, new_from}
-use Rattle.bz_load.proofs.ReplacedParts.{AreOther, all_without, any_may, cut_from, cut_passes, gone_none, is_load_by, left_all, mapped_joined, none_said, some_cut, stays_from, stays_load, symbols_stay}
+use Rattle.bz_load.proofs.OtherItems.{AreOther, all_without, any_may, cut_from, cut_passes, gone_none, is_load_by, left_all, mapped_joined, none_said, some_cut, stays_from, stays_load, symbols_stay}
 
 -- ---- what loads a symbol has its local name
 
@@ -109,17 +109,17 @@ module _ (symbol : Symbol) where
 
 -- ---- counts
 
-abbrev count : {X : Type 0} → (X → Bool) → List X → ℕ
+abbrev pub count : {X : Type 0} → (X → Bool) → List X → ℕ
 count test xs = length (filter test xs)
 
 module _ {X : Type 0} (test : X → Bool) where
   count_append : (xs ys : List X) → count test (xs ++ ys) ≡ count test xs + count test ys
   count_append xs ys = ap length (filter-append test xs ys) ∙ length-append (filter test xs) (filter test ys)
 
-  counted : (x : X) (xs : List X) → test x ≡ true → count test (x ∷ xs) ≡ suc (count test xs)
+  pub counted : (x : X) (xs : List X) → test x ≡ true → count test (x ∷ xs) ≡ suc (count test xs)
   counted x xs is = ap length (if_true (test x) (x ∷ filter test xs) (filter test xs) is)
 
-  passed : (x : X) (xs : List X) → test x ≡ false → count test (x ∷ xs) ≡ count test xs
+  pub passed : (x : X) (xs : List X) → test x ≡ false → count test (x ∷ xs) ≡ count test xs
   passed x xs isnt = ap length (if_false (test x) (x ∷ filter test xs) (filter test xs) isnt)
 
   -- as many, and one more that passes alike
@@ -209,10 +209,10 @@ module _ (symbol : Symbol) (test : Expr → Bool) (apart : IsApart symbol test) 
 -- ---- items
 
 -- the symbols of some loads
-abbrev chosen : (Item → Bool) → Item → List Expr
+abbrev pub chosen : (Item → Bool) → Item → List Expr
 chosen is item = if is item then symbols_of item else []
 
-abbrev in_items : (Expr → Bool) → (Item → Bool) → List Item → ℕ
+abbrev pub in_items : (Expr → Bool) → (Item → Bool) → List Item → ℕ
 in_items test is items = count test (flat_map (chosen is) items)
 
 -- some loads, which stay such with other symbols
@@ -223,10 +223,10 @@ pub record IsChoice (is : Item → Bool) : Type 0 where
 in_both : (test : Expr → Bool) (is : Item → Bool) (xs ys : List Item) → in_items test is (xs ++ ys) ≡ in_items test is xs + in_items test is ys
 in_both test is xs ys = ap (count test) (mapped_joined (chosen is) xs ys) ∙ count_append test (flat_map (chosen is) xs) (flat_map (chosen is) ys)
 
-in_next : (test : Expr → Bool) (is : Item → Bool) (item : Item) (items : List Item) → in_items test is (item ∷ items) ≡ count test (chosen is item) + in_items test is items
+pub in_next : (test : Expr → Bool) (is : Item → Bool) (item : Item) (items : List Item) → in_items test is (item ∷ items) ≡ count test (chosen is item) + in_items test is items
 in_next test is item items = count_append test (chosen is item) (flat_map (chosen is) items)
 
-any_chosen : (test : Expr → Bool) (is : Item → Bool) (items : List Item) → list_any (λ item. is item && list_any test (symbols_of item)) items ≡ list_any test (flat_map (chosen is) items)
+pub any_chosen : (test : Expr → Bool) (is : Item → Bool) (items : List Item) → list_any (λ item. is item && list_any test (symbols_of item)) items ≡ list_any test (flat_map (chosen is) items)
 any_chosen test is [] = refl
 any_chosen test is (item ∷ items) =
     both (λ a b. a || b) (own (is item)) (any_chosen test is items) ∙ sym (list_any-append test (chosen is item) (flat_map (chosen is) items))
@@ -277,10 +277,6 @@ cut_joined test (x ∷ xs) = by (test x) (cut_of_first test xs) (cut_joined test
     by true found h = refl
     by false None h = tt
     by false (Some cut) h = ap (λ ys. x ∷ ys) h
-
--- a new load, which has no symbol yet
-none_made : (path : Bytes) → symbols_of (load_made path []) ≡ []
-none_made path = ap after_path (items_hidden-the_row-Expr-0 (token c.String (quoted_of path) ∷ []))
 
 -- ---- another symbol's items are as many
 
@@ -480,12 +476,7 @@ module _ (path : Bytes) (plain : IsPlain path) (symbol : Symbol) (own : is_local
 
 module _ (path : Bytes) (symbol : Symbol) where
   none_other : (items : List Item) → in_items (is_local symbol) is_load_item items ≡ 0 → AreOther symbol items
-  none_other [] none = tt
-  none_other (item ∷ items) none =
-      let n = in_next (is_local symbol) is_load_item item items in (
-        λ is. count_none (is_local symbol) (symbols_of item) (let same : count (is_local symbol) (chosen is_load_item item) ≡ count (is_local symbol) (symbols_of item) = ap (count (is_local symbol)) (if_true (is_load_item item) (symbols_of item) [] is) in omega (arith, none, n, same)),
-        none_other items (omega (arith, none, n)),
-      )
+  none_other items none = any_chosen (is_local symbol) is_load_item items ∙ count_none (is_local symbol) (flat_map (chosen is_load_item) items) none
 
   -- of one symbol with the local name, which loads it, nothing goes
   one_stays : (xs : List Expr) → count (is_local symbol) xs ≤ 1 → list_any (loads_symbol symbol) xs ≡ true → (left_symbols symbol false xs ≡ xs) × (gone_comments symbol false xs ≡ [])
@@ -516,10 +507,6 @@ module _ (path : Bytes) (symbol : Symbol) where
         | inl is ↦ let more = counted (is_local symbol) x xs is in absurd (omega (arith, le, least, more))
         | inr isnt ↦ isnt
       ]
-
-  nothing_joined : (x : Expr) → with_joined no_comments x ≡ x
-  nothing_joined (Token t) = ap (λ (comments : HostComments). Token (record t { comments = comments })) (sym (none_taken t.comments))
-  nothing_joined (Form' kind s parts s' items end split open_break comments) = ap (Form' kind s parts s' items end split open_break) (sym (none_taken comments))
 
   put_stays : (xs : List Expr) → list_any (loads_symbol symbol) xs ≡ true → put_symbol symbol no_comments xs ≡ xs
   put_stays xs some = if_true (list_any (loads_symbol symbol) xs) _ _ some ∙ first xs
@@ -640,3 +627,9 @@ replaced_alone path symbols items plain all =
 
 pub replaced_again : ReplacedAgain
 replaced_again path symbols items plain all = each_stays path (last_of_each symbols) (replace_load path symbols items) (all_alone path (not-true (list_any is_escaped path) plain) symbols items (plain_all symbols all))
+
+-- what leaves the items as they are finds each symbol loaded alone
+pub all_settled : (path : Bytes) (symbols : List Symbol) (items : List Item) → becomes_plain path ≡ true → list_all (λ symbol. becomes_plain symbol.from) symbols ≡ true
+    → replace_load path symbols items ≡ items → AllByRecursion (IsLoadedAlone path items) (last_of_each symbols)
+all_settled path symbols items plain all same =
+    subst (λ (xs : List Item). AllByRecursion (IsLoadedAlone path xs) (last_of_each symbols)) same (all_alone path (not-true (list_any is_escaped path) plain) symbols items (plain_all symbols all))

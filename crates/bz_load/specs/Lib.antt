@@ -1,4 +1,5 @@
 pub mod Fixes
+pub mod Growing
 pub mod Laws
 pub mod Loads
 pub mod NewLoad

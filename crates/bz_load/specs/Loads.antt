@@ -3,7 +3,7 @@ use Rattle.std.specs.Prelude.{Bool, false, ◌&&◌, List, [], ◌∷◌, Option
 use Rattle.std.specs.List.{list_any, insert}
 use Rattle.std.specs.Option.{option_map_or}
 use Rattle.bz_grammar.specs.declared.kind.Kind.TheVariants as k
-use Rattle.bz_load.specs.Words.{Expr, Item, Bytes, Symbol, is_text, has_kind, parts_of, items_of, text_of, body_of}
+use Rattle.bz_load.specs.Words.{Expr, Item, Kind, Bytes, Symbol, is_text, has_kind, parts_of, items_of, text_of, body_of}
 use Rattle.bz_value.specs.declared.value.Item.TheVariants as i
 
 abbrev pub is_load_item : Item → Bool
@@ -30,9 +30,13 @@ abbrev pub alias_in : List Expr → Option Symbol
 alias_in (to ∷ equals ∷ from ∷ []) = option_map (symbol_named (text_of to)) (body_of from)
 alias_in _ = None
 
--- the symbol that an item of a load loads: an alias, or a plain string, which is both names
+-- both names: of to = "from" in a node of this kind, or of a plain string
+abbrev pub both_names : Kind → Expr → Option Symbol
+both_names kind x = if has_kind kind x then alias_in (parts_of x) else option_map (λ text. symbol_named text text) (body_of x)
+
+-- the symbol that an item of a load loads: an alias, or a plain string
 abbrev pub symbol_in : Expr → Option Symbol
-symbol_in x = if has_kind k.Alias x then alias_in (parts_of x) else option_map (λ text. symbol_named text text) (body_of x)
+symbol_in = both_names k.Alias
 
 abbrev pub loads_symbol : Symbol → Expr → Bool
 loads_symbol symbol x = option_map_or (is_symbol symbol) (symbol_in x) false

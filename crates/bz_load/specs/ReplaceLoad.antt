@@ -3,7 +3,7 @@ use Rattle.std.specs.Prelude.{ℕ, Bool, true, false, not, ◌&&◌, ◌||◌, L
 use Rattle.std.specs.List.{flat_map, list_all, list_any}
 use Rattle.std.specs.Option.{option_map_or}
 use Rattle.bz_grammar.specs.declared.kind.Kind.TheVariants as k
-use Rattle.bz_load.specs.Words.{Expr, Item, Bytes, HostComments, Symbol, comments_of, has_kind, is_empty, items_of, local_name, no_comments, on_first_that, on_items, on_rest, with_comments}
+use Rattle.bz_load.specs.Words.{Expr, Item, Bytes, HostComments, Symbol, comments_of, is_empty, items_of, local_name, no_comments, on_first_that, on_items, on_rest, with_comments}
 use Rattle.bz_value.specs.declared.value.Item.TheVariants as i
 use Rattle.bz_load.specs.Loads.{after_path, is_load_from, is_load_item, is_loaded, leading_blocks, loads_end, loads_symbol, symbols_of}
 use Rattle.bz_load.specs.NewLoad.{load_made, symbol_made}
@@ -73,11 +73,18 @@ above lines = record { before = lines; suffix = None }
 abbrev pub suffix_alone : Option Bytes → HostComments
 suffix_alone suffix = record { before = []; suffix = suffix }
 
--- in the order of the file: those above the load, the path's, those of the symbols, those at the load's end, and the one after it
+-- those above each of these
+abbrev pub comments_above : List Expr → List Bytes
+comments_above xs = flat_map (λ x. (comments_of x).before) xs
+
+abbrev pub suffix_host : Expr → HostComments
+suffix_host x = suffix_alone (comments_of x).suffix
+
+-- those above the load, the path's, those above the symbols and those at the load's end; then the suffixes of the symbols, and that of the load
 abbrev pub all_comments : Item → List HostComments
 all_comments (i.Block lines) = []
 all_comments (i.Stmt x) =
-    above ((comments_of x).before ++ path_lines (items_of x)) ∷ map comments_of (after_path (items_of x)) ++ above (end_of x) ∷ suffix_alone (comments_of x).suffix ∷ []
+    above ((comments_of x).before ++ (path_lines (items_of x) ++ (comments_above (after_path (items_of x)) ++ end_of x))) ∷ map suffix_host (after_path (items_of x)) ++ suffix_alone (comments_of x).suffix ∷ []
 
 abbrev pub without_symbol : Symbol → Item → List Item
 without_symbol symbol item = if is_lost symbol item then [] else on_symbols (left_symbols symbol true) item ∷ []

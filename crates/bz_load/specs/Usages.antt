@@ -1,6 +1,6 @@
 -- Usages of module extensions in a MODULE.bazel file, and the repositories that are imported from them. (Own profile of buildozer's
 -- `use_repo_add` and `use_repo_remove`.)
-use Rattle.std.specs.Prelude.{Bool, false, not, ◌&&◌, ◌||◌, List, [], ◌∷◌, ◌++◌, Option, None, Result, Ok, Err, bytes_eq, codes, if◌then◌else◌, map, option_map}
+use Rattle.std.specs.Prelude.{Bool, false, not, ◌&&◌, ◌||◌, List, [], ◌∷◌, ◌++◌, Option, None, Result, Ok, Err, bytes_eq, codes, if◌then◌else◌, map}
 use Rattle.std.specs.List.{filter, filter_map, insert, list_any, position_or_len}
 use Rattle.std.specs.Option.{option_map_or}
 use Rattle.bz_token.specs.declared.class.Class.TheVariants as c
@@ -8,7 +8,7 @@ use Rattle.bz_grammar.specs.declared.kind.Kind.TheVariants as k
 use Rattle.bz_load.specs.Words.{Expr, Item, Kind, Bytes, Refusal, Repo, Symbol, Usages, argument_of, attribute, body_of, call_of, first_text, has_kind, is_empty, is_same, is_text, items_of, name, node, on_first, on_items, on_row, parts_of, quoted_of, sequence, text_in, text_of, token}
 use Rattle.bz_value.specs.declared.value.Item.TheVariants as i
 use Rattle.bz_value.specs.declared.refusal.Refusal.TheVariants.{NameTaken, NoSource}
-use Rattle.bz_load.specs.Loads.{after_path, alias_in, symbol_named}
+use Rattle.bz_load.specs.Loads.{after_path, both_names, symbol_named}
 use Rattle.bz_command_syntax.specs.declared.command.Repo.TheVariants as r
 use Rattle.bz_command_syntax.specs.declared.command.Usages.TheVariants as u
 
@@ -91,7 +91,7 @@ is_use names item = list_any (λ variable. is_use_of variable item) names
 -- What an argument imports, and under which name: a plain string under its own, and NAME = "REPO". (As a symbol: to that name, from that
 -- repository.)
 abbrev pub import_in : Expr → Option Symbol
-import_in x = if has_kind k.Named x then alias_in (parts_of x) else option_map (λ text. symbol_named text text) (body_of x)
+import_in = both_names k.Named
 
 abbrev pub imports_repo : Bytes → Expr → Bool
 imports_repo repo x = option_map_or (λ found. bytes_eq found.from repo) (import_in x) false

@@ -1,5 +1,5 @@
 -- Worked rows: small files, and what the commands on loads make of them.
-use Rattle.std.specs.Prelude.{◌≡◌, true, false, List, [], ◌∷◌, None, Some, codes}
+use Rattle.std.specs.Prelude.{◌≡◌, true, false, List, [], ◌∷◌, Some, codes}
 use Rattle.bz_token.specs.declared.class.Class.TheVariants as c
 use Rattle.bz_grammar.specs.declared.kind.Kind.TheVariants as k
 use Rattle.bz_load.specs.Words.{Expr, Item, Bytes, Symbol, Fixes, substituted, token, node, sequence, name, mark}
@@ -87,9 +87,9 @@ WorkedReplacements =
     let asked : List Symbol = record { to = codes "x"; from = codes "x" } ∷ [] in
     let twice : List Symbol = record { to = codes "x"; from = codes "x" } ∷ record { to = codes "b"; from = codes "b" } ∷ record { to = codes "x"; from = codes "q" } ∷ [] in
     let rule : Item = call (codes "a") in
-    -- the comments of a load that goes are above the symbol with which it goes
-    (replace_load (codes "a.bzl") asked (said_load (said (codes "\"x.bzl\"") (codes "# o") (codes "# p") ∷ noted (codes "\"x\"") ∷ []) ∷ rule ∷ [])
-    ≡ load (path ∷ e.Token (record { class = c.String; text = codes "\"x\""; line_break = false; comments = record { before = codes "# why" ∷ codes "# o" ∷ codes "# p" ∷ codes "# end" ∷ codes "# tail" ∷ []; suffix = Some (codes "# c") } }) ∷ []) ∷ rule ∷ [])
+    -- the comments of a load that goes are above the symbol with which it goes, those at its end above the suffix of the symbol
+    (replace_load (codes "a.bzl") asked (said_load (said (codes "\"x.bzl\"") (codes "# o") (codes "# p") ∷ said (codes "\"x\"") (codes "# m") (codes "# s") ∷ []) ∷ rule ∷ [])
+    ≡ load (path ∷ e.Token (record { class = c.String; text = codes "\"x\""; line_break = false; comments = record { before = codes "# why" ∷ codes "# o" ∷ codes "# p" ∷ codes "# m" ∷ codes "# end" ∷ codes "# tail" ∷ []; suffix = Some (codes "# s") } }) ∷ []) ∷ rule ∷ [])
     -- another symbol that the load from the path has under that name goes too
     × (replace_load (codes "a.bzl") asked (load (path ∷ alias ∷ []) ∷ []) ≡ load (path ∷ x ∷ []) ∷ [])
     -- a new load is where the last one was before it went

@@ -2,3 +2,4 @@
 pub mod Imports
 pub mod Known
 pub mod Replacing
+pub mod Windows

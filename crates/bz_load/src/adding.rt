@@ -1,28 +1,40 @@
 //! Symbols that are loaded too: those that aren't loaded so yet, put into a load.
-ghost use Rattle.std.specs.Prelude.{◌≡◌, ◌↔◌, ◌||◌, ◌++◌, ◌∷◌, [], map, not, IfOk, IfSome, IsTrue, OnOk};
+ghost use Rattle.std.specs.Prelude.{◌≡◌, ◌↔◌, ◌||◌, ◌++◌, ◌∷◌, [], codes, map, not, IfOk, IfSome, OnOk};
 ghost use Rattle.std.specs.List.{list_any, position};
 ghost use Rattle.bz_token.specs.declared.class.Class.TheVariants as c;
-ghost use Rattle.bz_load.specs.Words.{IsSpliced, Symbol, quoted_of, token};
-ghost use Rattle.bz_load.specs.Loads.{is_load_from as is_from, is_loaded, is_symbol, loads_symbol};
+ghost use Rattle.bz_load.specs.Words.{AreOver, Symbol, mark, name, node, quoted_of, token};
+ghost use Rattle.bz_load.specs.Loads.{after_loads, is_load_from as is_from, is_loaded, is_symbol, loads_symbol};
 ghost use Rattle.bz_load.specs.NewLoad.{load_made, new_load, new_symbols, symbol_made, with_symbols};
 ghost use Rattle.bz_load.specs.Paths.{AreListed};
 ghost use Rattle.bz_load.specs.private.Known.{knows, symbol_of_key};
 
 use crate::paths::LoadedPaths;
-use crate::readings::{Loaded, count_of_blocks, load_from, place_after_loads, symbol_in};
+use crate::readings::{Loaded, both_names, count_of_blocks, load_from, place_after_loads};
+use crate::windows::windows_of;
 use bz_attribute::{append_to, new_token, node, sequence, token};
 use bz_command_syntax::{Symbol, quoted};
 use bz_grammar::{Class, Kind};
 use bz_items::{Items, Memory};
-use bz_value::{Expr, Item};
+use bz_value::{Expr, Item, Window};
 use indexmap::IndexSet;
 use std::alloc::Global;
 
 /// A word as a string.
-fn string(alloc: Global, word: &[u8]) -> Result<Expr, Memory>
+pub(crate) fn string(alloc: Global, word: &[u8]) -> Result<Expr, Memory>
     ensures { IfOk result (λ x. x ≡ token c.String (quoted_of word.now)) }
 {
     Ok(token(Class::String, quoted(alloc, word)?))
+}
+
+/// `to = "from"` in a node of this kind.
+pub(crate) fn assigned(alloc: Global, kind: Kind, names: Loaded<'_>) -> Result<Expr, Memory>
+    ensures { IfOk result (λ x. x ≡ node kind (name (symbol_of_key names.entry).to ∷ mark (codes "=") ∷ token c.String (quoted_of (symbol_of_key names.entry).from) ∷ [])) }
+{
+    let mut parts = Vec::with_capacity(alloc, 3)?;
+    parts.push_reserved(new_token(alloc, Class::Name, names.to)?);
+    parts.push_reserved(new_token(alloc, Class::Mark, b"=")?);
+    parts.push_reserved(string(alloc, names.from)?);
+    Ok(node(alloc, kind, Items::from_vec(parts)))
 }
 
 /// The item of a load that loads the symbol: `to = "from"`, or where both names are one the string alone.
@@ -33,11 +45,8 @@ pub(crate) fn symbol_made(alloc: Global, symbol: &Symbol) -> Result<Expr, Memory
     if to == from {
         return string(alloc, from);
     }
-    let mut parts = Vec::with_capacity(alloc, 3)?;
-    parts.push_reserved(new_token(alloc, Class::Name, to)?);
-    parts.push_reserved(new_token(alloc, Class::Mark, b"=")?);
-    parts.push_reserved(string(alloc, from)?);
-    Ok(node(alloc, Kind::Alias, Items::from_vec(parts)))
+    let alias = assigned(alloc, Kind::Alias, Loaded { to, from })?;
+    Ok(alias)
 }
 
 /// A load of these symbols from the path. The error: memory was refused.
@@ -70,7 +79,7 @@ fn insert_each<'a>(exprs: &'a [Expr], known: &mut Known<'a>) -> Result<(), Memor
     ensures { (other : Symbol) → OnOk result (knows known.new.keys other ≡ (list_any (loads_symbol other) exprs.now || knows known.old.keys other)) }
 {
     for x in exprs {
-        if let Some(symbol) = symbol_in(x) {
+        if let Some(symbol) = both_names(Kind::Alias, x) {
             insert_key(symbol, known)?;
         }
     }
@@ -109,7 +118,11 @@ fn known_loads<'a>(
 }
 
 /// Appends the item of a load that loads the symbol.
-fn push_symbol(alloc: Global, symbol: &Symbol, made: &mut Vec<Expr>) -> Result<(), Memory>
+pub(crate) fn push_symbol(
+    alloc: Global,
+    symbol: &Symbol,
+    made: &mut Vec<Expr>,
+) -> Result<(), Memory>
     ensures { OnOk result (made.new.items ≡ made.old.items ++ symbol_made symbol.now ∷ []) }
 {
     made.reserve(1)?;
@@ -144,14 +157,8 @@ fn new_symbols(
 #[derive(Drop)]
 pub struct WithLoad {
     pub items: Items<Item>,
-    /// Whether they are the items that there were.
-    pub same: bool,
-    /// After how many items those are that changed: the load, where only that did.
-    pub at: usize,
-    /// How many there were: none where only a load is put in.
-    pub gone: usize,
-    /// How many there are in their place.
-    pub come: usize,
+    /// Where they are others than those that there were.
+    pub windows: Items<Window>,
 }
 
 /// Where the first load from the path is. Among paths that are those of the items it is looked up first.
@@ -182,11 +189,32 @@ fn append_to_item(more: &mut Vec<Expr>, item: &mut Item) -> Result<(), Memory>
     }
 }
 
+/// The items with a new load, after the last one, or after the leading comment blocks.
+#[tactic(auto, using(crate::proofs::PutSteps::put_at, crate::proofs::PutSteps::other_new))]
+pub(crate) fn with_new(alloc: Global, load: Item, items: Items<Item>) -> Result<WithLoad, Memory>
+    ensures items { IfOk result (λ made. made.items ≡ after_loads load items) }
+    ensures windows { IfOk result (λ made. AreOver made.windows items made.items) }
+    ensures same { IfOk result (λ made. (made.windows ≡ []) ↔ (made.items ≡ items)) }
+{
+    let mut all = items.into_vec();
+    let at = place_after_loads(all.as_slice(), count_of_blocks(all.as_slice()));
+    all.insert(at, load)?;
+    let window = Window {
+        from: at,
+        gone: 0,
+        come: 1,
+    };
+    Ok(WithLoad {
+        windows: windows_of(alloc, false, window)?,
+        items: Items::from_vec(all),
+    })
+}
+
 /// The items, in which the symbols are loaded from the path then: those that aren't loaded so yet, each once, go to the end of
 /// its first load; without such a load a new one goes after the last load, or after the leading comment blocks. All other
 /// items stay and are moved. There may be the paths from which they load: from any other one no load is sought. The error:
 /// memory was refused; the items are then lost.
-#[tactic(auto, using(crate::proofs::PutSteps::there_within, crate::proofs::PutSteps::put_there, crate::proofs::PutSteps::over_there, crate::proofs::PutSteps::put_new, crate::proofs::PutSteps::other_new))]
+#[tactic(auto, using(crate::proofs::PutSteps::there_within, crate::proofs::PutSteps::put_there, crate::proofs::PutSteps::put_new))]
 pub fn new_load(
     alloc: Global,
     path: &[u8],
@@ -196,31 +224,25 @@ pub fn new_load(
 ) -> Result<WithLoad, Memory>
     requires { IfSome paths (λ loaded. AreListed loaded.now items) }
     ensures items { IfOk result (λ made. made.items ≡ new_load path.now symbols.now items) }
-    ensures same { IfOk result (λ made. IsTrue made.same ↔ (made.items ≡ items)) }
-    ensures spliced { IfOk result (λ made. IsSpliced made.at made.gone made.come items made.items) }
+    ensures windows { IfOk result (λ made. AreOver made.windows items made.items) }
+    ensures same { IfOk result (λ made. (made.windows ≡ []) ↔ (made.items ≡ items)) }
 {
     let place = place_of_load(path, paths, items.as_slice());
     let mut more = new_symbols(alloc, path, symbols, place, items.as_slice())?;
     let Some(at) = place else {
         let load = load_of(alloc, path, &mut more)?;
-        let mut all = items.into_vec();
-        let at = place_after_loads(all.as_slice(), count_of_blocks(all.as_slice()));
-        all.insert(at, load)?;
-        return Ok(WithLoad {
-            items: Items::from_vec(all),
-            same: false,
-            at,
-            gone: 0,
-            come: 1,
-        });
+        let made = with_new(alloc, load, items)?;
+        return Ok(made);
     };
     let same = more.is_empty();
     append_to_item(&mut more, items.at_mut(at))?;
-    Ok(WithLoad {
-        items,
-        same,
-        at,
+    let window = Window {
+        from: at,
         gone: 1,
         come: 1,
+    };
+    Ok(WithLoad {
+        windows: windows_of(alloc, same, window)?,
+        items,
     })
 }

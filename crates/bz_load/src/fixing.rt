@@ -6,7 +6,7 @@ ghost use Rattle.bz_load.specs.Words.{on_items, on_rest, is_empty, comments_of, 
 ghost use Rattle.bz_load.specs.Fixes.{end_of, fix, has_own_comments, is_commented, is_emptied, is_package_call, is_used, move_package_to_top, has_operand, is_operand_at, path_comments, symbol_stays, unused_loads, used_alone};
 ghost use Rattle.bz_load.specs.private.Known.{knows_name, operand_in};
 
-use crate::readings::{count_of_blocks, place_after_loads};
+use crate::readings::{copies, count_of_blocks, place_after_loads};
 use bz_attribute::{has_kind, has_text, insert_text, items_of};
 use bz_command_syntax::Fixes;
 use bz_grammar::{Class, Kind};
@@ -216,11 +216,7 @@ fn drop_unused(alloc: Global, wanted: bool, items: &mut Vec<Item>) -> Result<(),
 pub fn fix(alloc: Global, fixes: Fixes, items: &[Item]) -> Result<Items<Item>, Memory>
     ensures { IfOk result (λ new. new ≡ fix fixes items.now) }
 {
-    let mut all = Vec::with_capacity(alloc, items.len())?;
-    for item in items {
-        all.reserve(1)?;
-        all.push_reserved(item.copy()?);
-    }
+    let mut all = copies(alloc, items)?;
     move_package(fixes.move_package_to_top, &mut all)?;
     drop_unused(alloc, fixes.unused_loads, &mut all)?;
     Ok(Items::from_vec(all))

@@ -3,13 +3,14 @@
 
 mod adding;
 mod fixing;
+mod gathering;
 mod laws;
-mod looking;
 mod paths;
 mod readings;
 mod renaming;
 mod replacing;
 mod usages;
+mod windows;
 
 pub use adding::{WithLoad, new_load};
 pub use fixing::fix;
@@ -18,7 +19,8 @@ pub use laws::{
     loads_stay_proper, moving_again, replacing_again, repos_keep_comments, repos_there_and_back,
     usages_stay_proper, worked_loads, worked_usages,
 };
-pub use looking::replace_load;
 pub use paths::LoadedPaths;
 pub use renaming::substitute_load;
+pub use replacing::replace_load;
 pub use usages::{use_repo_add, use_repo_remove};
+pub use windows::{Growing, put_window, window_between, windows_of};

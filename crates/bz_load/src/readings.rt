@@ -1,14 +1,16 @@
 //! Loads and what they load, read off values, and places among the items of a file.
-ghost use Rattle.std.specs.Prelude.{◌≡◌, ◌≤◌, IfSome, is_some, length};
+ghost use Rattle.std.specs.Prelude.{◌≡◌, ◌≤◌, IfOk, IfSome, is_some, length};
 ghost use Rattle.std.specs.Option.{option_copied, option_map};
 ghost use Rattle.bz_load.specs.Words.{Bytes, is_text, body_of};
 ghost use Rattle.bz_load.specs.private.Known.{symbol_of_key};
-ghost use Rattle.bz_load.specs.Loads.{after_path, is_block, is_load_from, is_load_item, leading_blocks, loads_end, symbol_in, symbols_of};
+ghost use Rattle.bz_load.specs.Loads.{after_path, is_block, is_load_from, is_load_item, leading_blocks, loads_end, both_names, symbols_of};
 
 use bz_attribute::{body_of, first_text, has_kind, items_of, parts_of};
 use bz_grammar::{Class, Kind};
+use bz_items::Memory;
 use bz_rule::{body, inside, is_text, text_in};
 use bz_value::{Expr, Item};
+use std::alloc::Global;
 
 /// A symbol that is loaded: its name in the file that loads it, and its name in the file that is loaded.
 #[derive(Clone, Copy, PartialEq, Eq, Hash)]
@@ -76,11 +78,11 @@ pub(crate) fn path_of(item: &Item) -> Option<&[u8]>
     }
 }
 
-/// The symbol that an item of a load loads: an alias, or a plain string, which is both names.
-pub(crate) fn symbol_in(x: &Expr) -> Option<Loaded<'_>>
-    ensures { option_map symbol_of_key result ≡ symbol_in x.now }
+/// Both names: of `to = "from"` in a node of this kind, or of a plain string.
+pub(crate) fn both_names(kind: Kind, x: &Expr) -> Option<Loaded<'_>>
+    ensures { option_map symbol_of_key result ≡ both_names kind x.now }
 {
-    if !has_kind(Kind::Alias, x) {
+    if !has_kind(kind, x) {
         let to = body_of(x)?;
         return Some(Loaded { to, from: to });
     }
@@ -90,6 +92,18 @@ pub(crate) fn symbol_in(x: &Expr) -> Option<Loaded<'_>>
     };
     let from = body_of(from)?;
     Some(Loaded { to, from })
+}
+
+/// A copy of each of the items.
+pub(crate) fn copies(alloc: Global, items: &[Item]) -> Result<Vec<Item>, Memory>
+    ensures { IfOk result (λ made. made.items ≡ items.now) }
+{
+    let mut made = Vec::with_capacity(alloc, items.len())?;
+    for item in items {
+        made.reserve(1)?;
+        made.push_reserved(item.copy()?);
+    }
+    Ok(made)
 }
 
 pub(crate) fn is_load(item: &Item) -> bool

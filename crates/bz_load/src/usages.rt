@@ -1,19 +1,17 @@
 //! Usages of module extensions in a MODULE.bazel file, and the repositories that are imported from them.
 ghost use Rattle.std.specs.Prelude.{◌≡◌, ◌⊎◌, ◌&&◌, ◌∷◌, [], Ok, Err, IfErr, IfOk, OnOk, bytes_eq, codes, map, not, if◌then◌else◌};
 ghost use Rattle.std.specs.List.{filter, list_any, position};
-ghost use Rattle.std.specs.Option.{option_copied, option_map};
-ghost use Rattle.bz_token.specs.declared.class.Class.TheVariants as c;
+ghost use Rattle.std.specs.Option.{option_copied};
 ghost use Rattle.bz_grammar.specs.declared.kind.Kind.TheVariants as k;
-ghost use Rattle.bz_load.specs.Words.{argument_of, first_text, items_of, on_first, on_items, on_row, quoted_of, text_of, token};
-ghost use Rattle.bz_load.specs.Usages.{argument_stays, use_arguments, assigns_to, begins_with_name, call_made, is_call_to, ends_positional, import_in, is_extension, is_extension_file, is_imported, is_meant_usage, is_repo, is_shared, is_statement_of, is_tag_of, is_true, is_use, is_use_of, loses_last, on_call_arguments, repos_added, repos_removed, row_of, usage_of_row, use_repo_add, use_repo_remove, variables, with_import, with_repo, without_repos, word_import};
+ghost use Rattle.bz_load.specs.Words.{first_text, items_of, on_first, on_items, on_row, text_of};
+ghost use Rattle.bz_load.specs.Usages.{argument_stays, use_arguments, assigns_to, begins_with_name, call_made, is_call_to, ends_positional, is_extension, is_extension_file, is_imported, is_meant_usage, is_repo, is_shared, is_statement_of, is_tag_of, is_true, is_use, is_use_of, loses_last, on_call_arguments, repos_added, repos_removed, row_of, usage_of_row, use_repo_add, use_repo_remove, variables, with_import, with_repo, without_repos, word_import};
 ghost use Rattle.bz_load.specs.private.Imports.{IsLast, changed_imports, is_side, is_sought_import};
 ghost use Rattle.bz_load.specs.private.Known.{symbol_of_key};
 
-use crate::readings::Loaded;
-use bz_attribute::{
-    body_of, first_text, has_kind, items_of, new_token, node, parts_of, sequence, token,
-};
-use bz_command_syntax::{Repo, Usages, quoted};
+use crate::adding::{assigned, string};
+use crate::readings::{Loaded, both_names, copies};
+use bz_attribute::{body_of, first_text, has_kind, items_of, new_token, node, parts_of, sequence};
+use bz_command_syntax::{Repo, Usages};
 use bz_grammar::{Class, Kind};
 use bz_items::{Items, Memory, Text};
 use bz_label::bytes::same;
@@ -192,22 +190,6 @@ fn is_use(variables: &[Text], item: &Item) -> bool
         .any(|variable| is_use_of(variable.as_slice(), item))
 }
 
-/// What an argument imports: to a name, from a repository.
-fn import_in(x: &Expr) -> Option<Loaded<'_>>
-    ensures { option_map symbol_of_key result ≡ import_in x.now }
-{
-    if !has_kind(Kind::Named, x) {
-        let to = body_of(x)?;
-        return Some(Loaded { to, from: to });
-    }
-    let to = first_text(parts_of(x));
-    let [_, _, from] = parts_of(x) else {
-        return None;
-    };
-    let from = body_of(from)?;
-    Some(Loaded { to, from })
-}
-
 /// One side of an import.
 #[derive(Clone, Copy)]
 enum Side<'a> {
@@ -219,7 +201,7 @@ enum Side<'a> {
 fn has_side(side: Side<'_>, x: &Expr) -> bool
     ensures { result ≡ is_side side.entry x.now }
 {
-    match (import_in(x), side) {
+    match (both_names(Kind::Named, x), side) {
         (Some(found), Side::To(own)) => found.to == own,
         (Some(found), Side::From(repo)) => found.from == repo,
         (None, _) => false,
@@ -257,24 +239,6 @@ fn word_import(repo: &Repo) -> Loaded<'_>
     }
 }
 
-/// A word as a string.
-fn string(alloc: Global, word: &[u8]) -> Result<Expr, Memory>
-    ensures { IfOk result (λ x. x ≡ token c.String (quoted_of word.now)) }
-{
-    Ok(token(Class::String, quoted(alloc, word)?))
-}
-
-/// `to = "from"`.
-fn named_import(alloc: Global, word: Loaded<'_>) -> Result<Expr, Memory>
-    ensures { IfOk result (λ x. x ≡ argument_of (symbol_of_key word.entry).to (token c.String (quoted_of (symbol_of_key word.entry).from))) }
-{
-    let mut parts = Vec::with_capacity(alloc, 3)?;
-    parts.push_reserved(new_token(alloc, Class::Name, word.to)?);
-    parts.push_reserved(new_token(alloc, Class::Mark, b"=")?);
-    parts.push_reserved(string(alloc, word.from)?);
-    Ok(node(alloc, Kind::Named, Items::from_vec(parts)))
-}
-
 fn ends_positional(x: &Expr) -> bool
     ensures { result ≡ ends_positional x.now }
 {
@@ -293,7 +257,7 @@ fn put_import(alloc: Global, word: Loaded<'_>, arguments: &mut Items<Expr>) -> R
     ensures { OnOk result (arguments.new ≡ with_import (symbol_of_key word.entry) arguments.old) }
 {
     if word.to != word.from {
-        arguments.push(named_import(alloc, word)?)?;
+        arguments.push(assigned(alloc, Kind::Named, word)?)?;
         return Ok(());
     }
     let new = string(alloc, word.from)?;
@@ -488,17 +452,6 @@ fn repos_added(
     Ok(items)
 }
 
-fn copies(alloc: Global, items: &[Item]) -> Result<Items<Item>, Memory>
-    ensures { IfOk result (λ copied. copied ≡ items.now) }
-{
-    let mut all = Vec::with_capacity(alloc, items.len())?;
-    for item in items {
-        all.reserve(1)?;
-        all.push_reserved(item.copy()?);
-    }
-    Ok(Items::from_vec(all))
-}
-
 /// A copy of the items in which the repositories are imported from the usages that are meant: those that no call of `use_repo` for
 /// one of them imports go into the last one for the first variable, or into a new one. `current` is the path of the file's package.
 /// Errors: `NoSource`: no usage is meant; `NameTaken`: another repository is imported under the name; `Memory`: memory was refused.
@@ -516,7 +469,7 @@ pub fn use_repo_add(
     let [variable, ..] = variables.as_slice() else {
         return Err(Refusal::NoSource);
     };
-    let copied = copies(alloc, items)?;
+    let copied = Items::from_vec(copies(alloc, items)?);
     let new = repos_added(
         alloc,
         variables.as_slice(),
@@ -551,7 +504,7 @@ fn is_some_repo(found: Loaded<'_>, repos: &[Repo]) -> bool
 fn argument_stays(repos: &[Repo], x: &Expr) -> bool
     ensures { result ≡ argument_stays repos.now x.now }
 {
-    match import_in(x) {
+    match both_names(Kind::Named, x) {
         Some(found) => !is_some_repo(found, repos),
         None => true,
     }
@@ -609,7 +562,7 @@ fn repos_removed(
 ) -> Result<Items<Item>, Memory>
     ensures { IfOk result (λ new. new ≡ repos_removed variables.now repos.now items.now) }
 {
-    let mut all = copies(alloc, items)?.into_vec();
+    let mut all = copies(alloc, items)?;
     all.retain(|item| !loses_last(variables, repos, item));
     for item in all.iter_mut() {
         drop_repos(alloc, variables, repos, item)?;

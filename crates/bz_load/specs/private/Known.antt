@@ -5,6 +5,7 @@ use Rattle.std.specs.BTreeSet.{BTreeSet}
 use Rattle.std.specs.declared.alloc.Global.{Global}
 use Rattle.bz_load.specs.Words.{Kind, Bytes, Symbol, texts_of, Expr, Item, Window}
 use Rattle.bz_load.specs.Loads.{is_load_from, is_symbol}
+use Rattle.bz_load.specs.Paths.{has_local}
 use Rattle.bz_load.specs.Fixes.{has_operand, is_operand_at}
 use Rattle.bz_load.specs.declared.readings.Loaded.{Loaded}
 
@@ -18,10 +19,14 @@ knows keys symbol = list_any (λ key. is_symbol symbol (symbol_of_key key)) keys
 abbrev pub knows_name : BTreeSet (Vec ℕ Global) → Bytes → Bool
 knows_name names text = list_any (bytes_eq text) (texts_of names)
 
--- whether what came in windows loads from the path
-abbrev pub come_from : Bytes → List Window → List Item → Bool
-come_from path [] items = false
-come_from path (w ∷ ws) items = list_any (is_load_from path) (take w.come (drop w.from items)) || come_from path ws (drop w.come (drop w.from items))
+-- a load from this path, or with this local name
+abbrev pub mentions : Bytes → Item → Bool
+mentions text item = is_load_from text item || has_local text item
+
+-- whether what came in windows has it
+abbrev pub come_with : Bytes → List Window → List Item → Bool
+come_with text [] items = false
+come_with text (w ∷ ws) items = list_any (mentions text) (take w.come (drop w.from items)) || come_with text ws (drop w.come (drop w.from items))
 
 -- whether a text is an operand among these parts of a node of this kind, from this place of that count on
 abbrev pub operand_among : Kind → ℕ → ℕ → Bytes → List Expr → Bool

@@ -1,7 +1,7 @@
 use Rattle.std.proofs.Common.{◌≡◌, ◌||◌, drop}
 use Rattle.bz_items.specs.Characters.{Bytes}
-use Rattle.bz_load.specs.private.Known.{come_from, knows_name}
+use Rattle.bz_load.specs.private.Known.{come_with, knows_name}
 use Rattle.bz_load.proofs.paths.insert_come.Given as goal
 
 abbrev pub invariant-loop-window : goal.invariant-loop-window
-invariant-loop-window l = (path : Bytes) → (come_from path (drop l.window-index l.windows) l.rest || knows_name l.paths path) ≡ (come_from path l.windows l.items || knows_name l.fn.paths path)
+invariant-loop-window l = (text : Bytes) → (come_with text (drop l.window-index l.windows) l.rest || knows_name l.texts text) ≡ (come_with text l.windows l.items || knows_name l.fn.texts text)

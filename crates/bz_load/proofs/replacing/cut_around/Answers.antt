@@ -1,15 +1,17 @@
-use Rattle.std.proofs.Common.{◌≡◌, ◌∙◌, ℕ, ap, drop, refl, sym, take}
+use Rattle.std.proofs.Common.{◌≡◌, ◌∙◌, ◌++◌, ◌∷◌, List, ℕ, ap, drop, refl, take}
+use Rattle.std.proofs.lemmas.List.{take-append-drop}
 use Rattle.std.specs.Prelude.{None, Option, Some}
 use Rattle.std.specs.List.{position}
 use Rattle.bz_attribute.proofs.FormsAgain.{both}
+use Rattle.bz_load.specs.Words.{Item}
 use Rattle.bz_load.specs.Loads.{leading_blocks, loads_end}
 use Rattle.bz_load.specs.NewLoad.{load_made}
 use Rattle.bz_load.specs.ReplaceLoad.{may_have, replaced_around}
-use Rattle.bz_load.proofs.ReplacedSymbols.{around_new, around_there}
+use Rattle.bz_load.proofs.ReplacedSymbols.{around_new, around_there, whole_there}
 use Rattle.bz_load.proofs.replacing.cut_around.Goals as goal
 
-pub returns-in-Some : goal.returns-in-Some
-returns-in-Some c =
+pub returns-in-Some-clause-replaced : goal.returns-in-Some-clause-replaced
+returns-in-Some-clause-replaced c =
     let symbol = c.args.symbol.now in
     let whole = c.into_vec-front.ensures in
     let load = c.remove-load.result in
@@ -21,8 +23,8 @@ nothing : (o : Option ℕ) → ((at : ℕ) → o ≡ Some at → ⊥) → o ≡ 
 nothing None h = refl
 nothing (Some at) h = absurd (h at refl)
 
-pub returns : goal.returns
-returns c =
+pub returns-clause-replaced : goal.returns-clause-replaced
+returns-clause-replaced c =
     let symbol = c.args.symbol.now in
     let whole = c.into_vec-front.ensures in
     let at = c.place_after_loads-at.result in
@@ -30,3 +32,16 @@ returns c =
     ∙ around_new c.args.path.now symbol c.args.items c.place_to_have-place.result (c.place_to_have-place.ensures ∙ ap (λ xs. position (may_have c.args.path.now symbol xs) xs) c.as_slice.ensures) (nothing c.place_to_have-place.result c.in_default.not-Some) at c.in_ok-load.load
     (c.place_after_loads-at.ensures.place ∙ both (λ n xs. loads_end n 0 xs) (c.count_of_blocks.ensures.blocks ∙ ap leading_blocks (c.as_slice-3.ensures.value ∙ whole)) (c.as_slice-2.ensures.value ∙ whole))
     (c.in_ok-load.ensures ∙ ap (load_made c.args.path.now) c.new.ensures.items)
+
+pub returns-in-Some-clause-whole : goal.returns-in-Some-clause-whole
+returns-in-Some-clause-whole c =
+    let whole = c.into_vec-front.ensures in
+    let load = c.remove-load.result in
+    both (λ f b. f ++ load ∷ b) (c.in_ok-back.ensures.items ∙ ap (take c.in-Some.at) whole) c.remove-load.ensures.items
+    ∙ whole_there c.args.path.now c.args.symbol.now c.args.items c.place_to_have-place.result (c.place_to_have-place.ensures ∙ ap (λ xs. position (may_have c.args.path.now c.args.symbol.now xs) xs) c.as_slice.ensures) c.in-Some.at c.in-Some.is
+    c.in_ok-back.back.items load (c.in_ok-back.ensures.tail ∙ ap (drop c.in-Some.at) whole) c.remove-load.ensures.value
+
+pub returns-clause-whole : goal.returns-clause-whole
+returns-clause-whole c =
+    let at = c.place_after_loads-at.result in
+    both (λ (xs ys : List Item). xs ++ ys) c.in_ok-back-2.ensures.items c.in_ok-back-2.ensures.tail ∙ (take-append-drop at c.into_vec-front.result.items ∙ c.into_vec-front.ensures)

@@ -1,10 +1,17 @@
-use Rattle.std.proofs.Common.{◌≡◌, ℕ, length}
-use Rattle.bz_load.specs.ReplaceLoad.{replace_load}
+use Rattle.std.proofs.Common.{◌≡◌, [], length}
+use Rattle.std.specs.List.{AllByRecursion}
+use Rattle.bz_load.specs.Words.{AreOver}
+use Rattle.bz_load.specs.Laws.{IsLoadedAlone}
+use Rattle.bz_load.specs.ReplaceLoad.{last_of_each, replace_load}
 use Rattle.bz_load.proofs.replacing.replace_each.Given as goal
 
--- what is made of the items as they are, by the symbols that are left
+-- what is made of the items as they are, by the symbols that are left; nothing is made of items that have all
 abbrev pub invariant-loop-symbol : goal.invariant-loop-symbol
-invariant-loop-symbol l = replace_load l.path l.left l.items ≡ replace_load l.path l.symbols l.fn.items
+invariant-loop-symbol l = record {
+  items : replace_load l.path l.left l.made.items ≡ replace_load l.path l.symbols l.fn.items;
+  windows : AreOver l.made.windows l.fn.items l.made.items;
+  settled : AllByRecursion (IsLoadedAlone l.path l.fn.items) (last_of_each l.symbols) → (l.made.windows ≡ []) × AllByRecursion (IsLoadedAlone l.path l.fn.items) (last_of_each l.left);
+}
 
 abbrev pub decreases-loop-symbol : goal.decreases-loop-symbol
 decreases-loop-symbol l = length l.left

@@ -1,27 +1,37 @@
-use Rattle.std.proofs.Common.{◌≡◌, ◌∙◌, ◌++◌, ◌∷◌, [], List, ap, rules}
-use Rattle.std.specs.Prelude.{None}
-use Rattle.std.specs.List.{flat_map}
-use Rattle.bz_load.specs.Words.{Bytes}
-use Rattle.bz_load.specs.ReplaceLoad.{all_comments_joined, comments_without, left_symbols, on_symbols, put_symbol, replace_symbol, replaced_around, without_symbol}
-use Rattle.bz_load.specs.private.Replacing.{gathered_comments}
-use Rattle.bz_load.proofs.ReplacedSymbols.{around_made}
+use Rattle.std.proofs.Common.{◌∙◌, List, ap, subst, sym, true≢false}
+use Rattle.bz_load.specs.Words.{AreOver, Item}
+use Rattle.bz_load.specs.Laws.{IsLoadedAlone}
+use Rattle.bz_load.specs.Loads.{after_loads}
+use Rattle.bz_load.specs.private.Replacing.{IsUnknown}
+use Rattle.bz_load.proofs.ReplacedAgain.{symbol_stays}
+use Rattle.bz_load.proofs.ReplacedSymbols.{new_alone, unloaded}
 use Rattle.bz_load.proofs.replacing.replace_symbol.Goals as goal
 
-pub returns : goal.returns
-returns c =
+pub returns-then-is_unknown-clause-items : goal.returns-then-is_unknown-clause-items
+returns-then-is_unknown-clause-items c =
+    let path = c.args.path.now in
     let symbol = c.args.symbol.now in
-    let front = c.in_ok-front.field-0.front.items in
-    let load = c.in_ok-front.field-0.load in
-    let back = c.in_ok-front.field-0.back.items in
-    let around : replaced_around symbol front load back ≡ replace_symbol c.args.path.now c.args.items symbol = search rules in
-    around_made symbol front load back c.push_each.new.left.items c.push_each-2.new.left.items c.from_vec.result (gathered_comments c.push_each.new.gone) (gathered_comments c.leave.new.gone) (gathered_comments c.push_each-2.new.gone) c.leave.new.item c.put_in.new.load
-    (c.in_ok-push_each.ensures.left ∙ ap (λ xs. xs ++ flat_map (without_symbol symbol) front) c.new-made.ensures.items)
-    (c.in_ok-push_each-2.ensures.left ∙ ap (λ xs. xs ++ flat_map (without_symbol symbol) back) c.new-rest.ensures.items)
-    (c.in_ok-push_each.ensures.gone ∙ ap (λ (lines : List Bytes). all_comments_joined (record { before = lines; suffix = None }) (flat_map (comments_without symbol) front)) c.new.ensures)
-    c.in_ok-leave.ensures.gone
-    c.in_ok-push_each-2.ensures.gone
-    c.in_ok-leave.ensures.left
-    (c.in_ok-put_in.ensures ∙ ap (λ cs. on_symbols (put_symbol symbol cs) c.leave.new.item) c.in_ok-gone.ensures)
-    (c.from_vec.ensures
-    ∙ (c.in_ok-append.ensures.items ∙ ap (λ xs. xs ++ c.push_each-2.new.left.items) (c.push_reserved.ensures.items ∙ ap (λ xs. xs ++ c.put_in.new.load ∷ []) c.in_ok-reserve.ensures.items)))
-    ∙ around
+    let unknown = subst (λ (xs : List Item). IsUnknown path symbol xs) c.as_slice.ensures (c.is_unknown.ensures c.if-is_unknown.true) in
+    c.in_ok-made.ensures.items ∙ (ap (λ (load : Item). after_loads load c.args.items) c.in_ok-load.ensures ∙ new_alone path symbol c.args.items unknown)
+
+pub returns-then-is_unknown-clause-settled : goal.returns-then-is_unknown-clause-settled
+returns-then-is_unknown-clause-settled c = λ alone.
+    let path = c.args.path.now in
+    let symbol = c.args.symbol.now in
+    absurd (true≢false (sym alone.0 ∙ unloaded path symbol c.args.items (subst (λ (xs : List Item). IsUnknown path symbol xs) c.as_slice.ensures (c.is_unknown.ensures c.if-is_unknown.true))))
+
+pub returns-then-is_loaded_alone-clause-items : goal.returns-then-is_loaded_alone-clause-items
+returns-then-is_loaded_alone-clause-items c =
+    let path = c.args.path.now in
+    let symbol = c.args.symbol.now in
+    sym (symbol_stays path symbol c.args.items (subst (λ (xs : List Item). IsLoadedAlone path xs symbol) c.as_slice-2.ensures (c.is_loaded_alone.ensures.0 c.if-is_loaded_alone.true)))
+
+pub returns-clause-items : goal.returns-clause-items
+returns-clause-items c = c.in_ok-made-2.ensures.items ∙ c.in_ok-around.ensures.replaced
+
+pub returns-clause-windows : goal.returns-clause-windows
+returns-clause-windows c = subst (λ (xs : List Item). AreOver c.in_ok-made-2.made.windows xs c.in_ok-made-2.made.items) c.in_ok-around.ensures.whole c.in_ok-made-2.ensures.windows
+
+pub returns-clause-settled : goal.returns-clause-settled
+returns-clause-settled c = λ alone.
+    absurd (true≢false (sym (c.is_loaded_alone.ensures.1 (subst (λ (xs : List Item). IsLoadedAlone c.args.path.now xs c.args.symbol.now) (sym c.as_slice-2.ensures) alone)) ∙ c.if-is_loaded_alone.false))

@@ -1,4 +1,4 @@
-use Rattle.std.proofs.Common.{◌≡◌, ◌≤◌, ℕ, drop, false, length}
+use Rattle.std.proofs.Common.{◌≡◌, ◌≤◌, drop, false, length}
 use Rattle.std.specs.List.{list_any}
 use Rattle.bz_load.specs.private.Imports.{is_sought_import}
 use Rattle.bz_load.proofs.usages.last_sought.Given as goal

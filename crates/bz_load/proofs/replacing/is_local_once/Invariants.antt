@@ -1,0 +1,8 @@
+use Rattle.std.proofs.Common.{◌≡◌, ◌+◌, drop, length, min}
+use Rattle.std.specs.List.{filter}
+use Rattle.bz_load.specs.Laws.{loaded_symbols}
+use Rattle.bz_load.specs.ReplaceLoad.{is_local}
+use Rattle.bz_load.proofs.replacing.is_local_once.Given as goal
+
+abbrev pub invariant-loop-item : goal.invariant-loop-item
+invariant-loop-item l = min (l.count + length (filter (is_local l.symbol) (loaded_symbols (drop l.item-index l.items)))) 2 ≡ min (length (filter (is_local l.symbol) (loaded_symbols l.items))) 2
