@@ -13,6 +13,9 @@ use bz_command_syntax::CommandFault;
 use bz_label::{Target, TargetFault};
 use std::alloc::Global;
 
+/// The most commands of a run of which the pattern is kept compiled: that of any other is compiled for each of its targets.
+pub(crate) const MOST_COMPILED: usize = 16;
+
 /// A command, and its text.
 #[derive(Drop)]
 pub struct Request<'a> {
@@ -49,9 +52,23 @@ fn is_target(operand: &[u8]) -> bool
         && (operand.contains(&b':') || operand.strip_prefix(b"//".as_slice()).is_some())
 }
 
-// Appends what the operand of this text requests. The room comes first: a push that fails gives its value back, and the proof that
-// it is dropped is long.
-fn add<'a>(alloc: Global, requested: &mut Requested<'a>, text: &'a str) -> Result<(), OperandFault>
+// Drops what the pattern of a command was compiled to.
+fn release(verb: &mut Verb)
+    ensures { verb.new ≡ verb.old }
+{
+    if let Verb::Do(command) = verb {
+        command.release();
+    }
+}
+
+// Appends what the operand of this text requests; a pattern is kept compiled where fewer commands than `kept` are there. The room comes first: a
+// push that fails gives its value back, and the proof that it is dropped is long.
+fn add<'a>(
+    alloc: Global,
+    requested: &mut Requested<'a>,
+    text: &'a str,
+    kept: usize,
+) -> Result<(), OperandFault>
     ensures ok { OnOk result (a.joined_operands (Ok (requested_in requested.old)) (a.requested_by text.entry.now) ≡ Ok (requested_in requested.new)) }
     ensures err { IfErr result (λ fault. IsOperandFault text.entry.now fault ⊎ (fault ≡ OperandFault.Memory)) }
     ensures paths { All HasPath requested.old.targets.items → OnOk result (All HasPath requested.new.targets.items) }
@@ -70,7 +87,10 @@ fn add<'a>(alloc: Global, requested: &mut Requested<'a>, text: &'a str) -> Resul
     if requested.commands.reserve(1).is_err() {
         return Err(OperandFault::Memory);
     }
-    let verb = read_verb(alloc, text)?;
+    let mut verb = read_verb(alloc, text)?;
+    if requested.commands.len() >= kept {
+        release(&mut verb);
+    }
     requested.commands.push_reserved(Request { verb, text });
     Ok(())
 }
@@ -100,12 +120,28 @@ pub fn read_group<'a>(alloc: Global, operands: &[&'a str]) -> Result<Requested<'
     ensures err { IfErr result (λ fault. IfSome (usage_in fault) (IsGroupFault (map (λ s. s.now) operands.now))) }
     ensures paths { IfOk result (λ requested. All HasPath requested.targets.items) }
 {
+    match group_of(alloc, operands, MOST_COMPILED) {
+        Ok(requested) => Ok(requested),
+        Err(fault) => Err(fault),
+    }
+}
+
+/// The same, and the patterns of the first commands are kept compiled, of as many as `kept` says.
+pub(crate) fn group_of<'a>(
+    alloc: Global,
+    operands: &[&'a str],
+    kept: usize,
+) -> Result<Requested<'a>, UsageFault<'a>>
+    ensures ok { IfOk result (λ requested. a.operand_group (map (λ s. s.now) operands.now) ≡ Ok (requested_in requested)) }
+    ensures err { IfErr result (λ fault. IfSome (usage_in fault) (IsGroupFault (map (λ s. s.now) operands.now))) }
+    ensures paths { IfOk result (λ requested. All HasPath requested.targets.items) }
+{
     let mut requested = Requested {
         commands: Vec::new(alloc),
         targets: Vec::new(alloc),
     };
     for &operand in operands {
-        match add(alloc, &mut requested, operand) {
+        match add(alloc, &mut requested, operand, kept) {
             Ok(()) => {}
             Err(fault) => match fault {
                 OperandFault::Memory => return Err(UsageFault::Memory),

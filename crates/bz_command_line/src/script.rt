@@ -6,7 +6,7 @@ ghost use Rattle.bz_command_line.specs.Refused.{IsFirstFault, IsScriptFault};
 ghost use Rattle.bz_command_line.specs.Script.{has_nul, is_read, line_with_nul, operands_in, operand_groups, script_lines, script_of};
 ghost use Rattle.bz_command_line.specs.Shown.{requested_in, script_usage_in};
 
-use crate::requested::{Requested, UsageFault, read_group};
+use crate::requested::{MOST_COMPILED, Requested, UsageFault, group_of};
 use std::alloc::{AllocError, Global};
 
 /// Why the lines of a file request nothing.
@@ -74,6 +74,7 @@ fn read_groups<'a>(alloc: Global, lines: &[&'a str]) -> Result<Vec<Requested<'a>
     ensures paths { IfOk result (λ groups. All (λ requested. All HasPath requested.targets.items) groups.items) }
 {
     let mut groups = Vec::new(alloc);
+    let mut kept = MOST_COMPILED;
     for (at, &line) in lines.iter().enumerate() {
         if !is_read(line) {
             continue;
@@ -84,8 +85,11 @@ fn read_groups<'a>(alloc: Global, lines: &[&'a str]) -> Result<Vec<Requested<'a>
         let Ok(operands) = operands_in(alloc, line) else {
             return Err(ScriptFault::Memory);
         };
-        match read_group(alloc, &operands) {
-            Ok(group) => groups.push_reserved(group),
+        match group_of(alloc, &operands, kept) {
+            Ok(group) => {
+                kept = kept.saturating_sub(group.commands.len());
+                groups.push_reserved(group);
+            }
             Err(fault) => return Err(ScriptFault::Line(at + 1, fault)),
         }
     }

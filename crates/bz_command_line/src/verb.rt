@@ -4,7 +4,7 @@ ghost use Rattle.bz_label.specs.Pieces.{has_slash, has_colon};
 ghost use Rattle.bz_command_syntax.specs.Commands.{row_named};
 ghost use Rattle.bz_command_syntax.specs.Proper.{AreUtf8};
 ghost use Rattle.bz_streams.specs.Near.{nearest};
-ghost use Rattle.bz_command_line.specs.Operands.{begins_with, verb_of, of_command, count_of, file_verb_in, steps_of};
+ghost use Rattle.bz_command_line.specs.Operands.{begins_with, verb_of, of_command, count_of, file_verb_in, steps_of, without_words};
 ghost use Rattle.bz_command_line.specs.Hints.{verb_forms, fix_names, did_you_mean, bad_target_hint, target_hint, name_hint, is_fix, near_word, words_end, form_end, form_hint, words_hint, pattern_line, hint_in, hint_for};
 ghost use Rattle.bz_command_line.specs.Refused.{IsPatternFault};
 ghost use Rattle.bz_command_line.specs.Shown.{refused_in, pattern_in};
@@ -140,18 +140,30 @@ fn file_verb_in(words: &[Text]) -> Option<Result<Verb, OperandFault>>
     ensures { result ≡ file_verb_in words.now }
 {
     let (name, arguments) = words.split_first()?;
-    match name.as_slice() {
-        b"undo" => Some(read_steps(arguments).map(|count| Verb::Undo(count))),
-        b"redo" => Some(read_steps(arguments).map(|count| Verb::Redo(count))),
-        b"journal" => match arguments {
-            [] => Some(Ok(Verb::Journal)),
-            _ => Some(Err(WRONG_ARGUMENTS)),
-        },
-        b"format" => match arguments {
-            [] => Some(Ok(Verb::Format)),
-            _ => Some(Err(WRONG_ARGUMENTS)),
-        },
-        _ => None,
+    let name = name.as_slice();
+    if name == b"undo".as_slice() {
+        return Some(read_steps(arguments).map(|count| Verb::Undo(count)));
+    }
+    if name == b"redo".as_slice() {
+        return Some(read_steps(arguments).map(|count| Verb::Redo(count)));
+    }
+    if name == b"journal".as_slice() {
+        return Some(alone(Verb::Journal, arguments));
+    }
+    if name == b"format".as_slice() {
+        return Some(alone(Verb::Format, arguments));
+    }
+    None
+}
+
+// What is requested, where no words follow.
+fn alone(verb: Verb, arguments: &[Text]) -> Result<Verb, OperandFault>
+    ensures { result ≡ without_words verb arguments.now }
+{
+    if arguments.is_empty() {
+        Ok(verb)
+    } else {
+        Err(WRONG_ARGUMENTS)
     }
 }
 

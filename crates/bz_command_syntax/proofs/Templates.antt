@@ -1,16 +1,16 @@
 -- Templates: numbers and names of groups, references, and what is passed over.
-use Rattle.std.proofs.Common.{◌≡◌, ◌≢◌, ◌<◌, ◌&&◌, ◌||◌, if◌then◌else◌, ℕ, zero, suc, ◌+◌, ◌==◌, ◌≤◌, List, [], ◌∷◌, length, drop, take, slice_index, Option, Some, None, Bool, true, false, not, IsUtf8, refl, lt-ltb, le-ltb, ne_eqb, arith}
-use Rattle.std.specs.Prelude.{nat_le, nat_lt}
-use Rattle.std.specs.Option.{is_some}
+use Rattle.std.proofs.Common.{◌≡◌, ◌≢◌, ◌<◌, ◌&&◌, ◌||◌, if◌then◌else◌, ℕ, zero, suc, ◌+◌, ◌==◌, ◌≤◌, List, [], ◌∷◌, length, drop, take, slice_index, Option, Some, None, Bool, true, false, not, IsUtf8, refl, inl, inr, lt-ltb, le-ltb, ne_eqb, arith}
+use Rattle.std.specs.Prelude.{bytes_eq, nat_le, nat_lt}
+use Rattle.std.specs.Option.{option_map_or}
 use Rattle.std.specs.Str.{is_utf8}
 use Rattle.std.specs.Char.{is_ascii_digit}
-use Rattle.std.specs.List.{prefix_len}
-use Rattle.std.proofs.lemmas.Bool.{false_from_ne_true, lt-leb}
+use Rattle.std.specs.List.{list_any, position_from, prefix_len}
+use Rattle.std.proofs.lemmas.Bool.{cases_Bool, false_from_ne_true, lt-leb}
 use Rattle.std.proofs.lemmas.Str.{IsUtf8-from_is_utf8, is_utf8-from_IsUtf8}
 use Rattle.regex_syntax.specs.Grammar.{Names}
-use Rattle.regex.specs.Names.{IsIndexOf}
+use Rattle.regex_hir.specs.Text.{is_some_and}
 use Rattle.regex.specs.Templates.{group_called, is_name_byte, name_at, number_in}
-use Rattle.regex.proofs.TemplateLemmas.{index_is_position, name_is_text}
+use Rattle.regex.proofs.TemplateLemmas.{name_is_text}
 use Rattle.bz_items.specs.Characters.{backslash}
 use Rattle.bz_command_syntax.specs.Patterns.{dollar_sign, has_escaped_digit, is_missing, missing_after}
 use Rattle.bz_command_syntax.specs.private.Braces.{left_brace, right_brace}
@@ -22,10 +22,20 @@ module _ (names : Names) (name : List ℕ) where
   unfolding group_called
   missing_number number is = rw is refl
 
-  pub missing_name : (index : Option ℕ) → number_in name ≡ None → IsIndexOf names name index → is_missing names name ≡ not (is_some index)
+  abbrev is_own : Option (List ℕ) → Bool
+  is_own other = is_some_and other (bytes_eq name)
+
+  -- by the place of the name from a number on, of as many groups
+  missing_from : (at count : ℕ) (groups : Names) → at + length groups ≤ count → option_map_or (nat_le count) (position_from is_own at groups) true ≡ not (list_any is_own groups)
+  missing_from at count [] all = refl
+  missing_from at count (group ∷ groups) all = elim (cases_Bool (is_own group)) [
+    | inl w ↦ rw (w, lt-leb count at (omega (arith, all))) refl
+    | inr w ↦ rw w (missing_from (at + 1) count groups (omega (arith, all)))
+  ]
+
+  pub missing_name : number_in name ≡ None → is_missing names name ≡ not (list_any is_own names)
   unfolding group_called
-  missing_name None no_number where_is = rw (no_number, ← index_is_position names name None where_is) refl
-  missing_name (Some index) no_number where_is = rw (no_number, ← index_is_position names name (Some index) where_is) (lt-leb _ _ where_is.0)
+  missing_name no_number = rw no_number (missing_from 0 (length names) names (omega arith))
 
 -- ---- references
 

@@ -79,6 +79,10 @@ missing_after names (byte ∷ rest) zero =
 unfoldable pub missing_group : Bytes → Bytes → Option Bytes
 missing_group source template = option_and_then (λ pattern. missing_after pattern.1 template 0) (read default_config (chars source))
 
+-- By these names of its groups a template names the missing groups of the pattern.
+abbrev pub HasNames : Bytes → Names → Type 0
+HasNames source names = (template : Bytes) → missing_after names template 0 ≡ missing_group source template
+
 -- A backslash is right before an ASCII digit.
 unfoldable pub has_escaped_digit : Bytes → Bool
 has_escaped_digit [] = false

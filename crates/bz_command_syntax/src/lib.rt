@@ -6,6 +6,7 @@ mod fault;
 mod forms;
 mod laws;
 mod pattern;
+mod prepared;
 mod table;
 mod template;
 mod words;

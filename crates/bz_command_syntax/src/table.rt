@@ -117,80 +117,77 @@ fn comment_of(mut words: Vec<Text>) -> Read<Operation>
     Ok(Operation::Comment(CommentOperation::Add { host, text }))
 }
 
-// Hands the table to `made_of`: the name of each command, the forms that the words after it have, the parts that are read in them, what reads these,
-// and the operation that they make.
+// Hands the table to `made_of`: the name of each command, the forms that the words after it have, what reads these, and the operation that is
+// made of the parts that it reads, where it gives parts.
 macro_rules! commands {
     ($($wanted:ident)*) => {
         made_of!(
             ($($wanted)*)
             "new" => "'new KIND NAME [before RULE]' or 'new KIND NAME [after RULE]'",
-                (kind, name, place) = new_rule => Operation::Rule(RuleOperation::New { kind, name, place });
-            "delete" => "'delete'", operation = delete_of => operation;
-            "set" => "'set ATTR VALUE..' or 'set kind KIND'", operation = set_of => operation;
-            "set_if_absent" => "'set_if_absent ATTR VALUE..'", operation = set_if_absent_of => operation;
+                new_rule, |(kind, name, place)| Operation::Rule(RuleOperation::New { kind, name, place });
+            "delete" => "'delete'", delete_of;
+            "set" => "'set ATTR VALUE..' or 'set kind KIND'", set_of;
+            "set_if_absent" => "'set_if_absent ATTR VALUE..'", set_if_absent_of;
             "add" => "'add ATTR VALUE..'",
-                (attribute, values) = attribute_and_values => Operation::Value(ValueOperation::Add { attribute, values });
-            "remove" => "'remove ATTR', 'remove *', 'remove ATTR VALUE..' or 'remove * VALUE..'", operation = remove_of => operation;
+                attribute_and_values, |(attribute, values)| Operation::Value(ValueOperation::Add { attribute, values });
+            "remove" => "'remove ATTR', 'remove *', 'remove ATTR VALUE..' or 'remove * VALUE..'", remove_of;
             "remove_if_equal" => "'remove_if_equal ATTR VALUE'",
-                (attribute, value) = attribute_and_word => Operation::Value(ValueOperation::RemoveIfEqual { attribute, value });
+                attribute_and_word, |(attribute, value)| Operation::Value(ValueOperation::RemoveIfEqual { attribute, value });
             "replace" => "'replace ATTR OLD NEW' or 'replace * OLD NEW'",
-                (attributes, old, new) = attributes_and_words => Operation::Value(ValueOperation::Replace { attributes, old, new });
-            "substitute" => "'substitute ATTR PATTERN TEMPLATE' or 'substitute * PATTERN TEMPLATE'", operation = substitute_of => operation;
+                attributes_and_words, |(attributes, old, new)| Operation::Value(ValueOperation::Replace { attributes, old, new });
+            "substitute" => "'substitute ATTR PATTERN TEMPLATE' or 'substitute * PATTERN TEMPLATE'", substitute_of;
             "move" => "'move FROM TO VALUE..' or 'move FROM TO *'",
-                (from, to, values) = moved_values => Operation::Value(ValueOperation::Move { from, to, values });
+                moved_values, |(from, to, values)| Operation::Value(ValueOperation::Move { from, to, values });
             "rename" => "'rename OLD NEW'",
-                (from, to) = two_attributes => Operation::Attribute(AttributeOperation::Rename { from, to });
+                two_attributes, |(from, to)| Operation::Attribute(AttributeOperation::Rename { from, to });
             "copy" => "'copy ATTR RULE'",
-                (attribute, rule) = attribute_and_word => Operation::Attribute(AttributeOperation::Copy { attribute, rule });
+                attribute_and_word, |(attribute, rule)| Operation::Attribute(AttributeOperation::Copy { attribute, rule });
             "copy_no_overwrite" => "'copy_no_overwrite ATTR RULE'",
-                (attribute, rule) = attribute_and_word => Operation::Attribute(AttributeOperation::CopyNoOverwrite { attribute, rule });
+                attribute_and_word, |(attribute, rule)| Operation::Attribute(AttributeOperation::CopyNoOverwrite { attribute, rule });
             "dict_add" => "'dict_add ATTR KEY:VALUE..'",
-                (attribute, entries) = entries_of => Operation::Dict(DictOperation::Add { attribute, entries });
+                entries_of, |(attribute, entries)| Operation::Dict(DictOperation::Add { attribute, entries });
             "dict_set" => "'dict_set ATTR KEY:VALUE..'",
-                (attribute, entries) = entries_of => Operation::Dict(DictOperation::Set { attribute, entries });
+                entries_of, |(attribute, entries)| Operation::Dict(DictOperation::Set { attribute, entries });
             "dict_remove" => "'dict_remove ATTR KEY..'",
-                (attribute, keys) = attribute_and_values => Operation::Dict(DictOperation::Remove { attribute, keys });
+                attribute_and_values, |(attribute, keys)| Operation::Dict(DictOperation::Remove { attribute, keys });
             "dict_replace_if_equal" => "'dict_replace_if_equal ATTR KEY OLD NEW'",
-                (attribute, key, old, new) = attribute_key_words => Operation::Dict(DictOperation::ReplaceIfEqual { attribute, key, old, new });
+                attribute_key_words, |(attribute, key, old, new)| Operation::Dict(DictOperation::ReplaceIfEqual { attribute, key, old, new });
             "dict_list_add" => "'dict_list_add ATTR KEY VALUE..'",
-                (attribute, key, values) = attribute_key_values => Operation::Dict(DictOperation::ListAdd { attribute, key, values });
-            "set_select" => "'set_select ATTR KEY VALUE [KEY VALUE]..'", operation = set_select_of => operation;
+                attribute_key_values, |(attribute, key, values)| Operation::Dict(DictOperation::ListAdd { attribute, key, values });
+            "set_select" => "'set_select ATTR KEY VALUE [KEY VALUE]..'", set_select_of;
             "new_load" => "'new_load PATH [TO=]FROM..'",
-                (path, symbols) = path_symbols => Operation::Load(LoadOperation::New { path, symbols });
+                path_symbols, |(path, symbols)| Operation::Load(LoadOperation::New { path, symbols });
             "replace_load" => "'replace_load PATH [TO=]FROM..'",
-                (path, symbols) = path_symbols => Operation::Load(LoadOperation::Replace { path, symbols });
-            "substitute_load" => "'substitute_load PATTERN TEMPLATE'", operation = substitute_load_of => operation;
+                path_symbols, |(path, symbols)| Operation::Load(LoadOperation::Replace { path, symbols });
+            "substitute_load" => "'substitute_load PATTERN TEMPLATE'", substitute_load_of;
             "use_repo_add" => "'use_repo_add [dev] FILE EXTENSION [NAME=]REPO..' or 'use_repo_add VARIABLE [NAME=]REPO..'",
-                (usages, repos) = usages_repos => Operation::Load(LoadOperation::AddRepos { usages, repos });
+                usages_repos, |(usages, repos)| Operation::Load(LoadOperation::AddRepos { usages, repos });
             "use_repo_remove" => "'use_repo_remove [dev] FILE EXTENSION [NAME=]REPO..' or 'use_repo_remove VARIABLE [NAME=]REPO..'",
-                (usages, repos) = usages_repos => Operation::Load(LoadOperation::RemoveRepos { usages, repos });
-            "comment" => "'comment [ATTR [VALUE]] TEXT'", operation = comment_of => operation;
+                usages_repos, |(usages, repos)| Operation::Load(LoadOperation::RemoveRepos { usages, repos });
+            "comment" => "'comment [ATTR [VALUE]] TEXT'", comment_of;
             "print_comment" => "'print_comment [ATTR [VALUE]]'",
-                host = host_of => Operation::Comment(CommentOperation::Print { host });
+                host_of, |host| Operation::Comment(CommentOperation::Print { host });
             "remove_comment" => "'remove_comment [ATTR [VALUE]]'",
-                host = host_of => Operation::Comment(CommentOperation::Remove { host });
+                host_of, |host| Operation::Comment(CommentOperation::Remove { host });
             "fix" => "'fix [unusedLoads] [movePackageToTop]'",
-                fixes = fixes_of => Operation::Load(LoadOperation::Fix { fixes });
+                fixes_of, |fixes| Operation::Load(LoadOperation::Fix { fixes });
             "print" => "'print [FIELD..]'",
-                fields = fields_of => Operation::Print { fields };
+                fields_of, |fields| Operation::Print { fields };
         )
     };
 }
 
 // What is made of the table: the names, the names with the forms, or what the command of the given name reads in the words after it.
 macro_rules! made_of {
-    ((names) $($name:literal => $forms:literal, $parts:pat = $reader:ident => $operation:expr;)*) => {
+    ((names) $($name:literal => $forms:literal, $reader:ident $(, $make:expr)?;)*) => {
         &[$($name),*]
     };
-    ((forms) $($name:literal => $forms:literal, $parts:pat = $reader:ident => $operation:expr;)*) => {
+    ((forms) $($name:literal => $forms:literal, $reader:ident $(, $make:expr)?;)*) => {
         &[$(($name, $forms)),*]
     };
-    (($given:ident $words:ident) $($name:literal => $forms:literal, $parts:pat = $reader:ident => $operation:expr;)*) => {
+    (($given:ident $words:ident) $($name:literal => $forms:literal, $reader:ident $(, $make:expr)?;)*) => {
         match $given {
-            $($name => {
-                let $parts = $reader($words)?;
-                Ok($operation)
-            })*
+            $($name => $reader($words)$(.map($make))?,)*
             _ => Err(CommandFault::Unknown),
         }
     };

@@ -1,13 +1,13 @@
 //! What the template of a substitution names, as `regex` reads it.
-ghost use Rattle.std.specs.Prelude.{◌≡◌, ◌≤◌, ◌+◌, ◌∷◌, false, Some, option_map, slice_index, length, not, ◌==◌, IfSome, MatchResult};
-ghost use Rattle.std.specs.List.{prefix_len};
+ghost use Rattle.std.specs.Prelude.{◌≡◌, ◌≤◌, ◌+◌, ◌∷◌, false, Some, option_map, slice_index, length, not, ◌==◌, bytes_eq, IfSome, MatchResult};
+ghost use Rattle.std.specs.List.{list_any, prefix_len};
 ghost use Rattle.std.specs.Char.{is_ascii_digit};
-ghost use Rattle.regex.specs.Strings.{regex_names};
+ghost use Rattle.regex_hir.specs.Text.{is_some_and};
 ghost use Rattle.regex.specs.Templates.{is_name_byte, name_at};
 ghost use Rattle.bz_command_syntax.specs.Patterns.{has_escaped_digit, is_missing, missing_after};
 ghost use Rattle.bz_command_syntax.specs.private.Braces.{left_brace, right_brace};
 
-use regex::Regex;
+use bz_items::Text;
 use std::str;
 
 /// Whether a backslash is right before an ASCII digit somewhere, as in `\1`, which names no group.
@@ -35,12 +35,12 @@ fn first_byte(bytes: &[u8]) -> u8
 }
 
 /// The name of the template's first reference to a group that the pattern lacks.
-pub(crate) fn missing_group<'a>(regex: &Regex, template: &'a [u8]) -> Option<&'a str>
-    ensures { option_map (λ s. s.now) result ≡ missing_after (regex_names regex.now) template.now 0 }
+pub(crate) fn missing_group<'a>(names: &[Option<Text>], template: &'a [u8]) -> Option<&'a str>
+    ensures { option_map (λ s. s.now) result ≡ missing_after names.now template.now 0 }
 {
     let mut left = template;
     while let Some((&byte, rest)) = left.split_first() {
-        match skip_count(regex, byte, rest) {
+        match skip_count(names, byte, rest) {
             Ok(count) => left = &rest[count..],
             Err(name) => return Some(name),
         }
@@ -49,8 +49,8 @@ pub(crate) fn missing_group<'a>(regex: &Regex, template: &'a [u8]) -> Option<&'a
 }
 
 // How many bytes to skip after this one, or as the error the name of the missing group to which it begins a reference.
-fn skip_count<'a>(regex: &Regex, byte: u8, rest: &'a [u8]) -> Result<usize, &'a str>
-    ensures { MatchResult result (λ count. (count ≤ length rest.now) × (missing_after (regex_names regex.now) (byte ∷ rest.now) 0 ≡ missing_after (regex_names regex.now) rest.now count)) (λ name. missing_after (regex_names regex.now) (byte ∷ rest.now) 0 ≡ Some name.now) }
+fn skip_count<'a>(names: &[Option<Text>], byte: u8, rest: &'a [u8]) -> Result<usize, &'a str>
+    ensures { MatchResult result (λ count. (count ≤ length rest.now) × (missing_after names.now (byte ∷ rest.now) 0 ≡ missing_after names.now rest.now count)) (λ name. missing_after names.now (byte ∷ rest.now) 0 ≡ Some name.now) }
 {
     if byte != b'$' {
         return Ok(0);
@@ -62,18 +62,34 @@ fn skip_count<'a>(regex: &Regex, byte: u8, rest: &'a [u8]) -> Result<usize, &'a 
     let Some((name, len)) = name_at(rest) else {
         return Ok(0);
     };
-    if is_missing(regex, name) {
+    if is_missing(names, name) {
         return Err(name);
     }
     Ok(len)
 }
 
-fn is_missing(regex: &Regex, name: &str) -> bool
-    ensures { result ≡ is_missing (regex_names regex.now) name.now }
+// Whether a group has this name.
+fn is_named(group: &Option<Text>, name: &str) -> bool
+    ensures { result ≡ is_some_and group.now (bytes_eq name.now) }
+{
+    match group {
+        Some(other) => name.as_bytes() == other.as_slice(),
+        None => false,
+    }
+}
+
+fn has_group(names: &[Option<Text>], name: &str) -> bool
+    ensures { result ≡ list_any (λ group. is_some_and group (bytes_eq name.now)) names.now }
+{
+    names.iter().any(|group| is_named(group, name))
+}
+
+fn is_missing(names: &[Option<Text>], name: &str) -> bool
+    ensures { result ≡ is_missing names.now name.now }
 {
     match name.parse::<usize>() {
-        Ok(number) => regex.captures_len() <= number,
-        Err(_) => regex.capture_index(name).is_none(),
+        Ok(number) => names.len() <= number,
+        Err(_) => !has_group(names, name),
     }
 }
 

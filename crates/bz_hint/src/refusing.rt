@@ -136,6 +136,23 @@ pub(crate) fn refusing_rule(
     ensures { (n : Node) → Reads text.now n → IfOk result (λ found. option_map rule_seen found
         ≡ refusing_rule command.now target.now.which current.now (lines_of n) (view_of n)) }
 {
+    match command.prepared(alloc)? {
+        Some(prepared) => Ok(refusing_prepared(alloc, text, &prepared, target, current)?),
+        None => Ok(refusing_prepared(alloc, text, command, target, current)?),
+    }
+}
+
+// The same of a command of which the pattern is compiled already, where it has one.
+fn refusing_prepared(
+    alloc: Global,
+    text: &[u8],
+    command: &Command,
+    target: &Target,
+    current: &[u8],
+) -> Result<Option<Refusing>, Memory>
+    ensures { (n : Node) → Reads text.now n → IfOk result (λ found. option_map rule_seen found
+        ≡ refusing_rule command.now target.now.which current.now (lines_of n) (view_of n)) }
+{
     let tree = match parse(alloc, text) {
         Ok(tree) => tree,
         Err(ReadFault::Memory) => return Err(AllocError),

@@ -22,7 +22,7 @@ loop-at-preserved c =
     record {
       answered = groups_turn c.args.lines.now c.loop-at.at groups more c.loop-at-test.true c.loop-at.invariant.answered turn;
       paths = rw (c.push_reserved.ensures.items, c.reserve.ensures.items)
-          (All-push (λ (requested : Requested). All HasPath requested.targets.items) c.loop-at.groups.items c.in-Ok-read_group.group c.loop-at.invariant.paths c.in-Ok-read_group.ensures.paths);
+          (All-push (λ (requested : Requested). All HasPath requested.targets.items) c.loop-at.groups.items c.in-Ok-group_of.group c.loop-at.invariant.paths c.in-Ok-group_of.ensures.paths);
     }
 
 pub returns-in-Err-clause-err : goal.returns-in-Err-clause-err

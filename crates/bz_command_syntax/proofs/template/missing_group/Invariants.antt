@@ -1,10 +1,9 @@
 use Rattle.std.proofs.Common.{◌≡◌, length}
-use Rattle.regex.specs.Strings.{regex_names}
 use Rattle.bz_command_syntax.specs.Patterns.{missing_after}
 use Rattle.bz_command_syntax.proofs.template.missing_group.Given as goal
 
 abbrev pub invariant-loop-byte : goal.invariant-loop-byte
-invariant-loop-byte l = missing_after (regex_names l.fn.regex) l.left 0 ≡ missing_after (regex_names l.fn.regex) l.fn.template 0
+invariant-loop-byte l = missing_after l.fn.names l.left 0 ≡ missing_after l.fn.names l.fn.template 0
 
 abbrev pub decreases-loop-byte : goal.decreases-loop-byte
 decreases-loop-byte l = length l.left
