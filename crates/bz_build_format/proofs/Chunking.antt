@@ -2,7 +2,7 @@
 use Rattle.std.proofs.Common.{◌≡◌, ◌≤◌, ◌<◌, ◌+◌, ◌-◌, ℕ, Bool, false, true, not, List, [], ◌∷◌, ◌++◌, ◌⊎◌, inl, inr, Option, None, Some, Err, Ok, length, length-drop, length-take, take, drop, refl, sym, ap, ap₂, ◌∙◌, subst, append_assoc, arith}
 use Rattle.std.specs.Option.{is_some}
 use Rattle.std.proofs.Math.Seq.{take-add, take-length}
-use Rattle.bz_build_format.specs.Words.{Bytes, Node, NoBzlTree, depth_limit, depth_of, limit, Item, ReadFault, view_of, flags, laid_out, layout, tidied}
+use Rattle.bz_build_format.specs.Words.{Bytes, Node, NoBzlTree, depth_limit, depth_of, limit, Item, ReadFault, view_of, Drafted, drafted, pushed, flags, laid_out, layout, tidied}
 use Rattle.bz_token.proofs.Tokens.{whole_rest}
 use Rattle.bz_lex.specs.declared.fault.ReadFault.TheVariants as r
 use Rattle.bz_value.specs.Proper.{IsProper}
@@ -10,6 +10,7 @@ use Rattle.bz_hosts.specs.Joined.{ViewsJoin}
 use Rattle.bz_hosts.specs.Laws.{BuildViews, ViewsAreProper}
 use Rattle.bz_hosts.specs.SuitesJoined.{SuitesJoin}
 use Rattle.bz_layout.specs.Appended.{LayoutsJoin, DepthsJoin, gap_below}
+use Rattle.bz_layout.proofs.Pushing.{pushed_twice}
 use Rattle.bz_layout.specs.Laws.{FlagsKeepLayout, LayoutIsAccepted, LayoutIsTooDeep, LayoutReadsBack}
 use Rattle.bz_passes.specs.Joined.{TidiedApart}
 use Rattle.bz_build_format.specs.declared.chunks.FileKind.{FileKind}
@@ -35,15 +36,15 @@ texts_join views suites build apart Suites s t n m ends follows a b le =
     suites s t n m ends follows a b le
 
 -- That of a text so far, or nothing yet.
-abbrev pub IsBegun : FileKind → Bytes → Bytes → Option Item → Bool → Type 0
-IsBegun kind text out above ends = ((text ≡ []) × (out ≡ []) × (above ≡ None)) ⊎ ((item : Item) × (above ≡ Some item) × IsFormattedAs (of_kind kind) text out item ends)
+abbrev pub IsBegun : FileKind → Bytes → Drafted → Option Item → Bool → Type 0
+IsBegun kind text out above ends = ((text ≡ []) × (out ≡ drafted limit []) × (above ≡ None)) ⊎ ((item : Item) × (above ≡ Some item) × IsFormattedAs (of_kind kind) text out item ends)
 
 module _ (views : ViewsJoin) (suites : SuitesJoin) (build : BuildViews) (apart : TidiedApart) (layouts : LayoutsJoin) (depths : DepthsJoin) (kind : FileKind) where
   laid_both : (above : Option Item) (item : Item) (front items before : List Item) → above ≡ Some item → front ≡ before ++ item ∷ [] → layout (front ++ items) ≡ layout front ++ (gap_below above items ++ layout items)
   laid_both above item front items before there is =
       ap (λ xs. layout (xs ++ items)) is ∙ (layouts before item items ∙ sym (ap₂ (λ xs last. layout xs ++ (gap_below last items ++ layout items)) is there))
 
-  one_more : (s t before out : Bytes) (above : Option Item) (below : Item) (items : List Item) (first ends : Bool) → is_some above ≡ not first → IsBegun kind s before above true → ReadsAs (of_kind kind) t items (not first) ends → IsAppended before above items out below
+  one_more : (s t : Bytes) (before out : Drafted) (above : Option Item) (below : Item) (items : List Item) (first ends : Bool) → is_some above ≡ not first → IsBegun kind s before above true → ReadsAs (of_kind kind) t items (not first) ends → IsAppended before above items out below
       → length (s ++ t) ≤ limit → IsFormattedAs (of_kind kind) (s ++ t) out below ends
   one_more s t before out above below items first ends at_first (inl (none, empty, is)) (m, reads, says, follows, closes) k le = record {
     items = items;
@@ -57,15 +58,15 @@ module _ (views : ViewsJoin) (suites : SuitesJoin) (build : BuildViews) (apart :
         items = h.items ++ items;
         reads = (new, read, ap₂ (λ xs ys. xs ++ ys) seen says ∙ sym both, λ e. absurd cc, λ e. joins (closes e));
         laid_out = record {
-          formatted = k.formatted ∙ (ap (λ z. z ++ (gap_below above items ++ layout items)) h.laid_out.formatted ∙ sym (laid_both above item h.items items h.laid_out.last.0 is h.laid_out.last.1));
-          short = k.short;
+          formatted = k.formatted ∙ (ap (λ z. pushed z (gap_below above items ++ layout items)) h.laid_out.formatted ∙ (pushed_twice (drafted limit []) (layout h.items) (gap_below above items ++ layout items)
+              ∙ sym (ap (pushed (drafted limit [])) (laid_both above item h.items items h.laid_out.last.0 is h.laid_out.last.1))));
           shallow = depths h.items items depth_limit h.laid_out.shallow k.shallow;
           last = (h.items ++ k.last.0, ap (λ xs. h.items ++ xs) k.last.1 ∙ sym (append_assoc h.items k.last.0 (below ∷ [])));
         };
       }
 
   -- the same of a text that is read from its begin on
-  pub next_begun : (text before out : Bytes) (at len : ℕ) (above : Option Item) (below : Item) (items : List Item) (ends first more : Bool) → at ≤ length text → is_some above ≡ not first → IsBegun kind (take at text) before above ends → ends ≡ true
+  pub next_begun : (text : Bytes) (before out : Drafted) (at len : ℕ) (above : Option Item) (below : Item) (items : List Item) (ends first more : Bool) → at ≤ length text → is_some above ≡ not first → IsBegun kind (take at text) before above ends → ends ≡ true
       → ReadsAs (of_kind kind) (take len (take (length text - at) (drop at text))) items (not first) more → IsAppended before above items out below → length text ≤ limit → IsBegun kind (take (at + len) text) out (Some below) more
   next_begun text before out at len above below items ends first more inside at_first h e r k le =
       let own : ReadsAs (of_kind kind) (take len (drop at text)) items (not first) more = subst (λ z. ReadsAs (of_kind kind) (take len z) items (not first) more) (whole_rest text at inside) r in
@@ -78,7 +79,7 @@ pub still_within : (text : Bytes) (at len : ℕ) → at ≤ length text → len 
 still_within text at len inside h = omega (arith, inside, h, ap length (whole_rest text at inside), length-drop at text)
 
 -- a text that is not empty, up to its end
-pub whole_formatted : (kind : FileKind) (text out : Bytes) (at : ℕ) (last : Option Item) (ends : Bool) → IsBegun kind (take at text) out last ends → at ≤ length text → length text ≤ at → 0 < length text
+pub whole_formatted : (kind : FileKind) (text : Bytes) (out : Drafted) (at : ℕ) (last : Option Item) (ends : Bool) → IsBegun kind (take at text) out last ends → at ≤ length text → length text ≤ at → 0 < length text
     → (item : Item) × (b : Bool) × IsFormattedAs (of_kind kind) text out item b
 whole_formatted kind text out at last ends g a b some =
     let all : at ≡ length text = omega (arith, a, b) in
@@ -96,11 +97,10 @@ module _ (proper : ViewsAreProper) (keeps : FlagsKeepLayout) (accepted : LayoutI
       (tree, reads, sym (written_given (view_of tree) items out says is short shallow None))
   answered_text Suites text out items follows ends (tree, reads, says, below, above) is short shallow = laid_out_given keeps proper accepted back text out tree items reads says is short shallow
 
-  -- the text that is made chunk by chunk
-  pub answered_chunks : (kind : FileKind) (text out : Bytes) (last : Item) (ends : Bool) → IsFormattedAs (of_kind kind) text out last ends → (of_kind kind).formats text (Ok out)
-  answered_chunks kind text out last ends h =
-      let laid = h.laid_out in
-      answered_text kind text out h.items false ends h.reads laid.formatted (subst (λ t. length t ≤ limit) laid.formatted laid.short) laid.shallow
+  -- the text that is made chunk by chunk, where it is within the limit
+  pub answered_chunks : (kind : FileKind) (text bytes out : Bytes) (draft : Drafted) (last : Item) (ends : Bool) → (h : IsFormattedAs (of_kind kind) text draft last ends) → out ≡ bytes
+      → (bytes ≡ layout h.items) × (length bytes ≤ limit) → (of_kind kind).formats text (Ok out)
+  answered_chunks kind text bytes out draft last ends h same (is, short) = answered_text kind text out h.items false ends h.reads (same ∙ is) (subst (λ t. length t ≤ limit) is short) h.laid_out.shallow
 
 pub answered_too_large : FlagsKeepLayout → (kind : FileKind) (text : Bytes) (items : List Item) (follows ends : Bool) → ReadsAs (of_kind kind) text items follows ends → limit < length (layout items)
     → (of_kind kind).formats text (Err f.TooLarge)

@@ -17,6 +17,7 @@ pub use Rattle.bz_hosts.specs.SuitesJoined.{BeginsBare, EndsWithStatement}
 pub use Rattle.bz_hosts.specs.View.{view_of}
 pub use Rattle.bz_items.specs.Characters.{Bytes}
 pub use Rattle.bz_layout.specs.Appended.{gap_below}
+pub use Rattle.bz_layout.specs.Drafts.{Drafted, drafted, pushed}
 pub use Rattle.bz_layout.specs.Flags.{flags}
 pub use Rattle.bz_layout.specs.LaidOut.{laid_out}
 pub use Rattle.bz_layout.specs.Windows.{AreTextsOf}

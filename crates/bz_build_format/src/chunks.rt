@@ -9,8 +9,7 @@ use bz_grammar::{LENGTH_LIMIT, ReadFault};
 use bz_hosts::{
     begins_bare, build_views, ends_with_line, into_front, into_view, suites_join, views_join,
 };
-use bz_items::Text;
-use bz_layout::{append_items, layouts_join};
+use bz_layout::{Draft, append_items, layouts_join};
 use bz_passes::{begins_with_load, tidied_apart, tidy_build};
 use bz_tree::{parse, parse_bzl};
 use bz_value::{File, Item};
@@ -82,19 +81,19 @@ fn first_chunk(
     None
 }
 
-/// Appends the layout of what a chunk says, below the item above it. Its last item; none: it has no items, a limit is passed, or memory was
-/// refused.
-fn append(out: &mut Vec<u8>, above: &Option<Item>, file: File) -> Option<Item>
-    ensures { IfSome result (λ last. IsAppended out.old.items above.now file out.new.items last) }
+/// Appends the layout of what a chunk says, below the item above it. Its last item; none: it has no items, the limit of depth is passed, or
+/// memory was refused.
+fn append(out: &mut Draft, above: &Option<Item>, file: File) -> Option<Item>
+    ensures { IfSome result (λ last. IsAppended out.old above.now file out.new last) }
 {
     append_items(out, above, file.items.as_slice())?;
     let File { mut items } = file;
     items.pop()
 }
 
-/// The formatted text of a long text, made chunk by chunk. None: the text is short, it or its formatted text is past a limit, a chunk of
-/// it is not as simple as most, or memory was refused.
-pub(crate) fn chunks_formatted(alloc: Global, kind: FileKind, text: &[u8]) -> Option<Text>
+/// The formatted text of a long text, made chunk by chunk: where it is longer than a text may be, this alone is known of it, once all chunks
+/// were read. None: the text is short, it is past a limit, a chunk of it is not as simple as most, or memory was refused.
+pub(crate) fn chunks_formatted(alloc: Global, kind: FileKind, text: &[u8]) -> Option<Draft>
     ensures { IfSome result (λ formatted. (last : Item) × (ends : Bool) × IsFormattedAs (of_kind kind) text.now formatted last ends) }
 {
     build_views();
@@ -105,9 +104,10 @@ pub(crate) fn chunks_formatted(alloc: Global, kind: FileKind, text: &[u8]) -> Op
     if text.len() <= CHUNK || text.len() > LENGTH_LIMIT {
         return None;
     }
-    let Ok(mut out) = Vec::with_capacity(alloc, text.len() + text.len() / 16) else {
+    let Ok(room) = Vec::with_capacity(alloc, text.len() + text.len() / 16) else {
         return None;
     };
+    let mut out = Draft::new(room, LENGTH_LIMIT);
     let mut last = None;
     let mut ends = true;
     let mut at = 0;
@@ -121,5 +121,5 @@ pub(crate) fn chunks_formatted(alloc: Global, kind: FileKind, text: &[u8]) -> Op
         ends = follows;
         at += len;
     }
-    Some(Text::from_vec(out))
+    Some(out)
 }

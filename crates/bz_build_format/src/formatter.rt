@@ -53,7 +53,10 @@ fn formatted(alloc: Global, kind: FileKind, text: &[u8]) -> Result<Text, FormatF
     layout_is_too_deep();
     layout_reads_back();
     if let Some(formatted) = chunks_formatted(alloc, kind, text) {
-        return Ok(formatted);
+        return match formatted.into_bytes() {
+            Some(bytes) => Ok(Text::from_vec(bytes)),
+            None => Err(FormatFault::TooLarge),
+        };
     }
     let file = match seen(alloc, kind, text) {
         Ok((file, _, _)) => file,

@@ -189,6 +189,24 @@ any_by_place key items (Some at) found =
     let first = is_first (has_key key) items at (mark []) found in
     list_any_at (has_key key) items at (mark []) first.within (first.passes (mark []))
 
+-- an entry that is put, by the place of the first entry of its key
+module _ (change : Change) (current name : Bytes) (entry : Entry) (items read : List Expr) (same : read ≡ items) where
+  abbrev changed : List Expr
+  changed = on_first_that (has_key entry.key) (entry_changed change current name entry) items
+
+  abbrev more : List Expr
+  more = items ++ entry_made change current name entry ∷ []
+
+  pub put_there : (at : ℕ) (x new : Expr) → Some at ≡ position (has_key entry.key) read → slice_get items at ≡ Some x → new ≡ entry_changed change current name entry x
+      → slice_set items at new ≡ entry_put change current name entry items
+  put_there at x new found there made =
+      let here = found ∙ ap (position (has_key entry.key)) same in
+      changed_there (has_key entry.key) (entry_changed change current name entry) items at x new here there made
+      ∙ sym (if_true (list_any (has_key entry.key) items) changed more (any_by_place entry.key items (Some at) here))
+
+  pub put_nowhere : None ≡ position (has_key entry.key) read → more ≡ entry_put change current name entry items
+  put_nowhere none = sym (if_false (list_any (has_key entry.key) items) changed more (any_by_place entry.key items None (none ∙ ap (position (has_key entry.key)) same)))
+
 module _ (current name key : Bytes) (words : List Bytes) (items read : List Expr) (found : Option ℕ) (at : found ≡ position (has_key key) read) (same : read ≡ items) where
   is_there : list_any (has_key key) items ≡ is_some found
   is_there = any_by_place key items found (at ∙ ap (position (has_key key)) same)

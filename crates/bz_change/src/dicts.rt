@@ -6,7 +6,7 @@ ghost use Rattle.bz_grammar.specs.declared.kind.Kind.TheVariants as kinds;
 ghost use Rattle.bz_rule.specs.Values.{has_kind as is_of, on_items};
 ghost use Rattle.bz_change.specs.Words.{on_first_that};
 ghost use Rattle.bz_value.specs.declared.refusal.Refusal.TheVariants.{NotADict};
-ghost use Rattle.bz_change.specs.Dicts.{as_token, dict_list_add, dict_of, dict_remove, dicts_changed, entries_put, entry_changed, entry_made, entry_with, has_key, key_of, list_put, on_dict, has_list_value, on_entry, refuses_items, takes_no_items, value_again, value_made, value_replaced, where_there, without_entries};
+ghost use Rattle.bz_change.specs.Dicts.{as_token, dict_list_add, dict_of, dict_remove, dicts_changed, entries_put, entry_put, entry_changed, entry_made, entry_with, has_key, key_of, list_put, on_dict, has_list_value, on_entry, refuses_items, takes_no_items, value_again, value_made, value_replaced, where_there, without_entries};
 ghost use Rattle.bz_change.specs.private.Edits.{edited, value_edited};
 ghost use Rattle.bz_change.specs.private.Outcomes.{IsOutcome, AreIndexed};
 
@@ -215,9 +215,26 @@ fn change_entry(slot: Slot<'_>, change: Change, entry: &Entry, x: &mut Expr) -> 
     }
 }
 
-/// Puts entries to those of a dict, one after the other: the first of a key that is there stays or gets another value, one of another
-/// key goes last.
-fn put_entries(
+/// Puts an entry to those of a dict: the first of its key, where that is there, stays or gets another value; else it goes last.
+#[tactic(auto, using(crate::proofs::KeyPlaces::put_there, crate::proofs::KeyPlaces::put_nowhere))]
+fn put_entry(
+    slot: Slot<'_>,
+    change: Change,
+    entry: &Entry,
+    items: &mut Items<Expr>,
+) -> Result<(), Memory>
+    ensures { OnOk result (items.new ≡ entry_put change slot.entry.current.now slot.entry.attribute.now entry.now items.old) }
+{
+    let Some(at) = place_of_key(entry.key.as_slice(), items.as_slice()) else {
+        items.push(entry_made(slot, change, entry)?)?;
+        return Ok(());
+    };
+    change_entry(slot, change, entry, items.at_mut(at))?;
+    Ok(())
+}
+
+/// As `put_entries` says, by an index of the keys.
+fn put_indexed(
     slot: Slot<'_>,
     change: Change,
     entries: &[Entry],
@@ -237,6 +254,22 @@ fn put_entries(
         change_entry(slot, change, entry, items.at_mut(at))?;
     }
     Ok(())
+}
+
+/// Puts entries to those of a dict, one after the other: the first of a key that is there stays or gets another value, one of another
+/// key goes last. A single one is sought among the items, since an index of these takes far longer to make.
+fn put_entries(
+    slot: Slot<'_>,
+    change: Change,
+    entries: &[Entry],
+    items: &mut Items<Expr>,
+) -> Result<(), Memory>
+    ensures { OnOk result (items.new ≡ entries_put change slot.entry.current.now slot.entry.attribute.now entries.now items.old) }
+{
+    match entries {
+        [entry] => put_entry(slot, change, entry, items),
+        _ => put_indexed(slot, change, entries, items),
+    }
 }
 
 /// Whether the expression is an entry of this key.

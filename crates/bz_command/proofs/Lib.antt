@@ -2,7 +2,7 @@ pub mod CommandRows
 pub mod LawComments
 pub mod LinesMatter
 pub mod MeantPlaces
-pub mod OneMore
+pub mod NameHashes
 pub mod Pieces
 pub mod ProperEffects
 pub mod RunningItems

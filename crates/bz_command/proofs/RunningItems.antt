@@ -1,11 +1,12 @@
 -- What commands make of the items of a file, item by item.
 use Rattle.std.proofs.Common.{◌≡◌, ◌≤◌, Bool, List, [], ◌∷◌, ◌++◌, length, refl, ap, arith, Err, Ok, sym, ◌<◌, ◌∙◌, ℕ}
-use Rattle.std.specs.Prelude.{◌↔◌, IfOk, IfSome, IsTrue, None, OnOk, Option, Result, Some}
-use Rattle.std.specs.List.{position}
+use Rattle.std.specs.Prelude.{◌↔◌, IfOk, IfSome, IsTrue, None, OnOk, Option, Result, Some, is_some}
+use Rattle.std.specs.List.{list_any, position}
 use Rattle.std.proofs.lemmas.List.{append_assoc}
+use Rattle.std.proofs.lemmas.List.Folds.{list_any_at, list_any_none}
 use Rattle.bz_command.specs.Words.{Item, Refusal}
 use Rattle.bz_value.specs.declared.value.Item.TheVariants as i
-use Rattle.bz_attribute.proofs.ArgumentPlaces.{is_first}
+use Rattle.bz_attribute.proofs.ArgumentPlaces.{is_first, none_passes}
 use Rattle.bz_command.specs.Effect.{with_item_first}
 
 -- ---- the place of a rule
@@ -13,6 +14,13 @@ use Rattle.bz_command.specs.Effect.{with_item_first}
 pub rule_within : (test : Item → Bool) (items : List Item) (place : Option ℕ) → place ≡ position test items → IfSome place (λ at. at < length items)
 rule_within test items None is = tt
 rule_within test items (Some at) is = (is_first test items at (i.Block []) is).within
+
+-- whether one passes, by the place of the first that does
+pub any_by_place : (test : Item → Bool) (items : List Item) (place : Option ℕ) → place ≡ position test items → is_some place ≡ list_any test items
+any_by_place test items None none = sym (list_any_none test items (none_passes test items none).all)
+any_by_place test items (Some at) is =
+    let first = is_first test items at (i.Block []) is in
+    sym (list_any_at test items at (i.Block []) first.within (first.passes (i.Block [])))
 
 pub at_most : (place : Option ℕ) (count : ℕ) → IfSome place (λ at. at < count) → IfSome place (λ at. at ≤ count)
 at_most None count within = tt

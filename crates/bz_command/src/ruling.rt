@@ -1,15 +1,18 @@
 //! What a command makes of a rule, and of the items of a file: of the rules at some places, with a new rule, without some, and of loads.
 //! Items that stay are moved.
-ghost use Rattle.std.specs.Prelude.{◌≡◌, ◌⊎◌, ◌↔◌, ◌≤◌, ◌<◌, ◌+◌, ◌∷◌, ◌++◌, [], ℕ, Bool, List, codes, drop, false, length, slice_get, slice_set, None, Ok, Err, OnOk, IsTrue, IfOk, IfErr, IfSome, if◌then◌else◌};
+ghost use Rattle.std.specs.Prelude.{◌≡◌, ◌⊎◌, ◌↔◌, ◌≤◌, ◌<◌, ◌+◌, ◌∷◌, ◌++◌, [], ℕ, Bool, List, codes, drop, false, length, map, slice_get, slice_set, None, Ok, Err, OnOk, IsTrue, IfOk, IfErr, IfSome, if◌then◌else◌};
 ghost use Rattle.std.specs.List.{insert, list_any, position};
 ghost use Rattle.std.specs.Option.{option_copied};
 ghost use Rattle.bz_command.specs.Words.{Item, AreOver, IsSpliced, has_name, held_name, HaveSameNames, Bytes, AreListed, Ascend, function_of, changed_by, is_rule_of_kind};
 ghost use Rattle.bz_command.specs.Effect.{is_rule, loads_changed, looks_at_rules, on_arguments, on_meant, on_rules, on_statement, new_rule_place, place_beside, source, source_of, unmarked, with_function};
+ghost use Rattle.bz_command.specs.Known.{IsKnownOf, item_hash};
 ghost use Rattle.bz_command.specs.private.Looks.{arguments_by, made_by, marks_by, one_made_by, places_by, says_itself};
-ghost use Rattle.bz_command.specs.private.Growing.{IsCompared, IsGrown};
+ghost use Rattle.bz_command.specs.private.Growing.{IsCompared};
+ghost use Rattle.bz_load.specs.Growing.{IsGrown};
 
+use crate::hashes::place_among;
+use crate::running::Known;
 use crate::targets::{arguments_of, is_rule, take_place};
-use crate::windows::{Growing, put_window, window_between, windows_of};
 use bz_attribute::{function_of, rule_made};
 use bz_change::{change_attributes, change_dicts};
 use bz_command_syntax::{
@@ -21,8 +24,8 @@ use bz_items::{Items, Memory, Text};
 use bz_label::Target;
 use bz_list::change_values;
 use bz_load::{
-    LoadedPaths, WithLoad, fix, new_load, replace_load, substitute_load, use_repo_add,
-    use_repo_remove,
+    Growing, LoadedPaths, WithLoad, fix, new_load, put_window, replace_load, substitute_load,
+    use_repo_add, use_repo_remove, window_between, windows_of,
 };
 use bz_rule::{attribute, has_name, held_name, is_rule_of_kind};
 use bz_value::{Expr, Item, Refusal, Window};
@@ -250,8 +253,7 @@ fn has_this_name(name: Option<Text>, item: &Item) -> bool
 fn note(same: bool, at: usize, growing: &mut Growing) -> Result<(), Memory>
     requires past { growing.old.past ≤ at }
     requires room { at + 1 ≤ usize.MAX }
-    ensures grown { (before after changed : List Item) → length before ≤ usize.MAX → length changed ≤ usize.MAX → IsGrown growing.old before after → (IsTrue same → changed ≡ after) → IsSpliced at 1 1 after changed
-        → OnOk result (IsGrown growing.new before changed) }
+    ensures grown { (before after changed : List Item) → IsGrown growing.old before after → (IsTrue same → changed ≡ after) → IsSpliced at 1 1 after changed → OnOk result (IsGrown growing.new before changed) }
     ensures none { OnOk result (IsTrue same → growing.new.windows ≡ growing.old.windows) }
     ensures left { (before after changed : List Item) → drop growing.old.past after ≡ drop growing.old.past before → (IsTrue same → changed ≡ after) → drop (at + 1) changed ≡ drop (at + 1) before
         → OnOk result (drop growing.new.past changed ≡ drop growing.new.past before) }
@@ -355,7 +357,7 @@ fn push_unmarked(
 ) -> Result<(), Memory>
     requires { growing.old.past ≤ length kept.old.items }
     ensures stay { (marks : List Bool) (rest : List Item) → OnOk result (kept.new.items ++ unmarked marks rest ≡ kept.old.items ++ unmarked (mark ∷ marks) (item ∷ rest)) }
-    ensures grown { (before rest : List Item) → length before ≤ usize.MAX → length (kept.old.items ++ item ∷ rest) ≤ usize.MAX → IsGrown growing.old before (kept.old.items ++ item ∷ rest) → OnOk result (IsGrown growing.new before (kept.new.items ++ rest)) }
+    ensures grown { (before rest : List Item) → IsGrown growing.old before (kept.old.items ++ item ∷ rest) → OnOk result (IsGrown growing.new before (kept.new.items ++ rest)) }
     ensures none { OnOk result (length kept.new.items ≡ length kept.old.items + 1 → growing.new.windows ≡ growing.old.windows) }
     ensures count { OnOk result (length kept.new.items ≤ length kept.old.items + 1) }
     ensures past { OnOk result (growing.new.past ≤ length kept.new.items) }
@@ -390,13 +392,17 @@ fn delete(work: Work<'_, '_>, places: &[usize], items: Items<Item>) -> Result<Ch
     })
 }
 
-/// The place of the first rule of this name.
+/// The place of the first rule of this name. There may be the hashes of the names of all items.
 #[tactic(auto, using(crate::proofs::RunningItems::rule_within))]
-fn place_of_rule(name: &[u8], items: &[Item]) -> Option<usize>
+fn place_of_rule(name: &[u8], hashes: Option<&[u64]>, items: &[Item]) -> Option<usize>
+    requires { IfSome hashes (λ hashes. hashes.now ≡ map item_hash items.now) }
     ensures place { result ≡ position (has_name name.now) items.now }
     ensures within { IfSome result (λ at. at < length items.now) }
 {
-    items.iter().position(|item| has_name(name, item))
+    match hashes {
+        Some(hashes) => place_among(name, hashes, items),
+        None => items.iter().position(|item| has_name(name, item)),
+    }
 }
 
 /// The place of the first rule of kind `package`.
@@ -411,11 +417,12 @@ fn place_of_package(items: &[Item]) -> Option<usize>
 }
 
 /// The place of the first rule of this name; where there is none, `__pkg__` means the first rule of kind `package`.
-fn place_beside(name: &[u8], items: &[Item]) -> Option<usize>
+fn place_beside(name: &[u8], hashes: Option<&[u64]>, items: &[Item]) -> Option<usize>
+    requires { IfSome hashes (λ hashes. hashes.now ≡ map item_hash items.now) }
     ensures place { result ≡ place_beside name.now items.now }
     ensures within { IfSome result (λ at. at < length items.now) }
 {
-    let named = place_of_rule(name, items);
+    let named = place_of_rule(name, hashes, items);
     if named.is_none() && name == b"__pkg__".as_slice() {
         return place_of_package(items);
     }
@@ -424,14 +431,15 @@ fn place_beside(name: &[u8], items: &[Item]) -> Option<usize>
 
 /// Where a new rule goes: after how many items. `None`: the rule beside which it goes isn't there.
 #[tactic(auto, using(crate::proofs::RunningItems::at_most))]
-fn place_of_new(place: &RulePlace, items: &[Item]) -> Option<usize>
+fn place_of_new(place: &RulePlace, hashes: Option<&[u64]>, items: &[Item]) -> Option<usize>
+    requires { IfSome hashes (λ hashes. hashes.now ≡ map item_hash items.now) }
     ensures place { result ≡ new_rule_place place.now items.now }
     ensures within { IfSome result (λ at. at ≤ length items.now) }
 {
     match place {
         RulePlace::End => Some(items.len()),
-        RulePlace::Before(rule) => place_beside(rule.as_slice(), items),
-        RulePlace::After(rule) => match place_beside(rule.as_slice(), items) {
+        RulePlace::Before(rule) => place_beside(rule.as_slice(), hashes, items),
+        RulePlace::After(rule) => match place_beside(rule.as_slice(), hashes, items) {
             Some(at) => Some(at + 1),
             None => None,
         },
@@ -439,10 +447,12 @@ fn place_of_new(place: &RulePlace, items: &[Item]) -> Option<usize>
 }
 
 /// Whether an item is a rule of this name.
-fn is_taken(name: &[u8], items: &[Item]) -> bool
+#[tactic(auto, using(crate::proofs::RunningItems::any_by_place))]
+fn is_taken(name: &[u8], hashes: Option<&[u64]>, items: &[Item]) -> bool
+    requires { IfSome hashes (λ hashes. hashes.now ≡ map item_hash items.now) }
     ensures { result ≡ list_any (has_name name.now) items.now }
 {
-    items.iter().any(|item| has_name(name, item))
+    place_of_rule(name, hashes, items).is_some()
 }
 
 /// The items with a new one at this place.
@@ -465,11 +475,19 @@ fn inserted(alloc: Global, at: usize, new: Item, items: Items<Item>) -> Result<C
     })
 }
 
-/// Whether a command looks for a load among the items; the paths from which they load say where there is none.
+/// Whether a command puts a new rule among the items; the hashes of their names say beside which one.
+pub fn puts_rule(command: &Command) -> bool {
+    matches!(
+        &command.operation,
+        Operation::Rule(RuleOperation::New { .. })
+    )
+}
+
+/// Whether a command looks for loads among the items; the paths from which they load, and what these load, say where there is none.
 pub fn looks_for_load(command: &Command) -> bool {
     matches!(
         &command.operation,
-        Operation::Load(LoadOperation::New { .. })
+        Operation::Load(LoadOperation::New { .. } | LoadOperation::Replace { .. })
     )
 }
 
@@ -485,21 +503,16 @@ fn compared(alloc: Global, new: Items<Item>, items: &[Item]) -> Result<Changed, 
     })
 }
 
-/// Items that were made of others of which one part changed.
-fn with_load(alloc: Global, made: WithLoad) -> Result<Changed, Memory>
-    ensures items { IfOk result (λ changed. changed.items ≡ made.items) }
-    ensures compared { (before : List Item) → IsTrue made.same ↔ (made.items ≡ before) → IsSpliced made.at made.gone made.come before made.items → IfOk result (IsCompared before) }
+/// Items that were made of others by a command on their loads.
+fn with_load(made: WithLoad) -> Changed
+    ensures items { result.items ≡ made.items }
+    ensures compared { (before : List Item) → AreOver made.windows before made.items → (made.windows ≡ []) ↔ (made.items ≡ before) → IsCompared before result }
 {
-    let window = Window {
-        from: made.at,
-        gone: made.gone,
-        come: made.come,
-    };
-    Ok(Changed {
-        windows: windows_of(alloc, made.same, window)?,
+    Changed {
         items: made.items,
+        windows: made.windows,
         same_names: false,
-    })
+    }
 }
 
 /// What an operation on what the file loads makes of its items, of which there may be the paths from which they load.
@@ -518,11 +531,11 @@ fn on_loads(
     match operation {
         LoadOperation::New { path, symbols } => {
             let made = new_load(alloc, path.as_slice(), symbols.as_slice(), paths, items)?;
-            Ok(with_load(alloc, made)?)
+            Ok(with_load(made))
         }
         LoadOperation::Replace { path, symbols } => {
-            let made = replace_load(alloc, path.as_slice(), symbols.as_slice(), items)?;
-            Ok(with_load(alloc, made)?)
+            let made = replace_load(alloc, path.as_slice(), symbols.as_slice(), paths, items)?;
+            Ok(with_load(made))
         }
         LoadOperation::Fix { fixes } => {
             let new = fix(alloc, *fixes, items.as_slice())?;
@@ -543,15 +556,14 @@ fn on_loads(
     }
 }
 
-/// What a command makes of the items; a command on rules is meant for those at the places. There may be the paths from which the items
-/// load.
+/// What a command makes of the items, of which more may be known; a command on rules is meant for those at the places.
 pub fn on_rules(
     work: Work<'_, '_>,
-    paths: Option<&LoadedPaths>,
+    known: Known<'_>,
     places: &[usize],
     items: Items<Item>,
 ) -> Result<Changed, Refusal>
-    requires paths { IfSome paths (λ loaded. AreListed loaded.now items) }
+    requires known { IsKnownOf known items }
     requires places { IsTrue (looks_at_rules work.command.now) → places.now ≡ places_by work items }
     ensures ok { IfOk result (λ changed. on_rules work.entry.command.now work.entry.current.now (marks_by work.entry items) items ≡ Ok changed.items) }
     ensures compared { IfOk result (IsCompared items) }
@@ -560,17 +572,17 @@ pub fn on_rules(
     let (alloc, command) = (work.alloc, work.command);
     match &command.operation {
         Operation::Rule(RuleOperation::New { kind, name, place }) => {
-            let Some(at) = place_of_new(place, items.as_slice()) else {
+            let Some(at) = place_of_new(place, known.hashes, items.as_slice()) else {
                 return Err(Refusal::NoTarget);
             };
-            if is_taken(name.as_slice(), items.as_slice()) {
+            if is_taken(name.as_slice(), known.hashes, items.as_slice()) {
                 return Err(Refusal::NameTaken);
             }
             let rule = rule_made(alloc, kind.as_slice(), name.as_slice())?;
             Ok(inserted(alloc, at, rule, items)?)
         }
         Operation::Rule(RuleOperation::Delete) => Ok(delete(work, places, items)?),
-        Operation::Load(operation) => on_loads(work, operation, paths, items),
+        Operation::Load(operation) => on_loads(work, operation, known.paths, items),
         Operation::Rule(RuleOperation::SetKind { .. })
         | Operation::Attribute(_)
         | Operation::Value(_)

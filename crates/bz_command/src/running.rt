@@ -1,7 +1,7 @@
 //! The effect of a command on a file value.
 ghost use Rattle.std.specs.Prelude.{◌≡◌, ◌⊎◌, ◌↔◌, [], false, None, Ok, Err, IfOk, IfErr, IfSome, IsTrue, OnOk};
 ghost use Rattle.std.specs.Option.{unwrap_or};
-ghost use Rattle.bz_command.specs.Words.{HaveSameNames, IsIndexOf, AreOver, AreListed};
+ghost use Rattle.bz_command.specs.Words.{HaveSameNames, IsIndexOf, AreOver};
 ghost use Rattle.bz_command.specs.Effect.{effect, looks_at_rules, printed};
 ghost use Rattle.bz_command.specs.Known.{IsKnownOf};
 ghost use Rattle.bz_command.specs.private.Looks.{IsChange, IsLook, effect_by, printed_for};
@@ -27,6 +27,8 @@ pub struct Known<'a> {
     pub lines: &'a [u32],
     /// The index of the names of its rules: with it a target that is a name is not sought among the items.
     pub names: Option<&'a Names>,
+    /// The hashes of the names of its items, in their order: with them a new rule goes beside another with few looks at items.
+    pub hashes: Option<&'a [u64]>,
     /// The paths from which it loads: with them a load from another one is not sought.
     pub paths: Option<&'a LoadedPaths>,
 }
@@ -74,16 +76,15 @@ fn look_at(work: Work<'_, '_>, names: Option<&Names>, items: &[Item]) -> Result<
     Ok(Look::Changes(places))
 }
 
-/// What a command that prints nothing makes of a file; of a command on rules, of those at the places. There may be the paths from which
-/// the file loads.
+/// What a command that prints nothing makes of a file, of which more may be known; of a command on rules, of those at the places.
 fn change(
     work: Work<'_, '_>,
-    paths: Option<&LoadedPaths>,
+    known: Known<'_>,
     places: &[usize],
     file: &mut File,
 ) -> Result<Ran, Refusal>
     requires change { IsChange work file.old places.now }
-    requires paths { IfSome paths (λ loaded. AreListed loaded.now file.old) }
+    requires known { IsKnownOf known file.old }
     ensures ok { OnOk result (effect_by work.entry file.old ≡ Ok file.new) }
     ensures printed { IfOk result (λ ran. printed_for work.entry file.old ≡ Ok ran.printed) }
     ensures windows { IfOk result (λ ran. AreOver ran.windows file.old file.new) }
@@ -96,7 +97,7 @@ fn change(
     let command = work.command;
     let _ = &command.operation;
     let before = mem::replace(&mut file.items, Items::new(work.alloc));
-    let changed = on_rules(work, paths, places, before)?;
+    let changed = on_rules(work, known, places, before)?;
     file.items = changed.items;
     Ok(Ran {
         windows: changed.windows,
@@ -132,7 +133,7 @@ pub fn run_in(
             same_names: true,
             printed,
         }),
-        Look::Changes(places) => change(work, known.paths, places.as_slice(), file),
+        Look::Changes(places) => change(work, known, places.as_slice(), file),
     }
 }
 
@@ -156,6 +157,7 @@ pub fn run(
     let known = Known {
         lines,
         names: None,
+        hashes: None,
         paths: None,
     };
     run_named(alloc, command, target, current, known, file)
@@ -191,7 +193,7 @@ pub fn run_named(
         windows,
         same_names: _,
         printed,
-    } = change(work, known.paths, places.as_slice(), &mut new)?;
+    } = change(work, known, places.as_slice(), &mut new)?;
     if windows.is_empty() {
         take_apart(new);
         return Ok(Outcome {

@@ -17,6 +17,6 @@ pub use Rattle.bz_journal.specs.Worked.{WorkedHistories}
 pub use Rattle.bz_journal.specs.declared.action.Reply.{Reply}
 pub use Rattle.bz_journal.specs.Words.{AreBuild, AreListed, AreOver, AreSmall, AreThere, Bytes, Edit, Holds256, IsBuild, IsFormatted, IsIndexOf, IsOtherVersion, IsProperItem, IsSmall}
 pub use Rattle.bz_journal.specs.Words.{IsStale, IsTrail, IsTree, IsWritten, Item, Journal, NoJournal, Node, PairFault, Refusal, SetFault, StandsFor, are_even}
-pub use Rattle.bz_journal.specs.Words.{depth_limit, depth_of, effect, fronts, fronts_part, laid_out, layout, limit, lines_of, marked_places, meant, newlines}
+pub use Rattle.bz_journal.specs.Words.{depth_limit, depth_of, effect, fronts, fronts_part, item_hash, laid_out, layout, limit, lines_of, marked_places, meant, newlines}
 pub use Rattle.bz_journal.specs.Words.{printed, sha256, spell_node, spell_part, steps_back, steps_forward, texts_of, tidied, trail_at, view_of}
 pub use Rattle.bz_journal.specs.Words.{with_windows}

@@ -1,17 +1,18 @@
 -- The value beside a session, and the trees that a command leaves.
 use Rattle.std.specs.Prelude.{◌≡◌, ◌<◌, List, Option, length, map, take, Ok, IfSome}
-use Rattle.bz_journal.specs.Words.{AreListed, Bytes, IsIndexOf, IsProperBuild, IsWritten, Item, Node, Reads, layout, lines_of, sha256, spell_node, tidied, view_of}
+use Rattle.bz_journal.specs.Words.{AreListed, Bytes, IsIndexOf, IsProperBuild, IsWritten, Item, Node, Reads, item_hash, layout, lines_of, sha256, spell_node, tidied, view_of}
 use Rattle.bz_journal.specs.declared.action.Reply.{Reply}
 use Rattle.bz_journal.specs.declared.answering.Lookups.{Lookups}
 use Rattle.bz_journal.specs.declared.doing.Seen.{Seen}
 use Rattle.bz_journal.specs.Meaning.{written}
 use Rattle.bz_journal.specs.History.{History, Answer, after_meaning, present}
 
--- What was looked up is that of the tree: the index that of the names in its view, the lines those of its statements, and of its view no load is
--- from another path than those.
+-- What was looked up is that of the tree: the index and the hashes those of the names in its view, the lines those of its statements, and of its
+-- view no load is from another path than those.
 pub record AreLookupsOf (lookups : Lookups) (tree : Node) : Type 0 where
   pub named : IfSome lookups.names (λ index. IsIndexOf index (view_of tree))
   pub begun : IfSome lookups.lines (λ lines. lines ≡ lines_of tree)
+  pub hashed : IfSome lookups.hashes (λ hashes. hashes ≡ map item_hash (view_of tree))
   pub listed : IfSome lookups.paths (λ loaded. AreListed loaded (view_of tree))
 
 -- The value that is kept is the view of the tree, and what was looked up is that of the tree; a tree that counts as written is the

@@ -2,6 +2,7 @@
 pub use Rattle.bz_build_format.specs.Fixed.{IsFormatted}
 pub use Rattle.bz_build_format.specs.Meaning.{IsWritten}
 pub use Rattle.bz_command.specs.Effect.{NewItem, effect, meant, on_meant, on_one, printed}
+pub use Rattle.bz_command.specs.Known.{item_hash}
 pub use Rattle.bz_command.specs.declared.outcome.Ran.{Ran}
 pub use Rattle.bz_command.specs.declared.ruling.Work.{Work}
 pub use Rattle.bz_command_syntax.specs.Printing.{prints}

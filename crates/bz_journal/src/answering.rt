@@ -1,14 +1,17 @@
 //! Commands that leave the present text as it is, answered by the value beside a session.
-ghost use Rattle.std.specs.Prelude.{◌≡◌, IfSome, List, OnOk};
+ghost use Rattle.std.specs.Prelude.{◌≡◌, IfSome, List, OnOk, map};
 ghost use Rattle.bz_command.specs.Known.{IsKnownOf};
-ghost use Rattle.bz_journal.specs.Clauses.{AreListed, AreLookupsOf, Bytes, Do, GivesAlike, HasMade, IsIndexOf, IsSeenIn, Item, Node, lines_begun, lines_of, view_of};
+ghost use Rattle.bz_journal.specs.Clauses.{AreListed, AreLookupsOf, Bytes, Do, GivesAlike, HasMade, IsIndexOf, IsSeenIn, Item, Node, item_hash, lines_begun, lines_of, view_of};
 
 use crate::action::Reply;
 use crate::course::{Course, unchanged};
 use crate::doing::Seen;
 use crate::meaning::{printed_answer, value_of};
 use bz_build_format::reads_back;
-use bz_command::{Known, LoadedPaths, lines_matter, looks_at_lines, looks_for_load, run_named};
+use bz_command::{
+    Known, LoadedPaths, hashes_of, lines_matter, looks_at_lines, looks_for_load, puts_rule,
+    run_named,
+};
 use bz_command_syntax::Command;
 use bz_grammar::Tree;
 use bz_items::{Items, Memory};
@@ -22,6 +25,8 @@ pub(crate) struct Lookups {
     pub(crate) names: Option<Names>,
     /// The lines on which its statements begin.
     pub(crate) lines: Option<Items<u32>>,
+    /// The hashes of the names of its items, in their order.
+    pub(crate) hashes: Option<Items<u64>>,
     /// The paths from which it loads.
     pub(crate) paths: Option<LoadedPaths>,
 }
@@ -31,6 +36,7 @@ impl Drop for Lookups {
         let Lookups {
             names: _,
             lines: _,
+            hashes: _,
             paths: _,
         } = self;
     }
@@ -44,6 +50,7 @@ impl Lookups {
         Lookups {
             names: None,
             lines: None,
+            hashes: None,
             paths: None,
         }
     }
@@ -61,12 +68,16 @@ impl Lookups {
     /// What a command is handed of it.
     pub(crate) fn known(&self) -> Known<'_>
         ensures lines { result.lines.now ≡ lines_begun self.now }
-        ensures own { (items : List Item) → IfSome self.now.names (λ index. IsIndexOf index items) → IfSome self.now.paths (λ loaded. AreListed loaded items)
-            → IsKnownOf result items }
+        ensures own { (items : List Item) → IfSome self.now.names (λ index. IsIndexOf index items) → IfSome self.now.hashes (λ hashes. hashes ≡ map item_hash items)
+            → IfSome self.now.paths (λ loaded. AreListed loaded items) → IsKnownOf result items }
     {
         Known {
             lines: self.begins(),
             names: self.names.as_ref(),
+            hashes: match &self.hashes {
+                Some(hashes) => Some(hashes.as_slice()),
+                None => None,
+            },
             paths: self.paths.as_ref(),
         }
     }
@@ -99,6 +110,8 @@ pub(crate) enum Last {
     Named,
     /// It looked for a load from a path.
     Loads,
+    /// It put a new rule among the others.
+    Puts,
     Other,
 }
 
@@ -111,6 +124,8 @@ fn is_by_name(target: &Target) -> bool {
 pub(crate) fn last_of(command: &Command, target: &Target, same_names: bool) -> Last {
     if looks_for_load(command) {
         Last::Loads
+    } else if puts_rule(command) {
+        Last::Puts
     } else if same_names && is_by_name(target) {
         Last::Named
     } else {
@@ -118,8 +133,8 @@ pub(crate) fn last_of(command: &Command, target: &Target, same_names: bool) -> L
     }
 }
 
-/// Looks up what a command and its target need of a tree and its value, and isn't there yet: the index of names and the paths of loads where
-/// the last command was of the same kind. The error: memory was refused.
+/// Looks up what a command and its target need of a tree and its value, and isn't there yet: the index of names, the hashes of these and the
+/// paths of loads where the last command was of the same kind. The error: memory was refused.
 pub(crate) fn look_up(
     command: &Command,
     target: &Target,
@@ -143,6 +158,10 @@ pub(crate) fn look_up(
         }
         Last::Loads if looks_for_load(command) && lookups.paths.is_none() => {
             lookups.paths = Some(LoadedPaths::of(alloc, items)?);
+            Ok(())
+        }
+        Last::Puts if puts_rule(command) && lookups.hashes.is_none() => {
+            lookups.hashes = Some(hashes_of(alloc, items)?);
             Ok(())
         }
         _ => Ok(()),

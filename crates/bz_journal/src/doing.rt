@@ -107,6 +107,7 @@ fn take_up(
         windows,
         value,
         names,
+        hashes,
         paths,
         length,
     } = match made_of(seen, windows, file, before) {
@@ -120,6 +121,7 @@ fn take_up(
             seen.lookups = Lookups {
                 names,
                 lines,
+                hashes,
                 paths,
             };
             seen.written = Some(length);

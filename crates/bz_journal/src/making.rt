@@ -4,7 +4,7 @@ ghost use Rattle.bz_journal.specs.Clauses.{AreBuild, AreLinesOf, AreLookupsOf, A
 
 use crate::answering::Lookups;
 use crate::doing::Seen;
-use crate::naming::{followed, outlives};
+use crate::naming::{followed, hashed, outlives};
 use bz_build_format::{is_mostly_other, read_text, read_windows, reads_back};
 use bz_command::LoadedPaths;
 use bz_edit::PartWindow;
@@ -23,6 +23,8 @@ pub(crate) struct Made {
     pub(crate) value: Option<File>,
     /// The index of the names in the value, where that of the names before is known to be it.
     pub(crate) names: Option<Names>,
+    /// The hashes of the names in the value, where those before are known.
+    pub(crate) hashes: Option<Items<u64>>,
     /// The paths from which the value loads, where those before are known.
     pub(crate) paths: Option<LoadedPaths>,
     /// How many bytes its layout has.
@@ -97,12 +99,14 @@ fn made_by_windows(
     }
     let items = file.items.as_slice();
     let names = outlives(lookups.names.take(), windows.as_slice(), items);
+    let hashes = hashed(alloc, lookups.hashes.take(), windows.as_slice(), items);
     let paths = followed(alloc, lookups.paths.take(), windows.as_slice(), items);
     match lines_of_windows(windows.as_slice(), &file, tree, len) {
         Ok((windows, length)) => Ok(Made {
             windows,
             value: Some(file),
             names,
+            hashes,
             paths,
             length,
         }),
@@ -160,6 +164,7 @@ pub(crate) fn made_of(
         windows,
         value,
         names: None,
+        hashes: None,
         paths: None,
         length: text.len(),
     })

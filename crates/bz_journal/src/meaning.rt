@@ -1,6 +1,6 @@
 //! What a command makes of the value of a tree.
-ghost use Rattle.std.specs.Prelude.{◌≡◌, ◌⊎◌, Ok, IfOk, IfErr, IfSome};
-ghost use Rattle.bz_journal.specs.Clauses.{AreBuild, AreListed, IsBuild, IsIndexOf, Means, Refusal, RunsIn, effect, gives, lines_begun, printed, printed_answer, refuses, spell_node, text_or, view_of};
+ghost use Rattle.std.specs.Prelude.{◌≡◌, ◌⊎◌, Ok, IfOk, IfErr, IfSome, map};
+ghost use Rattle.bz_journal.specs.Clauses.{AreBuild, AreListed, IsBuild, IsIndexOf, Means, Refusal, RunsIn, effect, gives, item_hash, lines_begun, printed, printed_answer, refuses, spell_node, text_or, view_of};
 
 use crate::answering::{Lookups, look_up_lines};
 use crate::filling::overfills;
@@ -46,8 +46,9 @@ fn makes_build(command: &Command, target: &Target, current: &[u8], lines: &[u32]
     let _items = &file.items;
 }
 
-/// Runs a command on the value of a BUILD file, in place, by what was looked up; the value is that of a text of about `len` bytes. Errors:
-/// those of the command; `TooLarge` where what it makes is seen to be past the limit before it is made.
+/// Runs a command on the value of a BUILD file, in place, by what was looked up; the value is that of a text of about `len` bytes. Its pattern,
+/// where it has one, is compiled once for all rules. Errors: those of the command; `TooLarge` where what it makes is seen to be past the limit
+/// before it is made.
 pub(crate) fn run_beside(
     command: &Command,
     target: &Target,
@@ -57,6 +58,28 @@ pub(crate) fn run_beside(
     file: &mut File,
 ) -> Result<Ran, Refusal>
     requires names { IfSome lookups.now.names (λ index. IsIndexOf index file.old) }
+    requires hashes { IfSome lookups.now.hashes (λ hashes. hashes ≡ map item_hash file.old) }
+    requires paths { IfSome lookups.now.paths (λ loaded. AreListed loaded file.old) }
+    requires build { AreBuild file.old }
+    ensures { RunsIn (effect command.now target.now current.now (lines_begun lookups.now) file.old) (printed command.now target.now current.now (lines_begun lookups.now) file.old) file.old result file.new }
+{
+    match command.prepared(file.items.alloc())? {
+        Some(prepared) => run_prepared(&prepared, target, current, lookups, len, file),
+        None => run_prepared(command, target, current, lookups, len, file),
+    }
+}
+
+/// The same of a command of which the pattern is compiled already, where it has one.
+fn run_prepared(
+    command: &Command,
+    target: &Target,
+    current: &[u8],
+    lookups: &Lookups,
+    len: usize,
+    file: &mut File,
+) -> Result<Ran, Refusal>
+    requires names { IfSome lookups.now.names (λ index. IsIndexOf index file.old) }
+    requires hashes { IfSome lookups.now.hashes (λ hashes. hashes ≡ map item_hash file.old) }
     requires paths { IfSome lookups.now.paths (λ loaded. AreListed loaded file.old) }
     requires build { AreBuild file.old }
     ensures { RunsIn (effect command.now target.now current.now (lines_begun lookups.now) file.old) (printed command.now target.now current.now (lines_begun lookups.now) file.old) file.old result file.new }

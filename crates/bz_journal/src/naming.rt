@@ -1,9 +1,10 @@
-//! What was looked up and outlives a change: an index of names, where each item that changed has the name that is listed at its place; and
-//! paths of loads, with those of what came.
-ghost use Rattle.std.specs.Prelude.{◌<◌, ◌+◌, ◌^◌, List, IfSome, IsTrue, length};
-ghost use Rattle.bz_journal.specs.Clauses.{AreListed, AreOver, HasListedName, HaveListedNames, HaveListedNamesIn, IsIndexOf, Item};
+//! What was looked up and outlives a change: an index of names, where each item that changed has the name that is listed at its place; hashes of
+//! names and paths of loads, with those of what came.
+ghost use Rattle.std.specs.Prelude.{◌≡◌, ◌<◌, ◌+◌, ◌^◌, List, IfSome, IsTrue, length, map};
+ghost use Rattle.bz_journal.specs.Clauses.{AreListed, AreOver, HasListedName, HaveListedNames, HaveListedNamesIn, IsIndexOf, Item, item_hash};
 
-use bz_command::LoadedPaths;
+use bz_command::{LoadedPaths, hashes_over};
+use bz_items::Items;
 use bz_rule::{Names, held_name};
 use bz_value::{Item, Window};
 use std::alloc::Global;
@@ -60,6 +61,22 @@ pub(crate) fn outlives(names: Option<Names>, windows: &[Window], items: &[Item])
     match names {
         Some(index) if all_listed(&index, windows, items) => Some(index),
         _ => None,
+    }
+}
+
+/// The hashes of the names of these items, which are other ones than those of which they are in these windows alone; none where they are to be made anew.
+pub(crate) fn hashed(
+    alloc: Global,
+    hashes: Option<Items<u64>>,
+    windows: &[Window],
+    items: &[Item],
+) -> Option<Items<u64>>
+    ensures { (before : List Item) → AreOver windows.now before items.now → IfSome hashes (λ hashes. hashes ≡ map item_hash before)
+        → IfSome result (λ hashes. hashes ≡ map item_hash items.now) }
+{
+    match hashes {
+        Some(hashes) => hashes_over(alloc, hashes, windows, items),
+        None => None,
     }
 }
 

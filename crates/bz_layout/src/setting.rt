@@ -1,6 +1,7 @@
 ghost use Rattle.std.specs.Prelude.{◌≡◌, ◌<◌, ◌≤◌, ◌++◌, IfOk, IfSome, IsTrue, false, length};
 ghost use Rattle.bz_grammar.specs.Spell.{depth_of, limit, depth_limit};
 ghost use Rattle.bz_layout.specs.Appended.{gap_below};
+ghost use Rattle.bz_layout.specs.Drafts.{pushed};
 ghost use Rattle.bz_layout.specs.LaidOut.{laid_out};
 ghost use Rattle.bz_layout.specs.Written.{layout};
 
@@ -12,7 +13,6 @@ use bz_grammar::{DEPTH_LIMIT, LENGTH_LIMIT};
 use bz_items::Text;
 use bz_value::Item;
 use std::alloc::{AllocError, Global};
-use std::mem;
 use thiserror::Error;
 
 /// Why a file value is not written.
@@ -43,23 +43,18 @@ impl From<AllocError> for SetFault {
 /// How deep the lines of a layout may be, below its root.
 const LINE_DEPTH: usize = DEPTH_LIMIT as usize - 1;
 
-/// Appends the layout of items to a text, below an item where one is given. None: a growth was refused, or the text or the tree of the
-/// layout would be past a limit; what was appended by then is not specified.
-#[tactic(auto, using(crate::proofs::Deep::laid_out_depth))]
-pub fn append_items(out: &mut Vec<u8>, above: &Option<Item>, items: &[Item]) -> Option<()>
-    ensures text { IfSome result (λ _. out.new.items ≡ out.old.items ++ (gap_below above.now items.now ++ layout items.now)) }
-    ensures short { IfSome result (λ _. length out.new.items ≤ limit) }
+/// Appends the layout of items to a draft, below an item where one is given. None: a growth was refused, or the tree of the layout would be
+/// past the limit of depth; what was appended by then is not specified.
+#[tactic(auto, using(crate::proofs::Deep::laid_out_depth, crate::proofs::Pushing::pushed_twice))]
+pub fn append_items(out: &mut Draft, above: &Option<Item>, items: &[Item]) -> Option<()>
+    ensures text { IfSome result (λ _. out.new ≡ pushed out.old (gap_below above.now items.now ++ layout items.now)) }
     ensures shallow { IfSome result (λ _. depth_of (laid_out items.now) ≤ depth_limit) }
 {
     if !are_items_within(items, LINE_DEPTH) {
         return None;
     }
-    out.extend_from_slice(blank_before(above.as_ref(), items))
-        .ok()?;
-    let alloc = *out.allocator();
-    let mut draft = Draft::new(mem::replace(out, Vec::new(alloc)), LENGTH_LIMIT);
-    push_items(&mut draft, items).ok()?;
-    *out = draft.into_bytes()?;
+    out.push_bytes(blank_before(above.as_ref(), items)).ok()?;
+    push_items(out, items).ok()?;
     Some(())
 }
 

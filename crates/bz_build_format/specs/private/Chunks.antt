@@ -1,6 +1,6 @@
 -- A text that is formatted chunk by chunk, as the private functions that do so state it.
-use Rattle.std.specs.Prelude.{◌≡◌, ◌≤◌, Bool, true, false, List, [], ◌∷◌, ◌++◌, Option, None, Result, length}
-use Rattle.bz_build_format.specs.Words.{Bytes, Node, Reads, ReadsBzl, depth_of, depth_limit, limit, Item, EndsWithLine, BeginsBare, EndsWithStatement, view_of, gap_below, laid_out, layout, begins_with_load, tidied}
+use Rattle.std.specs.Prelude.{◌≡◌, ◌≤◌, Bool, true, false, List, [], ◌∷◌, ◌++◌, Option, None, Result}
+use Rattle.bz_build_format.specs.Words.{Bytes, Node, Reads, ReadsBzl, depth_of, depth_limit, limit, Item, EndsWithLine, BeginsBare, EndsWithStatement, view_of, Drafted, drafted, pushed, gap_below, laid_out, layout, begins_with_load, tidied}
 use Rattle.bz_build_format.specs.Faults.{FormatsBzlTo, FormatsTo}
 use Rattle.bz_build_format.specs.declared.chunks.FileKind.{FileKind}
 use Rattle.bz_build_format.specs.declared.chunks.FileKind.TheVariants.{Build, Suites}
@@ -24,15 +24,14 @@ abbrev pub ReadsAs : SourceKind → Bytes → List Item → Bool → Bool → Ty
 ReadsAs kind text items follows ends =
     (tree : Node) × kind.reads text tree × (items ≡ kind.settled (view_of tree)) × (follows ≡ true → kind.follows tree) × (ends ≡ true → kind.ends tree)
 
--- After a text is the layout of further items, within the limits; the last of them.
-pub record IsAppended (before : Bytes) (above : Option Item) (items : List Item) (out : Bytes) (item : Item) : Type 0 where
-  pub formatted : out ≡ before ++ (gap_below above items ++ layout items)
-  pub short : length out ≤ limit
+-- After a text that is written up to a limit is the layout of further items, whose tree is not too deep; the last of them.
+pub record IsAppended (before : Drafted) (above : Option Item) (items : List Item) (out : Drafted) (item : Item) : Type 0 where
+  pub formatted : out ≡ pushed before (gap_below above items ++ layout items)
   pub shallow : depth_of (laid_out items) ≤ depth_limit
   pub last : (front : List Item) × (items ≡ front ++ item ∷ [])
 
--- The formatted text of a text, and the last of its items.
-pub record IsFormattedAs (kind : SourceKind) (text out : Bytes) (item : Item) (ends : Bool) : Type 0 where
+-- The formatted text of a text, up to the limit of length, and the last of its items.
+pub record IsFormattedAs (kind : SourceKind) (text : Bytes) (out : Drafted) (item : Item) (ends : Bool) : Type 0 where
   pub items : List Item
   pub reads : ReadsAs kind text items false ends
-  pub laid_out : IsAppended [] None items out item
+  pub laid_out : IsAppended (drafted limit []) None items out item

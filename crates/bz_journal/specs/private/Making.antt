@@ -2,7 +2,7 @@
 use Rattle.std.specs.Prelude.{◌≡◌, ◌⊎◌, ◌≤◌, ◌==◌, ◌+◌, ◌-◌, ◌&&◌, ℕ, Bool, true, false, not, List, [], ◌∷◌, ◌++◌, length, map, take, drop, Option, Some, IfErr, IfOk, IfSome, Result}
 use Rattle.std.specs.List.{flat_map, list_any}
 use Rattle.bz_journal.specs.Words.{AreListed, AreThere, Bytes, Index, IsIndexOf, IsProperBuild, Item, Memory, Node, Part, PartWindow, Reads, Refusal, Window, depth_limit}
-use Rattle.bz_journal.specs.Words.{depth_of, first_gap, fronts_part, has_statements, held_name, is_statement_kind, laid_out, layout, leaves_part, newlines, places_from, spell_part}
+use Rattle.bz_journal.specs.Words.{depth_of, first_gap, fronts_part, has_statements, held_name, is_statement_kind, item_hash, laid_out, layout, leaves_part, newlines, places_from, spell_part}
 use Rattle.bz_journal.specs.Words.{tidied, with_windows}
 use Rattle.bz_journal.specs.Meaning.{refuses, written}
 use Rattle.bz_grammar.specs.declared.tree.Part.{Node'}
@@ -15,12 +15,13 @@ pub record AreLinesOf (windows : List PartWindow) (tree : Node) (items : List It
   pub reads : Reads (layout items) (with_windows windows tree)
   pub deep : depth_of (laid_out items) ≤ depth_limit
 
--- The same, with the length of the layout; and the value, the index of names and the paths that are kept, if any, are of these items.
+-- The same, with the length of the layout; and the value, the index of names, their hashes and the paths that are kept, if any, are of these items.
 pub record IsMadeOf (made : Made) (tree : Node) (items : List Item) : Type 0 where
   pub lines : AreLinesOf made.windows tree items
   pub length_is : made.length ≡ length (layout items)
   pub own : IfSome made.value (λ own. own ≡ items)
   pub named : IfSome made.names (λ index. IsIndexOf index items)
+  pub hashed : IfSome made.hashes (λ hashes. hashes ≡ map item_hash items)
   pub listed : IfSome made.paths (λ loaded. AreListed loaded items)
 
 -- The lines of a value tidied are made; or what is written of it is that refusal, or memory was refused.

@@ -1,5 +1,5 @@
-use Rattle.std.proofs.Common.{◌≡◌, ◌∙◌, Bool, Err, List, ap, subst, sym}
-use Rattle.bz_build_format.specs.Words.{Bytes, Item}
+use Rattle.std.proofs.Common.{◌≡◌, ◌∙◌, [], Bool, Err, List, ap, false, subst, sym}
+use Rattle.bz_build_format.specs.Words.{Bytes, Item, layout, limit}
 use Rattle.bz_build_format.specs.declared.chunks.FileKind.{FileKind}
 use Rattle.bz_build_format.specs.private.Chunks.{ReadsAs, of_kind}
 use Rattle.bz_build_format.proofs.Chunking.{answered_chunks, answered_fault, answered_text, answered_too_deep, answered_too_large}
@@ -9,9 +9,16 @@ use Rattle.bz_build_format.proofs.formatter.formatted.Goals as goal
 of_slice : (kind : FileKind) (text : Bytes) (items slice : List Item) (follows ends : Bool) → slice ≡ items → ReadsAs (of_kind kind) text items follows ends → ReadsAs (of_kind kind) text slice follows ends
 of_slice kind text items slice follows ends same = subst (λ xs. ReadsAs (of_kind kind) text xs follows ends) (sym same)
 
-pub returns-in-Some : goal.returns-in-Some
-returns-in-Some c =
-    answered_chunks c.views_are_proper.ensures c.flags_keep_layout.ensures c.layout_is_accepted.ensures c.layout_reads_back.ensures c.args.kind c.args.text.now c.in-Some.formatted _ _ c.in-Some.ensures.2
+pub returns-in-Some-into_bytes : goal.returns-in-Some-into_bytes
+returns-in-Some-into_bytes c =
+    let (last, ends, h) = c.in-Some.ensures in
+    answered_chunks c.views_are_proper.ensures c.flags_keep_layout.ensures c.layout_is_accepted.ensures c.layout_reads_back.ensures c.args.kind c.args.text.now c.in-Some-into_bytes.bytes.items c.from_vec.result
+    c.in-Some.formatted last ends h c.from_vec.ensures (c.in-Some-into_bytes.ensures limit [] (layout h.items) h.laid_out.formatted)
+
+pub returns-in-None : goal.returns-in-None
+returns-in-None c =
+    let (last, ends, h) = c.in-Some.ensures in
+    answered_too_large c.flags_keep_layout.ensures c.args.kind c.args.text.now h.items false ends h.reads (c.in-None.ensures limit [] (layout h.items) h.laid_out.formatted)
 
 pub returns-in-Err : goal.returns-in-Err
 returns-in-Err c = answered_fault c.args.kind c.args.text.now c.in-Err.fault c.of_read_fault.result c.of_read_fault.ensures c.in-Err.ensures.err

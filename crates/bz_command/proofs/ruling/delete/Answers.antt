@@ -1,9 +1,9 @@
 use Rattle.std.proofs.Common.{append-nil, ◌≡◌, ◌<◌, ◌+◌, ◌++◌, ◌∷◌, ◌∙◌, Bool, List, ap, ap₂, arith, drop, false, get_or, length, subst, sym}
-use Rattle.std.proofs.lemmas.List.{drop_more, length-append}
+use Rattle.std.proofs.lemmas.List.{drop_more}
 use Rattle.std.specs.Vec.Iter.{into_iter_items}
 use Rattle.bz_command.specs.Words.{Item, marked_places}
 use Rattle.bz_command.specs.Effect.{unmarked}
-use Rattle.bz_command.specs.private.Growing.{IsGrown}
+use Rattle.bz_load.specs.Growing.{IsGrown}
 use Rattle.bz_command.specs.private.Looks.{marks_by}
 use Rattle.bz_command.proofs.MeantPlaces.{unmarked_none}
 use Rattle.bz_command.proofs.TargetMarks.{as_many}
@@ -26,8 +26,7 @@ loop-at-preserved c =
     let there : at < length marks = omega (arith, many, fewer, l.invariant.count) in
     let first = drop_more marks at false there in
     let mark = c.take_place-mark.ensures (get_or marks at false) (drop (at + 1) marks) (l.invariant.left ∙ (ap (marked_places at) first ∙ ap (λ n. marked_places n (get_or marks at false ∷ drop (at + 1) marks)) (sym here))) in
-    let pushed = c.in_ok-push_unmarked.ensures in
-    let long = length-append l.kept.items (c.in-Some.item ∷ rest) in record {
+    let pushed = c.in_ok-push_unmarked.ensures in record {
       stay =
           ap (λ n. kept ++ unmarked (drop n marks) rest) next
           ∙ (pushed.stay (drop (at + 1) marks) rest
@@ -35,7 +34,7 @@ loop-at-preserved c =
           ∙ (ap₂ (λ (bs : List Bool) (xs : List Item). l.kept.items ++ unmarked bs xs) (sym first) (sym split) ∙ l.invariant.stay)));
       left = mark.1 ∙ (ap (λ n. marked_places n (drop (at + 1) marks)) (omega (arith, here, next)) ∙ ap (λ n. marked_places after (drop n marks)) (sym next));
       count = omega (arith, next, fewer, l.invariant.count);
-      grown = pushed.grown items rest (omega arith) (omega (arith, long, fewer, l.invariant.fewer)) (subst (λ (xs : List Item). IsGrown l.growing items (l.kept.items ++ xs)) split l.invariant.grown);
+      grown = pushed.grown items rest (subst (λ (xs : List Item). IsGrown l.growing items (l.kept.items ++ xs)) split l.invariant.grown);
       past = pushed.past;
       fewer = omega (arith, fewer, pushed.count, l.invariant.fewer);
       none = λ full. pushed.none (omega (arith, full, fewer, pushed.count, l.invariant.fewer)) ∙ l.invariant.none (omega (arith, full, fewer, pushed.count, l.invariant.fewer));

@@ -1,7 +1,7 @@
 use Rattle.std.proofs.Common.{◌≡◌, ◌≤◌, ◌+◌, ◌++◌, [], drop, length}
 use Rattle.std.specs.Vec.Iter.{into_iter_items}
 use Rattle.bz_command.specs.Effect.{unmarked}
-use Rattle.bz_command.specs.private.Growing.{IsGrown}
+use Rattle.bz_load.specs.Growing.{IsGrown}
 use Rattle.bz_command.specs.private.Looks.{marks_by}
 use Rattle.bz_rule.specs.Index.{marked_places}
 use Rattle.bz_command.proofs.ruling.delete.Given as goal

@@ -3,12 +3,8 @@ use Rattle.bz_command.specs.Words.{LoadOperation, new_load, replace_load}
 use Rattle.bz_command.specs.Effect.{loads_changed}
 use Rattle.bz_command.proofs.ruling.on_loads.Goals as goal
 
-pub returns-in_ok-with_load-in-New-clause-ok : goal.returns-in_ok-with_load-in-New-clause-ok
-returns-in_ok-with_load-in-New-clause-ok c =
+pub returns-in_ok-made-in-New-clause-ok : goal.returns-in_ok-made-in-New-clause-ok
+returns-in_ok-made-in-New-clause-ok c =
     ap (λ (operation : LoadOperation). loads_changed operation c.args.work.current.now c.args.items) c.in-New.is
-    ∙ ap Ok (sym (c.in_ok-with_load-in-New.ensures.items ∙ (c.in_ok-made-in-New.ensures.items
+    ∙ ap Ok (sym (c.with_load.ensures.items ∙ (c.in_ok-made-in-New.ensures.items
     ∙ ap₂ (λ path symbols. new_load path symbols c.args.items) c.as_slice.ensures c.as_slice-in-New.ensures)))
-
-pub returns-in_ok-with_load-in-New-clause-compared : goal.returns-in_ok-with_load-in-New-clause-compared
-returns-in_ok-with_load-in-New-clause-compared c =
-    c.in_ok-with_load-in-New.ensures.compared c.args.items c.in_ok-made-in-New.ensures.same c.in_ok-made-in-New.ensures.spliced

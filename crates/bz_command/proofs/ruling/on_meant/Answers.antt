@@ -8,7 +8,7 @@ use Rattle.bz_load.proofs.PutSteps.{put_over}
 use Rattle.bz_grammar.specs.Places.{Ascend}
 use Rattle.bz_rule.specs.Rules.{has_name, is_text}
 use Rattle.bz_command.specs.private.Looks.{one_made_by}
-use Rattle.bz_command.proofs.OneMore.{left_further, left_next, nothing_grown, same_before, same_put}
+use Rattle.bz_load.proofs.OneMore.{left_further, left_next, nothing_grown, same_before, same_put}
 use Rattle.bz_command.proofs.MeantPlaces.{ascend_here, by_places, made, meant_ascend, on_places, one_made_is, refused}
 use Rattle.bz_command.proofs.ruling.on_meant.Goals as goal
 
@@ -60,7 +60,7 @@ loop-at-preserved c =
     let left = left_further c.args.items.now l.items l.growing.past at h.0 l.invariant.left in record {
       made = made (one_made_by c.args.work) (i.Block []) c.args.places.now l.items l.at-index d _ c.loop-at-test.true there l.invariant.made new (one_made_is c.args.work c.command.inside.operation _ _ c.command.view_is c.in_ok-same.ensures.ok);
       order = c.in_ok-note.ensures.order _ _ h;
-      grown = c.in_ok-note.ensures.grown c.args.items.now l.items (set l.items at new) (omega arith) (omega (arith, long)) l.invariant.grown (λ is. stays (same.0 is)) (put_over at new l.items (set l.items at new) there refl);
+      grown = c.in_ok-note.ensures.grown c.args.items.now l.items (set l.items at new) l.invariant.grown (λ is. stays (same.0 is)) (put_over at new l.items (set l.items at new) there refl);
       none = λ equal.
           let is = same_before c.args.items.now l.items at d new there left equal in
           c.in_ok-note.ensures.none (same.1 is) ∙ l.invariant.none (sym (stays is) ∙ equal);

@@ -2,7 +2,7 @@ use Rattle.std.proofs.Common.{◌≡◌, [], drop, length}
 use Rattle.std.specs.Prelude.{IsTrue}
 use Rattle.bz_value.specs.declared.value.Item.TheVariants as i
 use Rattle.bz_command.specs.Words.{Ascend, HaveSameNames}
-use Rattle.bz_command.specs.private.Growing.{IsGrown}
+use Rattle.bz_load.specs.Growing.{IsGrown}
 use Rattle.bz_command.specs.private.Looks.{one_made_by}
 use Rattle.bz_command.proofs.MeantPlaces.{on_places}
 use Rattle.bz_command.proofs.ruling.on_meant.Given as goal

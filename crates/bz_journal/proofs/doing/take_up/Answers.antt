@@ -1,6 +1,6 @@
-use Rattle.std.proofs.Common.{◌≡◌, ◌∙◌, Err, List, Ok, ap, length, subst, sym}
+use Rattle.std.proofs.Common.{◌≡◌, ◌∙◌, Err, List, Ok, ap, length, map, subst, sym}
 use Rattle.std.specs.Prelude.{IfSome}
-use Rattle.bz_journal.specs.Clauses.{AreListed, Bytes, EndsAt, IsIndexOf, IsWritten, Item, Node, after_meaning, layout, lines_of, session_history, spell_node, tidied}
+use Rattle.bz_journal.specs.Clauses.{AreListed, Bytes, EndsAt, IsIndexOf, IsWritten, Item, Node, after_meaning, item_hash, layout, lines_of, session_history, spell_node, tidied}
 use Rattle.bz_journal.specs.Clauses.{view_of, with_windows}
 use Rattle.bz_journal.specs.Words.{Reads}
 use Rattle.bz_build_format.specs.Meaning.{Meaning}
@@ -46,6 +46,7 @@ returns-in-Ok-take_up-clause-seen c =
       looked = record {
         named = subst (λ (xs : List Item). IfSome c.in-Ok.made.names (λ index. IsIndexOf index xs)) seen made.named;
         begun = subst (λ (n : Node). IfSome c.begins_after-lines.result (λ own. own ≡ lines_of n)) moved c.begins_after-lines.ensures;
+        hashed = subst (λ (xs : List Item). IfSome c.in-Ok.made.hashes (λ hashes. hashes ≡ map item_hash xs)) seen made.hashed;
         listed = subst (λ (xs : List Item). IfSome c.in-Ok.made.paths (λ loaded. AreListed loaded xs)) seen made.listed;
       };
       written = (

@@ -1,0 +1,8 @@
+use Rattle.std.proofs.Common.{◌≡◌, ◌<◌, [], ℕ, false, get_or}
+use Rattle.bz_value.specs.declared.value.Item.TheVariants as i
+use Rattle.bz_command.specs.Words.{has_name}
+use Rattle.bz_command.proofs.hashes.place_among.Given as goal
+
+-- no item before this one has the name
+abbrev pub invariant-loop-at : goal.invariant-loop-at
+invariant-loop-at l = (k : ℕ) → k < l.at → has_name l.name (get_or l.items k (i.Block [])) ≡ false
