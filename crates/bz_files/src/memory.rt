@@ -12,10 +12,15 @@ use crate::{FileFault, FileKind, FileStamp, Files};
 use std::alloc::{AllocError, Global};
 
 // A file that was written.
-#[derive(Drop)]
 struct Entry {
     name: String,
     bytes: Vec<u8>,
+}
+
+impl Drop for Entry {
+    fn drop(self) {
+        let Entry { name: _, bytes: _ } = self;
+    }
 }
 
 /// Files in memory, which keep each write, and whose calls can be made to fail. A new file is no part of the folder until it takes
@@ -310,9 +315,10 @@ impl Files for MemoryFiles {
         let Some(entry) = newest else {
             return Err(self.failed(FileFault::Write));
         };
-        if self.log.push(entry).is_err() {
+        if self.log.reserve(1).is_err() {
             return Err(self.failed(FileFault::Memory));
         }
+        self.log.push_reserved(entry);
         if self.fails_now() {
             return Err(self.failed(FileFault::Write));
         }

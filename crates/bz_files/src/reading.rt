@@ -2,7 +2,8 @@
 ghost use Rattle.std.specs.Prelude.{◌≡◌, ◌++◌, take, IfSome, OnOk, OnErr};
 ghost use Rattle.std.specs.Io.{StartsWith};
 
-use crate::FileKind;
+use crate::{FileKind, FileStamp};
+use std::alloc::Global;
 use std::fs::File;
 use std::io::{ErrorKind, Read};
 use std::{fs, io};
@@ -41,4 +42,22 @@ pub(crate) fn read_first<F: Read + Drop>(file: F, most: usize, into: &mut Vec<u8
             Err(error)
         }
     }
+}
+
+/// The stamp of the regular file that has a name, where it has these bytes, and after they were read the same stamp as before. All that is
+/// owned on the way ends here, and not in a method whose clauses would be proved at each such end.
+pub(crate) fn read_again<R: std::rt::Files<File = File>>(
+    alloc: Global,
+    system: &R,
+    name: &str,
+    held: &[u8],
+) -> io::Result<Option<FileStamp>> {
+    let file = open_kind(system, name, FileKind::Regular)?;
+    let first = FileStamp::of(&file.metadata()?);
+    let mut bytes = Vec::new(alloc);
+
+    // Of a longer file no more is read than the byte that shows it.
+    file.take(held.len() as u64 + 1).read_to_end(&mut bytes)?;
+    let seen = FileStamp::of(&fs::metadata(system, name)?);
+    Ok((bytes.as_slice() == held && seen == first).then_some(seen))
 }

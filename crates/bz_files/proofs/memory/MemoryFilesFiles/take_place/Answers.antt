@@ -13,7 +13,7 @@ returns-then-fails_now-clause-replaced c = λ honest rest name bytes is.
 
 pub returns-clause-replaced : goal.returns-clause-replaced
 returns-clause-replaced c = λ honest rest name bytes is.
-    let step = placed c.args.self.now.log.items c.push.new.self.items c.args.self.now.waiting.items c.pop-newest.new.self.items
+    let step = placed c.args.self.now.log.items c.push_reserved.new.self.items c.args.self.now.waiting.items c.pop-newest.new.self.items
     c.in-Some.entry rest name bytes (search rules) c.in-Some.ensures.items is in
     record { time = step.0; done = step.1 }
 
