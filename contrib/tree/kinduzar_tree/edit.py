@@ -98,7 +98,7 @@ class Editor:
         unknown = [(number, target) for number, target in enumerate(targets) if known[number] is None]
         for _, (number, target), ended in self.pool.each(lambda one: self.kinds_of([one[1]]), unknown):
             found = set(os.fsdecode(ended.out).split())
-            known[number] = [target] if found & set(kinds) or ended.err else []
+            known[number] = [target] if found & set(kinds) or without_notes(ended.err)[1] else []
         return [target for number in range(len(targets)) for target in known[number]]
 
     def plan(self, lines, kinds, refusals):

@@ -7,8 +7,8 @@ from .terminal import command_line, counted, shown
 # the command line that goes on has at most so many names; more go into a file
 MOST_NAMES = 20
 
-# how a line begins that is no refusal: it notes something of an edit that was done, or of a file that was formatted
-NOTE = b"buildozer: note: ", b"buildifier: note: "
+# how a line begins that is no refusal: it notes something of an edit, or of a file that was formatted; and one on a root above, which is said here of one that is passed over
+NOTE, ROOT_NOTE = (b"buildozer: note: ", b"buildifier: note: "), b"buildozer: note: the root of the workspace is "
 
 
 def by_name(err, fronts):
@@ -30,7 +30,7 @@ def lines_of(err):
 def without_notes(err):
     """The lines of standard error that only note something of what was done, and all others."""
     lines = err.splitlines(keepends=True)
-    notes = [os.fsdecode(line.rstrip(b"\n")) for line in lines if line.startswith(NOTE)]
+    notes = [os.fsdecode(line.rstrip(b"\n")) for line in lines if line.startswith(NOTE) and not line.startswith(ROOT_NOTE)]
     return notes, b"".join(line for line in lines if not line.startswith(NOTE))
 
 

@@ -13,14 +13,14 @@ use Rattle.std.proofs.lemmas.List.{append-nil}
 use Rattle.std.proofs.lemmas.List.Folds.{list_any-append}
 use Rattle.bz_grammar.specs.Laws.{OneReading}
 use Rattle.bz_streams.specs.declared.exit.Cut.TheVariants as c
-use Rattle.bz_buildozer.specs.Found.{Used}
+use Rattle.bz_buildozer.specs.Found.{Used, root_above}
 use Rattle.bz_buildozer.specs.Ending.{Ended, Performs, TriesFile, TriesFiles, WritesFile, Writing, status_of, texts_out, writing_of}
 use Rattle.bz_buildozer.specs.Exact.{IsLeftOpen, SameLeft, ReportsPattern, GivenReportsPattern, OutcomesAreExact}
-use Rattle.bz_buildozer.specs.Reported.{output_lines, usage_line}
+use Rattle.bz_buildozer.specs.Reported.{output_lines, root_note, usage_line}
 use Rattle.bz_buildozer.specs.Run.{World, Progress, RunsSteps, nothing_done}
-use Rattle.bz_buildozer.specs.Steps.{RunStep, step_of, steps_requested, all_steps, is_of_input, names_input, shows_input, input_package}
+use Rattle.bz_buildozer.specs.Steps.{step_of, steps_requested, all_steps, is_of_input, names_file, names_input, shows_input, input_package}
 use Rattle.bz_buildozer.proofs.CutSteps.{both_whole}
-use Rattle.bz_buildozer.proofs.ExactSteps.{same_lines, same_parts, AreSeen, Stays, reads_input, same_folder, same_run, stays_run, one_input}
+use Rattle.bz_buildozer.proofs.ExactSteps.{same_append, same_lines, same_parts, AreSeen, Stays, reads_input, same_folder, same_run, stays_run, one_input}
 use Rattle.std.specs.Str.{IsUtf8, IsValidUpTo}
 use Rattle.std.proofs.Math.Seq.{take-length}
 use Rattle.bz_lex.specs.declared.fault.ReadFault.TheVariants.{NotUtf8}
@@ -167,47 +167,52 @@ no_steps = no_part reads_input (λ (line : Requested). list_any is_of_input line
 -- ---- what is left
 
 -- where nothing is cut, no part is
-record IsWhole (options : Options) (steps : List RunStep) (world : World) (ended : Ended) : Type 0 where
+record IsWhole (options : Options) (requested : List Requested) (world : World) (ended : Ended) : Type 0 where
   pub reported : List Bytes
   pub told : List Bytes
   pub folder : Folder
   pub state : Progress
-  pub runs : RunsSteps c.Whole options.journal world options.keep_going steps nothing_done reported folder state
-  pub output : ended.left.output ≡ state.printed ++ texts_out (shows_input steps) options.to_stdout state.used
+  pub runs : RunsSteps c.Whole options.journal world options.keep_going (all_steps requested) nothing_done reported folder state
+  pub output : ended.left.output ≡ state.printed ++ texts_out (shows_input (all_steps requested)) options.to_stdout state.used
   pub tries : TriesFiles c.Whole options state.used folder told ended.left.folder
-  pub lines : ended.left.lines ≡ reported ++ told
+  pub lines : ended.left.lines ≡ root_note (names_file requested) (root_above world.folder) ++ reported ++ told
   pub status : ended.left.status ≡ status_of c.Whole state
 
-is_whole : (options : Options) (steps : List RunStep) (world : World) (ended : Ended) → ended.cut ≡ c.Whole → Performs options steps world ended → IsWhole options steps world ended
-is_whole options steps world ended whole performs =
+is_whole : (options : Options) (requested : List Requested) (world : World) (ended : Ended) → ended.cut ≡ c.Whole → Performs options requested world ended
+    → IsWhole options requested world ended
+is_whole options requested world ended whole performs =
+    let front = root_note (names_file requested) (root_above world.folder) ++ performs.reported in
     let parts = both_whole performs.stopped (first_cut performs.written ended.printed) ended.cut performs.cut whole in
     let more = both_whole performs.written ended.printed c.Whole (sym parts.1) refl in record {
       reported = performs.reported;
       told = performs.told;
       folder = performs.folder;
       state = performs.state;
-      runs = subst (λ (why : Cut). RunsSteps why options.journal world options.keep_going steps nothing_done performs.reported performs.folder performs.state) parts.0 performs.runs;
+      runs = subst (λ (why : Cut). RunsSteps why options.journal world options.keep_going (all_steps requested) nothing_done performs.reported performs.folder performs.state) parts.0 performs.runs;
       output = performs.output;
       tries = subst (λ (why : Cut). TriesFiles why options performs.state.used performs.folder performs.told ended.left.folder) more.0 performs.tries;
-      lines = performs.lines ∙ ap (λ (why : Cut). performs.reported ++ output_lines why ++ performs.told) more.1
-          ∙ ap (λ (ls : List Bytes). ls ++ performs.told) (append-nil performs.reported);
+      lines = performs.lines ∙ ap (λ (why : Cut). front ++ output_lines why ++ performs.told) more.1
+          ∙ ap (λ (ls : List Bytes). ls ++ performs.told) (append-nil front);
       status = performs.status ∙ ap (λ (why : Cut). status_of why performs.state) whole;
     }
 
-module _ (one : OneReading) (words : List Bytes) (bytes : Bytes) (options : Options) (steps : List RunStep) (world : World) (known : world.known ≡ Some bytes) where
+module _ (one : OneReading) (words : List Bytes) (bytes : Bytes) (options : Options) (requested : List Requested) (world : World) (known : world.known ≡ Some bytes) where
   start : (journals : Bool) → Stays journals world.folder [] world.folder
   start true = (tt, (λ name unlike aside. refl), λ place file at. absurd (let e = at in cc))
   start false = refl
 
-  pub same_performed : (read read' : Option Bytes) (left other : Ended) → AreSeen world steps read → AreSeen world steps read'
+  pub same_performed : (read read' : Option Bytes) (left other : Ended) → AreSeen world (all_steps requested) read
+      → AreSeen world (all_steps requested) read'
       → (options.journal ≡ true → (file : Bytes) → IsLeftOpen words (journal_name file)) → left.cut ≡ c.Whole → other.cut ≡ c.Whole
-      → Performs options steps (record world { known = read }) left → Performs options steps (record world { known = read' }) other
+      → Performs options requested (record world { known = read }) left → Performs options requested (record world { known = read' }) other
       → SameLeft words world left.left other.left
   same_performed read read' left other seen seen' opens whole whole' performs performs' =
       let here = record world { known = read } in
       let there = record world { known = read' } in
-      let w = is_whole options steps here left whole performs in
-      let w' = is_whole options steps there other whole' performs' in
+      let steps = all_steps requested in
+      let note = root_note (names_file requested) (root_above world.folder) in
+      let w = is_whole options requested here left whole performs in
+      let w' = is_whole options requested there other whole' performs' in
       let begun = start options.journal in
       let same = same_run one words world bytes known options.journal options.keep_going steps here there w.folder w'.folder nothing_done w.reported w'.reported w.state w'.state
       seen seen' begun begun w.runs w'.runs in
@@ -221,8 +226,8 @@ module _ (one : OneReading) (words : List Bytes) (bytes : Bytes) (options : Opti
       record {
         output = w.output ∙ ap (λ (s : Progress). s.printed ++ texts_out (shows_input steps) options.to_stdout s.used) same.1 ∙ sym w'.output;
         status = w.status ∙ ap (status_of c.Whole) same.1 ∙ sym w'.status;
-        lines = same_parts words world left.left.lines other.left.lines w.reported w'.reported w.told w'.told w.lines w'.lines same.0
-            (same_lines words world w.told w'.told tried.0);
+        lines = same_parts words world left.left.lines other.left.lines (note ++ w.reported) (note ++ w'.reported) w.told w'.told w.lines w'.lines
+            (same_append words world note note w.reported w'.reported (same_lines words world note note refl) same.0) (same_lines words world w.told w'.told tried.0);
         folder = tried.1;
       }
 
@@ -310,7 +315,7 @@ module _ (one : OneReading) (words : List Bytes) (bytes : Bytes) (options : Opti
   same_ends lines ended other whole whole' (read, seen, inl (named, is)) (read', seen', inr (none, performs)) = absurd (true≢false (sym named ∙ none))
   same_ends lines ended other whole whole' (read, seen, inr (none, performs)) (read', seen', inl (named, is)) = absurd (true≢false (sym named ∙ none))
   same_ends lines ended other whole whole' (read, seen, inr (none, performs)) (read', seen', inr (none', performs')) =
-      same_performed one words bytes options (all_steps lines) world known read read' ended other seen seen' opens whole whole' performs performs'
+      same_performed one words bytes options lines world known read read' ended other seen seen' opens whole whole' performs performs'
 
   seen_by : (of_input : Bool) (lines : List Requested) (read : Option Bytes) → of_input && names_input lines ≡ false → (of_input ≡ false → read ≡ world.known)
       → AreSeen world (all_steps lines) read

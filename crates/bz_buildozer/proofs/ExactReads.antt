@@ -4,10 +4,11 @@ use Rattle.std.specs.List.{All, flat_map}
 use Rattle.std.proofs.lemmas.List.Elements.{All-head, All-tail}
 use Rattle.bz_buildozer.specs.Words.{Bytes, Folder, Target, Requested, Request, Usage, Cut, Given, operands, script, CommandLine, LineUsage, command_line_of, Options, first_cut}
 use Rattle.bz_streams.specs.declared.exit.Cut.TheVariants as c
-use Rattle.bz_buildozer.specs.Found.{Opened, Used, with_opened, file_at, package_number}
+use Rattle.bz_buildozer.specs.Found.{Opened, Used, with_opened, file_at, package_number, root_above}
 use Rattle.bz_buildozer.specs.Outcome.{AreOfInput, GivenOutcome, IsOfInput, LineOutcome, NamesNoFile, WordsOutcome}
 use Rattle.bz_buildozer.specs.Run.{Answers, Does, World, Progress, RunsSteps, Uses, nothing_done}
-use Rattle.bz_buildozer.specs.Steps.{RunStep, step_of, steps_requested, all_steps, input_package, shows_input}
+use Rattle.bz_buildozer.specs.Reported.{root_note}
+use Rattle.bz_buildozer.specs.Steps.{RunStep, step_of, steps_requested, all_steps, input_package, names_file, shows_input}
 use Rattle.bz_buildozer.proofs.FailSteps.{answers_stay, stay_used}
 use Rattle.bz_buildozer.proofs.StandSteps.{key_input, key_of_input}
 use Rattle.std.specs.Option.{option_map}
@@ -141,8 +142,8 @@ record Requests (Is : Ended → Type 0) (OfInput : Type 0) (world : World) (ende
   pub options : Options
   pub lines : List Requested
   pub known : Option Bytes
-  pub performs : Performs options (all_steps lines) (record world { known = known }) ended
-  pub again : (other : Ended) → Performs options (all_steps lines) (record world { known = known }) other → Is other
+  pub performs : Performs options lines (record world { known = known }) ended
+  pub again : (other : Ended) → Performs options lines (record world { known = known }) other → Is other
   pub of_input : OfInput → AreOfInput lines
 
 module _ (world : World) (ended : Ended) (other : ended.cut ≢ c.Whole) where
@@ -195,7 +196,8 @@ output_alone words world ended (inr outcome) write =
     let stopped = first_write p.stopped (first_cut p.written ended.printed) (sym write ∙ p.cut)
     (runs_unwritten p.stopped it.options.journal place it.options.keep_going (all_steps it.lines) nothing_done p.reported p.folder p.state p.runs) in
     let written = first_write p.written ended.printed stopped.1 (tries_alone p.written it.options p.state.used p.folder p.told ended.left.folder p.tries).0 in
-    let left : Left = record { output = ended.left.output; lines = p.reported ++ p.told; status = status_of c.Whole p.state; folder = ended.left.folder } in (
+    let front = root_note (names_file it.lines) (root_above world.folder) ++ p.reported in
+    let left : Left = record { output = ended.left.output; lines = front ++ p.told; status = status_of c.Whole p.state; folder = ended.left.folder } in (
       left,
       inr (it.again (ended_whole left) (record {
         stopped = c.Whole;
@@ -207,7 +209,7 @@ output_alone words world ended (inr outcome) write =
         runs = subst (λ (why : Cut). RunsSteps why it.options.journal place it.options.keep_going (all_steps it.lines) nothing_done p.reported p.folder p.state) stopped.0 p.runs;
         output = p.output;
         tries = subst (λ (why : Cut). TriesFiles why it.options p.state.used p.folder p.told ended.left.folder) written.0 p.tries;
-        lines = ap (λ (ls : List Bytes). ls ++ p.told) (sym (append-nil p.reported));
+        lines = ap (λ (ls : List Bytes). ls ++ p.told) (sym (append-nil front));
         cut = refl;
         status = refl;
       })),
@@ -336,7 +338,7 @@ no_texts shown to_stdout (used ∷ more) closed =
 
 -- Where standard input can't be read, steps on its rules alone leave nothing to print.
 performs_nothing_printed : (options : Options) (lines : List Requested) (world : World) (ended : Ended) → AreOfInput lines → ended.cut ≡ c.Read
-    → ended.printed ≢ c.Read → Performs options (all_steps lines) world ended → ended.left.output ≡ []
+    → ended.printed ≢ c.Read → Performs options lines world ended → ended.left.output ≡ []
 performs_nothing_printed options lines world ended are cut other p =
     by_first (λ (it : Cut). it ≡ c.Read → ended.left.output ≡ []) p.stopped (first_cut p.written ended.printed) ended.cut p.cut
     (λ is.

@@ -13,17 +13,15 @@ use Rattle.std.specs.List.{list_any}
 use Rattle.std.proofs.lemmas.Bool.{or_parts}
 use Rattle.std.proofs.lemmas.Slice.Eq.{bytes_eq-Decides}
 use Rattle.bz_streams.specs.declared.exit.Cut.TheVariants as c
-use Rattle.bz_buildozer.specs.Found.{PackagesFound, IsNameOf, Settled, first_name, folder_of, found_at, found_of, key_in, key_of, as_file, as_package, as_unedited, package_of, root_above, second_name, settled, Opened, Used, file_at, package_number, with_opened}
+use Rattle.bz_buildozer.specs.Found.{PackagesFound, IsNameOf, Settled, first_name, folder_of, found_at, found_of, key_in, key_of, as_file, as_package, as_unedited, package_of, second_name, settled, Opened, Used, file_at, package_number, with_opened}
 use Rattle.bz_buildozer.specs.Journals.{OpensAs, TakesBeside, file_of_journal, journal_beside, lines_of_journal}
 use Rattle.bz_buildozer.specs.Keeps.{FolderAfter, file_after, left_out}
 use Rattle.bz_buildozer.specs.Moments.{AllAre}
 use Rattle.bz_buildozer.specs.Opens.{Takes}
-use Rattle.bz_buildozer.specs.Reported.{absent_hint}
 use Rattle.bz_buildozer.specs.Steps.{RunStep, action_of, input_package, is_of_input}
 use Rattle.bz_buildozer.proofs.CutSteps.{both_whole}
 use Rattle.bz_buildozer.proofs.ReadSteps.{one_given}
 use Rattle.bz_buildozer.proofs.ActSteps.{Leaves, acts_leaves}
-use Rattle.bz_buildozer.proofs.FileNames.{root_stays}
 use Rattle.bz_buildozer.proofs.StandSteps.{IsHeld, IsUnlike, OthersAre, WereThere, all_after, all_at, all_last, apart_from, as_begun, file_in_front, found_by, found_holds, holds_still, is_named, key_new, key_same, means_held, more_were, names_stay, not_input, not_named, own_holds, own_named, put_were, settled_begun, there_still, unlike_put}
 
 -- ---- lists of lines that are the same but for what is left open
@@ -41,7 +39,7 @@ pub same_as : (words : List Bytes) (world : World) (lines others these those : L
 same_as words world lines others these those is other_is same =
     subst (λ (ls : List Bytes). SameLines words world ls others) (sym is) (subst (λ (ls : List Bytes). SameLines words world these ls) (sym other_is) same)
 
-same_append : (words : List Bytes) (world : World) (first others rest more : List Bytes) → SameLines words world first others
+pub same_append : (words : List Bytes) (world : World) (first others rest more : List Bytes) → SameLines words world first others
     → SameLines words world rest more → SameLines words world (first ++ rest) (others ++ more)
 same_append words world [] [] rest more same following = following
 same_append words world [] (other ∷ others) rest more same following = absurd same
@@ -274,11 +272,10 @@ module _ (began folder : Folder) (used : List Used) (all : AllAre (IsHeld folder
   found_begun (as_file name) is none = ap (λ (held : Option Bytes). found_at name held None) (begun name name none (own_named folder path name is)).0
   found_begun (as_unedited why) is none = refl
 
-  module _ (rooted : root_above folder ≡ root_above began) (file : Option Opened) (lines : List Bytes) where
+  module _ (file : Option Opened) (lines : List Bytes) where
     opens_begun : (s : Settled) (found : Option PackagesFound) → settled folder path ≡ s → package_number (key_of path s) used ≡ None → found_of folder s ≡ found
         → OpensAs true folder path s found file lines → OpensAs true began path s found file lines
-    opens_begun (as_package current) None is none at opens =
-        (opens.0, opens.1 ∙ ap (λ (root : Option Bytes). (named_line (second_name current) (codes "cannot open") ++ absent_hint current root) ∷ []) rooted)
+    opens_begun (as_package current) None is none at opens = opens
     opens_begun (as_package current) (Some it) is none at opens = subst (λ (journal : Option Bytes). TakesBeside journal current it.0 it.1 file lines)
         (begun current it.0 none (found_holds folder current it.0 it.1 at).0).1 opens
     opens_begun (as_file name) None is none at opens = absurd opens
@@ -291,10 +288,6 @@ module _ (world here : World) (used : List Used) (path : Bytes) where
   meant_seen : (journals : Bool) → Stays journals world.folder used here.folder → settled here.folder path ≡ settled world.folder path
   meant_seen false still = ap (λ (f : Folder). settled f path) still
   meant_seen true stays = settled_begun world.folder here.folder used (held_there here.folder used stays.0) stays.2 stays.1 path
-
-  rooted_seen : (journals : Bool) → Stays journals world.folder used here.folder → root_above here.folder ≡ root_above world.folder
-  rooted_seen false still = ap root_above still
-  rooted_seen true stays = root_stays here.folder world.folder (there_still world.folder here.folder used (held_there here.folder used stays.0) stays.2 stays.1)
 
   finds_seen : (journals : Bool) (found : Option PackagesFound) (file : Option Opened) (lines : List Bytes) → Stays journals world.folder used here.folder
       → Seen world here.known path → package_number (key_in used here.folder path) used ≡ None → Finds journals here path found
@@ -316,7 +309,7 @@ module _ (world here : World) (used : List Used) (path : Bytes) where
       let new = sym (ap (λ (k : Bytes). package_number k used) (key_new used here.folder path none)) ∙ none in (
         inr (which, is ∙ found_begun world.folder here.folder used stays.0 stays.1 path s refl new ∙ ap (found_of world.folder) meant),
         subst (λ (it : Settled). OpensAs true world.folder path it found file lines) meant
-            (opens_begun world.folder here.folder used stays.0 stays.1 path (rooted_seen true stays) file lines s found refl new (sym is) opens),
+            (opens_begun world.folder here.folder used stays.0 stays.1 path file lines s found refl new (sym is) opens),
       )
 
   pub seen : (journals : Bool) (place : ℕ) (lines : List Bytes) (after : List Used) → Stays journals world.folder used here.folder → Seen world here.known path

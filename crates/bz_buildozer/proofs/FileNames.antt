@@ -11,7 +11,7 @@ use Rattle.std.proofs.lemmas.List.{append_cancel_right}
 use Rattle.std.proofs.lemmas.Slice.Eq.{bytes_eq-Decides, ends_is}
 use Rattle.bz_label.specs.Pieces.{has_slash, is_slash}
 use Rattle.bz_buildozer.specs.Words.{Bytes, Folder, journal_name, new_name}
-use Rattle.bz_buildozer.specs.Found.{IsNameOf, PackagesAreApart, Settled, bzl, first_name, folder_of, has_package, in_package, is_file, is_first_name, is_kept_name, is_own_name, is_root, is_second_name, is_there, kept, may_be_file, as_file, as_package, as_unedited, root_above, root_from, second_name, settled, settled_file, settled_second}
+use Rattle.bz_buildozer.specs.Found.{IsNameOf, PackagesAreApart, Settled, bzl, first_name, folder_of, has_package, in_package, is_file, is_first_name, is_kept_name, is_own_name, is_second_name, is_there, kept, may_be_file, as_file, as_package, as_unedited, second_name, settled, settled_file, settled_second}
 
 -- ---- the folder of a file
 
@@ -297,33 +297,3 @@ module _ (folder began : Folder) (same : (name : Bytes) → is_kept_name name �
   settled_stays path =
       ap (λ (b : Bool). if b then settled_file folder path else as_package path) (file_stays path)
       ∙ ap (λ (it : Settled). if is_file began path then it else as_package path) (meant_stays path)
-
-  -- a file by which a folder is a root: its name, of which the last letters sum up so
-  mark_stays : (path : Bytes) (a b : ℕ) (rest : Bytes) (n : ℕ) → sum_after a b rest ≡ n → n ≢ 205 → n ≢ 220
-      → is_some (get folder (path ++ a ∷ b ∷ rest)) ≡ is_some (get began (path ++ a ∷ b ∷ rest))
-  mark_stays path a b rest n sum one two = same (path ++ a ∷ b ∷ rest) (plain (path ++ a ∷ b ∷ rest) n (sum_over 0 0 a b path rest ∙ sum) one two)
-
-  same_root : (path : Bytes) → is_root folder path ≡ is_root began path
-  same_root path =
-      let has : Folder → Bytes → Bool = λ f mark. is_some (get f (path ++ mark)) in
-      ap (λ (it : Bool). (it || has folder (codes "REPO.bazel")) || (has folder (codes "WORKSPACE.bazel") || has folder (codes "WORKSPACE")))
-      (mark_stays path 77 79 (codes "DULE.bazel") 209 refl (λ e. omega (arith, e)) (λ e. omega (arith, e)))
-      ∙ ap (λ (it : Bool). (has began (codes "MODULE.bazel") || it) || (has folder (codes "WORKSPACE.bazel") || has folder (codes "WORKSPACE")))
-      (mark_stays path 82 69 (codes "PO.bazel") 209 refl (λ e. omega (arith, e)) (λ e. omega (arith, e)))
-      ∙ ap (λ (it : Bool). (has began (codes "MODULE.bazel") || has began (codes "REPO.bazel")) || (it || has folder (codes "WORKSPACE")))
-      (mark_stays path 87 79 (codes "RKSPACE.bazel") 209 refl (λ e. omega (arith, e)) (λ e. omega (arith, e)))
-      ∙ ap (λ (it : Bool). (has began (codes "MODULE.bazel") || has began (codes "REPO.bazel")) || (has began (codes "WORKSPACE.bazel") || it))
-      (mark_stays path 87 79 (codes "RKSPACE") 136 refl (λ e. omega (arith, e)) (λ e. omega (arith, e)))
-
-  same_from : (count : ℕ) (path : Bytes) → root_from count folder path ≡ root_from count began path
-  unfolding root_from
-  same_from zero path = refl
-  same_from (suc count) path =
-      ap (λ (b : Bool). if b then Some path else root_from count folder (path ++ codes "../")) (same_root path)
-      ∙ ap (λ (root : Option Bytes). if is_root began path then Some path else root) (same_from count (path ++ codes "../"))
-
-  -- and the root of the workspace
-  pub root_stays : root_above folder ≡ root_above began
-  root_stays =
-      ap (λ (b : Bool). if b then None else root_from 16 folder (codes "../")) (same_root [])
-      ∙ ap (λ (root : Option Bytes). if is_root began [] then None else root) (same_from 16 (codes "../"))

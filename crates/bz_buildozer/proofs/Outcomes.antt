@@ -2,7 +2,7 @@
 use Rattle.std.proofs.Common.{◌≡◌, ◌≢◌, inl, ℕ, List, Ok, IfOk, Result, arith, sym, subst, inr, [], ◌∷◌, Option, Some, Err, true, refl, append_assoc, ◌⊎◌, ◌&&◌, ◌++◌, Bool, false, ◌∙◌, ◌||◌, None, IfSome, IsSome, true≢false, ap, bytes_eq}
 use Rattle.bz_buildozer.specs.Words.{Bytes, Folder, Elapses, with_file, script, CommandLine, LineUsage, command_line_of, Given, operands, Ghosts as FilesOf, script_of, Options, first_cut, Cut, Exit, Target, IsScriptFault}
 use Rattle.bz_buildozer.specs.Outcome.{OfScript, IsScript, IsText, AreOfInput, LinesEnd, unused, IsUnused, IsScriptFront, out_of_memory, OrOutOfMemory, AreOfInputAndSome, IsOfInput, NamesNoFile, KeepsJournals, reported_name, OperandsOutcome, LinesOutcome, TextOutcome, ScriptOutcome, GivenOutcome, LineOutcome, WordsOutcome}
-use Rattle.bz_buildozer.specs.Steps.{input_package, all_steps, names_input, shows_input, is_of_input}
+use Rattle.bz_buildozer.specs.Steps.{input_package, all_steps, names_file, names_input, shows_input, is_of_input}
 use Rattle.bz_files.proofs.Elapsing.{each_since, elapsed_on, stays, weakened}
 use Rattle.bz_command_line.specs.Requested.{Requested, operand_group, Request, Refused, Usage, accepted, requested_of, complete}
 use Rattle.bz_buildozer.specs.Keeps.{KeepsFolder}
@@ -14,9 +14,9 @@ use Rattle.std.specs.List.{All, list_any}
 use Rattle.bz_streams.specs.declared.exit.Cut.TheVariants as c
 use Rattle.bz_streams.specs.declared.sink.Sink.{Ghosts as SinkOf}
 use Rattle.bz_buildozer.specs.Ending.{Ended, TriesFiles, status_of, texts_out}
-use Rattle.bz_buildozer.specs.Found.{Used}
+use Rattle.bz_buildozer.specs.Found.{Used, root_above}
 use Rattle.bz_buildozer.specs.Unread.{RunActs}
-use Rattle.bz_buildozer.specs.Reported.{output_lines, memory_line, no_journal_line, unread_line, unread_status, usage_line, IsLineUsageLine}
+use Rattle.bz_buildozer.specs.Reported.{output_lines, memory_line, no_journal_line, root_note, unread_line, unread_status, usage_line, IsLineUsageLine}
 use Rattle.bz_buildozer.proofs.FailSteps.{more_lines, one_line}
 use Rattle.bz_buildozer.proofs.ExactReads.{nothing_else_used, output_empty_where_input_fails}
 use Rattle.std.specs.Prelude.{OnErr, OnOk}
@@ -147,23 +147,25 @@ status_is _ status state other whole = other (λ is. cc is)
 
 -- The writers and the folder hold what lines come to that are run.
 pub lines_end : {W E F : Type 0} (sink : SinkOf W) (errors : SinkOf E) (files : FilesOf F) (options : Options) (lines : List Requested) (world : World) (start state : Progress)
-    (before : Folder) (reported told : List Bytes) (exit : Exit) (stopped written later : Cut) (shown : Bool) (out out' : W) (err mid err' : E) (held' : F)
+    (before : Folder) (reported told : List Bytes) (exit : Exit) (stopped written later : Cut) (shown : Bool) (out out' : W) (err noted mid err' : E) (held' : F)
     → options.journal && names_input lines ≡ false → start ≡ nothing_done
     → RunsSteps stopped options.journal world options.keep_going (all_steps lines) start reported before state
     → TriesFiles written options state.used before told (files.folder held') → exit.cut ≡ first_cut stopped (first_cut written later)
     → (exit.cut ≢ c.Whole → exit.status ≡ 2) → (exit.cut ≡ c.Whole → exit.status ≡ status_of c.Whole state) → shown ≡ shows_input (all_steps lines)
-    → PrintsUntil sink later out out' (state.printed ++ texts_out shown options.to_stdout state.used) → ReportsLines errors err mid reported
-    → ReportsLines errors mid err' (output_lines later ++ told) → EndsIn sink errors files (LinesEnd options lines world) exit out out' err err' held'
-lines_end sink errors files options lines world start state before reported told exit stopped written later shown out out' err mid err' held' neither begins runs tries cut failed whole
-    shows prints first last =
+    → PrintsUntil sink later out out' (state.printed ++ texts_out shown options.to_stdout state.used)
+    → ReportsLines errors err noted (root_note (names_file lines) (root_above world.folder)) → ReportsLines errors noted mid reported
+    → ReportsLines errors mid err' (output_lines later ++ told) → EndsIn sink errors files (OrOutOfMemory world (LinesEnd options lines world)) exit out out' err err' held'
+lines_end sink errors files options lines world start state before reported told exit stopped written later shown out out' err noted mid err' held' neither begins runs tries cut failed whole
+    shows prints above first last =
+    let note = root_note (names_file lines) (root_above world.folder) in
     let output = state.printed ++ texts_out (shows_input (all_steps lines)) options.to_stdout state.used in
     let ended : Ended = record {
-      left = record { output = output; lines = reported ++ output_lines later ++ told; status = exit.status; folder = files.folder held' };
+      left = record { output = output; lines = note ++ reported ++ output_lines later ++ told; status = exit.status; folder = files.folder held' };
       cut = exit.cut;
       printed = later;
     } in (
       ended,
-      inr (
+      inr (inr (
         neither,
         record {
           stopped = stopped;
@@ -179,13 +181,13 @@ lines_end sink errors files options lines world start state before reported told
           cut = cut;
           status = status_is exit.cut exit.status state failed whole;
         },
-      ),
+      )),
       record {
         exit_is = refl;
         folder = refl;
         output = subst (λ (show : Bool). PrintsUntil sink later out out' (state.printed ++ texts_out show options.to_stdout state.used)) shows prints;
-        lines = subst (ReportsLines errors err err') (sym (append_assoc reported (output_lines later) told))
-            (more_lines errors err mid err' reported (output_lines later ++ told) first last);
+        lines = subst (ReportsLines errors err err') (sym (append_assoc (note ++ reported) (output_lines later) told))
+            (more_lines errors err mid err' (note ++ reported) (output_lines later ++ told) (more_lines errors err noted mid note reported above first) last);
       },
     )
 
@@ -227,6 +229,20 @@ module _ {W E F : Type 0} (sink : SinkOf W) (errors : SinkOf E) (files : FilesOf
       record { exit_is = ends; folder = same; output = appends_nothing (sink.contents out); lines = reported },
     )
 
+    -- Memory was refused, and that was reported.
+    pub ends_refused : (Is : Ended → Type 0) (mid : E) → mid ≡ err → exit ≡ record { status = 2; cut = c.Memory } → ReportsLine errors mid err' memory_line
+        → EndsIn sink errors files (OrOutOfMemory world Is) exit out out err err' held
+    ends_refused Is mid still refused reported = (
+      out_of_memory world.folder,
+      inl refl,
+      record {
+        exit_is = refused;
+        folder = same;
+        output = appends_nothing (sink.contents out);
+        lines = one_line errors err err' memory_line (subst (λ (from : E). ReportsLine errors from err' memory_line) still reported);
+      },
+    )
+
     -- That was reported by this call, or memory was refused to it.
     pub ends_told : {X : Type 0} (Is : Ended → Type 0) (told : Result Unit X) (mid : E)
         → (exit.status ≡ 1 → (line : Bytes) × Is (unused world.folder line) × ReportsLines errors err err' (line ∷ [])) → OnErr told (mid ≡ err)
@@ -235,23 +251,14 @@ module _ {W E F : Type 0} (sink : SinkOf W) (errors : SinkOf E) (files : FilesOf
         → EndsIn sink errors files (OrOutOfMemory world Is) exit out out err err' held
     ends_told Is (Ok done) mid usage still ok refused =
         let told = usage (ap (λ (it : Exit). it.status) ok.0) in ends_unused (OrOutOfMemory world Is) told.0 (inr told.1) ok.0 told.2
-    ends_told Is (Err fault) mid usage still ok refused = (
-      out_of_memory world.folder,
-      inl refl,
-      record {
-        exit_is = refused.0;
-        folder = same;
-        output = appends_nothing (sink.contents out);
-        lines = one_line errors err err' memory_line
-            (subst (λ (from : E). ReportsLine errors from err' memory_line) still refused.1);
-      },
-    )
+    ends_told Is (Err fault) mid usage still ok refused = ends_refused Is mid still refused.0 refused.1
 
 -- ---- operands
 
 pub operands_done : (options : Options) (texts : List Bytes) (world : World) (requested : Requested) (lines : List Requested) (ended : Ended) → operand_group texts ≡ Ok requested
-    → lines ≡ requested ∷ [] → LinesEnd options lines world ended → OrOutOfMemory world (OperandsOutcome options texts world) ended
-operands_done options texts world requested lines ended is same ends =
+    → lines ≡ requested ∷ [] → OrOutOfMemory world (LinesEnd options lines world) ended → OrOutOfMemory world (OperandsOutcome options texts world) ended
+operands_done options texts world requested lines ended is same (inl memory) = inl memory
+operands_done options texts world requested lines ended is same (inr ends) =
     inr (inr (requested, is, subst (λ (these : List Requested). LinesEnd options these world ended) same ends))
 
 -- Operands that request something have a target.

@@ -1,15 +1,15 @@
 -- What comes of the texts and the journals that are read.
-use Rattle.std.proofs.Common.{◌≡◌, ◌⊎◌, inl, inr, ℕ, List, Err, refl, ap, subst, [], ◌∷◌, ◌++◌, None, ◌↔◌, ◌≤◌, ◌<◌, ◌+◌, ◌∙◌, true, length, take, Option, arith, sym, length-take, Some, IfSome, Ok, ◌≢◌, zero, suc, Bool, false, ◌-◌, ◌^◌, Result, ap₂, codes}
-use Rattle.bz_buildozer.specs.Words.{ReadFault, fault_excerpt, fault_line, named_line, is_of_leaves, limit, Accepted, Bytes, Requested, script_of, Options, IsInput, Edit, IsOtherVersion, ResumeFault, IsStale, Folder, journal_name}
+use Rattle.std.proofs.Common.{◌≡◌, ◌⊎◌, inl, inr, ℕ, List, Err, refl, ap, subst, [], ◌∷◌, ◌++◌, None, ◌↔◌, ◌≤◌, ◌<◌, ◌+◌, ◌∙◌, true, length, take, drop, Option, arith, sym, length-take, Some, IfSome, Ok, ◌≢◌, zero, suc, Bool, false, ◌-◌, ◌^◌, Result, ap₂, codes}
+use Rattle.bz_buildozer.specs.Words.{BeginsNoJournal, ReadFault, fault_excerpt, fault_line, named_line, is_of_leaves, limit, Accepted, Bytes, Requested, script_of, Options, IsInput, Edit, IsOtherVersion, ResumeFault, IsStale, Folder, journal_name}
 use Rattle.bz_lex.specs.declared.fault.ReadFault.TheVariants as rf
 use Rattle.bz_grammar.specs.Faults.{IsOfText}
 use Rattle.bz_journal.specs.Forms.{OpensPast, past_history}
 use Rattle.bz_journal.specs.declared.past.Form.{Form}
 use Rattle.bz_journal.specs.Shown.{OpensText, session_history}
 use Rattle.bz_buildozer.specs.Opens.{IsRefusedFor, Takes, FrontsAreReportedAlike, opened_fresh}
-use Rattle.std.proofs.lemmas.List.{take_all}
+use Rattle.std.proofs.lemmas.List.{append-nil, take-append-drop, take_all}
 use Rattle.std.proofs.lemmas.Bool.{cases_lt}
-use Rattle.bz_buildozer.specs.Found.{Opened, opened_with, PackagesFound, first_name, found_at, found_in, found_second, root_above, second_name}
+use Rattle.bz_buildozer.specs.Found.{Opened, opened_with, PackagesFound, first_name, found_at, found_in, found_second, second_name}
 use Rattle.bz_buildozer.specs.Ending.{Ended}
 use Rattle.bz_buildozer.specs.Outcome.{IsScript, IsScriptFront, IsText, IsTextFault, TextOutcome}
 use Rattle.bz_buildozer.specs.Run.{World}
@@ -28,7 +28,8 @@ use Rattle.bz_buildozer.specs.Sessions.{History, opened as begun_with, present}
 use Rattle.bz_journal.specs.Lasting.{IsResumedSession}
 use Rattle.bz_journal.specs.State.{SessionState}
 use Rattle.bz_buildozer.specs.Journals.{JournalFault, JournalGives, JournalGivesOne, StandsAt, TakesBeside, file_of_journal, journal_beside, of_package, of_resuming, OpensBeside, HeldFilesGoOn}
-use Rattle.bz_buildozer.specs.Reported.{absent_hint}
+use Rattle.bz_buildozer.specs.Reported.{package_hint}
+use Rattle.bz_buildozer.specs.private.Taking.{IsEnoughOf}
 use Rattle.bz_resume.specs.Resuming.{IsRecordedBy}
 
 -- ---- the fault that is reported where a text is not opened
@@ -335,16 +336,47 @@ by_read journals folder current name journal text read file lines kept called he
     let there : journal_beside journals folder name ≡ read = ap (λ (b : Bool). journal_beside b folder name) kept ∙ ap (get folder) (sym called) ∙ held in
     subst (λ (beside : Option Bytes). TakesBeside beside current name text file lines) (sym there) takes
 
+-- what comes of the first bytes of a journal, with which none begins, comes of all of them
+front_gives : (current front rest bytes text : Bytes) (given : Result History JournalFault) → bytes ≡ front ++ rest → BeginsNoJournal front
+    → JournalGives current front text given → JournalGives current bytes text given
+front_gives current front rest bytes text given is begins gives = go given gives
+  where
+    never : (IsOtherVersion front → ⊥) × NoJournal front
+    never = subst (λ (it : Bytes). (IsOtherVersion it → ⊥) × NoJournal it) (append-nil front) (begins [])
+
+    go : (given : Result History JournalFault) → JournalGives current front text given → JournalGives current bytes text given
+    go (Ok a) (h, at, stood, named, same) = absurd (never.1 h stood.0.0 stood.0.1)
+    go (Err (of_package p)) (h, at, stood, named, differs) = absurd (never.1 h stood.0.0 stood.0.1)
+    go (Err (of_resuming f.Version)) version = absurd (never.0 version)
+    go (Err (of_resuming f.Stale)) (h, es, journal, none) = absurd (never.1 h es journal)
+    go (Err (of_resuming f.Damaged)) none = subst (λ (it : Bytes). (IsOtherVersion it → ⊥) × NoJournal it) (sym is) (begins rest)
+    go (Err (of_resuming f.Memory)) gives = absurd gives
+
+enough_takes : (current name text bytes read : Bytes) (file : Option Opened) (lines : List Bytes) → IsEnoughOf bytes read → TakesBeside (Some read) current name text file lines
+    → TakesBeside (Some bytes) current name text file lines
+enough_takes current name text bytes read file lines (inl same) takes = subst (λ (it : Bytes). TakesBeside (Some it) current name text file lines) (sym same) takes
+enough_takes current name text bytes read file lines (inr (rest, is, begins)) (given, gives, opened, reported) =
+    (given, front_gives current read rest bytes text given is begins gives, opened, reported)
+
 -- a list has fewer elements than the most that are read of a journal, so that is all
-pub read_beside : (journals : Bool) (folder : Folder) (current name journal bytes reported text : Bytes) (read : Vec ℕ Global) (file : Option Opened) (lines : List Bytes)
-    → journals ≡ true → journal ≡ journal_name name → reported ≡ read.items → get folder journal ≡ Some bytes → read.items ≡ take (2 ^ 64 - 1) bytes
-    → TakesBeside (Some reported) current name text file lines → TakesBeside (journal_beside journals folder name) current name text file lines
-read_beside journals folder current name journal bytes reported text read file lines kept called same held is =
+pub whole_enough : (bytes : Bytes) (read : Vec ℕ Global) → read.items ≡ take (2 ^ 64 - 1) bytes → IsEnoughOf bytes read.items
+whole_enough bytes read is =
     let ok = read.ok in
     let small = read.small in
     let cut : length read.items ≡ length (take (2 ^ 64 - 1) bytes) = ap length is in
-    let all = take_all (2 ^ 64 - 1) bytes (omega (arith, ok.0, ok.1, small, cut, length-take (2 ^ 64 - 1) bytes)) in
-    by_read journals folder current name journal text (Some reported) file lines kept called (held ∙ ap Some (sym (same ∙ is ∙ all)))
+    inl (sym (is ∙ take_all (2 ^ 64 - 1) bytes (omega (arith, ok.0, ok.1, small, cut, length-take (2 ^ 64 - 1) bytes))))
+
+pub front_enough : (bytes read : Bytes) → read ≡ take 65536 bytes → (length read < 65536) ⊎ BeginsNoJournal read → IsEnoughOf bytes read
+front_enough bytes read is (inl short) = inl (sym (is ∙ take_all 65536 bytes (omega (arith, short, ap length is, length-take 65536 bytes))))
+front_enough bytes read is (inr begins) = inr (drop 65536 bytes, sym (take-append-drop 65536 bytes) ∙ ap (λ (it : Bytes). it ++ drop 65536 bytes) (sym is), begins)
+
+-- what is taken beside what was read of a journal, where that is enough of it
+pub read_beside : (journals : Bool) (folder : Folder) (current name journal bytes reported read text : Bytes) (file : Option Opened) (lines : List Bytes)
+    → journals ≡ true → journal ≡ journal_name name → reported ≡ read → get folder journal ≡ Some bytes → IsEnoughOf bytes read
+    → TakesBeside (Some reported) current name text file lines → TakesBeside (journal_beside journals folder name) current name text file lines
+read_beside journals folder current name journal bytes reported read text file lines kept called same held enough takes =
+    by_read journals folder current name journal text (Some bytes) file lines kept called held
+    (enough_takes current name text bytes read file lines enough (subst (λ (it : Bytes). TakesBeside (Some it) current name text file lines) same takes))
 
 pub none_beside : (journals : Bool) (folder : Folder) (current name journal text : Bytes) (file : Option Opened) (lines : List Bytes) → journals ≡ true
     → journal ≡ journal_name name → get folder journal ≡ None → Takes current name text file lines
@@ -382,12 +414,11 @@ pub second_opens : (journals : Bool) (current name front text : Bytes) (folder n
     → OpensBeside journals folder current (found_second folder current) file lines
 second_opens journals current name front text folder now file lines = there_opens journals current (second_name current) name front text folder now None file lines
 
-pub neither_opens : (journals : Bool) (current name : Bytes) (folder : Folder) (root : Option Bytes) → name ≡ second_name current → get folder name ≡ None
-    → root ≡ root_above folder
-    → OpensBeside journals folder current (found_second folder current) None ((named_line name (codes "cannot open") ++ absent_hint current root) ∷ [])
-neither_opens journals current name folder root is held rooted =
-    absent_opens journals current (second_name current) name folder None None ((named_line name (codes "cannot open") ++ absent_hint current root) ∷ []) is held
-    (refl, ap₂ (λ (n : Bytes) (r : Option Bytes). (named_line n (codes "cannot open") ++ absent_hint current r) ∷ []) is rooted)
+pub neither_opens : (journals : Bool) (current name : Bytes) (folder : Folder) → name ≡ second_name current → get folder name ≡ None
+    → OpensBeside journals folder current (found_second folder current) None ((named_line name (codes "cannot open") ++ package_hint current) ∷ [])
+neither_opens journals current name folder is held =
+    absent_opens journals current (second_name current) name folder None None ((named_line name (codes "cannot open") ++ package_hint current) ∷ []) is held
+    (refl, ap (λ (n : Bytes). (named_line n (codes "cannot open") ++ package_hint current) ∷ []) is)
 
 pub first_opens : (journals : Bool) (current name front text : Bytes) (folder now : Folder) (file : Option Opened) (lines : List Bytes) → name ≡ first_name current
     → get folder name ≡ Some text → front ≡ take (limit + 1) text → now ≡ folder → TakesBeside (journal_beside journals now name) current name front file lines

@@ -1,13 +1,16 @@
 -- Tests over lists of commands, targets and lines.
 use Rattle.std.proofs.Common.{arith, ap, ◌∙◌, ◌≡◌, ◌≤◌, length, refl, List, [], ◌∷◌, map, Bool, true, false, ◌||◌, ◌&&◌, not}
-use Rattle.std.specs.List.{flat_map, list_any}
+use Rattle.std.specs.List.{All, flat_map, list_any}
 use Rattle.std.proofs.Math.Bool.{and-false}
 use Rattle.std.proofs.lemmas.List.{length-map}
+use Rattle.std.proofs.lemmas.List.Elements.{All-head, All-tail}
 use Rattle.std.proofs.lemmas.List.Folds.{list_any-append}
+use Rattle.std.proofs.lemmas.Slice.Eq.{bytes_eq-Decides}
 use Rattle.bz_buildozer.specs.Words.{Requested, Request, Target, prints, requested_in, request_in}
 use Rattle.bz_command_line.specs.declared.requested.Requested.{Requested as Held}
-use Rattle.bz_buildozer.specs.private.Shown.{targets_input_in, shown_in}
-use Rattle.bz_buildozer.specs.Steps.{step_of, steps_requested, all_steps, is_of_input, is_shown_by, shows_input, names_input}
+use Rattle.bz_buildozer.specs.Outcome.{AreOfInput}
+use Rattle.bz_buildozer.specs.private.Shown.{targets_file_in, targets_input_in, shown_in}
+use Rattle.bz_buildozer.specs.Steps.{step_of, steps_requested, all_steps, is_of_input, is_shown_by, shows_input, input_package, names_file, names_input}
 
 any_map : {X Y : Type 0} (p : X → Bool) (f : Y → X) (ys : List Y) → list_any p (map f ys) ≡ list_any (λ y. p (f y)) ys
 any_map p f [] = refl
@@ -65,6 +68,20 @@ one_step line alone single = go (map request_in line.commands.items) line.target
     go (command ∷ []) (target ∷ []) alone single = omega arith
     go (command ∷ []) (target ∷ other ∷ more) alone single = absurd (omega (arith, single))
     go (command ∷ other ∷ more) targets alone single = absurd (omega (arith, alone))
+
+pub filed_in_lines : (lines : List Held) → names_file (map requested_in lines) ≡ list_any targets_file_in lines
+filed_in_lines lines = any_map (λ (requested : Requested). list_any (λ target. not (is_of_input target)) requested.targets) requested_in lines
+
+-- rules of standard input alone are meant
+none_of : {X : Type 0} (P : X → Type 0) (p : X → Bool) → ((x : X) → P x → p x ≡ false) → (xs : List X) → All P xs → list_any p xs ≡ false
+none_of P p differs [] all = refl
+none_of P p differs (x ∷ xs) all = ap (λ b. b || list_any p xs) (differs x (All-head P x xs all)) ∙ none_of P p differs xs (All-tail P x xs all)
+
+pub none_filed : (lines : List Requested) → AreOfInput lines → names_file lines ≡ false
+none_filed = none_of (λ (requested : Requested). All (λ (target : Target). target.«package» ≡ input_package) requested.targets)
+    (λ (requested : Requested). list_any (λ target. not (is_of_input target)) requested.targets)
+    (λ requested. none_of (λ (target : Target). target.«package» ≡ input_package) (λ target. not (is_of_input target))
+    (λ target is. ap not ((bytes_eq-Decides target.«package» input_package).1 is)) requested.targets)
 
 pub named_in_lines : (lines : List Held) → names_input (map requested_in lines) ≡ list_any targets_input_in lines
 named_in_lines lines = any_map (λ (requested : Requested). list_any is_of_input requested.targets) requested_in lines

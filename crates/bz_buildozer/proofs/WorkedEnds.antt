@@ -30,11 +30,11 @@ use Rattle.bz_buildozer.specs.Ending.{Ended, TriesFile, TriesFiles, fixed_lines,
 use Rattle.bz_buildozer.specs.Outcome.{WordsOutcome, IsText, LineOutcome, ScriptOutcome, unread, unused}
 use Rattle.bz_buildozer.specs.Keeps.{FolderAfter}
 use Rattle.bz_buildozer.specs.Run.{World, Progress, Answers, AnswersIn, AreHints, Does, Finds, LeadsBy, RunsSteps, UsesWhole, nothing_done, reported_of, state_after, ends_run}
-use Rattle.bz_buildozer.specs.Steps.{RunStep, action_of, all_steps, shows_input}
+use Rattle.bz_buildozer.specs.Steps.{RunStep, action_of, all_steps, names_file, shows_input}
 use Rattle.bz_buildozer.specs.Unread.{no_acts}
-use Rattle.bz_buildozer.specs.Reported.{absent_hint, output_lines, usage_line}
+use Rattle.bz_buildozer.specs.Reported.{output_lines, package_hint, root_note, usage_line}
 use Rattle.bz_buildozer.specs.WorkedParts.{Settles, text_read, text_made}
-use Rattle.bz_buildozer.specs.WorkedRuns.{WorkedUsage, WorkedWholeRuns, HasBuild, OverBuild, BesideNone, OverInput}
+use Rattle.bz_buildozer.specs.WorkedRuns.{WorkedUsage, WorkedWholeRuns, HasBuild, BelowRoot, OverBuild, BesideNone, OverInput}
 use Rattle.bz_buildozer.proofs.StandSteps.{found_by, key_known, key_unknown, not_input}
 use Rattle.bz_buildozer.proofs.WorkedText.{accepted, is_made}
 
@@ -316,11 +316,11 @@ abbrev requested_of : List Request → List Target → Requested
 requested_of commands targets = record { commands = commands; targets = targets }
 
 -- what is left after steps, by the files that are tried, where standard output isn't given all for this cut
-abbrev left_after : Bool → Requested → Cut → List Bytes → Progress → List Bytes → Folder → Ended
-left_after to_stdout requested printed lines state told folder = record {
+abbrev left_after : Bool → Requested → List Bytes → Cut → List Bytes → Progress → List Bytes → Folder → Ended
+left_after to_stdout requested note printed lines state told folder = record {
   left = record {
     output = state.printed ++ texts_out (shows_input (all_steps (requested ∷ []))) to_stdout state.used;
-    lines = lines ++ output_lines printed ++ told;
+    lines = note ++ lines ++ output_lines printed ++ told;
     status = status_of printed state;
     folder = folder;
   };
@@ -328,14 +328,15 @@ left_after to_stdout requested printed lines state told folder = record {
   printed = printed;
 }
 
-run_of : (words texts : List Bytes) (keep_going to_stdout quiet : Bool) (requested : Requested) (world : World) (printed : Cut) (lines told : List Bytes) (state : Progress) (folder : Folder)
+run_of : (words texts : List Bytes) (keep_going to_stdout quiet : Bool) (requested : Requested) (world : World) (note : List Bytes) (printed : Cut) (lines told : List Bytes) (state : Progress) (folder : Folder)
     → command_line_of words ≡ Ok (record { options = options_of keep_going to_stdout quiet; given = operands texts }) → operand_group texts ≡ Ok requested
+    → root_note (names_file (requested ∷ [])) (root_above world.folder) ≡ note
     → RunsHere world keep_going (all_steps (requested ∷ [])) nothing_done lines state
     → TriesFiles c.Whole (options_of keep_going to_stdout quiet) state.used world.folder told folder
-    → WordsOutcome words world (left_after to_stdout requested printed lines state told folder)
-run_of words texts keep_going to_stdout quiet requested world printed lines told state folder is group runs tries =
+    → WordsOutcome words world (left_after to_stdout requested note printed lines state told folder)
+run_of words texts keep_going to_stdout quiet requested world note printed lines told state folder is group noted runs tries =
     let options : Options = options_of keep_going to_stdout quiet in
-    by_line words (record { options = options; given = operands texts }) world (left_after to_stdout requested printed lines state told folder) is
+    by_line words (record { options = options; given = operands texts }) world (left_after to_stdout requested note printed lines state told folder) is
     (inr (
       requested,
       group,
@@ -351,7 +352,7 @@ run_of words texts keep_going to_stdout quiet requested world printed lines told
           runs = runs;
           output = refl;
           tries = tries;
-          lines = refl;
+          lines = ap (λ (front : List Bytes). front ++ lines ++ output_lines printed ++ told) (sym noted);
           cut = refl;
           status = refl;
         },
@@ -386,29 +387,30 @@ module _ (world : World) (has : HasBuild world) where
   writes_build keep_going quiet lines is =
       tries_one keep_going false quiet (file_with [] build (set_history [])) world.folder lines (with_file world.folder build text_made) (is, (has.1, λ name other. refl))
 
-  over_build : OverBuild world
+  over_build : root_above world.folder ≡ None → OverBuild world
   unfolding clap_on_literals digits
-  over_build =
+  over_build above =
+      let noted = ap (root_note true) above in
       let written : Folder = with_file world.folder build text_made in
       let set : Requested = requested_of (set_size ∷ []) (rule_x [] ∷ []) in
       let words : List Bytes = set_text ∷ rule_word ∷ [] in
       let two : Bytes = codes "undo 2" in (
-        run_of words words false false false set world c.Whole [] made_lines (after_set [] build) written refl refl (run_set world [] build refl finds_build false)
+        run_of words words false false false set world [] c.Whole [] made_lines (after_set [] build) written refl refl noted (run_set world [] build refl finds_build false)
             (writes_build false false made_lines refl),
-        run_of (codes "--quiet" ∷ words) words false false true set world c.Whole [] [] (after_set [] build) written refl refl (run_set world [] build refl finds_build false)
+        run_of (codes "--quiet" ∷ words) words false false true set world [] c.Whole [] [] (after_set [] build) written refl refl noted (run_set world [] build refl finds_build false)
             (writes_build false true [] refl),
-        run_of (codes "--stdout" ∷ words) words false true false set world c.Whole [] [] (after_set [] build) world.folder refl refl (run_set world [] build refl finds_build false)
+        run_of (codes "--stdout" ∷ words) words false true false set world [] c.Whole [] [] (after_set [] build) world.folder refl refl noted (run_set world [] build refl finds_build false)
             (tries_one false true false (file_with [] build (set_history [])) world.folder [] world.folder (refl, refl)),
-        run_of (codes "--stdout" ∷ words) words false true false set world c.Write [] [] (after_set [] build) world.folder refl refl (run_set world [] build refl finds_build false)
+        run_of (codes "--stdout" ∷ words) words false true false set world [] c.Write [] [] (after_set [] build) world.folder refl refl noted (run_set world [] build refl finds_build false)
             (tries_one false true false (file_with [] build (set_history [])) world.folder [] world.folder (refl, refl)),
-        run_of (set_text ∷ undo_text ∷ rule_word ∷ []) (set_text ∷ undo_text ∷ rule_word ∷ []) false false false (requested_of (set_size ∷ undo_one ∷ []) (rule_x [] ∷ [])) world
-            c.Whole [] [] (after_back [] build) world.folder refl refl (run_back world [] build refl finds_build 1 undo_text (Ok Moved) (back_history []) refl short_undo refl)
+        run_of (set_text ∷ undo_text ∷ rule_word ∷ []) (set_text ∷ undo_text ∷ rule_word ∷ []) false false false (requested_of (set_size ∷ undo_one ∷ []) (rule_x [] ∷ [])) world []
+            c.Whole [] [] (after_back [] build) world.folder refl refl noted (run_back world [] build refl finds_build 1 undo_text (Ok Moved) (back_history []) refl short_undo refl)
             (tries_one false false false (file_with [] build (back_history [])) world.folder [] world.folder (refl, refl)),
-        run_of (set_text ∷ two ∷ rule_word ∷ []) (set_text ∷ two ∷ rule_word ∷ []) false false false (requested_of (set_size ∷ undo 2 two ∷ []) (rule_x [] ∷ [])) world
-            c.Whole ((codes "buildozer: BUILD: undo 2: TooFar (61)\n" ++ hint) ∷ []) made_lines (state_of (file_with [] build (set_history []) ∷ []) true) written refl refl
+        run_of (set_text ∷ two ∷ rule_word ∷ []) (set_text ∷ two ∷ rule_word ∷ []) false false false (requested_of (set_size ∷ undo 2 two ∷ []) (rule_x [] ∷ [])) world []
+            c.Whole ((codes "buildozer: BUILD: undo 2: TooFar (61)\n" ++ hint) ∷ []) made_lines (state_of (file_with [] build (set_history []) ∷ []) true) written refl refl noted
             (run_back world [] build refl finds_build 2 two (Err TooFar) (set_history []) refl (leb-true (length two) note_limit refl) refl) (writes_build false false made_lines refl),
-        run_of (undo_text ∷ rule_word ∷ []) (undo_text ∷ rule_word ∷ []) false false false (requested_of (undo_one ∷ []) (rule_x [] ∷ [])) world c.Whole
-            ((codes "buildozer: BUILD: undo: TooFar (61)\n" ++ hint) ∷ []) [] (state_of (file_with [] build (opened [] text_read) ∷ []) true) world.folder refl refl
+        run_of (undo_text ∷ rule_word ∷ []) (undo_text ∷ rule_word ∷ []) false false false (requested_of (undo_one ∷ []) (rule_x [] ∷ [])) world [] c.Whole
+            ((codes "buildozer: BUILD: undo: TooFar (61)\n" ++ hint) ∷ []) [] (state_of (file_with [] build (opened [] text_read) ∷ []) true) world.folder refl refl noted
             (one_step world false (step_at [] undo_one) [] nothing_done (state_of (file_with [] build (opened [] text_read) ∷ []) true) (state_of (file_with [] build (opened [] text_read) ∷ []) true)
             ((codes "buildozer: BUILD: undo: TooFar (61)\n" ++ hint) ∷ []) [] refl
             (acts world [] build undo_one (opened [] text_read) (opened [] text_read) (Err TooFar) nothing_done 0 (file_with [] build (opened [] text_read) ∷ []) refl
@@ -416,13 +418,21 @@ module _ (world : World) (has : HasBuild world) where
             (tries_one false false false (file_with [] build (opened [] text_read)) world.folder [] world.folder (refl, refl)),
       )
 
+  below_root : root_above world.folder ≡ Some (codes "../") → BelowRoot world
+  unfolding clap_on_literals
+  below_root above =
+      let words : List Bytes = set_text ∷ rule_word ∷ [] in
+      run_of words words false false false (requested_of (set_size ∷ []) (rule_x [] ∷ [])) world (root_note true (Some (codes "../"))) c.Whole [] made_lines
+      (after_set [] build) (with_file world.folder build text_made) refl refl (ap (root_note true) above) (run_set world [] build refl finds_build false)
+      (writes_build false false made_lines refl)
+
 -- ---- runs that mean package `none`, of which no file is there
 
 abbrev none : Bytes
 none = codes "none"
 
-abbrev none_line : World → Bytes
-none_line world = codes "none/BUILD: cannot open\n" ++ absent_hint none (root_above world.folder)
+abbrev none_line : Bytes
+none_line = codes "none/BUILD: cannot open\n" ++ package_hint none
 
 abbrev none_used : Used
 none_used = record { «package» = none; file = None }
@@ -433,9 +443,9 @@ after_none = state_of (none_used ∷ []) true
 abbrev after_both : Progress
 after_both = state_of (none_used ∷ file_with [] build (set_history []) ∷ []) true
 
-module _ (world : World) (has : HasBuild world) (bare : get world.folder none ≡ None) (gone : found_in world.folder none ≡ None) where
-  fails_first : (request : Request) → DoesHere world (step_at none request) nothing_done (none_line world ∷ []) after_none
-  fails_first request = does world (step_at none request) nothing_done after_none 0 (none_used ∷ []) None (none_line world ∷ []) []
+module _ (world : World) (has : HasBuild world) (above : root_above world.folder ≡ None) (bare : get world.folder none ≡ None) (gone : found_in world.folder none ≡ None) where
+  fails_first : (request : Request) → DoesHere world (step_at none request) nothing_done (none_line ∷ []) after_none
+  fails_first request = does world (step_at none request) nothing_done after_none 0 (none_used ∷ []) None (none_line ∷ []) []
       (inr (
         ap (λ (k : Bytes). package_number k []) key,
         refl,
@@ -443,7 +453,7 @@ module _ (world : World) (has : HasBuild world) (bare : get world.folder none �
           None,
           None,
           inr (inr (not_input none refl), sym (ap (found_of world.folder) meant ∙ gone)),
-          subst (λ (s : Settled). OpensAs false world.folder none s None None (none_line world ∷ [])) (sym meant) (refl, refl),
+          subst (λ (s : Settled). OpensAs false world.folder none s None None (none_line ∷ [])) (sym meant) (refl, refl),
           ap (λ (k : Bytes). record { «package» = k; file = None } ∷ []) (sym key),
         ),
       )) refl (refl, refl, refl)
@@ -457,22 +467,23 @@ module _ (world : World) (has : HasBuild world) (bare : get world.folder none �
   beside_none : BesideNone world
   unfolding clap_on_literals
   beside_none =
+      let noted = ap (root_note true) above in
       let texts : List Bytes = set_text ∷ codes "//none:x" ∷ rule_word ∷ [] in
       let again : List Bytes = undo_text ∷ codes "redo" ∷ codes "//none:x" ∷ [] in
       let requested : Requested = requested_of (set_size ∷ []) (rule_x none ∷ rule_x [] ∷ []) in
       let folder : Folder = world.folder in
-      let lines : List Bytes = none_line world ∷ [] in
+      let lines : List Bytes = none_line ∷ [] in
       let next : RunStep = step_at [] set_size in (
-        run_of texts texts false false false requested world c.Whole lines [] after_none folder refl refl
+        run_of texts texts false false false requested world [] c.Whole lines [] after_none folder refl refl noted
             (one_step world false (step_at none set_size) (next ∷ []) nothing_done after_none after_none lines [] refl (fails_first set_size) (inl (refl, refl, refl, refl, refl)))
             (tries_one false false false none_used folder [] folder (refl, refl)),
-        run_of (codes "-k" ∷ texts) texts true false false requested world c.Whole lines made_lines after_both (with_file folder build text_made) refl refl
+        run_of (codes "-k" ∷ texts) texts true false false requested world [] c.Whole lines made_lines after_both (with_file folder build text_made) refl refl noted
             (one_step world true (step_at none set_size) (next ∷ []) nothing_done after_none after_both lines [] refl (fails_first set_size)
             (one_step world true next [] after_none after_both after_both [] [] refl
             (acts world [] build set_size (opened [] text_read) (set_history []) (Ok Changed) after_none 1 (none_used ∷ file_with [] build (opened [] text_read) ∷ []) refl
             (opens world [] build (none_used ∷ []) refl refl (finds_build world has)) refl (sets [])) (refl, refl, refl, refl)))
             (c.Whole, c.Whole, [], made_lines, folder, (refl, refl), writes_build world has true false made_lines refl, refl, refl),
-        run_of (codes "-k" ∷ again) again true false false (requested_of (undo_one ∷ redo ∷ []) (rule_x none ∷ [])) world c.Whole lines [] after_none folder refl refl
+        run_of (codes "-k" ∷ again) again true false false (requested_of (undo_one ∷ redo ∷ []) (rule_x none ∷ [])) world [] c.Whole lines [] after_none folder refl refl noted
             (one_step world true (step_at none undo_one) (step_at none redo ∷ []) nothing_done after_none after_none lines [] refl (fails_first undo_one)
             (one_step world true (step_at none redo) [] after_none after_none after_none [] [] refl
             (does world (step_at none redo) after_none after_none 0 (none_used ∷ []) None [] [] (inl (refl, refl, refl)) refl (refl, refl, refl)) (refl, refl, refl, refl)))
@@ -487,14 +498,14 @@ over_input folder =
     let dash : Bytes = codes "-" in
     let world : World = record { folder = folder; known = Some text_read; acts = no_acts } in
     let finds : Finds false world dash (Some (stdin, text_read)) = inl (refl, refl, (text_read, refl, refl)) in (
-      run_of (codes "--" ∷ set_text ∷ codes "-:x" ∷ []) (set_text ∷ codes "-:x" ∷ []) false false false (requested_of (set_size ∷ []) (rule_x dash ∷ [])) world c.Whole [] []
-          (after_set dash stdin) folder refl refl (run_set world dash stdin refl finds false)
+      run_of (codes "--" ∷ set_text ∷ codes "-:x" ∷ []) (set_text ∷ codes "-:x" ∷ []) false false false (requested_of (set_size ∷ []) (rule_x dash ∷ [])) world [] c.Whole [] []
+          (after_set dash stdin) folder refl refl refl (run_set world dash stdin refl finds false)
           (tries_one false false false (file_with dash stdin (set_history dash)) folder [] folder (refl, refl)),
       run_of (codes "--" ∷ set_text ∷ undo_text ∷ codes "-:x" ∷ []) (set_text ∷ undo_text ∷ codes "-:x" ∷ []) false false false
-          (requested_of (set_size ∷ undo_one ∷ []) (rule_x dash ∷ [])) world c.Whole [] [] (after_back dash stdin) folder refl refl
+          (requested_of (set_size ∷ undo_one ∷ []) (rule_x dash ∷ [])) world [] c.Whole [] [] (after_back dash stdin) folder refl refl refl
           (run_back world dash stdin refl finds 1 undo_text (Ok Moved) (back_history dash) refl short_undo refl)
           (tries_one false false false (file_with dash stdin (back_history dash)) folder [] folder (refl, refl)),
     )
 
 pub whole : WorkedWholeRuns
-whole = (is_made, over_build, beside_none, over_input)
+whole = (is_made, over_build, below_root, beside_none, over_input)

@@ -3,13 +3,13 @@ use Rattle.std.specs.Prelude.{◌≡◌, ◌≢◌, ◌&&◌, not, Bool, false, 
 use Rattle.std.specs.FinMap.{get}
 use Rattle.std.specs.List.{flat_map, list_any}
 use Rattle.std.specs.Option.{option_map, option_map_or}
-use Rattle.bz_buildozer.specs.Words.{Bytes, Folder, IsReplacing, SameBut, new_name, with_file, Options, first_cut, named_line, Cut}
+use Rattle.bz_buildozer.specs.Words.{Bytes, Folder, IsReplacing, SameBut, new_name, with_file, Options, Requested, first_cut, named_line, Cut}
 use Rattle.bz_streams.specs.declared.exit.Cut.TheVariants as c
 use Rattle.bz_buildozer.specs.Sessions.{present}
-use Rattle.bz_buildozer.specs.Found.{Opened, Used}
-use Rattle.bz_buildozer.specs.Reported.{fixed_line, output_lines}
+use Rattle.bz_buildozer.specs.Found.{Opened, Used, root_above}
+use Rattle.bz_buildozer.specs.Reported.{fixed_line, output_lines, root_note}
 use Rattle.bz_buildozer.specs.Run.{World, Progress, nothing_done, RunsSteps}
-use Rattle.bz_buildozer.specs.Steps.{RunStep, input_package, shows_input}
+use Rattle.bz_buildozer.specs.Steps.{all_steps, input_package, names_file, shows_input}
 
 -- the text at the end is another one than was read
 abbrev pub differs : Opened → Bool
@@ -114,18 +114,18 @@ pub record Ended : Type 0 where
 abbrev pub ended_whole : Left → Ended
 ended_whole left = record { left = left; cut = c.Whole; printed = c.Whole }
 
--- Steps are run; then standard output is given what they printed and the texts after it, and files are tried, whatever failed before. With
--- journals files were written after each step, which is reported then.
-pub record Performs (options : Options) (steps : List RunStep) (world : World) (ended : Ended) : Type 0 where
+-- The steps of lines are run, below the note on the root; then standard output is given what they printed and the texts after it, and files are
+-- tried, whatever failed before. With journals files were written after each step, which is reported then.
+pub record Performs (options : Options) (requested : List Requested) (world : World) (ended : Ended) : Type 0 where
   pub stopped : Cut
   pub written : Cut
   pub reported : List Bytes
   pub told : List Bytes
   pub folder : Folder
   pub state : Progress
-  pub runs : RunsSteps stopped options.journal world options.keep_going steps nothing_done reported folder state
-  pub output : ended.left.output ≡ state.printed ++ texts_out (shows_input steps) options.to_stdout state.used
+  pub runs : RunsSteps stopped options.journal world options.keep_going (all_steps requested) nothing_done reported folder state
+  pub output : ended.left.output ≡ state.printed ++ texts_out (shows_input (all_steps requested)) options.to_stdout state.used
   pub tries : TriesFiles written options state.used folder told ended.left.folder
-  pub lines : ended.left.lines ≡ reported ++ output_lines ended.printed ++ told
+  pub lines : ended.left.lines ≡ root_note (names_file requested) (root_above world.folder) ++ reported ++ output_lines ended.printed ++ told
   pub cut : ended.cut ≡ first_cut stopped (first_cut written ended.printed)
   pub status : ended.left.status ≡ status_of ended.cut state

@@ -40,15 +40,16 @@ file_of_journal name text (Err fault) = None
 abbrev pub shown_package : Bytes → Bytes
 shown_package path = if nat_le (length path) 200 then path else take (floor_char_boundary path 200) path
 
--- What is reported of the journal with this name: the name and the number of the fault, and after it what may be done, where a file
--- holds no text that its journal matches, and where the journal is of another package.
+-- a word on the journal of this name, and below it this, and that it may be deleted
+abbrev pub deleted_lines : Bytes → Bytes → Bytes → List Bytes
+deleted_lines journal word says = named_line journal word ∷ concat (says ∷ escaped_text journal ∷ codes " to begin a new history\n" ∷ []) ∷ []
+
+-- What is reported of the journal with this name: the name and the number of the fault, and below it what it means and what may be done.
 abbrev pub fault_lines : Bytes → JournalFault → List Bytes
 fault_lines journal (of_resuming f.Memory) = named_line journal (codes "Memory (8)") ∷ []
-fault_lines journal (of_resuming f.Damaged) = named_line journal (codes "Damaged (71)") ∷ []
-fault_lines journal (of_resuming f.Version) = named_line journal (codes "Version (72)") ∷ []
-fault_lines journal (of_resuming f.Stale) = named_line journal (codes "Stale (73)")
-    ∷ concat (codes "buildozer: the file changed since the last run with --journal: restore it, or delete " ∷ escaped_text journal ∷ codes " to begin a new history\n" ∷ [])
-    ∷ []
+fault_lines journal (of_resuming f.Damaged) = deleted_lines journal (codes "Damaged (71)") (codes "buildozer: this is no journal, or was changed since it was written: delete ")
+fault_lines journal (of_resuming f.Version) = deleted_lines journal (codes "Version (72)") (codes "buildozer: a program of another version wrote it: use that one, or delete ")
+fault_lines journal (of_resuming f.Stale) = deleted_lines journal (codes "Stale (73)") (codes "buildozer: the file changed since the last run with --journal: restore it, or delete ")
 fault_lines journal (of_package other) = named_line journal (codes "Damaged (71)")
     ∷ concat (codes "buildozer: " ∷ escaped_text journal ∷ codes " was written for //" ∷ escaped_text (shown_package other) ∷ codes ": move it back there, or delete it to begin a new history\n" ∷ []) ∷ []
 

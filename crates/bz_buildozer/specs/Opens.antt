@@ -2,8 +2,8 @@
 use Rattle.std.specs.Prelude.{◌≡◌, ◌≢◌, ◌⊎◌, ◌↔◌, ◌+◌, ◌++◌, true, List, [], ◌∷◌, take, codes, Option, Some, None}
 use Rattle.bz_buildozer.specs.Words.{ReadFault, is_of_leaves, IsFaultAt, Accepted, limit, Folder, Bytes, IsFaultOf, fault_excerpt, named_line, fault_line}
 use Rattle.bz_buildozer.specs.Sessions.{opened}
-use Rattle.bz_buildozer.specs.Found.{Opened, opened_with, PackagesFound, root_above, second_name}
-use Rattle.bz_buildozer.specs.Reported.{absent_hint}
+use Rattle.bz_buildozer.specs.Found.{Opened, opened_with, PackagesFound, second_name}
+use Rattle.bz_buildozer.specs.Reported.{package_hint}
 
 -- a text of this name, as it was read, with the history that begins with it
 abbrev pub opened_fresh : Bytes → Bytes → Bytes → Opened
@@ -24,8 +24,8 @@ abbrev pub FrontsAreReportedAlike : Type 0
 FrontsAreReportedAlike = (current name text : Bytes) (file : Option Opened) (lines : List Bytes)
     → (Takes current name (take (limit + 1) text) file lines ↔ Takes current name text file lines)
 
--- The file that is found for a package is opened; where none is, that is reported of `BUILD`, and below it what a package is, and the root.
+-- The file that is found for a package is opened; where none is, that is reported of `BUILD`, and below it what a package is.
 abbrev pub Opens : Folder → Bytes → Option PackagesFound → Option Opened → List Bytes → Type 0
 Opens folder current (Some found) file lines = Takes current found.0 found.1 file lines
 Opens folder current None file lines =
-    (file ≡ None) × (lines ≡ (named_line (second_name current) (codes "cannot open") ++ absent_hint current (root_above folder)) ∷ [])
+    (file ≡ None) × (lines ≡ (named_line (second_name current) (codes "cannot open") ++ package_hint current) ∷ [])

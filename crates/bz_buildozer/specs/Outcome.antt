@@ -8,7 +8,7 @@ use Rattle.bz_lex.specs.declared.fault.ReadFault.TheVariants.{NotUtf8, TooLarge}
 use Rattle.bz_streams.specs.declared.exit.Cut.TheVariants as c
 use Rattle.bz_buildozer.specs.Ending.{Ended, Performs, ended_whole}
 use Rattle.bz_buildozer.specs.Run.{World}
-use Rattle.bz_buildozer.specs.Steps.{input_package, all_steps, names_input}
+use Rattle.bz_buildozer.specs.Steps.{input_package, names_input}
 use Rattle.bz_buildozer.specs.Reported.{usage_line, unread_line, unread_status, IsLineUsageLine, input_line, memory_line, no_journal_line}
 
 -- A fault of usage is reported by one line, and all else is as it was.
@@ -26,7 +26,7 @@ OrOutOfMemory world IsOutcome ended = (ended ≡ out_of_memory world.folder) ⊎
 abbrev pub LinesEnd : Options → List Requested → World → Ended → Type 0
 LinesEnd options lines world ended =
     ((options.journal && names_input lines ≡ true) × (ended ≡ unused world.folder no_journal_line))
-    ⊎ ((options.journal && names_input lines ≡ false) × Performs options (all_steps lines) world ended)
+    ⊎ ((options.journal && names_input lines ≡ false) × Performs options lines world ended)
 
 -- Such a run is unused and prints this line, in a world that is the run's own where the files are honest.
 abbrev pub IsUnused : Bool → World → (World → Ended → Type 0) → Bytes → Type 0

@@ -1,18 +1,20 @@
 -- The lines of buildozer on standard error, of which those on usage are bz_command_line's.
-use Rattle.std.specs.Prelude.{◌==◌, ◌&&◌, ◌||◌, ℕ, Bool, not, List, [], ◌∷◌, ◌++◌, Option, Some, None, bytes_eq, eqb, codes, decimal, if◌then◌else◌}
+use Rattle.std.specs.Prelude.{◌==◌, ◌&&◌, ◌||◌, ℕ, Bool, true, false, List, [], ◌∷◌, ◌++◌, Option, Some, None, bytes_eq, eqb, codes, decimal, if◌then◌else◌}
 use Rattle.std.specs.List.{concat, ends_with}
 use Rattle.bz_buildozer.specs.Words.{Bytes, refusal_name, refusal_number, Refusal, PairFault, escaped_text, stdin, named_line, Cut}
-use Rattle.bz_value.specs.declared.refusal.Refusal.TheVariants.{TooFar}
+use Rattle.bz_value.specs.declared.refusal.Refusal.TheVariants.{Full, TooFar}
 use Rattle.bz_buildozer.specs.Found.{Unedited, beside, kept, bzl}
 pub use Rattle.bz_command_line.specs.Reported.{numbered, operand_line, nul_line, refused_place, usage_line, IsLineUsageLine}
 use Rattle.bz_resume.specs.declared.pair_fault.PairFault.TheVariants as f
 use Rattle.bz_streams.specs.declared.exit.Cut.TheVariants as c
 
--- Without journals the steps that earlier runs did in a file can't be undone or redone. (The flag: journals are kept.)
+-- What may be done where there are fewer texts to go to, or no more may come. (The flag: journals are kept.)
 abbrev pub history_hint : Bool → Bytes → Refusal → Bytes
 history_hint journals file refusal =
-    if not journals && not (bytes_eq file stdin) && refusal_number refusal == refusal_number TooFar
-    then codes "buildozer: to undo or redo what earlier runs did, give --journal, as in those runs\n" else []
+    if refusal_number refusal == refusal_number TooFar && (journals || bytes_eq file stdin) then codes "buildozer: there are fewer texts to go to: the command journal lists them\n"
+    else if refusal_number refusal == refusal_number TooFar then codes "buildozer: to undo or redo what earlier runs did, give --journal, as in those runs\n"
+    else if refusal_number refusal == refusal_number Full then codes "buildozer: a history has at most 100,000 steps: do the rest in another run, with --journal after the journal is deleted\n"
+    else []
 
 -- a command that is refused, by its text, in a file; after its line is the hint, if there is one
 abbrev pub refusal_line : Bool → Bytes → Bytes → Refusal → Bytes
@@ -26,11 +28,6 @@ package_hint current =
     if bytes_eq current (codes "...") || ends_with eqb current (codes "/...") then codes "buildozer: ... is no package here: see buildozer-tree\n"
     else codes "buildozer: a package is a directory below the working directory, which is to be the root of the workspace\n"
 
--- the same, and below it the root of the workspace, where that is above the current folder
-abbrev pub absent_hint : Bytes → Option Bytes → Bytes
-absent_hint current None = package_hint current
-absent_hint current (Some root) = package_hint current ++ (codes "buildozer: the root of the workspace is " ++ (root ++ codes "\n"))
-
 -- why a file isn't edited
 abbrev pub unedited_line : Unedited → Bytes
 unedited_line (beside current) = concat (codes "buildozer: the file of //" ∷ escaped_text current ∷ codes " is its BUILD.bazel\n" ∷ [])
@@ -40,6 +37,13 @@ unedited_line bzl = codes "buildozer: a .bzl file is not edited: to format it, s
 -- a file that isn't edited, and below it why
 abbrev pub unedited_lines : Bytes → Unedited → List Bytes
 unedited_lines name why = named_line name (codes "cannot open") ∷ unedited_line why ∷ []
+
+-- The run is in a folder below the root of the workspace, and takes packages from there: that is noted once, before all steps, where rules of a
+-- file are meant. (Whether they are, and where the root is.)
+abbrev pub root_note : Bool → Option Bytes → List Bytes
+root_note true (Some root) =
+    (codes "buildozer: note: the root of the workspace is " ++ (root ++ codes ", and packages are those below the working directory\n")) ∷ []
+root_note _ _ = []
 
 -- a file that was written
 abbrev pub fixed_line : Bytes → Bytes

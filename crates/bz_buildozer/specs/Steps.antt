@@ -39,6 +39,10 @@ is_of_input target = bytes_eq target.«package» input_package
 abbrev pub names_input : List Requested → Bool
 names_input lines = list_any (λ requested. list_any is_of_input requested.targets) lines
 
+-- Rules of a file are meant.
+abbrev pub names_file : List Requested → Bool
+names_file lines = list_any (λ requested. list_any (λ target. not (is_of_input target)) requested.targets) lines
+
 -- a command on rules of standard input that doesn't print
 abbrev pub is_shown_by : RunStep → Bool
 is_shown_by step = is_of_input step.target && not (prints step.request.verb)

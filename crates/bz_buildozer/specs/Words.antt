@@ -30,7 +30,7 @@ pub use Rattle.bz_label.specs.declared.target.Target.{Target}
 pub use Rattle.bz_lex.specs.Faults.{is_of_leaves}
 pub use Rattle.bz_lex.specs.Stops.{IsFaultAt}
 pub use Rattle.bz_lex.specs.declared.fault.ReadFault.{ReadFault}
-pub use Rattle.bz_resume.specs.Journals.{Journal, journal_text, NoJournal, stands}
+pub use Rattle.bz_resume.specs.Journals.{BeginsNoJournal, Journal, journal_text, NoJournal, stands}
 pub use Rattle.bz_resume.specs.Pair.{journal_name}
 pub use Rattle.bz_resume.specs.Resumed.{IsStale}
 pub use Rattle.bz_resume.specs.Resuming.{Holds, OthersStay, Survives}

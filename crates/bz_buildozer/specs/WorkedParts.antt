@@ -1,19 +1,21 @@
 -- Worked rows: what each part of a run of buildozer gives. Above a row is what is typed (in a shell), or what was done.
 use Rattle.std.specs.Prelude.{◌≡◌, ℕ, is_some, true, false, List, [], ◌∷◌, map, codes, Some, None, Result, Ok, Err}
 use Rattle.std.specs.FinMap.{get}
-use Rattle.bz_value.specs.declared.refusal.Refusal.TheVariants.{Memory, NotAList, TooFar, NoTarget}
+use Rattle.bz_value.specs.declared.refusal.Refusal.TheVariants.{Full, Memory, NotAList, TooFar, NoTarget}
 use Rattle.bz_buildozer.specs.Words.{Folder, Requested, Usage, operand_group, stdin, fault_line, Bytes}
 use Rattle.bz_buildozer.specs.Sessions.{changed, undone, redone, Same, Printed}
 use Rattle.bz_streams.specs.declared.exit.Cut.TheVariants as c
 use Rattle.bz_buildozer.specs.Found.{beside, bzl, first_name, folder_of, found_in, has_package, kept, as_file, as_package, as_unedited, second_name, settled, settled_second, Opened, Used, package_number}
+use Rattle.bz_buildozer.specs.Journals.{fault_lines, of_resuming}
 use Rattle.bz_buildozer.specs.Opens.{opened_fresh}
-use Rattle.bz_buildozer.specs.Reported.{absent_hint, package_hint, refusal_line, operand_line, fixed_line, unedited_lines}
+use Rattle.bz_buildozer.specs.Reported.{package_hint, root_note, refusal_line, operand_line, fixed_line, unedited_lines}
 use Rattle.bz_buildozer.specs.Ending.{texts_out, writing_of, status_of}
 use Rattle.bz_buildozer.specs.Run.{Finds, reported_of, printed_by, state_after, wanting_name}
 use Rattle.bz_buildozer.specs.Steps.{RunStep, all_steps, shows_input}
 use Rattle.bz_buildozer.specs.Unread.{no_acts}
 use Rattle.bz_lex.specs.declared.fault.ReadFault.TheVariants.{NotUtf8, Unexpected}
 use Rattle.bz_command_line.specs.declared.verb.OperandFault.TheVariants.{BadTarget}
+use Rattle.bz_resume.specs.declared.fault.ResumeFault.TheVariants.{Damaged, Version}
 
 -- a file as it is read, and what `set size small` makes of it
 abbrev pub text_read : Bytes
@@ -76,9 +78,10 @@ Reported =
     × (package_hint (codes "a/...") ≡ codes "buildozer: ... is no package here: see buildozer-tree\n")
     × (package_hint (codes "a...")
     ≡ codes "buildozer: a package is a directory below the working directory, which is to be the root of the workspace\n")
-    -- the same in a folder of the root
-    × (absent_hint (codes "...") (Some (codes "../"))
-    ≡ codes "buildozer: ... is no package here: see buildozer-tree\nbuildozer: the root of the workspace is ../\n")
+    -- in a folder two below the root: //a:x, and -:x
+    × (root_note true (Some (codes "../../"))
+    ≡ codes "buildozer: note: the root of the workspace is ../../, and packages are those below the working directory\n" ∷ [])
+    × (root_note false (Some (codes "../../")) ≡ [])
     -- Only what a command prints is printed.
     × (printed_by (Ok (Printed (codes "x\n"))) ≡ codes "x\n") × (printed_by (Ok Same) ≡ []) × (printed_by (Err NotAList) ≡ [])
     -- A refusal after a printed line: the line stays, and the run has failed from then on.
@@ -146,11 +149,23 @@ WorkedParts = Statuses × TextsOut × Reported × Steps × Files × Settles
 abbrev pub WorkedRefusals : Type 0
 WorkedRefusals = (fault_line stdin (Unexpected 12 305) ≡ codes "<stdin>:12:305: Unexpected\n")
     × (fault_line (codes "a/BUILD") (NotUtf8 67108863) ≡ codes "a/BUILD: NotUtf8 at 67108863\n    the byte after that many is not UTF-8: save the file as text in UTF-8\n")
-    × (refusal_line false stdin (codes "undo 3") TooFar ≡ codes "buildozer: <stdin>: undo 3: TooFar (61)\n")
+    × (refusal_line false stdin (codes "undo 3") TooFar
+    ≡ codes "buildozer: <stdin>: undo 3: TooFar (61)\nbuildozer: there are fewer texts to go to: the command journal lists them\n")
     × (refusal_line false (codes "a/BUILD") (codes "redo") TooFar
     ≡ codes "buildozer: a/BUILD: redo: TooFar (61)\nbuildozer: to undo or redo what earlier runs did, give --journal, as in those runs\n")
     × (refusal_line false (codes "a/BUILD") (codes "add deps b") NoTarget ≡ codes "buildozer: a/BUILD: add deps b: NoTarget (41)\n")
-    × (refusal_line true (codes "a/BUILD") (codes "redo") TooFar ≡ codes "buildozer: a/BUILD: redo: TooFar (61)\n")
+    × (refusal_line true (codes "a/BUILD") (codes "redo") TooFar
+    ≡ codes "buildozer: a/BUILD: redo: TooFar (61)\nbuildozer: there are fewer texts to go to: the command journal lists them\n")
+    × (refusal_line true (codes "a/BUILD") (codes "set size a") Full
+    ≡ codes "buildozer: a/BUILD: set size a: Full (62)\nbuildozer: a history has at most 100,000 steps: do the rest in another run, with --journal after the journal is deleted\n")
+    × (refusal_line false stdin (codes "set size a") Full
+    ≡ codes "buildozer: <stdin>: set size a: Full (62)\nbuildozer: a history has at most 100,000 steps: do the rest in another run, with --journal after the journal is deleted\n")
+    × (fault_lines (codes "a/BUILD.journal") (of_resuming Damaged)
+    ≡ codes "a/BUILD.journal: Damaged (71)\n"
+    ∷ codes "buildozer: this is no journal, or was changed since it was written: delete a/BUILD.journal to begin a new history\n" ∷ [])
+    × (fault_lines (codes "a/BUILD.journal") (of_resuming Version)
+    ≡ codes "a/BUILD.journal: Version (72)\n"
+    ∷ codes "buildozer: a program of another version wrote it: use that one, or delete a/BUILD.journal to begin a new history\n" ∷ [])
     × (operand_line (record { operand = codes "//a::b"; fault = BadTarget; pattern = None })
     ≡ codes "buildozer: //a::b: BadTarget (12)\nbuildozer: the form of a target is //PACKAGE:NAME, without an empty part; a package has at most 65,536 bytes\n")
     × (fixed_line (codes "a/BUILD") ≡ codes "fixed a/BUILD\n")

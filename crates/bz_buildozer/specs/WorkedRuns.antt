@@ -8,7 +8,7 @@ use Rattle.bz_streams.specs.declared.exit.Cut.TheVariants as c
 use Rattle.bz_command_syntax.specs.declared.command.AttributeOperation.TheVariants as wa
 use Rattle.bz_command_syntax.specs.declared.command.Operation.TheVariants as w
 use Rattle.bz_buildozer.specs.Found.{found_in, root_above}
-use Rattle.bz_buildozer.specs.Reported.{absent_hint}
+use Rattle.bz_buildozer.specs.Reported.{package_hint}
 use Rattle.bz_buildozer.specs.Ending.{ended_whole}
 use Rattle.bz_buildozer.specs.Outcome.{WordsOutcome, unused}
 use Rattle.bz_buildozer.specs.Run.{World}
@@ -100,22 +100,29 @@ OverBuild world =
     × BuildWritten (change ∷ codes "undo 2" ∷ rule ∷ []) [] ((codes "buildozer: BUILD: undo 2: TooFar (61)\n" ++ hint) ∷ fixed ∷ []) 2 world
     × Still (codes "undo" ∷ rule ∷ []) [] ((codes "buildozer: BUILD: undo: TooFar (61)\n" ++ hint) ∷ []) 2 world
 
+-- 'set size small' //:x in a folder below the root: that is noted before all else.
+abbrev pub BelowRoot : World → Type 0
+BelowRoot world = BuildWritten (codes "set size small" ∷ codes "//:x" ∷ []) []
+    (codes "buildozer: note: the root of the workspace is ../, and packages are those below the working directory\n" ∷ codes "fixed BUILD\n" ∷ []) 0 world
+
 -- Package `none` has no file: 'set size small' //none:x //:x ends there; with -k it goes on. -k undo redo //none:x reports it once.
 abbrev pub BesideNone : World → Type 0
 BesideNone world =
-    let none : Bytes = codes "none/BUILD: cannot open\n" ++ absent_hint (codes "none") (root_above world.folder) in
+    let none : Bytes = codes "none/BUILD: cannot open\n" ++ package_hint (codes "none") in
     let targets : List Bytes = codes "//none:x" ∷ codes "//:x" ∷ [] in
     Still (codes "set size small" ∷ targets) [] (none ∷ []) 2 world
     × BuildWritten (codes "-k" ∷ codes "set size small" ∷ targets) [] (none ∷ codes "fixed BUILD\n" ∷ []) 2 world
     × Still (codes "-k" ∷ codes "undo" ∷ codes "redo" ∷ codes "//none:x" ∷ []) [] (none ∷ []) 2 world
 
--- -- 'set size small' -:x; with undo after it the text that was read goes out.
+-- -- 'set size small' -:x; with undo after it the text that was read goes out. Where the root is is not noted.
 abbrev pub OverInput : World → Type 0
 OverInput world =
     Still (codes "--" ∷ codes "set size small" ∷ codes "-:x" ∷ []) text_made [] 0 world
     × Still (codes "--" ∷ codes "set size small" ∷ codes "undo" ∷ codes "-:x" ∷ []) text_read [] 3 world
 
 abbrev pub WorkedWholeRuns : Type 0
-WorkedWholeRuns = ((current : Bytes) → IsMade current) × ((world : World) → HasBuild world → OverBuild world)
-    × ((world : World) → HasBuild world → get world.folder (codes "none") ≡ None → found_in world.folder (codes "none") ≡ None → BesideNone world)
+WorkedWholeRuns = ((current : Bytes) → IsMade current) × ((world : World) → HasBuild world → root_above world.folder ≡ None → OverBuild world)
+    × ((world : World) → HasBuild world → root_above world.folder ≡ Some (codes "../") → BelowRoot world)
+    × ((world : World) → HasBuild world → root_above world.folder ≡ None → get world.folder (codes "none") ≡ None
+    → found_in world.folder (codes "none") ≡ None → BesideNone world)
     × ((folder : Folder) → OverInput (record { folder = folder; known = Some text_read; acts = no_acts }))

@@ -13,7 +13,8 @@ ghost use Rattle.bz_buildozer.specs.Reported.{no_journal_line};
 ghost use Rattle.bz_buildozer.specs.Run.{World};
 
 use crate::ending::{Ending, finish};
-use crate::reported::{UNUSED, report_unread, unused};
+use crate::reported::{UNUSED, out_of_memory, report_unread, unused};
+use crate::rooting::note_root;
 use crate::run::begun;
 use crate::running::run_lines;
 use crate::script::{INPUT, read_bytes, reported_name, text_in};
@@ -50,7 +51,8 @@ fn lacks_journal(options: Options, lines: &[Requested<'_>]) -> bool
     options.journal && names_input(lines)
 }
 
-// Does what lines request, on files alone or with their journals, and ends the run; unless that needs a journal of standard input.
+// Does what lines request, on files alone or with their journals, below a note on the root, and ends the run; unless that needs a journal of
+// standard input, or memory is refused to the note.
 fn perform<R: Source, W: Sink, E: Sink, F: Files>(
     job: Job,
     lines: &[Requested<'_>],
@@ -61,7 +63,8 @@ fn perform<R: Source, W: Sink, E: Sink, F: Files>(
 ) -> Exit
     requires { All (λ requested. All HasPath requested.targets.items) lines.now }
     ensures ends { (F.honest files.old ≡ true) ⊎ AreOfInputAndSome (map requested_in lines.now) → (acts : RunActs) → ActsAreAmong (F.acts files.old) (F.acts files.new) acts
-        → EndsIn W.Sink E.Sink F.Files (LinesEnd job.options (map requested_in lines.now) (world_of R.Source F.Files input.old files.old acts)) result out.old out.new err.old err.new files.new }
+        → EndsIn W.Sink E.Sink F.Files (OrOutOfMemory (world_of R.Source F.Files input.old files.old acts)
+        (LinesEnd job.options (map requested_in lines.now) (world_of R.Source F.Files input.old files.old acts))) result out.old out.new err.old err.new files.new }
     ensures unread { job.options.journal ≡ true → names_input (map requested_in lines.now) ≡ true → (input.new ≡ input.old) × (out.new ≡ out.old) × (files.new ≡ files.old) }
     ensures reads_nothing { job.options.journal ≡ true → ReadsNothing R.Source result.cut input.old input.new }
     ensures unused { result.status ≡ 1 → (input.new ≡ input.old) × (out.new ≡ out.old) × (files.new ≡ files.old) }
@@ -81,6 +84,9 @@ fn perform<R: Source, W: Sink, E: Sink, F: Files>(
         );
         return UNUSED;
     }
+    let Ok(()) = note_root(job.alloc, lines, files, err) else {
+        return out_of_memory(err);
+    };
     let mut run = begun(job.alloc, are_one_step(lines));
     let cut = run_lines(job.options, lines, &mut run, input, files, err);
     let shown = shows_input(lines);

@@ -14,9 +14,9 @@ ghost use Rattle.bz_buildozer.specs.private.Settling.{settled_in};
 ghost use Rattle.bz_buildozer.specs.private.ShownFiles.{taken_in};
 
 use crate::reading::{
-    Taken, bytes_of, fail, fail_absent, fail_unedited, misplaced, name_in, unnamed, unresumed,
+    Taken, bytes_of, fail, fail_absent, fail_unedited, journal_bytes, misplaced, name_in, unnamed,
+    unresumed,
 };
-use crate::rooting::root_above;
 use crate::script::INPUT;
 use crate::settling::{Settled, folder_of};
 use crate::used::Opened;
@@ -94,8 +94,7 @@ fn open_resumed<E: Sink>(
     }
 }
 
-// Opens a file with what was read of it, and resumes its journal where journals are kept and it is there. A journal may be of any length,
-// so it is read whole.
+// Opens a file with what was read of it, and resumes its journal where journals are kept and it is there.
 fn open_found<F: Files, E: Sink>(
     package: &str,
     name: &str,
@@ -118,7 +117,7 @@ fn open_found<F: Files, E: Sink>(
         return fail(err, name, "Memory", Cut::Memory);
     };
     let journal = journal.as_str();
-    match bytes_of(alloc, files, journal, usize::MAX) {
+    match journal_bytes(alloc, files, journal) {
         Ok(bytes) => open_resumed(package, name, text, journal, bytes.as_slice(), err),
         Err(FileFault::Absent) => open_text(package, name, text, err),
         Err(FileFault::Memory) => fail(err, journal, "Memory", Cut::Memory),
@@ -137,7 +136,7 @@ fn base_of(second: bool) -> &'static str
 /// read than one byte past the limit of a text. Where journals are kept, `FILE.journal` is read too, and resumed where it is there. A fault
 /// is reported by one line for each file: those of the text, below which its line is, `NAME: cannot open` where neither is there or one could
 /// not be read, and `NAME: Memory` where memory was refused; of a journal `NAME.journal: cannot open`, or `NAME.journal: FAULT (NUMBER)`.
-/// Where neither is there, what a package is, and where the root of the workspace is, is printed below the line. Cuts: `Memory` and `Files`,
+/// Where neither is there, what a package is is printed below the line. Cuts: `Memory` and `Files`,
 /// the first that came; the second file may be open after a `Files` of the first.
 pub(crate) fn open_named<F: Files, E: Sink>(
     alloc: Global,
@@ -161,10 +160,7 @@ pub(crate) fn open_named<F: Files, E: Sink>(
         Ok(text) => open_found(package, name, text, journals, files, err),
         Err(FileFault::Memory) => fail(err, name, "Memory", Cut::Memory),
         Err(FileFault::Absent) if !second => open_named(alloc, package, true, journals, files, err),
-        Err(FileFault::Absent) => match root_above(alloc, files) {
-            Ok(root) => fail_absent(err, name, package, root.as_deref()),
-            Err(_) => unnamed(err, package),
-        },
+        Err(FileFault::Absent) => fail_absent(err, name, package),
         Err(_) if second => fail(err, name, "cannot open", Cut::Files),
         Err(_) => {
             report_named(err, name, "cannot open");

@@ -1,16 +1,16 @@
 //! What opening a file takes: its name, its bytes, and the lines on why it isn't open.
-ghost use Rattle.std.specs.Prelude.{◌≡◌, ◌≢◌, ◌⊎◌, ◌≤◌, ◌++◌, [], ◌∷◌, codes, eqb, flat_map, option_map, take, true, Some, None, Err, IfOk, IfErr, IsErrOf, string_bytes};
+ghost use Rattle.std.specs.Prelude.{◌≡◌, ◌≢◌, ◌⊎◌, ◌<◌, ◌≤◌, ◌++◌, [], ◌∷◌, codes, eqb, flat_map, take, true, Some, None, Err, IfOk, IfErr, IsErrOf, IsTrue, length, string_bytes};
 ghost use Rattle.std.specs.List.{ends_with};
 ghost use Rattle.std.specs.FinMap.{get};
-ghost use Rattle.bz_buildozer.specs.Words.{Bytes, ReadsRegular, Rises, AppendsUnlessFailed, Reports, line_piece_text, named_line};
+ghost use Rattle.bz_buildozer.specs.Words.{BeginsNoJournal, Bytes, ReadsRegular, Rises, AppendsUnlessFailed, Reports, line_piece_text, named_line};
 ghost use Rattle.bz_files.specs.Orders.{Read, with_act};
 ghost use Rattle.bz_buildozer.specs.Found.{in_package};
-ghost use Rattle.bz_buildozer.specs.Journals.{fault_lines, of_package, of_resuming, shown_package};
+ghost use Rattle.bz_buildozer.specs.Journals.{deleted_lines, fault_lines, of_package, of_resuming, shown_package};
 ghost use Rattle.bz_buildozer.specs.Keeps.{KeepsFolder};
-ghost use Rattle.bz_buildozer.specs.Reported.{absent_hint, package_hint, unedited_lines};
+ghost use Rattle.bz_buildozer.specs.Reported.{package_hint, unedited_lines};
 ghost use Rattle.bz_buildozer.specs.Run.{wanting_name};
 ghost use Rattle.bz_buildozer.specs.private.Settling.{unedited_in};
-ghost use Rattle.bz_buildozer.specs.private.Taking.{slash_after};
+ghost use Rattle.bz_buildozer.specs.private.Taking.{IsEnoughOf, LastReadFailed, slash_after};
 
 use crate::script::INPUT;
 use crate::settling::Unedited;
@@ -18,6 +18,7 @@ use crate::used::Opened;
 use bz_files::{FileFault, FileKind, Files};
 use bz_items::Memory;
 use bz_journal::ResumeFault;
+use bz_resume::begins_no_journal;
 use bz_streams::{Cut, LinePiece, STDIN, Sink, report_named, report_pieces};
 use std::alloc::Global;
 
@@ -68,6 +69,44 @@ pub(crate) fn bytes_of<F: Files>(
     Ok(text)
 }
 
+// This many bytes of a journal are read first.
+const FRONT: usize = 65_536;
+
+// Whether the first bytes of a journal, as many as are read first, are all that need be read of it.
+fn is_enough(front: &[u8]) -> bool
+    ensures { IsTrue result → (length front.now < 65536) ⊎ BeginsNoJournal front.now }
+{
+    front.len() < FRONT || begins_no_journal(front)
+}
+
+/// What is to be read of a journal, which may be of any length: all bytes of the file, or the first ones alone where no journal begins with
+/// these. Errors: those of the reads.
+pub(crate) fn journal_bytes<F: Files>(
+    alloc: Global,
+    files: &mut F,
+    name: &str,
+) -> Result<Vec<u8>, FileFault>
+    ensures found { F.honest files.old ≡ true → IfOk result (λ read. (bytes : Bytes)
+        × (get (F.folder files.old) name.now ≡ Some bytes) × IsEnoughOf bytes read.items) }
+    ensures absent { F.honest files.old ≡ true → IsErrOf result FileFault.Absent → get (F.folder files.old) name.now ≡ None }
+    ensures folder { F.honest files.old ≡ true → F.folder files.new ≡ F.folder files.old }
+    ensures time { F.honest files.old ≡ true → KeepsFolder F.Files files.old files.new }
+    ensures regular { ReadsRegular (F.acts files.old) (F.acts files.new) }
+    ensures failed { IfErr result (λ fault. LastReadFailed (F.acts files.old) (F.acts files.new) name.now fault) }
+    ensures kinds { IfErr result (λ fault. fault ≢ FileFault.Write) }
+    ensures cause { IsErrOf result FileFault.Open → Rises (F.faults files.old) (F.faults files.new) }
+    ensures kept { (IsErrOf result FileFault.Open → ⊥) → F.faults files.new ≡ F.faults files.old }
+    ensures count { F.faults files.old ≤ F.faults files.new }
+    ensures honest { F.honest files.new ≡ F.honest files.old }
+{
+    let front = bytes_of(alloc, files, name, FRONT)?;
+    if is_enough(front.as_slice()) {
+        return Ok(front);
+    }
+    let all = bytes_of(alloc, files, name, usize::MAX)?;
+    Ok(all)
+}
+
 /// Reports a word on a file, and no file is open.
 pub(crate) fn fail<E: Sink>(err: &mut E, name: &str, word: &str, cut: Cut) -> Taken
     ensures taken { result ≡ record { file = None; cut = cut } }
@@ -77,9 +116,6 @@ pub(crate) fn fail<E: Sink>(err: &mut E, name: &str, word: &str, cut: Cut) -> Ta
     report_named(err, name, word);
     Taken { file: None, cut }
 }
-
-// What is before the path of the root of the workspace.
-const ROOT_LEAD: &str = "buildozer: the root of the workspace is ";
 
 // Whether a package is written as all those below another one.
 fn ends_in_dots(package: &str) -> bool
@@ -99,50 +135,21 @@ fn package_hint(package: &str) -> &'static str
     }
 }
 
-// Reports that a file can't be read, and below the line a hint, and the root of the workspace after its lead, or nothing.
-fn report_above<'a, E: Sink>(
-    err: &mut E,
-    name: &'a str,
-    hint: &'a str,
-    lead: &'a str,
-    root: &'a str,
-    end: &'a str,
-)
-    ensures { AppendsUnlessFailed (E.faults err.old) (E.faults err.new) (E.contents err.old) (E.contents err.new)
-        (named_line name.entry.now (codes "cannot open") ++ (hint.entry.now ++ (lead.entry.now ++ (root.entry.now ++ end.entry.now)))) }
+/// Reports that no file of a package is there, by the name of one, and below it what a package is.
+pub(crate) fn fail_absent<E: Sink>(err: &mut E, name: &str, package: &str) -> Taken
+    ensures taken { result ≡ record { file = None; cut = Cut.Whole } }
+    ensures reported { AppendsUnlessFailed (E.faults err.old) (E.faults err.new) (E.contents err.old) (E.contents err.new)
+        (named_line name.now (codes "cannot open") ++ package_hint «package».now) }
 {
+    let hint = package_hint(package);
     report_pieces(
         err,
         &[
             LinePiece::Outside(name),
-            LinePiece::Own(": "),
-            LinePiece::Own("cannot open"),
-            LinePiece::Own("\n"),
+            LinePiece::Own(": cannot open\n"),
             LinePiece::Own(hint),
-            LinePiece::Own(lead),
-            LinePiece::Own(root),
-            LinePiece::Own(end),
         ],
     );
-}
-
-/// Reports that no file of a package is there, by the name of one; below it what a package is, and the root of the workspace, where that is above the
-/// current folder.
-pub(crate) fn fail_absent<E: Sink>(
-    err: &mut E,
-    name: &str,
-    package: &str,
-    root: Option<&str>,
-) -> Taken
-    ensures taken { result ≡ record { file = None; cut = Cut.Whole } }
-    ensures reported { AppendsUnlessFailed (E.faults err.old) (E.faults err.new) (E.contents err.old) (E.contents err.new)
-        (named_line name.now (codes "cannot open") ++ absent_hint «package».now (option_map (λ s. s.now) root.entry)) }
-{
-    let hint = package_hint(package);
-    match root {
-        Some(root) => report_above(err, name, hint, ROOT_LEAD, root, "\n"),
-        None => report_above(err, name, hint, "", "", ""),
-    }
     Taken {
         file: None,
         cut: Cut::Whole,
@@ -160,7 +167,25 @@ fn fail_with_hint<E: Sink>(err: &mut E, journal: &str, word: &str, hint: &[LineP
     taken
 }
 
-/// Reports why a journal is not resumed, and after that what may be done; no file is open.
+// Reports a word on a journal, and below it this, and that it may be deleted; no file is open.
+fn fail_deleted<'a, E: Sink>(err: &mut E, journal: &'a str, word: &str, says: &'a str) -> Taken
+    ensures taken { result ≡ record { file = None; cut = Cut.Whole } }
+    ensures reported { Reports (E.faults err.old) (E.faults err.new) (E.contents err.old) (E.contents err.new)
+        (deleted_lines journal.entry.now word.now says.entry.now) }
+{
+    fail_with_hint(
+        err,
+        journal,
+        word,
+        &[
+            LinePiece::Own(says),
+            LinePiece::Outside(journal),
+            LinePiece::Own(" to begin a new history\n"),
+        ],
+    )
+}
+
+/// Reports why a journal is not resumed, and below that what it means and what may be done; no file is open.
 pub(crate) fn unresumed<E: Sink>(err: &mut E, journal: &str, fault: &ResumeFault) -> Taken
     ensures file { result.file ≡ None }
     ensures whole { result.cut ≡ Cut.Whole → fault.now ≢ ResumeFault.Memory }
@@ -172,19 +197,23 @@ pub(crate) fn unresumed<E: Sink>(err: &mut E, journal: &str, fault: &ResumeFault
 {
     match fault {
         ResumeFault::Memory => fail(err, journal, "Memory (8)", Cut::Memory),
-        ResumeFault::Damaged => fail(err, journal, "Damaged (71)", Cut::Whole),
-        ResumeFault::Version => fail(err, journal, "Version (72)", Cut::Whole),
-        ResumeFault::Stale => fail_with_hint(
+        ResumeFault::Damaged => fail_deleted(
+            err,
+            journal,
+            "Damaged (71)",
+            "buildozer: this is no journal, or was changed since it was written: delete ",
+        ),
+        ResumeFault::Version => fail_deleted(
+            err,
+            journal,
+            "Version (72)",
+            "buildozer: a program of another version wrote it: use that one, or delete ",
+        ),
+        ResumeFault::Stale => fail_deleted(
             err,
             journal,
             "Stale (73)",
-            &[
-                LinePiece::Own(
-                    "buildozer: the file changed since the last run with --journal: restore it, or delete ",
-                ),
-                LinePiece::Outside(journal),
-                LinePiece::Own(" to begin a new history\n"),
-            ],
+            "buildozer: the file changed since the last run with --journal: restore it, or delete ",
         ),
     }
 }

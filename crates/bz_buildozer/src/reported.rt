@@ -35,8 +35,12 @@ pub(crate) fn fail<E: Sink>(err: &mut E, name: &str, word: &str, cut: Cut) -> Cu
 fn history_hint(journals: bool, file: &str, refusal: Refusal) -> &'static str
     ensures { result.now ≡ history_hint journals file.now refusal }
 {
-    if !journals && file != STDIN && refusal.number() == Refusal::TooFar.number() {
+    if refusal.number() == Refusal::TooFar.number() && (journals || file == STDIN) {
+        "buildozer: there are fewer texts to go to: the command journal lists them\n"
+    } else if refusal.number() == Refusal::TooFar.number() {
         "buildozer: to undo or redo what earlier runs did, give --journal, as in those runs\n"
+    } else if refusal.number() == Refusal::Full.number() {
+        "buildozer: a history has at most 100,000 steps: do the rest in another run, with --journal after the journal is deleted\n"
     } else {
         ""
     }
@@ -88,6 +92,18 @@ pub(crate) fn report_refusal<E: Sink>(
     report_numbered(err, file, command, name, number, hint);
 }
 
+/// Reports that memory was refused before anything was done. Returned: how the run ends.
+pub(crate) fn out_of_memory<E: Sink>(err: &mut E) -> Exit
+    ensures exit { result ≡ record { status = 2; cut = Cut.Memory } }
+    ensures reported { ReportsLine E.Sink err.old err.new memory_line }
+{
+    report_pieces(err, &[LinePiece::Own("buildozer: Memory\n")]);
+    Exit {
+        status: FAILED,
+        cut: Cut::Memory,
+    }
+}
+
 /// How a run ends of words that request nothing, by whether that was reported; else memory was refused, which is reported now.
 pub(crate) fn unused<E: Sink>(reported: Result<(), AllocError>, err: &mut E) -> Exit
     ensures ok { OnOk reported ((result ≡ record { status = 1; cut = Cut.Whole }) × (err.new ≡ err.old)) }
@@ -95,13 +111,7 @@ pub(crate) fn unused<E: Sink>(reported: Result<(), AllocError>, err: &mut E) -> 
 {
     match reported {
         Ok(()) => UNUSED,
-        Err(_) => {
-            report_pieces(err, &[LinePiece::Own("buildozer: Memory\n")]);
-            Exit {
-                status: FAILED,
-                cut: Cut::Memory,
-            }
-        }
+        Err(_) => out_of_memory(err),
     }
 }
 

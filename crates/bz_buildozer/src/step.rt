@@ -1,10 +1,10 @@
 //! Commands and targets as a session takes them.
-ghost use Rattle.std.specs.Prelude.{◌≡◌, ◌≤◌, length, map, option_map, true};
+ghost use Rattle.std.specs.Prelude.{◌≡◌, ◌≤◌, length, map, not, option_map, true};
 ghost use Rattle.std.specs.List.{list_any};
 ghost use Rattle.bz_command_line.specs.Paths.{HasPath};
 ghost use Rattle.bz_buildozer.specs.Sessions.{action_in};
 ghost use Rattle.bz_buildozer.specs.Steps as s;
-ghost use Rattle.bz_buildozer.specs.private.Shown.{targets_input_in, prints_nothing_in, shown_in};
+ghost use Rattle.bz_buildozer.specs.private.Shown.{targets_file_in, targets_input_in, prints_nothing_in, shown_in};
 ghost use Rattle.bz_buildozer.specs.Steps.{all_steps, is_of_input, steps_requested};
 ghost use Rattle.bz_buildozer.specs.Words.{requested_in};
 
@@ -48,6 +48,13 @@ pub(crate) fn is_of_input(target: &Target) -> bool
     target.package.as_slice() == INPUT.as_bytes()
 }
 
+// Whether rules of a file are meant.
+fn is_of_file(target: &Target) -> bool
+    ensures { result ≡ not (is_of_input target.now) }
+{
+    !is_of_input(target)
+}
+
 // Whether a command doesn't print.
 fn prints_nothing(request: &Request<'_>) -> bool
     ensures { result ≡ prints_nothing_in request.now }
@@ -60,6 +67,13 @@ fn targets_input(line: &Requested<'_>) -> bool
     ensures { result ≡ targets_input_in line.now }
 {
     line.targets.iter().any(|target| is_of_input(target))
+}
+
+// Whether rules of a file are meant in a line.
+fn targets_file(line: &Requested<'_>) -> bool
+    ensures { result ≡ targets_file_in line.now }
+{
+    line.targets.iter().any(|target| is_of_file(target))
 }
 
 // Whether a command among them doesn't print.
@@ -81,6 +95,13 @@ pub(crate) fn names_input(lines: &[Requested<'_>]) -> bool
     ensures { result ≡ list_any targets_input_in lines.now }
 {
     lines.iter().any(|line| targets_input(line))
+}
+
+/// Whether rules of a file are meant in one of the lines.
+pub(crate) fn names_file(lines: &[Requested<'_>]) -> bool
+    ensures { result ≡ list_any targets_file_in lines.now }
+{
+    lines.iter().any(|line| targets_file(line))
 }
 
 /// Whether the text of standard input is shown: a command on it is not one that prints.

@@ -1,6 +1,7 @@
 pub mod Around
 pub mod Checking
 pub mod Entries
+pub mod JournalFronts
 pub mod Loops
 pub mod Names
 pub mod Opens

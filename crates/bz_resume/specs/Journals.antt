@@ -1,8 +1,8 @@
 -- The journal of a history and of the steps between its texts.
-use Rattle.std.specs.Prelude.{ℕ, ◌≡◌, ◌≤◌, List, [], length, map, slice_index_or, IsUtf8, Option, Some, None, if◌then◌else◌}
+use Rattle.std.specs.Prelude.{ℕ, ◌≡◌, ◌≤◌, List, [], ◌++◌, length, map, slice_index_or, IsUtf8, Option, Some, None, if◌then◌else◌}
 use Rattle.std.specs.List.{AllByRecursion}
 use Rattle.std.specs.Str.{bytes_eq}
-use Rattle.bz_resume.specs.Words.{sha256, Node, depth_limit, Edit, IsTrail, IsSmall, trail_at, Text, texts_of, entries_of, Record, Version, IsNote, IsRecord, record_text, short_limit, step_limit}
+use Rattle.bz_resume.specs.Words.{sha256, Node, depth_limit, Edit, IsTrail, IsSmall, trail_at, Text, texts_of, entries_of, Record, Version, IsNote, IsOtherVersion, IsRecord, record_text, short_limit, step_limit}
 use Rattle.bz_journal_format.specs.declared.content.Version.TheVariants.{Two}
 
 -- the path of the file's package, the texts in the order in which they came, a note of each step between two of them, the number
@@ -37,6 +37,10 @@ pub record Journal (bytes : Text) (h : History) (es : List (List Edit)) : Type 0
 -- the bytes are no journal
 abbrev pub NoJournal : Text → Type 0
 NoJournal bytes = (h : History) (es : List (List Edit)) → Journal bytes h es → ⊥
+
+-- no bytes that begin with these are a journal, or name another version
+abbrev pub BeginsNoJournal : Text → Type 0
+BeginsNoJournal front = (rest : Text) → (IsOtherVersion (front ++ rest) → ⊥) × NoJournal (front ++ rest)
 
 -- where a history matches the text of a file: at its cursor where that is the text there, else at the cursor before, where it
 -- is that one, else nowhere

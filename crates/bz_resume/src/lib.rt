@@ -22,5 +22,5 @@ pub use fault::ResumeFault;
 pub use pair::{journal_name, keep};
 pub use pair_fault::PairFault;
 pub use resumed::Resumed;
-pub use resuming::resume;
+pub use resuming::{begins_no_journal, resume};
 pub use saving::{Saved, save_into};

@@ -1,8 +1,8 @@
 //! Resuming a journal.
-ghost use Rattle.std.specs.Prelude.{◌≡◌, ◌↔◌, List, IfOk, Err};
+ghost use Rattle.std.specs.Prelude.{◌≡◌, ◌↔◌, List, IfOk, IsTrue, Err};
 ghost use Rattle.bz_resume.specs.Words.{Edit, IsOtherVersion};
 ghost use Rattle.bz_resume.specs.declared.fault.ResumeFault.TheVariants as f;
-ghost use Rattle.bz_resume.specs.Journals.{History, Journal, NoJournal};
+ghost use Rattle.bz_resume.specs.Journals.{BeginsNoJournal, History, Journal, NoJournal};
 ghost use Rattle.bz_resume.specs.Resumed.{IsKnown, IsResumed, IsStale};
 
 use crate::fault::ResumeFault;
@@ -43,4 +43,16 @@ pub fn resume(alloc: Global, journal: &[u8], text: &[u8]) -> Result<Resumed, Res
         }
         None => Err(ResumeFault::Stale),
     }
+}
+
+/// Whether no journal, and none of another version, begins with these bytes, as their first ones show. So who has read so much of a long
+/// file need not read the rest. `false` says nothing.
+pub fn begins_no_journal(front: &[u8]) -> bool
+    ensures { IsTrue result → BeginsNoJournal front.now }
+{
+    if front.len() < 10 {
+        return false;
+    }
+    let first = &front[..10];
+    first != b"bzjournal ".as_slice()
 }

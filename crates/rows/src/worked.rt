@@ -23,6 +23,9 @@ const NO_TARGET: &str =
 const UNKNOWN: &str =
     "buildozer: grow: Unknown (31)\nbuildozer: there is no command of this name: see docs/buildozer.md, or man buildozer\n";
 
+const TOO_FAR: &str =
+    "buildozer: <stdin>: undo 2: TooFar (61)\nbuildozer: there are fewer texts to go to: the command journal lists them\n";
+
 const NO_RULE: &str =
     "buildozer: <stdin>: delete: NoTarget (41)\nbuildozer: no rule of <stdin> has the name 'z': did you mean 'x'?\n";
 
@@ -46,7 +49,7 @@ static ROWS: [Row; 9] = [
         devices: SOUND,
         output: WITHOUT_X,
         status: 2,
-        errors: Some("buildozer: <stdin>: undo 2: TooFar (61)\n"),
+        errors: Some(TOO_FAR),
     },
     Row {
         words: &["--", "delete", "-:z"],

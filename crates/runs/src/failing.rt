@@ -152,11 +152,12 @@ fn is_cut_once(part: &[u8], whole: &[u8]) -> bool {
     (0..part.len().saturating_add(1)).any(|place| is_cut_at(part, whole, place))
 }
 
-/// Whether a line says what a package is, or what formats a directory: that depends on why a file can't be opened.
+/// Whether a line says what a package is, or what formats a directory or standard input: that depends on why a file can't be opened.
 fn is_hint(line: &[u8]) -> bool {
     line.starts_with(b"buildozer: a package is ")
         || line.starts_with(b"buildozer: ... is ")
         || line.ends_with(DIRECTORY_HINT)
+        || line.ends_with(b": standard input is formatted where no file is named")
 }
 
 /// Whether each line of a text but such hints is one of another.
@@ -424,6 +425,7 @@ impl<'a> Trial<'a> {
         line.ends_with(b": TooFar (61)")
             || line.ends_with(DIRECTORY_HINT)
             || line.starts_with(b"buildozer: to undo or redo ")
+            || line.starts_with(b"buildozer: there are fewer texts ")
             || has_line(self.sound.err.bytes(), line)
             || self
                 .without

@@ -23,6 +23,10 @@ prints_nothing_in request = not (prints request.verb)
 abbrev pub targets_input_in : Requested → Bool
 targets_input_in line = list_any is_of_input line.targets.items
 
+-- a line that means rules of a file
+abbrev pub targets_file_in : Requested → Bool
+targets_file_in line = list_any (λ target. not (is_of_input target)) line.targets.items
+
 -- a line with a command on rules of standard input that doesn't print
 abbrev pub shown_in : Requested → Bool
 shown_in line = targets_input_in line && list_any prints_nothing_in line.commands.items

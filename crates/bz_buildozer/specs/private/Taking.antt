@@ -1,6 +1,9 @@
 -- What comes of reading the file of a package, or standard input.
-use Rattle.std.specs.Prelude.{◌≡◌, Bool, true, false, List, [], ◌∷◌, Option, None, codes}
-use Rattle.bz_buildozer.specs.Words.{Folder, Bytes, Reports, IsInput, stdin, Cut}
+use Rattle.std.specs.Prelude.{◌≡◌, ◌⊎◌, ◌++◌, Bool, true, false, List, [], ◌∷◌, Option, None, Err, codes}
+use Rattle.bz_files.specs.Orders.{Act, Read, with_act}
+use Rattle.bz_files.specs.declared.files.FileFault.{FileFault}
+use Rattle.bz_files.specs.declared.files.FileKind.TheVariants as k
+use Rattle.bz_buildozer.specs.Words.{BeginsNoJournal, Folder, Bytes, ReadsRegular, Reports, IsInput, stdin, Cut}
 use Rattle.bz_streams.specs.declared.exit.Cut.TheVariants as c
 use Rattle.bz_streams.specs.declared.sink.Sink.{Ghosts as SinkOf}
 use Rattle.bz_buildozer.specs.Found.{Opened}
@@ -35,3 +38,11 @@ slash_after (first ∷ rest) = codes "/"
 abbrev pub NamedUntil : Bool → Cut → Bool → RunActs → Folder → Bytes → Option Opened → List Bytes → Type 0
 NamedUntil false why journals acts folder current file lines = OpensUntil why journals acts folder current file lines
 NamedUntil true why journals acts folder current file lines = SecondUntil why journals acts folder current file lines
+
+-- What was read of a journal that has these bytes: all of them, or the first ones alone where no journal begins with these.
+abbrev pub IsEnoughOf : Bytes → Bytes → Type 0
+IsEnoughOf bytes read = (bytes ≡ read) ⊎ ((rest : Bytes) × (bytes ≡ read ++ rest) × BeginsNoJournal read)
+
+-- The last act was a read of the file of this name that failed so, after reads of regular files.
+abbrev pub LastReadFailed : Option (List Act) → Option (List Act) → Bytes → FileFault → Type 0
+LastReadFailed before after name fault = (mid : Option (List Act)) × ReadsRegular before mid × (after ≡ with_act mid (Read name k.Regular (Err fault)))

@@ -1,9 +1,10 @@
-use Rattle.std.proofs.Common.{[], ◌∙◌, ap, true≢false, inl, refl, map, subst, sym}
+use Rattle.std.proofs.Common.{[], ◌∙◌, ap, true≢false, inl, inr, refl, map, subst, sym}
 use Rattle.std.proofs.lemmas.Bool.{and_parts}
 use Rattle.bz_command_line.specs.Shown.{requested_in}
+use Rattle.bz_buildozer.specs.Words.{Exit}
 use Rattle.bz_buildozer.specs.Calls.{PassesBy}
 use Rattle.bz_buildozer.specs.Moments.{IsMeanwhile, IsMomentOfSteps}
-use Rattle.bz_buildozer.specs.Outcome.{LinesEnd}
+use Rattle.bz_buildozer.specs.Outcome.{LinesEnd, OrOutOfMemory}
 use Rattle.bz_buildozer.specs.Run.{World, Progress}
 use Rattle.bz_streams.specs.declared.exit.Cut.TheVariants as cut
 use Rattle.bz_buildozer.specs.declared.step.OneStep.{OneStep}
@@ -12,7 +13,7 @@ use Rattle.bz_buildozer.specs.Steps.{all_steps, names_input}
 use Rattle.bz_buildozer.specs.Reported.{no_journal_line}
 use Rattle.bz_buildozer.proofs.CutSteps.{read_before}
 use Rattle.bz_buildozer.proofs.FailSteps.{one_line}
-use Rattle.bz_buildozer.proofs.Outcomes.{unused_yet, ends_unused, lines_premise, begins_safely, honest_still, lines_end, no_more_time, no_time}
+use Rattle.bz_buildozer.proofs.Outcomes.{unused_yet, ends_refused, ends_unused, lines_premise, begins_safely, honest_still, lines_end, no_more_time, no_time}
 use Rattle.bz_buildozer.proofs.StepLists.{shown_by_lines}
 use Rattle.bz_buildozer.proofs.UnreadSteps.{among_first}
 use Rattle.bz_buildozer.proofs.engine.perform.Goals as goal
@@ -21,7 +22,8 @@ pub returns-then-lacks_journal-clause-ends : goal.returns-then-lacks_journal-cla
 returns-then-lacks_journal-clause-ends g c premise acts among =
     let world : World = record { folder = g.F.Files.folder c.args.files.now; known = g.R.Source.remaining c.args.input.now; acts = acts } in
     ends_unused g.W.Sink g.E.Sink g.F.Files (record { status = 1; cut = cut.Whole }) world c.args.out.now c.args.err.now c.report_pieces.new.err c.args.files.now refl
-    (LinesEnd c.args.job.options (map requested_in c.args.lines.now) world) no_journal_line (inl (sym c.lacks_journal.ensures ∙ c.if-lacks_journal.true, refl)) refl
+    (OrOutOfMemory world (LinesEnd c.args.job.options (map requested_in c.args.lines.now) world)) no_journal_line
+    (inr (inl (sym c.lacks_journal.ensures ∙ c.if-lacks_journal.true, refl))) refl
     (one_line g.E.Sink c.args.err.now c.report_pieces.new.err no_journal_line c.report_pieces.ensures)
 
 pub returns-then-lacks_journal-clause-usage : goal.returns-then-lacks_journal-clause-usage
@@ -35,6 +37,22 @@ returns-then-lacks_journal-clause-usage g c is =
 pub returns-then-lacks_journal-clause-moments : goal.returns-then-lacks_journal-clause-moments
 returns-then-lacks_journal-clause-moments g c kept honest = no_time g.F.Files.moment g.F.Files.since c.args.files.now c.args.files.now
     (IsMomentOfSteps (g.F.Files.folder c.args.files.now) (all_steps (map requested_in c.args.lines.now)) []) refl
+
+pub returns-in_default-clause-ends : goal.returns-in_default-clause-ends
+returns-in_default-clause-ends g c premise acts among =
+    let world : World = record { folder = g.F.Files.folder c.args.files.now; known = g.R.Source.remaining c.args.input.now; acts = acts } in
+    ends_refused g.W.Sink g.E.Sink g.F.Files c.out_of_memory.result world c.args.out.now c.args.err.now c.out_of_memory.new.err c.args.files.now refl
+    (LinesEnd c.args.job.options (map requested_in c.args.lines.now) world) c.note_root.new.err c.in_default.ensures.err c.out_of_memory.ensures.exit c.out_of_memory.ensures.reported
+
+pub returns-in_default-clause-moments : goal.returns-in_default-clause-moments
+returns-in_default-clause-moments g c kept honest = no_time g.F.Files.moment g.F.Files.since c.args.files.now c.args.files.now
+    (IsMomentOfSteps (g.F.Files.folder c.args.files.now) (all_steps (map requested_in c.args.lines.now)) []) refl
+
+pub returns-in_default-clause-usage : goal.returns-in_default-clause-usage
+returns-in_default-clause-usage g c is = absurd (let e = sym (ap (λ (exit : Exit). exit.status) c.out_of_memory.ensures.exit) ∙ is in cc)
+
+pub returns-in_default-clause-reads_nothing : goal.returns-in_default-clause-reads_nothing
+returns-in_default-clause-reads_nothing g c kept = (refl, refl, λ is. absurd (let e = sym (ap (λ (exit : Exit). exit.cut) c.out_of_memory.ensures.exit) ∙ is in cc))
 
 pub returns-clause-unread : goal.returns-clause-unread
 returns-clause-unread g c kept named =
@@ -59,8 +77,9 @@ returns-clause-ends g c given acts among =
     let ends = c.finish.ensures.ends (honest_still is_honest (g.F.Files.honest ran.new.files) options.journal ran.result world options.keep_going lines start done.0
     (folder ran.new.files) state ran.ensures.honest c.begun-run.ensures.begins done.1 can) in
     lines_end g.W.Sink g.E.Sink g.F.Files options lines world start state (folder ran.new.files) done.0 ends.2 c.finish.result ran.result ends.1 ends.0
-    c.shows_input-shown.result c.args.out.now c.finish.new.out c.args.err.now ran.new.err c.finish.new.err c.finish.new.files neither c.begun-run.ensures.begins done.1 ends.3 ends.6
-    c.finish.ensures.status (λ whole. (c.finish.ensures.whole whole).0) (c.shows_input-shown.ensures ∙ sym (shown_by_lines c.args.lines.now)) ends.4 done.3 ends.5
+    c.shows_input-shown.result c.args.out.now c.finish.new.out c.args.err.now c.note_root.new.err ran.new.err c.finish.new.err c.finish.new.files neither c.begun-run.ensures.begins done.1 ends.3 ends.6
+    c.finish.ensures.status (λ whole. (c.finish.ensures.whole whole).0) (c.shows_input-shown.ensures ∙ sym (shown_by_lines c.args.lines.now)) ends.4
+    (c.in-Ok.ensures.ok given) done.3 ends.5
 
 pub returns-clause-reads_nothing : goal.returns-clause-reads_nothing
 returns-clause-reads_nothing g c kept =

@@ -69,10 +69,13 @@ returns-clause-ends g c honest known acts before among =
     let left_over = g.R.Source.remaining c.args.input.now in
     let world : World = record { folder = g.F.Files.folder c.args.files.now; known = known; acts = acts } in
     ends_more g.W.Sink g.E.Sink g.F.Files c.perform.result _ _ c.args.out.now c.perform.new.out c.args.err.now c.perform.new.err c.perform.new.files
-    (λ ended is. inr (text_lines options name c.args.read.bytes.now c.in-Ok.text.now world (map requested_in c.in-Ok-read_script.lines.items)
-    (map requested_in c.as_slice-lines.result.now) ended c.in-Ok.ensures.ok.0 c.in-Ok.ensures.ok.1 c.in-Ok-read_script.ensures.ok
-    (ap (map requested_in) c.as_slice-lines.ensures.value)
-    (inr (sym c.edits_input.ensures ∙ c.if-edits_input.false, (left_over, (λ other. sym (before (not_input name other))), is)))))
+    (λ ended ends. elim ends [
+      | inl memory ↦ inl memory
+      | inr is ↦ inr (text_lines options name c.args.read.bytes.now c.in-Ok.text.now world (map requested_in c.in-Ok-read_script.lines.items)
+          (map requested_in c.as_slice-lines.result.now) ended c.in-Ok.ensures.ok.0 c.in-Ok.ensures.ok.1 c.in-Ok-read_script.ensures.ok
+          (ap (map requested_in) c.as_slice-lines.ensures.value)
+          (inr (sym c.edits_input.ensures ∙ c.if-edits_input.false, (left_over, (λ other. sym (before (not_input name other))), is))))
+    ])
     (c.perform.ensures.ends (inl honest) acts among)
 
 pub returns-in-Err-read_script-clause-ends : goal.returns-in-Err-read_script-clause-ends

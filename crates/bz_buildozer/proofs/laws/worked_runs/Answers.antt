@@ -9,7 +9,7 @@ unfolding digits
 returns-clause-parts c = (
   (refl, refl, refl),
   (refl, refl, refl, refl, refl, refl),
-  (refl, refl, refl, refl, refl, refl, refl, refl, refl),
+  (refl, refl, refl, refl, refl, refl, refl, refl, refl, refl),
   (refl, refl, refl, refl, refl, refl),
   (refl, refl, refl, refl, found_first, found_second, found_none, (λ folder. inl (refl, refl, (text_read, refl, refl))), refl, refl),
   settles,

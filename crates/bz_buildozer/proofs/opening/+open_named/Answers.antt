@@ -1,7 +1,7 @@
-use Rattle.std.proofs.Common.{rules, ◌≡◌, ◌∙◌, true, false, ap, refl, subst, None, Err, Bor, List, ℕ, inl, option_map}
+use Rattle.std.proofs.Common.{rules, ◌≡◌, ◌∙◌, true, false, ap, refl, subst, None, Err, List, ℕ, inl}
 use Rattle.std.specs.FinMap.{get}
 use Rattle.bz_streams.specs.declared.exit.Cut.TheVariants as cut
-use Rattle.bz_buildozer.specs.Found.{in_package, root_above}
+use Rattle.bz_buildozer.specs.Found.{in_package}
 use Rattle.bz_buildozer.specs.Run.{SecondUntil, unreadable, wanting_name}
 use Rattle.bz_buildozer.specs.Words.{Folder}
 use Rattle.bz_buildozer.specs.private.ShownFiles.{taken_in}
@@ -39,15 +39,13 @@ returns-in_default-clause-opens g t c = λ acts among.
     c.args.err.now c.unnamed.new.err (wanting_name c.args.package.now) c.unnamed.ensures.taken
     (λ honest. memory_named c.args.second c.args.journals acts (g.F.Files.folder c.args.files.now) c.args.package.now) c.unnamed.ensures.told
 
-pub returns-in-Ok-root_above-clause-opens : goal.returns-in-Ok-root_above-clause-opens
-returns-in-Ok-root_above-clause-opens g t c = λ acts among.
+pub returns-in-Err-Absent-2-clause-opens : goal.returns-in-Err-Absent-2-clause-opens
+returns-in-Err-Absent-2-clause-opens g t c = λ acts among.
     fails_as g.E.Sink (λ why file lines. g.F.Files.honest c.args.files.now ≡ true → NamedUntil c.args.second why c.args.journals acts (g.F.Files.folder c.args.files.now) c.args.package.now file lines) c.fail_absent.result cut.Whole
     c.args.err.now c.fail_absent.new.err _ c.fail_absent.ensures.taken
     (λ honest. by_name_of c.args.second true cut.Whole c.args.journals acts (g.F.Files.folder c.args.files.now) c.args.package.now None _ c.if-not-second.false
-    (neither_opens c.args.journals c.args.package.now c.as_str-name.result.now (g.F.Files.folder c.args.files.now)
-    (option_map (λ (s : Bor (List ℕ)). s.now) c.as_deref.result) (c.as_str-name.ensures.value ∙ c.in-Ok.ensures ∙ ap (in_package c.args.package.now) (c.base_of.ensures ∙ ap base_of c.if-not-second.false))
-    (c.in-Err-Absent.ensures.absent honest (ap Err c.in-Err-Absent.field-0-is))
-    (c.as_deref.ensures.value ∙ c.in-Ok-root_above.ensures (c.bytes_of.ensures.honest ∙ honest) ∙ ap root_above (c.bytes_of.ensures.folder honest)))) c.fail_absent.ensures.reported
+    (neither_opens c.args.journals c.args.package.now c.as_str-name.result.now (g.F.Files.folder c.args.files.now) (c.as_str-name.ensures.value ∙ c.in-Ok.ensures ∙ ap (in_package c.args.package.now) (c.base_of.ensures ∙ ap base_of c.if-not-second.false))
+    (c.in-Err-Absent.ensures.absent honest (ap Err c.in-Err-Absent.field-0-is)))) c.fail_absent.ensures.reported
 
 pub returns-in-Err-Absent-clause-opens : goal.returns-in-Err-Absent-clause-opens
 returns-in-Err-Absent-clause-opens g t c = λ acts among.
@@ -67,12 +65,6 @@ returns-in-Err-Absent-clause-opens g t c = λ acts among.
           (subst (λ (now : Folder). SecondUntil second.result.cut journals acts now current (taken_in second.result) done.0) (read.folder honest) (done.1 (read.honest ∙ honest))))),
       done.2,
     )
-
-pub returns-in-Err-Absent-2-clause-opens : goal.returns-in-Err-Absent-2-clause-opens
-returns-in-Err-Absent-2-clause-opens g t c = λ acts among.
-    none_taken g.E.Sink (λ why file lines. g.F.Files.honest c.args.files.now ≡ true → NamedUntil c.args.second why c.args.journals acts (g.F.Files.folder c.args.files.now) c.args.package.now file lines) c.unnamed-in-Err-root_above.result cut.Memory
-    c.args.err.now c.unnamed-in-Err-root_above.new.err (wanting_name c.args.package.now) c.unnamed-in-Err-root_above.ensures.taken
-    (λ honest. memory_named c.args.second c.args.journals acts (g.F.Files.folder c.args.files.now) c.args.package.now) c.unnamed-in-Err-root_above.ensures.told
 
 pub returns-in-Err-clause-opens : goal.returns-in-Err-clause-opens
 returns-in-Err-clause-opens g t c = λ acts among.
@@ -114,9 +106,6 @@ returns-in-Err-Memory-clause-grows g t c = grows_read (g.F.Files.acts c.args.fil
 pub returns-in-Err-Absent-clause-grows : goal.returns-in-Err-Absent-clause-grows
 returns-in-Err-Absent-clause-grows g t c = grows_on (g.F.Files.acts c.args.files.now) (g.F.Files.acts c.bytes_of.new.files) (g.F.Files.acts c.open_named.new.files)
     (grows_read (g.F.Files.acts c.args.files.now) (g.F.Files.acts c.bytes_of.new.files) c.bytes_of.ensures.regular) c.open_named.ensures.grows
-
-pub returns-in-Ok-root_above-clause-grows : goal.returns-in-Ok-root_above-clause-grows
-returns-in-Ok-root_above-clause-grows g t c = grows_read (g.F.Files.acts c.args.files.now) (g.F.Files.acts c.bytes_of.new.files) c.bytes_of.ensures.regular
 
 pub returns-in-Err-Absent-2-clause-grows : goal.returns-in-Err-Absent-2-clause-grows
 returns-in-Err-Absent-2-clause-grows g t c = grows_read (g.F.Files.acts c.args.files.now) (g.F.Files.acts c.bytes_of.new.files) c.bytes_of.ensures.regular

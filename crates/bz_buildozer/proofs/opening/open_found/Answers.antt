@@ -10,18 +10,17 @@ use Rattle.bz_items.specs.Characters.{Bytes}
 use Rattle.bz_files.specs.declared.files.FileKind.TheVariants as k
 use Rattle.bz_buildozer.specs.Unread.{IsUnreadInRun}
 use Rattle.bz_buildozer.proofs.FailSteps.{fails_as, journal_there, memory_until}
-use Rattle.bz_buildozer.proofs.UnreadSteps.{grows_none, grows_read, unread_among}
+use Rattle.bz_buildozer.proofs.UnreadSteps.{among_second, grows_none, grows_read, unread_among}
 use Rattle.bz_buildozer.proofs.opening.open_found.Goals as goal
 
-pub returns-in-Ok-bytes_of-clause-takes : goal.returns-in-Ok-bytes_of-clause-takes
-returns-in-Ok-bytes_of-clause-takes g c = λ acts among.
+pub returns-in-Ok-journal_bytes-clause-takes : goal.returns-in-Ok-journal_bytes-clause-takes
+returns-in-Ok-journal_bytes-clause-takes g c = λ acts among.
     let opened = c.open_resumed in
     memory_until g.E.Sink (TakesBeside (Some c.as_slice.result.now) c.args.package.now c.args.name.now c.args.text.items) (λ why found lines. g.F.Files.honest c.args.files.now ≡ true → TakesUntil why c.args.journals acts (g.F.Files.folder c.args.files.now) c.args.package.now c.args.name.now c.args.text.items found lines)
     (named_line c.as_str-journal.result.now (codes "Memory (8)")) opened.result.cut (taken_in opened.result) c.args.err.now opened.new.err
-    (λ lines takes honest. let held = c.in-Ok-bytes_of.ensures.found honest in
-    read_beside c.args.journals (g.F.Files.folder c.args.files.now) c.args.package.now c.args.name.now c.as_str-journal.result.now held.0 c.as_slice.result.now c.args.text.items
-    c.in-Ok-bytes_of.bytes (taken_in opened.result) lines c.if-not-journals.false (c.as_str-journal.ensures.value ∙ c.in-Ok.ensures) c.as_slice.ensures.value held.1 held.2 takes)
-    (λ closed honest. let held = c.in-Ok-bytes_of.ensures.found honest in (
+    (λ lines takes honest. let held = c.in-Ok-journal_bytes.ensures.found honest in
+    read_beside c.args.journals (g.F.Files.folder c.args.files.now) c.args.package.now c.args.name.now c.as_str-journal.result.now held.0 c.as_slice.result.now c.in-Ok-journal_bytes.bytes.items c.args.text.items (taken_in opened.result) lines c.if-not-journals.false (c.as_str-journal.ensures.value ∙ c.in-Ok.ensures) c.as_slice.ensures.value held.1 held.2 takes)
+    (λ closed honest. let held = c.in-Ok-journal_bytes.ensures.found honest in (
       closed,
       inr (inr (
         journal_there c.args.journals (g.F.Files.folder c.args.files.now) c.args.name.now c.as_str-journal.result.now held.0 c.if-not-journals.false
@@ -68,8 +67,10 @@ returns-in-Err-clause-takes g c = λ acts among.
       c.if-not-journals.false,
       refl,
       ap unreadable (c.as_str-journal.ensures.value ∙ c.in-Ok.ensures),
-      subst (IsUnreadInRun acts) (c.as_str-journal.ensures.value ∙ c.in-Ok.ensures) (unread_among (g.F.Files.acts c.args.files.now) (g.F.Files.acts c.bytes_of.new.files) acts
-          c.as_str-journal.result.now k.Regular c.in-Err.field-0 among (search rules) c.in-Err.ensures.failed),
+      (let failed = c.in-Err.ensures.failed in
+          subst (IsUnreadInRun acts) (c.as_str-journal.ensures.value ∙ c.in-Ok.ensures) (unread_among failed.0 (g.F.Files.acts c.journal_bytes.new.files) acts
+          c.as_str-journal.result.now k.Regular c.in-Err.field-0
+          (among_second (g.F.Files.acts c.args.files.now) failed.0 (g.F.Files.acts c.journal_bytes.new.files) acts (grows_read (g.F.Files.acts c.args.files.now) failed.0 failed.1) among) (search rules) failed.2)),
     )) c.fail-in-Err.ensures.reported
 
 pub returns-then-not-journals-clause-grows : goal.returns-then-not-journals-clause-grows
@@ -78,14 +79,14 @@ returns-then-not-journals-clause-grows g c = grows_none (g.F.Files.acts c.args.f
 pub returns-in_default-clause-grows : goal.returns-in_default-clause-grows
 returns-in_default-clause-grows g c = grows_none (g.F.Files.acts c.args.files.now)
 
-pub returns-in-Ok-bytes_of-clause-grows : goal.returns-in-Ok-bytes_of-clause-grows
-returns-in-Ok-bytes_of-clause-grows g c = grows_read (g.F.Files.acts c.args.files.now) (g.F.Files.acts c.bytes_of.new.files) c.bytes_of.ensures.regular
+pub returns-in-Ok-journal_bytes-clause-grows : goal.returns-in-Ok-journal_bytes-clause-grows
+returns-in-Ok-journal_bytes-clause-grows g c = grows_read (g.F.Files.acts c.args.files.now) (g.F.Files.acts c.journal_bytes.new.files) c.journal_bytes.ensures.regular
 
 pub returns-in-Err-Absent-clause-grows : goal.returns-in-Err-Absent-clause-grows
-returns-in-Err-Absent-clause-grows g c = grows_read (g.F.Files.acts c.args.files.now) (g.F.Files.acts c.bytes_of.new.files) c.bytes_of.ensures.regular
+returns-in-Err-Absent-clause-grows g c = grows_read (g.F.Files.acts c.args.files.now) (g.F.Files.acts c.journal_bytes.new.files) c.journal_bytes.ensures.regular
 
 pub returns-in-Err-Memory-clause-grows : goal.returns-in-Err-Memory-clause-grows
-returns-in-Err-Memory-clause-grows g c = grows_read (g.F.Files.acts c.args.files.now) (g.F.Files.acts c.bytes_of.new.files) c.bytes_of.ensures.regular
+returns-in-Err-Memory-clause-grows g c = grows_read (g.F.Files.acts c.args.files.now) (g.F.Files.acts c.journal_bytes.new.files) c.journal_bytes.ensures.regular
 
 pub returns-in-Err-clause-grows : goal.returns-in-Err-clause-grows
-returns-in-Err-clause-grows g c = grows_read (g.F.Files.acts c.args.files.now) (g.F.Files.acts c.bytes_of.new.files) c.bytes_of.ensures.regular
+returns-in-Err-clause-grows g c = grows_read (g.F.Files.acts c.args.files.now) (g.F.Files.acts c.journal_bytes.new.files) c.journal_bytes.ensures.regular
