@@ -1,9 +1,5 @@
 -- A text around its first colon.
-use Rattle.std.proofs.Common.{true, false, [], ◌∷◌, ◌++◌, ◌≡◌, refl, sym, ap, ◌∙◌, inl, inr}
-use Rattle.std.proofs.lemmas.Bool.{cases_Bool, true≢false, or_parts, eqb-true}
-use Rattle.bz_items.specs.Characters.{Bytes}
-use Rattle.bz_label.specs.Pieces.{has_colon, is_colon}
-use Rattle.bz_label.specs.Shorter.{before_colon, after_colon}
+use Rattle.bz_label.proofs.Words.{[], ◌++◌, ◌∙◌, ◌∷◌, ◌≡◌, after_colon, ap, before_colon, Bytes, cases_Bool, eqb-true, false, has_colon, inl, inr, is_colon, or_parts, refl, sym, true, true≢false}
 
 -- what is before the colon, and after it
 abbrev pub IsCutIn : Bytes → Bytes → Bytes → Type 0

@@ -1,7 +1,5 @@
 -- The test for an empty text, as the length says it.
-use Rattle.std.proofs.Common.{◌≡◌, ℕ, List, [], ◌∷◌, length, refl, arith, ◌==◌, not, ap}
-use Rattle.std.proofs.lemmas.Bool.Decides.{nat_tests}
-use Rattle.bz_label.specs.Pieces.{is_empty, is_present}
+use Rattle.bz_label.proofs.Words.{[], ◌==◌, ◌∷◌, ◌≡◌, ap, arith, is_empty, is_present, length, List, nat_tests, not, refl, ℕ}
 
 pub empty_by_length : (text : List ℕ) → (length text == 0) ≡ is_empty text
 empty_by_length [] = refl

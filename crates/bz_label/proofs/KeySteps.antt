@@ -1,14 +1,6 @@
 -- The order of keys, computed by one walk over both.
-use Rattle.std.proofs.Common.{ℕ, true, List, [], ◌∷◌, ◌≡◌, refl, sym, ap, ◌∙◌, inl, inr}
-use Rattle.std.proofs.lemmas.Bool.{cases_Bool}
-use Rattle.std.specs.Ordering.{ordering_then, nat_cmp, is_ne}
-use Rattle.std.proofs.lemmas.Cmp.{nat_cmp_total, tied_itself}
-use Rattle.std.specs.List.{onto_first}
+use Rattle.bz_label.proofs.Words.{[], ◌∙◌, ◌∷◌, ◌≡◌, ap, Bytes, bytes_order, cases_Bool, Equal, Greater, inl, inr, is_cut, is_ne, key_pieces, Less, List, nat_cmp, nat_cmp_total, onto_first, Ordering, ordering_then, refl, sym, tied_itself, true, ℕ}
 use Rattle.std.specs.Cmp.Lexicographic.{slice_cmp}
-use Rattle.std.specs.declared.cmp.Ordering.{Ordering}
-use Rattle.std.specs.declared.cmp.Ordering.TheVariants.{Less, Equal, Greater}
-use Rattle.bz_items.specs.Characters.{Bytes}
-use Rattle.bz_label.specs.Keys.{is_cut, key_pieces, bytes_order}
 
 -- by their pieces, then by the bytes of the whole
 abbrev pub both_orders : Bytes → Bytes → Ordering

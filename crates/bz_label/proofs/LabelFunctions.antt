@@ -1,17 +1,6 @@
 -- Labels as functions are what the conditions say.
-use Rattle.std.proofs.Common.{ℕ, ◌+◌, Bool, true, false, not, ◌&&◌, ◌||◌, Option, Some, None, [], ◌∷◌, ◌++◌, ◌≡◌, ◌↔◌, IsTrue, refl, sym, ap, ◌∙◌, subst, inl, inr, codes, length, drop}
-use Rattle.std.specs.Str.{bytes_eq}
+use Rattle.bz_label.proofs.Words.{[], ◌&&◌, ◌++◌, ◌+◌, ◌||◌, ◌↔◌, ◌∙◌, ◌∷◌, ◌≡◌, absolute_label, after_colon, after_slashes, and_from, and_parts, ap, are_alone, are_equal, are_whole, bare_name, before_colon, before_slashes, before_slashes_from, begins_with_at, Bool, both_ways, Bytes, bytes_eq, bytes_eq-Decides, cases_Bool, codes, colon_name, drop, drop_at, eqb-true, false, false_from_ne_true, has_colon, has_slash, has_slashes, inl, inr, is_at, is_colon, is_empty, is_equal, is_own, is_path, is_repository, is_repository_name, is_same, is_slash, IsBareName, IsColonName, IsLabel, IsOwn, IsPackageAlone, IsRepositoryAlone, IsSame, IsShortened, IsTrue, IsUnrepeated, IsWhole, kept_if, Label, label_in, last_piece, length, None, not, not-true, Option, or_parts, other, other_label, own, package_alone, refl, repository_alone, shortened, Some, subst, sym, true, true≢false, whole, ℕ}
 use Rattle.std.specs.Option.{option_map_or}
-use Rattle.std.proofs.lemmas.Bool.{cases_Bool, true≢false, and_parts, and_from, or_parts, eqb-true, both_ways, not-true, false_from_ne_true}
-use Rattle.std.proofs.lemmas.List.{drop_at}
-use Rattle.std.proofs.lemmas.Slice.Eq.{bytes_eq-Decides}
-use Rattle.bz_items.specs.Characters.{Bytes}
-use Rattle.bz_label.specs.Pieces.{is_empty, last_piece, has_colon, has_slash, is_colon, is_slash, is_at, begins_with_at}
-use Rattle.bz_label.specs.Labels.{is_path, is_repository_name, IsWhole, IsPackageAlone, IsRepositoryAlone, IsColonName, IsBareName, IsLabel, whole, package_alone, repository_alone, colon_name, bare_name, IsSame, IsOwn, IsUnrepeated, IsShortened, own, other}
-use Rattle.bz_label.specs.Forms.{is_repository, are_whole, are_alone}
-use Rattle.bz_label.specs.Shorter.{before_colon, after_colon, before_slashes, before_slashes_from, after_slashes}
-use Rattle.bz_label.specs.Read.{kept_if, absolute_label, has_slashes, other_label, label_in, is_equal, are_equal, is_same, is_own, shortened}
-use Rattle.bz_label.specs.declared.label.Label.{Label}
 use Rattle.bz_label.proofs.Colons.{IsCutIn, cut_in, halves}
 use Rattle.bz_label.proofs.Equal.{equal_texts}
 use Rattle.bz_label.proofs.Paths.{joined_exact}

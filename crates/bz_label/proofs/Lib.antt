@@ -12,3 +12,4 @@ pub mod LabelFunctions
 pub mod Shorter
 pub mod TargetReadings
 pub mod NamesByFirst
+mod Words

@@ -1,10 +1,5 @@
 -- The tables of names, looked up by the first character.
-use Rattle.std.proofs.Common.{◌≡◌, ℕ, Bool, true, false, ◌||◌, if◌then◌else◌, nat_eq, [], ◌∷◌, ◌<◌, codes, get_or, refl, sym, ap, ◌∙◌, subst, arith}
-use Rattle.std.specs.List.{position}
-use Rattle.std.specs.Str.{bytes_eq}
-use Rattle.std.proofs.lemmas.Bool.Decides.{nat_tests}
-use Rattle.bz_items.specs.Characters.{Bytes}
-use Rattle.bz_label.specs.Tables.{is_in, sorted_attributes, priority_at, priority_of}
+use Rattle.bz_label.proofs.Words.{[], ◌<◌, ◌||◌, ◌∙◌, ◌∷◌, ◌≡◌, ap, arith, Bool, Bytes, bytes_eq, codes, false, get_or, if◌then◌else◌, is_in, nat_eq, nat_tests, position, priority_at, priority_of, refl, sorted_attributes, subst, sym, true, ℕ}
 
 -- what holds of each text with this first character
 begins : (P : Bytes → Type 0) (text : Bytes) (first letter : ℕ) → first ≡ get_or text 0 0 → first ≡ letter → 0 < letter → ((rest : Bytes) → P (letter ∷ rest)) → P text

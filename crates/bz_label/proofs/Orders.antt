@@ -1,13 +1,6 @@
 -- The order of keys is total, and ties only equal texts.
-use Rattle.std.proofs.Common.{◌≡◌}
-use Rattle.std.specs.Cmp.{IsTotalOrder}
-use Rattle.std.specs.Ordering.{ordering_then}
-use Rattle.std.specs.declared.cmp.Ordering.{Ordering}
-use Rattle.std.specs.declared.cmp.Ordering.TheVariants.{Less, Equal, Greater}
-use Rattle.std.proofs.lemmas.Cmp.{nat_cmp_total, nat_list_cmp_total, lists_total, then_total, on_total}
+use Rattle.bz_label.proofs.Words.{◌≡◌, Bytes, Equal, Greater, group_of, IsTotalOrder, key_order, key_pieces, Less, lists_total, nat_cmp_total, nat_list_cmp_total, on_total, Ordering, ordering_then, then_total}
 use Rattle.std.proofs.lemmas.Map.Lookups.{exact_bytes}
-use Rattle.bz_items.specs.Characters.{Bytes}
-use Rattle.bz_label.specs.Keys.{group_of, key_pieces, key_order}
 
 pub key_total : IsTotalOrder key_order
 key_total = then_total (on_total group_of nat_cmp_total) (then_total (on_total key_pieces (lists_total nat_list_cmp_total)) nat_list_cmp_total)

@@ -1,9 +1,5 @@
 -- Non-empty pieces joined by slashes are the texts that are not empty, neither begin nor end with a slash and hold no two in a row.
-use Rattle.std.proofs.Common.{◌≡◌, ℕ, Bool, true, false, List, [], ◌∷◌, ◌++◌, refl, sym, ◌∙◌, ap, ◌&&◌, codes, ◌↔◌, ◌⊎◌, inl, inr, IsTrue, append_assoc, cond}
-use Rattle.std.specs.List.{list_all, onto_first}
-use Rattle.std.proofs.lemmas.Bool.{both_ways, cases_Bool, eqb-true}
-use Rattle.bz_items.specs.Characters.{Bytes}
-use Rattle.bz_label.specs.Pieces.{is_present, is_slash, pieces_of, is_joined, IsSlashSeparated}
+use Rattle.bz_label.proofs.Words.{[], ◌&&◌, ◌++◌, ◌↔◌, ◌∙◌, ◌∷◌, ◌≡◌, ◌⊎◌, ap, append_assoc, Bool, both_ways, Bytes, cases_Bool, codes, cond, eqb-true, false, inl, inr, is_joined, is_present, is_slash, IsSlashSeparated, IsTrue, List, list_all, onto_first, pieces_of, refl, sym, true, ℕ}
 
 -- whether the pieces that follow are there, where a piece may have begun
 abbrev goes_on : Bool → Bytes → Bool

@@ -1,17 +1,5 @@
 -- The text without a repeated name, as a function, is the one that the condition describes.
-use Rattle.std.proofs.Common.{ℕ, suc, ◌+◌, ◌-◌, Bool, true, false, not, nat_eq, take, take-append-drop, ◌&&◌, ◌||◌, [], ◌∷◌, ◌++◌, ◌≡◌, refl, sym, ap, ◌∙◌, subst, inl, inr, codes, length, drop, append_assoc, arith}
-use Rattle.std.specs.Str.{bytes_eq}
-use Rattle.std.proofs.lemmas.Bool.{cases_Bool, true≢false, and_parts, and_from, or_parts, eqb-true, false_from_ne_true}
-use Rattle.std.proofs.lemmas.Slice.Eq.{bytes_eq-Decides, ends_is}
-use Rattle.std.specs.Cmp.{unsigned_Decides}
-use Rattle.std.specs.List.{ends_with, suffix_len}
-use Rattle.std.proofs.lemmas.List.Folds.{list_any-append}
-use Rattle.bz_items.specs.Characters.{Bytes}
-use Rattle.bz_label.specs.Pieces.{is_empty, last_piece, has_colon, has_slash, is_colon, is_slash, is_at}
-use Rattle.bz_label.specs.Labels.{is_path, is_repository_name, IsRepository, IsRepeat, IsUnrepeated, repeat, stays}
-use Rattle.bz_label.specs.Forms.{is_repository, are_whole}
-use Rattle.bz_label.specs.Shorter.{before_colon, after_colon, before_slashes, after_slashes, is_repeated, unrepeated}
-use Rattle.bz_label.specs.declared.label.Label.{Label}
+use Rattle.bz_label.proofs.Words.{[], ◌&&◌, ◌++◌, ◌+◌, ◌-◌, ◌||◌, ◌∙◌, ◌∷◌, ◌≡◌, after_colon, after_slashes, and_from, and_parts, ap, append_assoc, are_whole, arith, before_colon, before_slashes, Bool, Bytes, bytes_eq, bytes_eq-Decides, cases_Bool, codes, drop, ends_is, ends_with, eqb-true, false, false_from_ne_true, has_colon, has_slash, inl, inr, is_at, is_colon, is_empty, is_path, is_repeated, is_repository, is_repository_name, is_slash, IsRepeat, IsRepository, IsUnrepeated, Label, last_piece, length, list_any-append, nat_eq, not, or_parts, refl, repeat, stays, subst, suc, suffix_len, sym, take, take-append-drop, true, true≢false, unrepeated, unsigned_Decides, ℕ}
 use Rattle.bz_label.proofs.Colons.{cut_at_colon, halves, no_colon}
 use Rattle.bz_label.proofs.Equal.{equal_texts}
 use Rattle.bz_label.proofs.Shapes.{both_same, if_true, if_false, plain_colonless, package_colonless, repository_slashless, repository_holds, repository_from, whole_from, whole_kept, or_none}

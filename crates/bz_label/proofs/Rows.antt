@@ -1,12 +1,5 @@
 -- Rows worked out by hand, that the definitions answer as the rules say.
-use Rattle.std.proofs.Common.{◌≡◌, [], ◌∷◌, codes, refl, true, false, Some, None}
-use Rattle.std.specs.declared.cmp.Ordering.TheVariants.{Less, Equal, Greater}
-use Rattle.bz_label.specs.Pieces.{last_piece, is_joined}
-use Rattle.bz_label.specs.Keys.{key_order, key_pieces}
-use Rattle.bz_label.specs.Labels.{is_path, is_repository_name, IsLabel, whole, package_alone, repository_alone, colon_name, bare_name, absent, main, canonical_named}
-use Rattle.bz_label.specs.Read.{label_in, is_same, shortened}
-use Rattle.bz_label.specs.Tables.{is_sorted, is_label_attribute, is_list_attribute, priority_of}
-use Rattle.bz_label.specs.Targets.{which_of, is_package}
+use Rattle.bz_label.proofs.Words.{[], ◌∷◌, ◌≡◌, absent, bare_name, canonical_named, codes, colon_name, Equal, false, Greater, is_joined, is_label_attribute, is_list_attribute, is_package, is_path, is_repository_name, is_same, is_sorted, IsLabel, key_order, key_pieces, label_in, last_piece, Less, main, None, package_alone, priority_of, refl, repository_alone, shortened, Some, true, which_of, whole}
 use Rattle.bz_label.specs.declared.target.Which.TheVariants.{All, Kind, Line, Package, Name}
 
 -- the seven keys, each below the next

@@ -1,14 +1,5 @@
 -- What the parts of labels hold, and how a text falls into them.
-use Rattle.std.proofs.Common.{◌≡◌, ℕ, Bool, true, false, [], ◌∷◌, ◌++◌, refl, sym, ◌∙◌, ap, not, ◌&&◌, ◌||◌, append_assoc, arith, codes}
-use Rattle.std.specs.List.{list_any}
-use Rattle.std.proofs.lemmas.Bool.{and_parts, and_from, not-true, eqb-true}
-use Rattle.std.specs.Prelude.{if◌then◌else◌}
-use Rattle.std.proofs.lemmas.Bool.Decides.{nat_tests}
-use Rattle.bz_items.specs.Characters.{Bytes}
-use Rattle.bz_label.specs.Pieces.{is_empty, is_slash, is_colon, has_slash, has_colon, last_piece}
-use Rattle.bz_label.specs.Labels.{is_barred, is_plain, is_path, is_repository_name, IsRepository, absent, main, canonical_main, named, canonical_named, IsWhole, IsPackageAlone}
-use Rattle.bz_label.specs.declared.label.Label.{Label}
-use Rattle.bz_label.specs.Forms.{is_repository, are_whole, are_alone}
+use Rattle.bz_label.proofs.Words.{[], ◌&&◌, ◌++◌, ◌||◌, ◌∙◌, ◌∷◌, ◌≡◌, absent, and_from, and_parts, ap, append_assoc, are_alone, are_whole, arith, Bool, Bytes, canonical_main, canonical_named, codes, eqb-true, false, has_colon, has_slash, if◌then◌else◌, is_barred, is_colon, is_empty, is_path, is_plain, is_repository, is_repository_name, is_slash, IsPackageAlone, IsRepository, IsWhole, Label, last_piece, list_any, main, named, nat_tests, not, not-true, refl, sym, true, ℕ}
 use Rattle.bz_label.proofs.Cuts.{cut_once}
 
 pub if_true : {A : Type 0} (b : Bool) (x y : A) → b ≡ true → (if b then x else y) ≡ x

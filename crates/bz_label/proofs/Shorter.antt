@@ -1,11 +1,5 @@
 -- Shorter forms of a text: that they mean the same, and that they are shortened no further.
-use Rattle.std.proofs.Common.{◌≡◌, Bool, true, false, [], ◌∷◌, ◌++◌, refl, sym, ◌∙◌, ap, ◌||◌, codes, inl, inr}
-use Rattle.std.proofs.lemmas.Bool.{both_ways, and_parts, eqb-true}
-use Rattle.bz_items.specs.Characters.{Bytes}
-use Rattle.bz_label.specs.Pieces.{is_empty, is_at, is_colon, has_colon, last_piece}
-use Rattle.bz_label.specs.Labels.{is_path, is_repository_name, IsWhole, IsPackageAlone, IsColonName, IsSame, IsOwn, IsRepeat, IsUnrepeated, IsShortened, repeat, stays, own, other, whole, package_alone, colon_name}
-use Rattle.bz_label.specs.Forms.{is_repository}
-use Rattle.bz_label.specs.declared.label.Label.{Label}
+use Rattle.bz_label.proofs.Words.{[], ◌++◌, ◌||◌, ◌∙◌, ◌∷◌, ◌≡◌, and_parts, ap, Bool, both_ways, Bytes, codes, colon_name, eqb-true, false, has_colon, inl, inr, is_at, is_colon, is_empty, is_path, is_repository, is_repository_name, IsColonName, IsOwn, IsPackageAlone, IsRepeat, IsSame, IsShortened, IsUnrepeated, IsWhole, Label, last_piece, other, own, package_alone, refl, repeat, stays, sym, true, whole}
 use Rattle.bz_label.proofs.Repeats.{front_colonless}
 use Rattle.bz_label.proofs.Shapes.{any_at, path_colonless, repository_holds, whole_after, whole_kept}
 

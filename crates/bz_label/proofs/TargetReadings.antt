@@ -1,11 +1,5 @@
 -- The target of a text, as a function, is the one that the condition describes.
-use Rattle.std.proofs.Common.{ℕ, Bool, true, false, ◌&&◌, [], ◌∷◌, ◌++◌, ◌≡◌, ◌≤◌, refl, sym, ap, ◌∙◌, inl, inr, codes, length, nat_le, Option, Some, None, subst, append_assoc}
-use Rattle.std.proofs.lemmas.Bool.{cases_Bool, true≢false, and_parts, eqb-true, le-leb, leb-true, not-true, false_from_ne_true}
-use Rattle.bz_items.specs.Characters.{Bytes}
-use Rattle.bz_label.specs.Pieces.{is_slash, is_present, is_joined, has_colon, last_piece}
-use Rattle.bz_label.specs.Shorter.{before_colon, after_colon}
-use Rattle.bz_label.specs.Targets.{is_package, target_of, IsSpelled, IsTarget}
-use Rattle.bz_label.specs.TargetRead.{target_if, relative_target, absolute_target, target_in}
+use Rattle.bz_label.proofs.Words.{[], ◌&&◌, ◌++◌, ◌∙◌, ◌∷◌, ◌≡◌, ◌≤◌, absolute_target, after_colon, and_parts, ap, append_assoc, before_colon, Bool, Bytes, cases_Bool, codes, eqb-true, false, false_from_ne_true, has_colon, inl, inr, is_joined, is_package, is_present, is_slash, IsSpelled, IsTarget, last_piece, le-leb, leb-true, length, nat_le, None, not-true, Option, refl, relative_target, Some, subst, sym, target_if, target_in, target_of, true, true≢false, ℕ}
 use Rattle.bz_label.specs.declared.target.Target.{Target}
 use Rattle.bz_label.proofs.Colons.{IsCutIn, cut_in, halves}
 use Rattle.bz_label.proofs.Shapes.{if_true, if_false, both_same}

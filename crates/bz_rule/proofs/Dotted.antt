@@ -1,12 +1,5 @@
 -- A text that ends in a dot and a name.
-use Rattle.std.proofs.Common.{◌≡◌, ◌≢◌, Bool, true, false, [], ◌∷◌, ◌++◌, refl, sym, ap, ◌∙◌, Option, Some, None, append_assoc, Bor, MatchOption}
-use Rattle.std.specs.Str.{bytes_eq}
-use Rattle.std.specs.Bool.{Decides}
-use Rattle.std.proofs.lemmas.Bool.Decides.{same_from_decides}
-use Rattle.std.proofs.lemmas.Slice.Eq.{bytes_eq-Decides}
-use Rattle.std.proofs.lemmas.List.{append_cancel_right}
-use Rattle.bz_items.specs.Characters.{Bytes, full_stop}
-use Rattle.bz_rule.specs.Rules.{is_text, dotted}
+use Rattle.bz_rule.proofs.Words.{[], ◌++◌, ◌∙◌, ◌∷◌, ◌≡◌, ◌≢◌, ap, append_assoc, append_cancel_right, Bool, Bor, Bytes, bytes_eq, bytes_eq-Decides, Decides, dotted, false, full_stop, is_text, MatchOption, None, Option, refl, same_from_decides, Some, sym, true}
 
 abbrev joined_by : Bytes → Bytes → Bytes
 joined_by front last = front ++ full_stop ∷ last

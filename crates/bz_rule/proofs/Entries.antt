@@ -1,15 +1,6 @@
 -- The map of the code: what it has at a name, and after one place more.
-use Rattle.std.proofs.Common.{◌≡◌, ℕ, Bool, true, false, cond, List, [], ◌∷◌, ◌++◌, Some, None, refl, sym, ap, subst, ◌∙◌, append-nil}
-use Rattle.std.specs.Prelude.{Vec, bytes_eq, if◌then◌else◌}
-use Rattle.std.specs.declared.alloc.Global.{Global}
-use Rattle.std.specs.Cmp.Lexicographic.{nat_list_eq_equiv}
-use Rattle.std.specs.HashMap.{HashMap, UpdatesBy, WritesThrough, get_by}
-use Rattle.std.specs.Map.{lookup, KeepsOthers, IsKeyTest, AreApart}
-use Rattle.std.specs.Option.{is_some, option_map_or, unwrap_or}
-use Rattle.std.proofs.lemmas.Slice.Eq.{bytes_eq-Decides}
-use Rattle.bz_items.specs.Characters.{Bytes}
-use Rattle.bz_rule.specs.Index.{places_of}
-use Rattle.bz_rule.specs.Held.{AddsPlace, held}
+use Rattle.bz_rule.proofs.Words.{[], ◌++◌, ◌∙◌, ◌∷◌, ◌≡◌, AddsPlace, ap, append-nil, Bool, Bytes, bytes_eq, bytes_eq-Decides, cond, false, HashMap, held, if◌then◌else◌, is_some, List, None, option_map_or, places_of, refl, Some, subst, sym, true, unwrap_or, Vec, ℕ}
+use Rattle.std.specs.{declared.alloc.Global.Global, Cmp.Lexicographic.nat_list_eq_equiv, HashMap.UpdatesBy, HashMap.WritesThrough, HashMap.get_by, Map.lookup, Map.KeepsOthers, Map.IsKeyTest, Map.AreApart}
 
 -- the keys and the values of the map: vectors of bytes, and of places
 abbrev Numbers : Type 0

@@ -1,14 +1,7 @@
 -- A form as an expression, and back.
-use Rattle.std.proofs.Common.{suc, ◌≡◌, List, ap, ◌∙◌, nat_eq, refl, Option, Some, None, if◌then◌else◌, ◌∷◌}
+use Rattle.bz_rule.proofs.Words.{◌∙◌, ◌∷◌, ◌≡◌, ap, dotted_name, each_named, end_of-Expr, Expr, Form, Form', form_in, fronts, fronts_among, fronts_in_row, if◌then◌else◌, items-the_row-Expr, items_hidden-the_row-Expr-0, joined, Kind, Kind as k, kind_number, List, more_of-Expr, nat_eq, None, Option, refl, Row_of-Expr, Some, suc, with_names}
 use mathlib.Core.Former.{Count}
-use Rattle.bz_grammar.specs.declared.kind.Kind.{Kind}
-use Rattle.bz_grammar.specs.declared.kind.Kind.TheVariants as k
-use Rattle.bz_grammar.specs.Kinds.{kind_number}
-use Rattle.bz_value.specs.declared.value.Form.{Form}
-use Rattle.bz_value.specs.declared.value.Expr.{Expr, Form', Row_of-Expr, end_of-Expr, more_of-Expr, items-the_row-Expr, items_hidden-the_row-Expr-0}
 use Rattle.bz_value.specs.declared.value.Expr.TheVariants as e
-use Rattle.bz_rule.specs.Rules.{form_in, joined, dotted_name, with_names}
-use Rattle.bz_rule.specs.private.Named.{each_named, fronts, fronts_in_row, fronts_among}
 
 abbrev parts_after : Expr → (m : Count) × Row_of-Expr m
 parts_after (Form' kind s parts s' items end split open_break comments) = (_, parts)

@@ -13,3 +13,4 @@ pub mod ProperRules
 pub mod ProperSequences
 pub mod ProperShapes
 pub mod Quoted
+mod Words

@@ -1,9 +1,5 @@
 -- The kind and the name of a call.
-use Rattle.std.proofs.Common.{◌≡◌, ◌&&◌, false, List, refl, Option, Some, None, option_map, is_some}
-use Rattle.std.specs.Option.{option_and_then, option_map_or}
-use Rattle.bz_value.specs.declared.value.Expr.{Expr}
-use Rattle.bz_items.specs.Characters.{Bytes}
-use Rattle.bz_rule.specs.Rules.{Call, Rule, is_text, dotted_name, named, name_in, name_of}
+use Rattle.bz_rule.proofs.Words.{◌&&◌, ◌≡◌, Bytes, Call, dotted_name, Expr, false, is_some, is_text, List, name_in, name_of, named, None, Option, option_and_then, option_map, option_map_or, refl, Rule, Some}
 
 abbrev made : List Expr → Bytes → Rule
 made arguments kind = record { kind = kind; arguments = arguments }

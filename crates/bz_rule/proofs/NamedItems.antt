@@ -1,10 +1,5 @@
 -- The name of a call.
-use Rattle.std.proofs.Common.{◌≡◌, refl, Option, Some, None, option_map, is_some, List}
-use Rattle.std.specs.Prelude.{if◌then◌else◌}
-use Rattle.std.specs.Option.{option_and_then}
-use Rattle.bz_value.specs.declared.value.Expr.{Expr}
-use Rattle.bz_items.specs.Characters.{Bytes}
-use Rattle.bz_rule.specs.Rules.{Call, Rule, dotted_name, named, name_in, name_of}
+use Rattle.bz_rule.proofs.Words.{◌≡◌, Bytes, Call, dotted_name, Expr, if◌then◌else◌, is_some, List, name_in, name_of, named, None, Option, option_and_then, option_map, refl, Rule, Some}
 
 abbrev made : List Expr → Bytes → Rule
 made arguments kind = record { kind = kind; arguments = arguments }

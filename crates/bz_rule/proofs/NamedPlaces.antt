@@ -1,11 +1,5 @@
 -- The places of a name, item by item.
-use Rattle.std.proofs.Common.{map, ◌≡◌, ℕ, ◌+◌, Bool, true, false, List, [], ◌∷◌, ◌++◌, sym, ap, ◌∙◌, append_assoc, length, drop, get_or, ◌<◌}
-use Rattle.std.specs.Prelude.{if◌then◌else◌}
-use Rattle.std.proofs.lemmas.List.{drop_more}
-use Rattle.bz_value.specs.declared.value.Item.{Item}
-use Rattle.bz_items.specs.Characters.{Bytes}
-use Rattle.bz_rule.specs.Rules.{has_name}
-use Rattle.bz_rule.specs.Index.{marked_places, places_from}
+use Rattle.bz_rule.proofs.Words.{[], ◌++◌, ◌+◌, ◌<◌, ◌∙◌, ◌∷◌, ◌≡◌, ap, append_assoc, Bool, Bytes, drop, drop_more, false, get_or, has_name, if◌then◌else◌, Item, length, List, map, marked_places, places_from, sym, true, ℕ}
 
 one_place : (at : ℕ) (name : Bytes) (old : List ℕ) (item : Item) (rest : List Item)
     → (old ++ (if has_name name item then at ∷ [] else [])) ++ places_from (at + 1) name rest ≡ old ++ places_from at name (item ∷ rest)

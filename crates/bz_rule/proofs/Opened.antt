@@ -1,15 +1,9 @@
 -- An expression by rows is the one by lists.
-use Rattle.std.proofs.Common.{◌≡◌, Bool, List, refl, sym, ap, ◌∙◌}
-use Rattle.bz_grammar.specs.declared.kind.Kind.{Kind}
-use Rattle.bz_value.specs.declared.value.Form.{Form}
+use Rattle.bz_rule.proofs.Words.{◌∙◌, ◌≡◌, ap, Bool, Bytes, Expr, Form, Form', HostComments, items-the_row-Expr, items_of, items_shown-the_row-Expr-0, Kind, List, parts_of, refl, sym, Token, with_items, with_parts}
 use Rattle.bz_value.specs.declared.value.Seq.{Seq}
-use Rattle.bz_value.specs.declared.value.Expr.{Expr, Token, Form', items-the_row-Expr, items_shown-the_row-Expr-0}
 use Rattle.bz_value.specs.declared.value.Expr.TheVariants as e
 use Rattle.bz_value.specs.declared.value.Expr.TheOpen as o
 use Rattle.bz_value.specs.declared.value.Expr.TheViews.{roll-Expr, out-Expr, roll-out-Expr}
-use Rattle.bz_value.specs.Comments.{HostComments}
-use Rattle.bz_items.specs.Characters.{Bytes}
-use Rattle.bz_rule.specs.Values.{parts_of, items_of, with_parts, with_items}
 
 both : {X Y Z : Type 0} (f : X → Y → Z) {h h' : X} {i i' : Y} → h ≡ h' → i ≡ i' → f h i ≡ f h' i'
 both f {h} {h'} {i} {i'} d e = ap (λ z. f z i) d ∙ ap (λ z. f h' z) e

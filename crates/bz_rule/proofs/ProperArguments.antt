@@ -1,32 +1,8 @@
 -- The values of attributes are values, and a named argument with another value is an argument.
-use Rattle.std.proofs.Common.{Bool, true, false, ◌≡◌, ◌||◌, List, [], ◌∷◌, refl, sym, ap, ◌∙◌, subst, true≢false}
-use Rattle.std.specs.Prelude.{Option, Some, None, IfSome, IsUtf8, codes, nat_eq, if◌then◌else◌}
-use Rattle.std.specs.Option.{option_and_then, option_or}
+use Rattle.bz_rule.proofs.Words.{[], ◌||◌, ◌∙◌, ◌∷◌, ◌≡◌, after_expr, ap, AreComments, attribute, Bool, Bytes, bytes_eq-Decides, Class, Class as c, codes, Expr, Expr as e, false, following_token, Form, Form', Grammar, has_break, has_token, HostComments, IfSome, if◌then◌else◌, is_one_of, is_text, IsComment, IsLexeme, IsUtf8, items-the_row-Expr, Kind, Kind as k, kind_number, List, nat_eq, None, on_first, on_row, on_third, Option, option_and_then, option_or, plain, ProperExpr, refl, Role, role, root, Some, subst, sym, text_in, Token, true, true≢false, value_after, value_named, with_text, Within}
 use Rattle.std.proofs.lemmas.List.Elements.{All-nil}
-use Rattle.std.proofs.lemmas.Slice.Eq.{bytes_eq-Decides}
-use Rattle.bz_token.specs.declared.class.Class.{Class}
-use Rattle.bz_token.specs.declared.class.Class.TheVariants as c
-use Rattle.bz_token.specs.Lexemes.{IsLexeme}
-use Rattle.bz_grammar.specs.declared.kind.Kind.{Kind}
-use Rattle.bz_grammar.specs.declared.kind.Kind.TheVariants as k
-use Rattle.bz_grammar.specs.Kinds.{kind_number}
 use Rattle.bz_grammar.specs.Shapes as s
-use Rattle.bz_grammar.specs.Shapes.{has_token, is_one_of}
-use Rattle.bz_grammar.specs.Spots.{Within, Role, plain, role, following_token}
-use Rattle.bz_value.specs.declared.value.Form.{Form}
-use Rattle.bz_value.specs.declared.value.Expr.{Expr, Token, Form', items-the_row-Expr}
-use Rattle.bz_value.specs.declared.value.Expr.TheVariants as e
-use Rattle.bz_value.specs.Comments.{HostComments}
-use Rattle.bz_items.specs.Characters.{Bytes}
-use Rattle.bz_value.specs.Proper.{IsComment, AreComments, after_expr, has_break, ProperExpr}
-use Rattle.bz_value.specs.LineShapes.{Grammar}
-use Rattle.bz_value.specs.Roots.{root}
-use Rattle.bz_rule.specs.Rules.{is_text, text_in, value_after, value_named, attribute}
-use Rattle.bz_rule.specs.Values.{with_text, on_row, on_first, on_third}
-use Rattle.bz_rule.proofs.ProperChanges.{by_test}
-use Rattle.bz_rule.proofs.ProperForms.{AsForm, opened}
-use Rattle.bz_rule.proofs.ProperItems.{IsValue, KeepsRow, row_within, item_within}
-use Rattle.bz_rule.proofs.ProperSequences.{IsItem, AreOf}
+use Rattle.bz_rule.proofs.{ProperChanges.by_test, ProperForms.AsForm, ProperForms.opened, ProperItems.IsValue, ProperItems.KeepsRow, ProperItems.row_within, ProperItems.item_within, ProperSequences.IsItem, ProperSequences.AreOf}
 
 -- ---- where the value of a named argument is
 

@@ -1,20 +1,5 @@
 -- Changes of rows, of items and of lists, each by what may be in an expression's place.
-use Rattle.std.proofs.Common.{Bool, true, false, ◌≡◌, List, [], ◌∷◌, refl, sym, map, true≢false}
-use Rattle.std.specs.Prelude.{if◌then◌else◌}
-use Rattle.std.specs.Str.{IsUtf8}
-use Rattle.bz_token.specs.declared.class.Class.{Class}
-use Rattle.bz_token.specs.declared.class.Class.TheVariants as c
-use Rattle.bz_token.specs.Lexemes.{IsString}
-use Rattle.bz_grammar.specs.declared.kind.Kind.{Kind}
-use Rattle.bz_grammar.specs.declared.kind.Kind.TheVariants as k
-use Rattle.bz_grammar.specs.Shapes.{is_class}
-use Rattle.bz_value.specs.declared.value.Expr.{Expr, Token, Form', items-the_row-Expr}
-use Rattle.bz_value.specs.declared.value.Expr.TheVariants as e
-use Rattle.bz_value.specs.Comments.{HostComments}
-use Rattle.bz_value.specs.Frames.{frame, is_compound}
-use Rattle.bz_value.specs.LineShapes.{Grammar}
-use Rattle.bz_items.specs.Characters.{Bytes}
-use Rattle.bz_rule.specs.Values.{has_kind, has_class, text_of, parts_of, items_of, with_parts, with_items, with_text, on_row, on_items, on_first, on_third, on_lists}
+use Rattle.bz_rule.proofs.Words.{[], ◌∷◌, ◌≡◌, Bool, Bytes, Class, Class as c, Expr, Expr as e, false, Form', frame, Grammar, has_class, has_kind, HostComments, if◌then◌else◌, is_class, is_compound, IsString, IsUtf8, items-the_row-Expr, items_of, Kind, Kind as k, List, map, on_first, on_items, on_lists, on_row, on_third, parts_of, refl, sym, text_of, Token, true, true≢false, with_items, with_parts, with_text}
 use Rattle.bz_rule.proofs.ProperForms.{InPlace, itself, EachInPlace, none, both, all_itself, each_mapped, IsPlain, kind_plain, lists_in_place}
 use Rattle.bz_rule.proofs.ProperShapes.{other_string}
 use Rattle.bz_rule.proofs.ProperSequences.{where_true}

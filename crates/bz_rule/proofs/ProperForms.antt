@@ -1,23 +1,8 @@
 -- What may be in an expression's place: changed expressions keep rows, heads and items proper, and so the form around them.
-use Rattle.std.proofs.Common.{Bool, true, false, not, ◌&&◌, ◌||◌, ◌≡◌, List, [], ◌∷◌, refl, sym, ap, ◌∙◌, subst, map, true≢false}
-use Rattle.std.specs.Prelude.{All}
-use Rattle.std.proofs.lemmas.Bool.{eqb-true}
-use Rattle.bz_grammar.specs.declared.kind.Kind.{Kind}
+use Rattle.bz_rule.proofs.Words.{[], ◌&&◌, ◌||◌, ◌∙◌, ◌∷◌, ◌≡◌, after_expr, All, ap, AreComments, AreHeadBy, AreItemsBy, ArePartsBy, begins_operator, Bool, build_grammar, Bytes, comments_of, compound, end_of-Expr, eqb-true, Expr, false, Fits, Form', form_proper_by, Frame, frame, framed, Grammar, has_break, has_kind, in_frame, is_binary, is_compound, is_comprehension, is_operator, is_simple, IsComment, IsEmptyRow, IsNone, IsNonterminal, items-the_row-Expr, items_of, Kind, List, map, more_of-Expr, not, operator_first, parts_of, ProperExpr, ProperHeadBy, ProperItemsBy, ProperRowBy, refl, root, roots, row, row_in, Row_of-Expr, same_kind, sequence, Spot, subst, sym, Token, true, true≢false, value_shape, Within}
 use Rattle.bz_grammar.specs.declared.kind.Kind.TheVariants as k
-use Rattle.bz_grammar.proofs.Numbers.{same_kind}
-use Rattle.bz_grammar.specs.Shapes.{Fits}
-use Rattle.bz_grammar.specs.Legal.{IsNonterminal}
-use Rattle.bz_grammar.specs.Spots.{Spot, Within}
-use Rattle.bz_value.specs.declared.value.Expr.{Expr, Token, Form', Row_of-Expr, end_of-Expr, more_of-Expr, items-the_row-Expr}
 use Rattle.bz_value.specs.declared.value.Expr.TheVariants as e
-use Rattle.bz_items.specs.Characters.{Bytes}
-use Rattle.bz_value.specs.Frames.{Frame, row, sequence, compound, frame, is_binary, is_compound, is_comprehension, is_simple}
-use Rattle.bz_value.specs.LineShapes.{Grammar, build_grammar, value_shape}
-use Rattle.bz_value.specs.Proper.{IsComment, AreComments, comments_of, has_break, is_operator, begins_operator, after_expr, roots, IsEmptyRow, in_frame, ProperExpr, ProperRowBy, ProperHeadBy, ProperItemsBy}
 use Rattle.bz_value.specs.Statements.{has_suite, is_whole_statement}
-use Rattle.bz_value.specs.Roots.{root, row_in}
-use Rattle.bz_value.proofs.FormParts.{ArePartsBy, AreHeadBy, AreItemsBy, IsNone, operator_first, framed, form_proper_by}
-use Rattle.bz_rule.specs.Values.{has_kind, parts_of, items_of}
 use Rattle.bz_rule.proofs.ProperShapes.{AlikeRoots, same_root, Alike, kind_alike}
 use Rattle.bz_rule.proofs.ProperShapes as shapes
 

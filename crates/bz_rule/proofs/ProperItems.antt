@@ -1,20 +1,6 @@
 -- What may be in the place of an item, which is within brackets, and what values of attributes are.
-use Rattle.std.proofs.Common.{Bool, true, false, ◌≡◌, List, [], ◌∷◌, ◌++◌, refl, sym, ◌∙◌, subst, map}
-use Rattle.std.proofs.lemmas.Bool.{eqb-true}
-use Rattle.std.specs.List.{AllByRecursion, filter}
-use Rattle.bz_grammar.specs.declared.kind.Kind.{Kind}
-use Rattle.bz_grammar.proofs.Numbers.{same_kind}
+use Rattle.bz_rule.proofs.Words.{[], ◌++◌, ◌∙◌, ◌∷◌, ◌≡◌, AllByRecursion, AreComments, Bool, Bytes, comments_of, eqb-true, Expr, false, filter, Form', frame, Grammar, has_break, has_kind, has_nonterminal, is_compound, items-the_row-Expr, items_of, Kind, List, map, no_comments, Nonterminal, on_row, parts_of, ProperExpr, refl, root, same_kind, subst, sym, Token, true, with_parts, Within}
 use Rattle.bz_grammar.specs.Shapes as s
-use Rattle.bz_grammar.specs.Shapes.{Nonterminal, has_nonterminal}
-use Rattle.bz_grammar.specs.Spots.{Within}
-use Rattle.bz_value.specs.declared.value.Expr.{Expr, Token, Form', items-the_row-Expr}
-use Rattle.bz_value.specs.Comments.{no_comments}
-use Rattle.bz_items.specs.Characters.{Bytes}
-use Rattle.bz_value.specs.Proper.{AreComments, comments_of, has_break, ProperExpr}
-use Rattle.bz_value.specs.Frames.{frame, is_compound}
-use Rattle.bz_value.specs.LineShapes.{Grammar}
-use Rattle.bz_value.specs.Roots.{root}
-use Rattle.bz_rule.specs.Values.{has_kind, parts_of, items_of, with_parts, on_row}
 use Rattle.bz_rule.proofs.ProperChanges.{by_case, by_test}
 use Rattle.bz_rule.proofs.ProperForms.{InPlace, AsForm, AsFormWith, IsPlain, form_with, kind_plain, with_lists}
 use Rattle.bz_rule.proofs.ProperSequences.{IsItem}

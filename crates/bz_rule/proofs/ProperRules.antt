@@ -1,21 +1,6 @@
 -- A rule with other arguments, and with another function, may be where the rule is.
-use Rattle.std.proofs.Common.{Bool, List, [], ◌∷◌, refl, sym, ◌∙◌, subst}
-use Rattle.std.specs.Prelude.{Option, Some, None, IfSome, option_map}
-use Rattle.std.specs.Option.{option_and_then}
-use Rattle.bz_grammar.specs.declared.kind.Kind.TheVariants as k
+use Rattle.bz_rule.proofs.Words.{[], ◌∙◌, ◌∷◌, AreComments, Begins, Bool, Bytes, called, dotted_name, Expr, Form', form_in, Grammar, HostComments, IfSome, IsBare, IsNonterminal, IsProperItemIn, Item, Item as i, items-the_row-Expr, Kind as k, List, named, None, on_first, on_row, only, Option, option_and_then, option_map, ProperExpr, refl, root, Rule, rule_of, Some, Spot, subst, sym, Token, with_items, with_parts}
 use Rattle.bz_grammar.specs.Shapes as s
-use Rattle.bz_grammar.specs.Legal.{IsNonterminal}
-use Rattle.bz_grammar.specs.Spots.{Spot, Begins}
-use Rattle.bz_value.specs.declared.value.Expr.{Expr, Token, Form', items-the_row-Expr}
-use Rattle.bz_value.specs.declared.value.Item.{Item}
-use Rattle.bz_value.specs.declared.value.Item.TheVariants as i
-use Rattle.bz_value.specs.Comments.{HostComments}
-use Rattle.bz_items.specs.Characters.{Bytes}
-use Rattle.bz_value.specs.Proper.{AreComments, IsBare, ProperExpr, IsProperItemIn}
-use Rattle.bz_value.specs.LineShapes.{Grammar}
-use Rattle.bz_value.specs.Roots.{root}
-use Rattle.bz_rule.specs.Rules.{Rule, only, form_in, called, named, rule_of, dotted_name}
-use Rattle.bz_rule.specs.Values.{with_parts, with_items, on_row, on_first}
 use Rattle.bz_rule.proofs.ProperChanges.{changed_parts}
 use Rattle.bz_rule.proofs.ProperForms.{InPlace, AsForm, EachInPlace, none, both, opened, form_in_place}
 use Rattle.bz_rule.proofs.ProperSequences.{AreOf, call_apart, call_in_place}

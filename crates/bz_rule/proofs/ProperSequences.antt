@@ -1,24 +1,6 @@
 -- Items of a sequence in another order, or with some left out, fit it too.
-use Rattle.std.proofs.Common.{Bool, true, false, ◌≡◌, List, [], ◌∷◌, ◌++◌, inl, inr, refl, sym, subst, map, arith, true≢false}
-use Rattle.std.specs.Prelude.{if◌then◌else◌}
-use Rattle.std.specs.List.{AllByRecursion}
-use Rattle.std.proofs.lemmas.Bool.{eqb-true}
-use Rattle.bz_grammar.specs.declared.kind.Kind.{Kind}
-use Rattle.bz_grammar.specs.declared.kind.Kind.TheVariants as k
-use Rattle.bz_grammar.proofs.Numbers.{same_kind}
-use Rattle.bz_grammar.specs.declared.tree.Part.{Part}
+use Rattle.bz_rule.proofs.Words.{[], ◌++◌, ◌∷◌, ◌≡◌, After, AllByRecursion, AreComments, AreItemsBy, arith, Bool, Bytes, comma, comments_of, each_with_comma, eqb-true, Expr, false, Fits, Form', frame, Grammar, has_break, has_kind, has_token, if◌then◌else◌, inl, inr, is_compound, IsNonterminal, items-the_row-Expr, items_of, Kind, Kind as k, List, Listed, map, mark_leaf, Nonterminal, on_items, on_rest, Part, ProperExpr, refl, root, same_kind, Spot, subst, sym, Terminal, Token, true, true≢false, value_shape, with_items, Within}
 use Rattle.bz_grammar.specs.Shapes as s
-use Rattle.bz_grammar.specs.Shapes.{Nonterminal, Terminal, Fits, Listed, After, has_token}
-use Rattle.bz_grammar.specs.Legal.{IsNonterminal}
-use Rattle.bz_grammar.specs.Spots.{Spot, Within}
-use Rattle.bz_value.specs.declared.value.Expr.{Expr, Token, Form', items-the_row-Expr}
-use Rattle.bz_items.specs.Characters.{Bytes, comma}
-use Rattle.bz_value.specs.Proper.{AreComments, comments_of, has_break, ProperExpr}
-use Rattle.bz_value.specs.Frames.{frame, is_compound}
-use Rattle.bz_value.specs.LineShapes.{Grammar, value_shape}
-use Rattle.bz_value.specs.Roots.{root, mark_leaf, each_with_comma}
-use Rattle.bz_value.proofs.FormParts.{AreItemsBy}
-use Rattle.bz_rule.specs.Values.{has_kind, items_of, with_items, on_items, on_rest}
 use Rattle.bz_value.proofs.LeadParts.{lead_before}
 use Rattle.bz_rule.proofs.ProperForms.{AsForm, InPlace, itself, form_in_place, kind_plain}
 

@@ -1,19 +1,7 @@
 -- The table of shapes does not see what strings say: parts that differ in the texts of strings alone fit equal shapes.
-use Rattle.std.proofs.Common.{ℕ, Bool, true, false, not, ◌&&◌, ◌||◌, ◌≡◌, List, [], ◌∷◌, ◌++◌, inl, inr, refl, sym, ap, ◌∙◌, true≢false}
-use Rattle.std.specs.Prelude.{bytes_eq}
+use Rattle.bz_rule.proofs.Words.{[], ◌&&◌, ◌++◌, ◌||◌, ◌∙◌, ◌∷◌, ◌≡◌, After, ap, Bool, build_grammar, bytes_eq, Class as c, comma, compound, each_with_comma, false, Fits, Frame, Grammar, has_nonterminal, has_token, inl, inr, is_class, is_one_of, is_terminal, IsNonterminal, Kind, Kind as k, List, Listed, mark_leaf, Nonterminal, not, Part, Part as p, refl, row, row_in, sequence, Several, Shape, sym, Terminal, true, true≢false, value_shape, whole_grammar, ℕ}
 use Rattle.std.proofs.lemmas.Bool.{and_parts}
-use Rattle.bz_token.specs.declared.class.Class.TheVariants as c
-use Rattle.bz_grammar.specs.declared.kind.Kind.{Kind}
-use Rattle.bz_grammar.specs.declared.kind.Kind.TheVariants as k
-use Rattle.bz_grammar.specs.declared.tree.Part.{Part}
-use Rattle.bz_grammar.specs.declared.tree.Part.TheVariants as p
 use Rattle.bz_grammar.specs.Shapes as s
-use Rattle.bz_grammar.specs.Shapes.{Nonterminal, Terminal, Shape, Fits, Listed, After, Several, has_token, has_nonterminal, is_one_of, is_terminal, is_class}
-use Rattle.bz_grammar.specs.Legal.{IsNonterminal}
-use Rattle.bz_items.specs.Characters.{comma}
-use Rattle.bz_value.specs.Frames.{Frame, row, sequence, compound}
-use Rattle.bz_value.specs.LineShapes.{Grammar, build_grammar, whole_grammar, value_shape}
-use Rattle.bz_value.specs.Roots.{mark_leaf, each_with_comma, row_in}
 
 -- ---- which tokens a shape names by their texts
 

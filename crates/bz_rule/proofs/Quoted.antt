@@ -1,7 +1,5 @@
 -- A text between a first and a last quote mark.
-use Rattle.std.proofs.Common.{ℕ, ◌≡◌, ◌≤◌, ◌-◌, true, List, [], ◌∷◌, ◌++◌, length, take, drop, get_or, sym, arith, nat_eq}
-use Rattle.std.specs.Str.{bytes_eq}
-use Rattle.std.proofs.lemmas.Bool.Decides.{nat_tests}
+use Rattle.bz_rule.proofs.Words.{[], ◌++◌, ◌-◌, ◌∷◌, ◌≡◌, ◌≤◌, arith, bytes_eq, drop, get_or, length, List, nat_eq, nat_tests, sym, take, true, ℕ}
 
 -- the last byte decides whether a text is all but its last byte, and then q
 ends : (q x : ℕ) (xs : List ℕ) → nat_eq (get_or (x ∷ xs) (length xs) 0) q ≡ bytes_eq (x ∷ xs) (take (length xs) (x ∷ xs) ++ q ∷ [])

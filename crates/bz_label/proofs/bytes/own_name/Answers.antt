@@ -1,5 +1,4 @@
-use Rattle.std.proofs.Common.{sym, ◌∙◌, length}
-use Rattle.std.proofs.lemmas.List.{take_rest}
+use Rattle.bz_label.proofs.Words.{◌∙◌, length, sym, take_rest}
 use Rattle.bz_label.proofs.LabelFunctions.{own_cut, own_end}
 use Rattle.bz_label.proofs.bytes.own_name.Goals as goal
 

@@ -1,5 +1,4 @@
-use Rattle.bz_label.proofs.Orders.{key_total, key_ties}
-use Rattle.bz_label.proofs.Rows.{seven_keys, piece_rows, table_rows}
+use Rattle.bz_label.proofs.{Orders.key_total, Orders.key_ties, Rows.seven_keys, Rows.piece_rows, Rows.table_rows}
 use Rattle.bz_label.proofs.laws.key_laws.Goals as goal
 
 pub returns-clause-total : goal.returns-clause-total

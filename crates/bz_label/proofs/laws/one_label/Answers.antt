@@ -1,5 +1,4 @@
-use Rattle.bz_label.proofs.LabelFunctions.{label_once}
-use Rattle.bz_label.proofs.Rows.{label_rows}
+use Rattle.bz_label.proofs.{LabelFunctions.label_once, Rows.label_rows}
 use Rattle.bz_label.proofs.laws.one_label.Goals as goal
 
 pub returns : goal.returns

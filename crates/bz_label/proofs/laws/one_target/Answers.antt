@@ -1,5 +1,4 @@
-use Rattle.bz_label.proofs.Rows.{word_rows}
-use Rattle.bz_label.proofs.TargetReadings.{target_once}
+use Rattle.bz_label.proofs.{Rows.word_rows, TargetReadings.target_once}
 use Rattle.bz_label.proofs.laws.one_target.Goals as goal
 
 pub returns : goal.returns

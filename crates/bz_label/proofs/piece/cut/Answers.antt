@@ -1,7 +1,4 @@
-use Rattle.std.proofs.Common.{◌∙◌, ◌≡◌, ◌==◌, get_or, take, drop, ◌+◌, sym, arith, position, Some, None, false, true, ◌++◌, ◌∷◌}
-use Rattle.std.specs.List.{list_any}
-use Rattle.std.proofs.lemmas.List.{take_rest}
-use Rattle.std.proofs.lemmas.Bool.Decides.{nat_tests}
+use Rattle.bz_label.proofs.Words.{◌++◌, ◌+◌, ◌==◌, ◌∙◌, ◌∷◌, ◌≡◌, arith, drop, false, get_or, list_any, nat_tests, None, position, Some, sym, take, take_rest, true}
 use Rattle.bz_label.proofs.Cuts.{none_passes, cut_at}
 use Rattle.bz_label.proofs.piece.cut.Goals as goal
 

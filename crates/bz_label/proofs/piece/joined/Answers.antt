@@ -1,8 +1,5 @@
-use Rattle.std.proofs.Common.{rules}
-use Rattle.std.proofs.lemmas.Iterator.Search.{all_from_yields_List}
-use Rattle.std.proofs.lemmas.Iterator.Splits.{YieldsList-from_slice_split}
-use borrow.Author.Tests.{tests}
-use Rattle.bz_label.specs.Pieces.{is_slash, is_present}
+use Rattle.bz_label.proofs.Words.{is_present, is_slash, rules, tests}
+use Rattle.std.proofs.{lemmas.Iterator.Search.all_from_yields_List, lemmas.Iterator.Splits.YieldsList-from_slice_split}
 use Rattle.bz_label.proofs.Empty.{present_by_length}
 use Rattle.bz_label.proofs.piece.joined.Goals as goal
 

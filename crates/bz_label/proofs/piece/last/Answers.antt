@@ -1,9 +1,4 @@
-use Rattle.std.proofs.Common.{◌≡◌, ◌<◌, ◌-◌, length, get_or, not, false, arith, drop, ap, ◌∙◌}
-use Rattle.std.proofs.lemmas.List.{take_rest}
-use Rattle.std.proofs.lemmas.List.Sums.{suffix_len_is}
-use Rattle.std.proofs.lemmas.Bool.Decides.{nat_tests}
-use Rattle.std.specs.List.{suffix_len}
-use Rattle.bz_label.specs.Pieces.{is_slash}
+use Rattle.bz_label.proofs.Words.{◌-◌, ◌<◌, ◌∙◌, ◌≡◌, ap, arith, drop, false, get_or, is_slash, length, nat_tests, not, suffix_len, suffix_len_is, take_rest}
 use Rattle.bz_label.proofs.piece.last.Goals as goal
 use Rattle.bz_label.proofs.piece.last.Goals.{then-loop-start-test+else-text-start-ne47, else-loop-start-test}
 

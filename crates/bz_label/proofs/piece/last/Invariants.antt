@@ -1,6 +1,4 @@
-use Rattle.std.proofs.Common.{◌≡◌, ℕ, ◌<◌, ◌≤◌, length, get_or, true}
-use Rattle.bz_label.specs.Pieces.{is_slash}
-use Rattle.std.proofs.Common.{not}
+use Rattle.bz_label.proofs.Words.{◌<◌, ◌≡◌, ◌≤◌, get_or, is_slash, length, not, true, ℕ}
 use Rattle.bz_label.proofs.piece.last.Given as goal
 
 abbrev pub invariant-loop-start : goal.invariant-loop-start

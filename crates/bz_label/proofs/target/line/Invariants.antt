@@ -1,5 +1,4 @@
-use Rattle.std.proofs.Common.{◌≡◌, ◌^◌, ◌-◌, min, take}
-use Rattle.bz_label.specs.Targets.{decimal}
+use Rattle.bz_label.proofs.Words.{◌-◌, ◌^◌, ◌≡◌, decimal, min, take}
 use Rattle.bz_label.proofs.target.line.Given as goal
 
 abbrev pub invariant-loop-digit : goal.invariant-loop-digit

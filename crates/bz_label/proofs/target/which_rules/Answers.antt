@@ -1,6 +1,4 @@
-use Rattle.std.proofs.Common.{◌≡◌, codes, ap, sym, arith}
-use Rattle.std.proofs.lemmas.Slice.Eq.{text_from_reads}
-use Rattle.bz_label.specs.Targets.{which_of}
+use Rattle.bz_label.proofs.Words.{◌≡◌, ap, arith, codes, sym, text_from_reads, which_of}
 use Rattle.bz_label.proofs.target.which_rules.Goals as goal
 
 pub returns-in-95 : goal.returns-in-95

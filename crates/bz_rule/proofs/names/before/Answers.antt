@@ -1,5 +1,4 @@
-use Rattle.std.proofs.lemmas.Bool.Decides.{Decides-eqb}
-use Rattle.std.proofs.lemmas.Slice.Eq.{strip_suffix_is}
+use Rattle.bz_rule.proofs.Words.{Decides-eqb, strip_suffix_is}
 use Rattle.bz_rule.proofs.names.before.Goals as goal
 
 pub returns : goal.returns

@@ -1,6 +1,4 @@
-use Rattle.std.proofs.Common.{◌≡◌, is_some}
-use Rattle.bz_rule.specs.Rules.{dotted_name}
-use Rattle.bz_rule.specs.private.Named.{fronts}
+use Rattle.bz_rule.proofs.Words.{◌≡◌, dotted_name, fronts, is_some}
 use Rattle.bz_rule.proofs.names.is_named.Given as goal
 
 abbrev pub invariant-loop-names : goal.invariant-loop-names

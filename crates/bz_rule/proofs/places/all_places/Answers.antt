@@ -1,5 +1,4 @@
-use Rattle.bz_rule.specs.Index.{places_of}
-use Rattle.bz_rule.specs.Held.{held}
+use Rattle.bz_rule.proofs.Words.{held, places_of}
 use Rattle.bz_rule.proofs.NamedPlaces.{places_turn}
 use Rattle.bz_rule.proofs.places.all_places.Goals as goal
 

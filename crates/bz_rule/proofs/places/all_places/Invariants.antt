@@ -1,7 +1,4 @@
-use Rattle.std.proofs.Common.{◌≡◌, ◌++◌, drop}
-use Rattle.bz_items.specs.Characters.{Bytes}
-use Rattle.bz_rule.specs.Index.{places_from, places_of}
-use Rattle.bz_rule.specs.Held.{held}
+use Rattle.bz_rule.proofs.Words.{◌++◌, ◌≡◌, Bytes, drop, held, places_from, places_of}
 use Rattle.bz_rule.proofs.places.all_places.Given as goal
 
 -- the places of the items so far, and of those that are left

@@ -1,6 +1,4 @@
-use Rattle.std.proofs.Common.{ap, ◌∙◌}
-use Rattle.bz_rule.specs.Index.{places_of}
-use Rattle.bz_rule.specs.Held.{held}
+use Rattle.bz_rule.proofs.Words.{◌∙◌, ap, held, places_of}
 use Rattle.bz_rule.proofs.Entries.{no_place, place_after}
 use Rattle.bz_rule.proofs.places.push_place.Goals as goal
 

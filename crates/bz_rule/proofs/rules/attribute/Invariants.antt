@@ -1,5 +1,4 @@
-use Rattle.std.proofs.Common.{◌≡◌, drop}
-use Rattle.bz_rule.specs.Rules.{attribute}
+use Rattle.bz_rule.proofs.Words.{◌≡◌, attribute, drop}
 use Rattle.bz_rule.proofs.rules.attribute.Given as goal
 
 -- what the arguments that are left say is what all say

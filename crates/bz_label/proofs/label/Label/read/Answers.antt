@@ -1,8 +1,5 @@
-use Rattle.std.proofs.Common.{refl, ◌∙◌}
-use Rattle.std.proofs.lemmas.Result.{err_from_is_err_and}
-use Rattle.bz_label.specs.Read.{label_in}
-use Rattle.bz_label.proofs.LabelFunctions.{read_label, no_label}
-use Rattle.bz_label.proofs.Shapes.{both_same}
+use Rattle.bz_label.proofs.Words.{◌∙◌, err_from_is_err_and, label_in, refl}
+use Rattle.bz_label.proofs.{LabelFunctions.read_label, LabelFunctions.no_label, Shapes.both_same}
 use Rattle.bz_label.proofs.label.Label.read.Goals as goal
 
 pub returns-in_default-clause-bad : goal.returns-in_default-clause-bad

@@ -1,8 +1,5 @@
-use Rattle.std.proofs.Common.{refl, sym, ap, ◌∙◌}
-use Rattle.std.proofs.lemmas.Result.{err_from_is_err_and}
-use Rattle.bz_label.specs.TargetRead.{target_in}
-use Rattle.bz_label.proofs.Shapes.{if_true, if_false}
-use Rattle.bz_label.proofs.TargetReadings.{target_answered, no_target}
+use Rattle.bz_label.proofs.Words.{◌∙◌, ap, err_from_is_err_and, refl, sym, target_in}
+use Rattle.bz_label.proofs.{Shapes.if_true, Shapes.if_false, TargetReadings.target_answered, TargetReadings.no_target}
 use Rattle.bz_label.proofs.target.Target.read.Goals as goal
 
 pub returns-in_default-clause-bad : goal.returns-in_default-clause-bad
