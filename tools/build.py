@@ -9,7 +9,7 @@ unchanged sources proves nothing. The first proof that fails ends the run, and t
 
 A crate is proved when all that it depends on is, by rt lib in a copy of the crates (tools/crates.py), of which there is one for
 each crate that is proved at a time; what came of it is put into the crate's own folder. Where several can be proved, the one
-with the most work above it comes first, and it gets the processors that the others leave. A program is built in the same way,
+with the most work above it comes first, with four jobs where the others leave the processors. A program is built in the same way,
 by rt run, which also runs it on its own files (args, stdin): it must write what its file stdout has.
 
 JOBS in the environment is how many processors are used. Without it these are all, as far as there is memory for as many proofs.

@@ -14,10 +14,11 @@ TABLE, COLUMN = TOP / "docs" / "internals" / "GATE.md", "In `make`"
 # what a crate takes that is not in the table, and one of which an earlier run has what it is proved for; one that takes longer than the
 # last of these is proved anew
 UNKNOWN, KEPT, ANEW = 120, 4, 20
-# with how many jobs a proof is made at most: each of them reads much of the same, and a fifth makes a proof hardly shorter
-MOST_JOBS = 4
+# with how many jobs a proof is made where it isn't with one: each of them reads much of the same, so that two keep nearly two processors busy
+# for 1.4 times the speed, and a fifth makes a proof hardly shorter
+MANY_JOBS = 4
 # with which part of the most work above any crate one can wait
-WAITS = 0.8
+WAITS = 0.9
 # by the jobs of a proof, how many times as fast it is as with one, and how many processors it keeps busy
 FASTER, BUSY = (0, 1, 1.4, 1.6, 2), (0, 1, 1.9, 2.4, 2.8)
 # which part of the processors those that can wait get where others keep all of them busy
@@ -89,9 +90,10 @@ class Plan:
         return sorted((crate for crate in left if ended.issuperset(self.libraries[crate])), key=self.work, reverse=True)
 
     def next(self, running, left, ended):
-        """What there are processors for. The crate with the most work above it, of those that run and are ready, gets those that the
-        others leave, up to MOST_JOBS; any other gets one, since each further job takes processor time of its own. A crate with less than
-        WAITS of that work above it can wait: the others don't count it, since it takes what they leave, and one of it is never too many."""
+        """What there are processors for. The crate with the most work above it, of those that run and are ready, gets MANY_JOBS where the
+        others leave as many processors, or all that there are where no other runs or is ready; any other gets one, since each further
+        job takes processor time of its own. A crate with less than WAITS of that work above it can wait: the others don't count it, since it
+        takes what they leave, and one of it is never too many."""
         ready, turns, at_once = self.ready(left, ended), list(running), self.processors
         most = max(map(self.work, [*ready, *(turn.crate for turn in turns)]), default=0)
         urgent = [crate for crate in ready if self.work(crate) >= WAITS * most]
@@ -101,8 +103,9 @@ class Plan:
             is_first = all(self.work(turn.crate) <= self.work(crate) for turn in turns)
             if len(turns) == at_once or (taken >= at_once + can_wait and not is_first):
                 continue
-            jobs = max(min(at_once - taken - len(urgent[place + 1 :]), MOST_JOBS), 1) if is_first else 1
-            turns.append(Turn(crate, jobs, can_wait))
+            jobs = min(at_once - taken - len(urgent[place + 1 :]), MANY_JOBS)
+            is_alone = len(ready) + len(turns) == 1
+            turns.append(Turn(crate, jobs if is_first and (jobs == MANY_JOBS or is_alone) else 1, can_wait))
         return turns[len(running) :]
 
     def cost(self, crate):
