@@ -9,6 +9,7 @@ NOT_UTF8 = b"    the byte after that many is not UTF-8: save the file as text in
 TOO_LARGE = b"    a text that is read has at most 67,108,864 bytes\n"
 NO_TOKEN = b"    no name, number, string or operator begins with this character\n"
 INDENTED = b"    a statement begins at the left margin or, in a suite, with the indentation of that suite\n"
+FEWER = b"buildozer: there are fewer texts to go to: the command journal lists them\n"
 UNKEPT = b"buildozer: to undo or redo what earlier runs did, give --journal, as in those runs\n"
 
 
@@ -23,3 +24,8 @@ def lines_of(*lines):
 def refusal_of(command, why):
     """The line on a command on standard input that is refused."""
     return f"buildozer: <stdin>: {command}: {why}\n".encode()
+
+
+def too_far(command, name="<stdin>"):
+    """The lines on an undo or redo that finds fewer texts, of standard input or of a file with its journal."""
+    return f"buildozer: {name}: {command}: TooFar (61)\n".encode() + FEWER

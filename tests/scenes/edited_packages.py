@@ -251,15 +251,18 @@ def a_refused_text_is_told(w):
 
 
 def the_root_above_is_told(w):
-    """Where it is among the folders above; neither where the run is in it, nor by a folder of such a name."""
+    """Where it is among the folders above; neither where the run is in it, nor by a folder of such a name, nor over standard input alone."""
     (w.path / "c/d").mkdir(parents=True)
+    (w.path / "c/d/BUILD").write_bytes(b'f(name="z")\n')
     runs = []
     for name, kind, below in (("MODULE.bazel", "file", b"../../"), ("c/WORKSPACE", "file", b"../"), ("c/d/REPO.bazel", "folder", b"../"), ("c/d/REPO.bazel", "file", b"")):
         mark = w.path / name
         mark.mkdir() if kind == "folder" else mark.write_bytes(b"")
-        root = b"buildozer: the root of the workspace is %s\n" % below if below else b""
-        run = subprocess.run([w.program, "delete", "//none:x"], cwd=w.path / "c/d", capture_output=True)
-        runs.append((run.returncode, run.stdout, run.stderr) == (2, b"", MISSING + root))
+        note = b"buildozer: note: the root of the workspace is %s, and packages are those below the working directory\n" % below if below else b""
+        for words, text, wanted in ((["delete", "//none:x"], None, (2, b"", note + MISSING)), (["print name", ":z", ":z"], None, (3, b"z\nz\n", note)),
+                (["--", "print name", "-:y", ":z"], b'f(name="y")\n', (3, b"y\nz\n", note)), (["--", "print name", "-:y"], b'f(name="y")\n', (3, b"y\n", b""))):
+            run = subprocess.run([w.program, *words], cwd=w.path / "c/d", input=text, capture_output=True)
+            runs.append((run.returncode, run.stdout, run.stderr) == wanted)
         if kind == "folder":
             mark.rmdir()
     return all(runs)

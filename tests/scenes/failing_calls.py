@@ -23,7 +23,7 @@ import signal
 
 from lib import worked_rows
 from lib.folders import files_in, new_folder, put
-from lib.lines import PACKAGE_HINT
+from lib.lines import FEWER, PACKAGE_HINT
 from lib.preloaded import environment, preloaded
 from lib.runs import ended
 from lib.scenes import Scenes, sample
@@ -35,7 +35,7 @@ SAMPLE = 14
 # lines that say what failed, those that say so of what comes after it
 FAULT = re.compile(rb"([^\n]*): cannot (open|write)")
 DIRECTORY_HINT = rb"[^\n]*: if this is a directory, see buildifier-tree"
-FOLLOWING = re.compile(rb"buildozer: [^\n]*: (?:undo|redo)[^\n]*: TooFar \(61\)|" + DIRECTORY_HINT)
+FOLLOWING = re.compile(rb"buildozer: [^\n]*: (?:undo|redo)[^\n]*: TooFar \(61\)|" + re.escape(FEWER.strip()) + b"|" + DIRECTORY_HINT)
 HINTS = re.compile(re.escape(PACKAGE_HINT) + rb"|^" + DIRECTORY_HINT + rb"\n", re.MULTILINE)
 
 # the calls from one on fail too

@@ -27,7 +27,7 @@ import time
 
 from lib import grammar, worked_rows
 from lib.folders import files_in, new_folder, put
-from lib.lines import refusal_of
+from lib.lines import too_far
 from lib.odd_texts import BOLD, COMMANDS, REDOS, TARGETS, TEXTS, UNDOS
 from lib.runs import ended
 from lib.scenes import TOP, WHOLE, Scenes, named
@@ -183,8 +183,8 @@ def one_by_one(runs, chance):
     runs.same("one by one", (status, texts[-1], lines), together)
     back = f"undo {max(len(texts) - 1, 1)}"
     undone = runs.run("buildozer", ["-k", "--", *commands, back, target], text)
-    too_far = b"" if len(texts) > 1 else refusal_of(back, "TooFar (61)")
-    return runs.same("undo", undone, (2 if failed or too_far else 3, text, lines + too_far))
+    told = b"" if len(texts) > 1 else too_far(back)
+    return runs.same("undo", undone, (2 if failed or told else 3, text, lines + told))
 
 
 def both_outputs(runs, chance):

@@ -19,7 +19,7 @@ import subprocess
 from lib import journal_format
 from lib.folders import put
 from lib.journal_format import Journal, Step, closed, digest, edit, joined, leaf, listing, node, pieces, spelled
-from lib.lines import PACKAGE_HINT, UNKEPT, fixed, lines_of
+from lib.lines import FEWER, PACKAGE_HINT, UNKEPT, fixed, lines_of, too_far
 from lib.odd_texts import TEXTS
 from lib.runs import copies, held_to
 from lib.scenes import WHOLE, Scenes, named, sample
@@ -265,8 +265,19 @@ VERSIONS = {
     b"zjournal 9\n": 71, b"\xff\n": 71, b"bzjournal 9": 71,
 }  # fmt: skip
 NAMES = {71: b"Damaged (71)", 72: b"Version (72)", 73: b"Stale (73)"}
-STALE_HINT = "buildozer: the file changed since the last run with --journal: restore it, or delete %s.journal to begin a new history\n"
+# what is below that line
+HINTS = {
+    71: "buildozer: this is no journal, or was changed since it was written: delete %s.journal to begin a new history\n",
+    72: "buildozer: a program of another version wrote it: use that one, or delete %s.journal to begin a new history\n",
+    73: "buildozer: the file changed since the last run with --journal: restore it, or delete %s.journal to begin a new history\n",
+}
 OTHER_HINT = "buildozer: %s.journal was written for //%s: move it back there, or delete it to begin a new history\n"
+
+
+def told_of(number, name):
+    """What is reported of the journal of this file that is refused so."""
+    return f"{name}.journal: ".encode() + NAMES[number] + b"\n" + (HINTS[number] % name).encode()
+
 
 # Promises of much with nothing after them, each in a journal of the root package over the text of a 2.
 FRONT = b"bzjournal 2\npackage 0 \ntext 6\n" + TWO + b"\nsteps 1 now 1 before 0\ndigest " + digest(ONE) + b"\ndigest " + digest(TWO) + b"\n"
@@ -337,9 +348,9 @@ def see_refused(w, cases, names):
     files = w.left()
     status, out, err = w.ended(["-k", "--journal", "-f", "lines"])
     wanted = [f"{name}.journal: ".encode() + NAMES[case.number] for name, case in zip(names, cases)]
-    hints = [(STALE_HINT % name).encode().splitlines() if case.number == 73 else [] for name, case in zip(names, cases)]
+    hints = [(HINTS[case.number] % name).encode().rstrip() for name, case in zip(names, cases)]
     lines = err.splitlines()
-    if (status, out, lines) != (2, b"", [line for first, rest in zip(wanted, hints) for line in [first, *rest]]):
+    if (status, out, lines) != (2, b"", [line for pair in zip(wanted, hints) for line in pair]):
         w.wrong += [f"status {status}, output {out[:200]}"] if (status, out) != (2, b"") else []
         others = [f"{case.name}: not {line}" for case, line in zip(cases, wanted) if line not in lines]
         w.wrong += others[:5] + [f"of {len(cases)} are reported otherwise: {len(others)}", f"errors {err[:300]}"]
@@ -441,7 +452,7 @@ def promised(much):
         small = peak(w, limit)
         put(w.path, {"BUILD.journal": closed(much)})
         status, told, memory = peak(w, limit)
-        if (small[0], status, told) != (3, 2, b"BUILD.journal: Damaged (71)\n") or memory > small[2] + ROOM:
+        if (small[0], status, told) != (3, 2, told_of(71, "BUILD")) or memory > small[2] + ROOM:
             w.wrong.append(f"status {status}, {told}, {memory} KiB, and {small} of a small one")
         return not w.wrong and w.left() == {"BUILD": TWO, "BUILD.journal": closed(much)}
 
@@ -490,10 +501,11 @@ ADDED = {P: EVEN, KEPT: spelled(SAVED_ADD)}
 BACK = {P: ODD, KEPT: spelled(SAVED_BACK)}
 LISTED = {cursor: listing([ODD, EVEN], cursor, [ADD]) for cursor in (0, 1)}
 UNWRITTEN = b"p/BUILD: cannot write\n"
-DAMAGED, STALE = b"p/BUILD.journal: Damaged (71)\n", b"p/BUILD.journal: Stale (73)\n" + (STALE_HINT % P).encode()
-TOO_FAR = b"buildozer: p/BUILD: %s: TooFar (61)\n"
+DAMAGED, STALE = told_of(71, P), told_of(73, P)
+BARE_FAR = b"buildozer: p/BUILD: %s: TooFar (61)\n"
+TOO_FAR = BARE_FAR + FEWER
 # what is reported of the journal of another package
-of_other = lambda package: told(err=DAMAGED + (OTHER_HINT % (P, package)).encode())
+of_other = lambda package: told(err=b"p/BUILD.journal: Damaged (71)\n" + (OTHER_HINT % (P, package)).encode())
 # the journal of three texts, of which the present one is the last
 THREE = Journal(b"p", [b"x = 0\n", ONE, TWO], 2, 1, [Step([edit(*VALUE, digits(b"0"))], b"a"), Step([edit(*VALUE, digits(b"1"))], b"b")])
 # the file with a string of two lines, and with a label of another package
@@ -551,7 +563,7 @@ RUNS = {
     "without --journal a journal is neither read nor written": runs(
         {P: ODD, KEPT: b"none"},
         (["add deps //p:x", "journal", "//p:a"], 0, told(LISTED[1], fixed(P), {P: EVEN})),
-        (["undo", "//p:a"], 2, told(err=TOO_FAR % b"undo" + UNKEPT)),
+        (["undo", "//p:a"], 2, told(err=BARE_FAR % b"undo" + UNKEPT)),
     ),
     "the texts of standard input are listed": runs(
         {}, (["--", "new cc_library a", "journal", "-:__pkg__"], 0, told(listing([b"", NEW], 1, [b"new cc_library a"]) + NEW)),
@@ -580,7 +592,7 @@ RUNS = {
         {P: EVEN, KEPT: spelled(SAVED_ADD_1)}, (LISTING, 3, told(listing([ODD, EVEN], 1, [b""]))),
         (UNDOING, 0, told(err=fixed(P), after={P: ODD, KEPT: spelled(SAVED_BACK._replace(steps=[Step(TO_EVEN)]))})),
     ),
-    "another version is reported": runs({P: ODD, KEPT: b"bzjournal 9\n"}, (ADDING, 2, told(err=b"p/BUILD.journal: Version (72)\n"))),
+    "another version is reported": runs({P: ODD, KEPT: b"bzjournal 9\n"}, (ADDING, 2, told(err=told_of(72, P)))),
     # journals that don't fit
     "the journal of another package": runs({P: EVEN, KEPT: spelled(SAVED_ADD._replace(package=b"q"))}, (UNDOING, 2, of_other("q")), (LISTING, 2, of_other("q"))),
     "the journal of a package that forges a line": runs({P: EVEN, KEPT: spelled(SAVED_ADD._replace(package=b"q\nfixed p/BUILD\n\x1b[31m"))}, (UNDOING, 2, of_other("q\\nfixed p/BUILD\\n\\x1b[31m"))),
@@ -679,7 +691,7 @@ def unwritten(w, **after):
     put(w.path, {"q/BUILD": EVEN.replace(b":x", b":y")})
     words = ["-k", "--journal", "add deps //p:x", "print deps", "undo", "journal", "delete", "//p:a", "//p:all", "//q:none"]
     first, second, last = [b"buildozer: q/BUILD: %s: NoTarget (41)\nbuildozer: no rule of q/BUILD has the name 'none'\n" % command for command in (b"add deps //p:x", b"print deps", b"delete")]
-    missing = first + second + b"buildozer: q/BUILD: undo: TooFar (61)\n" + last
+    missing = first + second + too_far("undo", "q/BUILD") + last
     printed = b"* 0 " + digest(EVEN.replace(b":x", b":y")) + b"\n"
     return w.leaves(words, 2, out=printed, err=UNWRITTEN + missing, **after)
 
@@ -773,8 +785,8 @@ def the_most_texts_come_back(w):
     full = Journal(b"p", list(map(of_size, sizes)), MOST_STEPS, MOST_STEPS - 1, back)
     forth = [Step([edit([0, 0, 0, 4], 2, 1, leaf(journal_format.DIGITS, b" ", b"%d" % size))], b"set size") for size in sizes[1:]]
     put(w.path, {P: of_size(0), KEPT: spelled(full)})
-    refused = w.leaves(["--journal", "set size 1", "//p:a"], 2, err=b"buildozer: p/BUILD: set size 1: Full (62)\n")
-    further = w.leaves(["--journal", f"undo {MOST_STEPS + 1}", "//p:a"], 2, err=b"buildozer: p/BUILD: undo %d: TooFar (61)\n" % (MOST_STEPS + 1))
+    refused = w.leaves(["--journal", "set size 1", "//p:a"], 2, err=b"buildozer: p/BUILD: set size 1: Full (62)\nbuildozer: a history has at most 100,000 steps: do the rest in another run, with --journal after the journal is deleted\n")
+    further = w.leaves(["--journal", f"undo {MOST_STEPS + 1}", "//p:a"], 2, err=TOO_FAR % (b"undo %d" % (MOST_STEPS + 1)))
     after = {KEPT: spelled(full._replace(cursor=0, before=MOST_STEPS, steps=forth))}
     return refused and further and w.leaves(["--journal", f"undo {MOST_STEPS}", "//p:a"], 3, err=fixed(P), after=after)
 
@@ -783,7 +795,7 @@ def the_most_texts_of_a_run(w):
     """A run makes as many texts and no more, and goes back to the one that it read."""
     put(w.path, FILE)
     lines = b"".join(b"set size %d|//p:a\n" % number for number in range(MOST_STEPS + 1))
-    told = b"buildozer: p/BUILD: set size %d: Full (62)\n" % MOST_STEPS
+    told = b"buildozer: p/BUILD: set size %d: Full (62)\nbuildozer: a history has at most 100,000 steps: do the rest in another run, with --journal after the journal is deleted\n" % MOST_STEPS
     (w.path / "lines").write_bytes(lines + b"undo %d|//p:a\n" % MOST_STEPS)
     return w.leaves(["-k", "-f", "lines"], 2, err=told)
 

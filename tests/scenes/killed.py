@@ -27,6 +27,7 @@ import time
 
 from lib.folders import files_in, new_folder, put
 from lib.journal_format import listing
+from lib.lines import too_far
 from lib.runs import ended
 from lib.scenes import PROCESSORS, WHOLE, Scenes
 
@@ -150,7 +151,7 @@ class Killed:
 
     def wrong_at_the_first(self, history):
         """Nothing comes before the first text; and redo gives the last one again, after which no half file is left."""
-        wanted = 2, b"", b"buildozer: p/BUILD: undo: TooFar (61)\n"
+        wanted = 2, b"", too_far("undo", NAME)
         end, last = self.ended("undo"), len(history.texts) - 1
         if end != wanted:
             return [f"undo of the first text: {end}"]

@@ -27,6 +27,7 @@ import pathlib
 from lib.disks import UMASK, Disk, Recording, is_new, seen_in
 from lib.folders import files_in, new_folder, put
 from lib.journal_format import digest
+from lib.lines import too_far
 from lib.preloaded import preloaded
 from lib.scenes import PROCESSORS, Scenes, Wrong
 from lib.stopped_runs import FIRST, FILE, JOURNAL, ODD, add
@@ -144,7 +145,7 @@ class Stops(Wrong):
                 return [f"of {told_of(files)} is listed {listed}"]
             found = self.history(folder, name)
         wanted = self.history_of(name, self.steps_of(files, name)[0])
-        end = (2, b"", f"buildozer: {name}: undo: TooFar (61)\n".encode())
+        end = (2, b"", too_far("undo", name))
         right = found == wanted and wanted[1] == end and wanted[0][-1] == self.scene.files[name]
         return [] if right else [f"of {told_of(files)} undo gives {found}, and not {wanted}"]
 

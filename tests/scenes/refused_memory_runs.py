@@ -23,7 +23,7 @@ import itertools
 import re
 
 from lib import worked_rows
-from lib.lines import refusal_of
+from lib.lines import refusal_of, too_far
 from lib.refused_memory import MOST, Left, refusing
 from lib.scenes import WHOLE, Scenes, different, sample
 from lib.stopped_runs import FAILED
@@ -42,10 +42,6 @@ Row = collections.namedtuple("Row", "program words text ample others onward", de
 
 def refused(*commands):
     return b"".join(refusal_of(command, "Memory (8)") for command in commands)
-
-
-def too_far(*commands):
-    return b"".join(refusal_of(command, "TooFar (61)") for command in commands)
 
 
 # ---- texts, and answers on the sheet of cases
@@ -146,7 +142,7 @@ def faults(refusing, row):
 
 # a line that says that memory was refused; one that may come after it; and the status of a run in which it was
 MEMORY = re.compile(rb"(?:buildozer|buildifier): Memory|[^\n]*: (?:Memory|Memory \(8\)|cannot write)")
-FOLLOWING = re.compile(rb"buildozer: (?:[^\n]*: (?:TooFar \(61\)|NoTarget \(41\))|no rule of [^\n]*)")
+FOLLOWING = re.compile(rb"buildozer: (?:[^\n]*: (?:TooFar \(61\)|NoTarget \(41\))|no rule of [^\n]*|there are fewer texts [^\n]*)")
 
 
 def is_command(row, place):

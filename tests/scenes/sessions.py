@@ -22,7 +22,7 @@ import shlex
 import subprocess
 import tempfile
 
-from lib.lines import refusal_of
+from lib.lines import too_far
 from lib.odd_texts import BOLD, COMMANDS, NAMES, REDOS, TARGETS, TEXTS, TWIN, UNDOS
 from lib.pages import CODE, COMMAND, different_from_code, named_examples, rows_of
 from lib.runs import ended
@@ -177,7 +177,7 @@ class Plain:
         if 0 <= place < len(self.texts):
             self.cursor = place
         else:
-            self.told += refusal_of(command, "TooFar (61)")
+            self.told += too_far(command)
             self.failed = True
 
     def does(self, command, target):
