@@ -81,7 +81,7 @@ ROWS = {
     "undo and redo that take none": Row(
         "buildozer", ["-k", "--", "set deps :y", "undo", "redo", "-:a"], X, Left(0, Y),
         # where standard input was not read for the first command it is read for the next one
-        [Left(2, X, refused("set deps :y") + too_far("undo", "redo")), Left(2, X, UNREAD + too_far("undo", "redo"))],
+        [Left(2, X, refused("set deps :y") + too_far("undo") + too_far("redo")), Left(2, X, UNREAD + too_far("undo") + too_far("redo"))],
     ),
     "a session's undo and redo that take none": Row("cases", [], sheet("session"), Left(0, sheet("session", MOVED)), [Left(0, sheet("session", NOT_MOVED))]),
     "the step of an undo that takes none": Row("cases", [], sheet("weights"), Left(0, sheet("weights", "= 4\n")), [Left(0, sheet("weights"))]),
@@ -89,10 +89,10 @@ ROWS = {
     "undo and redo that take some": Row(
         "buildozer", ["-k", "--", "add deps :y", "undo", "redo", "-:a"], XZ, Left(0, XYZ),
         [
-            Left(2, XZ, refused("add deps :y") + too_far("undo", "redo")),
+            Left(2, XZ, refused("add deps :y") + too_far("undo") + too_far("redo")),
             Left(2, XYZ, refused("undo") + too_far("redo")),
             Left(2, XZ, refused("redo")),
-            Left(2, XZ, UNREAD + too_far("undo", "redo")),
+            Left(2, XZ, UNREAD + too_far("undo") + too_far("redo")),
         ],
     ),
     "a printed line that is refused": Row(
