@@ -19,7 +19,7 @@ import subprocess
 from lib import journal_format
 from lib.folders import put
 from lib.journal_format import Journal, Step, closed, digest, edit, joined, leaf, listing, node, pieces, spelled
-from lib.lines import FEWER, PACKAGE_HINT, UNKEPT, fixed, lines_of, too_far
+from lib.lines import PACKAGE_HINT, UNKEPT, fixed, lines_of, too_far
 from lib.odd_texts import TEXTS
 from lib.runs import copies, held_to
 from lib.scenes import WHOLE, Scenes, named, sample
@@ -502,8 +502,8 @@ BACK = {P: ODD, KEPT: spelled(SAVED_BACK)}
 LISTED = {cursor: listing([ODD, EVEN], cursor, [ADD]) for cursor in (0, 1)}
 UNWRITTEN = b"p/BUILD: cannot write\n"
 DAMAGED, STALE = told_of(71, P), told_of(73, P)
-BARE_FAR = b"buildozer: p/BUILD: %s: TooFar (61)\n"
-TOO_FAR = BARE_FAR + FEWER
+# what is below a step that a full history has no room for
+FULL_HINT = b"buildozer: a history has at most 100,000 steps: do the rest in another run, with --journal after the journal is deleted\n"
 # what is reported of the journal of another package
 of_other = lambda package: told(err=b"p/BUILD.journal: Damaged (71)\n" + (OTHER_HINT % (P, package)).encode())
 # the journal of three texts, of which the present one is the last
@@ -529,17 +529,17 @@ RUNS = {
         (LISTING, 3, told(LISTED[0])),
     ),
     "undo and redo in runs of their own": runs(
-        ADDED, (UNDOING, 0, told(err=fixed(P), after=BACK)), (UNDOING, 2, told(err=TOO_FAR % b"undo")),
-        (REDOING, 0, told(err=fixed(P), after=ADDED)), (REDOING, 2, told(err=TOO_FAR % b"redo")), (LISTING, 3, told(LISTED[1])),
+        ADDED, (UNDOING, 0, told(err=fixed(P), after=BACK)), (UNDOING, 2, told(err=too_far("undo", P))),
+        (REDOING, 0, told(err=fixed(P), after=ADDED)), (REDOING, 2, told(err=too_far("redo", P))), (LISTING, 3, told(LISTED[1])),
     ),
     "a command and its undo in one run": runs(FILE, ([*ADDING[:2], "undo", "//p:a"], 3, told(err=fixed(P), after=BACK))),
     "a later text is cut": runs(
         BACK,
         (["--journal", "add deps :z", "journal", "//p:a"], 0, told(listing([ODD, Z], 1, [b"add deps :z"]), fixed(P), {
             P: Z, KEPT: spelled(SAVED_ADD._replace(texts=[ODD, Z], steps=[Step(TO_ODD, b"add deps :z")]))})),
-        (REDOING, 2, told(err=TOO_FAR % b"redo")),
+        (REDOING, 2, told(err=too_far("redo", P))),
     ),
-    "too far is refused, and all stays": runs(ADDED, (["--journal", "undo 2", "//p:a"], 2, told(err=TOO_FAR % b"undo 2")), (LISTING, 3, told(LISTED[1]))),
+    "too far is refused, and all stays": runs(ADDED, (["--journal", "undo 2", "//p:a"], 2, told(err=too_far("undo 2", P))), (LISTING, 3, told(LISTED[1]))),
     "two steps at once": runs(
         {P: TWO, KEPT: spelled(THREE)},
         (["--journal", "undo 2", "//p:all"], 0, told(err=fixed(P), after={P: b"x = 0\n", KEPT: spelled(THREE._replace(
@@ -558,12 +558,12 @@ RUNS = {
         (["--journal", "print name", "journal", "//p:a"], 3, told(b"a\n* 0 " + digest(ODD) + b"\n")),
         (["--journal", "set kind t", "remove deps :x", "//p:a"], 3, told()),
         (["--journal", "delete", "//p:b"], 2, told(err=b"buildozer: p/BUILD: delete: NoTarget (41)\n" + b"buildozer: no rule of p/BUILD has the name 'b': did you mean 'a'?\n")),
-        (["--journal", "redo", "//p:a"], 2, told(err=TOO_FAR % b"redo")),
+        (["--journal", "redo", "//p:a"], 2, told(err=too_far("redo", P))),
     ),
     "without --journal a journal is neither read nor written": runs(
         {P: ODD, KEPT: b"none"},
         (["add deps //p:x", "journal", "//p:a"], 0, told(LISTED[1], fixed(P), {P: EVEN})),
-        (["undo", "//p:a"], 2, told(err=BARE_FAR % b"undo" + UNKEPT)),
+        (["undo", "//p:a"], 2, told(err=b"buildozer: p/BUILD: undo: TooFar (61)\n" + UNKEPT)),
     ),
     "the texts of standard input are listed": runs(
         {}, (["--", "new cc_library a", "journal", "-:__pkg__"], 0, told(listing([b"", NEW], 1, [b"new cc_library a"]) + NEW)),
@@ -628,7 +628,7 @@ RUNS = {
         {P: EVEN, KEPT: spelled(SAVED_BACK)}, (LISTING, 3, told(LISTED[1])), (UNDOING, 0, told(err=fixed(P), after=BACK)),
     ),
     "a command after a stop": runs(
-        {P: ODD, KEPT: spelled(SAVED_ADD)}, (["--journal", "undo", "//p:a"], 2, told(err=TOO_FAR % b"undo")), (ADDING, 0, told(err=fixed(P), after=ADDED)),
+        {P: ODD, KEPT: spelled(SAVED_ADD)}, (["--journal", "undo", "//p:a"], 2, told(err=too_far("undo", P))), (ADDING, 0, told(err=fixed(P), after=ADDED)),
     ),
     "files that a stop left under new names": runs({**FILE, f"{P}.bznew": b"half", f"{KEPT}.bznew": b"half"}, (LISTING, 3, told(b"* 0 " + digest(ODD) + b"\n"))),
     # usage
@@ -785,8 +785,8 @@ def the_most_texts_come_back(w):
     full = Journal(b"p", list(map(of_size, sizes)), MOST_STEPS, MOST_STEPS - 1, back)
     forth = [Step([edit([0, 0, 0, 4], 2, 1, leaf(journal_format.DIGITS, b" ", b"%d" % size))], b"set size") for size in sizes[1:]]
     put(w.path, {P: of_size(0), KEPT: spelled(full)})
-    refused = w.leaves(["--journal", "set size 1", "//p:a"], 2, err=b"buildozer: p/BUILD: set size 1: Full (62)\nbuildozer: a history has at most 100,000 steps: do the rest in another run, with --journal after the journal is deleted\n")
-    further = w.leaves(["--journal", f"undo {MOST_STEPS + 1}", "//p:a"], 2, err=TOO_FAR % (b"undo %d" % (MOST_STEPS + 1)))
+    refused = w.leaves(["--journal", "set size 1", "//p:a"], 2, err=b"buildozer: p/BUILD: set size 1: Full (62)\n" + FULL_HINT)
+    further = w.leaves(["--journal", f"undo {MOST_STEPS + 1}", "//p:a"], 2, err=too_far(f"undo {MOST_STEPS + 1}", P))
     after = {KEPT: spelled(full._replace(cursor=0, before=MOST_STEPS, steps=forth))}
     return refused and further and w.leaves(["--journal", f"undo {MOST_STEPS}", "//p:a"], 3, err=fixed(P), after=after)
 
@@ -795,7 +795,7 @@ def the_most_texts_of_a_run(w):
     """A run makes as many texts and no more, and goes back to the one that it read."""
     put(w.path, FILE)
     lines = b"".join(b"set size %d|//p:a\n" % number for number in range(MOST_STEPS + 1))
-    told = b"buildozer: p/BUILD: set size %d: Full (62)\nbuildozer: a history has at most 100,000 steps: do the rest in another run, with --journal after the journal is deleted\n" % MOST_STEPS
+    told = b"buildozer: p/BUILD: set size %d: Full (62)\n" % MOST_STEPS + FULL_HINT
     (w.path / "lines").write_bytes(lines + b"undo %d|//p:a\n" % MOST_STEPS)
     return w.leaves(["-k", "-f", "lines"], 2, err=told)
 

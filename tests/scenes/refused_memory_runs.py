@@ -23,7 +23,7 @@ import itertools
 import re
 
 from lib import worked_rows
-from lib.lines import refusal_of, too_far
+from lib.lines import FEWER, refusal_of, too_far
 from lib.refused_memory import MOST, Left, refusing
 from lib.scenes import WHOLE, Scenes, different, sample
 from lib.stopped_runs import FAILED
@@ -142,7 +142,7 @@ def faults(refusing, row):
 
 # a line that says that memory was refused; one that may come after it; and the status of a run in which it was
 MEMORY = re.compile(rb"(?:buildozer|buildifier): Memory|[^\n]*: (?:Memory|Memory \(8\)|cannot write)")
-FOLLOWING = re.compile(rb"buildozer: (?:[^\n]*: (?:TooFar \(61\)|NoTarget \(41\))|no rule of [^\n]*|there are fewer texts [^\n]*)")
+FOLLOWING = re.compile(rb"buildozer: (?:[^\n]*: (?:TooFar \(61\)|NoTarget \(41\))|no rule of [^\n]*)|" + re.escape(FEWER.strip()))
 
 
 def is_command(row, place):
