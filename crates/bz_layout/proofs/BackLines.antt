@@ -1,21 +1,10 @@
 -- The lines of the gaps that the layout makes of statements.
-use Rattle.std.proofs.Common.{◌≡◌, ℕ, zero, suc, true, false, ◌&&◌, List, [], ◌∷◌, ◌++◌, refl, sym, ap, ◌∙◌, length, append_assoc, append-nil}
-use Rattle.std.specs.Prelude.{Some, replicate}
-use Rattle.std.specs.List.{AllByRecursion}
-use Rattle.std.proofs.Math.Bool.{and-false}
-use Rattle.std.proofs.lemmas.List.{length-replicate}
-use Rattle.bz_lex.specs.Gaps.{is_indent, are_indents, indent}
-use Rattle.bz_items.specs.Characters.{Bytes, line_feed, space}
-use Rattle.bz_value.specs.Gaps.{GapLine, lines_of}
-use Rattle.bz_value.specs.Proper.{IsComment}
-use Rattle.bz_layout.specs.Layout.{margin_lines}
-use Rattle.bz_layout.specs.Written.{Indented, indented_lines, at_margin}
-use Rattle.bz_layout.specs.LaidOut.{gap_to_margin}
+use Rattle.bz_layout.proofs.Words.{[], ◌&&◌, ◌++◌, ◌∙◌, ◌∷◌, ◌≡◌, AllByRecursion, and-false, ap, append-nil, append_assoc, are_indents, at_margin, Bytes, false, gap_to_margin, GapLine, indent, Indented, indented_lines, is_indent, IsComment, length, length-replicate, line_feed, lines_of, List, margin_lines, refl, replicate, Some, space, suc, sym, true, zero, ℕ}
 use Rattle.bz_layout.proofs.Gapped.{ended_line, lines_at, commented, comment_line, lines_above, margin_counted}
 use Rattle.bz_layout.proofs.Waiting.{AreLines, lines_append}
 
-abbrev pub Lines : Type 0
-Lines = List GapLine
+abbrev pub ReadLines : Type 0
+ReadLines = List GapLine
 
 -- ---- whole lines
 
@@ -48,7 +37,7 @@ lines_joined (c ∷ cs) ds = ap (λ z. ended_line c.0 (Some c.1) ∷ z) (lines_j
 
 -- ---- the gap before the first token of what is at a margin
 
-pub gap_lines : (m : ℕ) (gap : Bytes) (ls : Lines) (texts : List Bytes) → AreLines gap ls → AllByRecursion IsComment texts → lines_of (gap_to_margin m gap texts) ≡ ls ++ commented m texts
+pub gap_lines : (m : ℕ) (gap : Bytes) (ls : ReadLines) (texts : List Bytes) → AreLines gap ls → AllByRecursion IsComment texts → lines_of (gap_to_margin m gap texts) ≡ ls ++ commented m texts
 gap_lines m gap ls texts h k = h (replicate m space ++ margin_lines m texts) ∙ ap (λ z. ls ++ z) (lines_above m texts k)
 
 newline_there : (text rest : Bytes) → are_indents (text ++ line_feed ∷ rest) ≡ false

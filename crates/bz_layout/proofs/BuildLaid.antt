@@ -1,31 +1,9 @@
 -- What is laid out of a value of a BUILD file is a tree of one: each node is of the kind of its form, or is a line.
-use Rattle.std.proofs.Common.{◌≡◌, ◌<◌, ℕ, true, false, List, [], ◌∷◌, ◌++◌, inl, inr, refl, sym, subst, map, arith, true≢false, ◌∙◌}
-use Rattle.std.specs.List.{AllByRecursion}
-use Rattle.std.proofs.lemmas.Bool.{and_parts, or_cases}
-use Rattle.std.proofs.lemmas.List.Elements.{recursion_from_All}
-use Rattle.bz_layout.specs.Words.{Kind, Node, Bytes, Expr, Token, Form', Row_of-Expr, end_of-Expr, more_of-Expr, Item}
-use Rattle.bz_grammar.specs.declared.kind.Kind.TheVariants as k
+use Rattle.bz_layout.proofs.Words.{[], ◌++◌, ◌<◌, ◌∙◌, ◌∷◌, ◌≡◌, ℕ, AllByRecursion, and_parts, arith, before_next, Begins, BuildLayoutIsBuild, Bytes, comment_lines, comments_of, end_of-Expr, Expr, false, Form', frame, has_simple_kind, has_suite, InExpr, inl, inner_kind, inr, is_compound, is_simple, is_whole_statement, IsBuildItem, IsBuildPart, Item, Item as i, Kind, Kind as k, kind_number, laid, line_shape, Lines, lines_from, List, map, more_of-Expr, narrow_expr, newline_part, no_such, Node, or_cases, part_of, parts_of, piece_part, ProperBy, recursion_from_All, refl, Row_of-Expr, subst, sym, Token, true, true≢false, whole_shape}
 use Rattle.bz_grammar.specs.declared.tree.Part.TheVariants as p
-use Rattle.bz_grammar.specs.Kinds.{kind_number}
-use Rattle.bz_grammar.specs.Legal.{IsBuildPart}
-use Rattle.bz_grammar.specs.Spots.{Begins}
-use Rattle.bz_grammar.proofs.Balance.{no_such}
 use Rattle.bz_grammar.proofs.Newer.{build_node}
-use Rattle.bz_value.specs.declared.value.Item.TheVariants as i
-use Rattle.bz_value.specs.BuildValues.{IsBuildExpr, AreBuildExprs, IsBuildItem}
-use Rattle.bz_value.specs.Frames.{frame, is_compound, is_simple}
-use Rattle.bz_value.specs.LineShapes.{line_shape, whole_shape}
-use Rattle.bz_value.specs.Proper.{ProperBy, comments_of}
-use Rattle.bz_value.specs.Statements.{has_simple_kind, has_suite, is_whole_statement}
-use Rattle.bz_hosts.proofs.InnerParts.{inner_kind}
-use Rattle.bz_hosts.proofs.Narrow.{InExpr, narrow_expr}
-use Rattle.bz_layout.specs.Layout.{laid}
-use Rattle.bz_layout.specs.LaidOut.{before_next, lines_from, newline_part, part_of, parts_of, piece_part}
-use Rattle.bz_layout.specs.Laws.{BuildLayoutIsBuild}
-use Rattle.bz_layout.specs.Written.{comment_lines}
-use Rattle.bz_layout.proofs.Fitted.{Child}
-use Rattle.bz_layout.proofs.LegalParts.{each_in}
-use Rattle.bz_layout.proofs.Made.{laid_plain, plain_first}
+use Rattle.bz_value.specs.BuildValues.{IsBuildExpr, AreBuildExprs}
+use Rattle.bz_layout.proofs.{Fitted.Child, LegalParts.each_in, Made.laid_plain, Made.plain_first}
 
 -- ---- no suite is in a BUILD file
 
@@ -63,14 +41,14 @@ abbrev AreBuildLaid : List Child → Type 0
 AreBuildLaid xs = AllByRecursion (λ x. (gap : Bytes) (m : ℕ) → IsBuildPart (x.1 gap m)) xs
 
 mutual
-  build_part : (x : Expr) → IsBuildExpr x → (gap : Bytes) (m : ℕ) → IsBuildPart (part_of x gap m)
+  build_part : (x : Expr) → IsBuildExpr x → (gap : Bytes) (m : ℕ) → IsBuildPart (part_of Lines.Counted x gap m)
   build_part (Token t) h gap m = tt
   build_part (Form' kind s parts s' items end split open_break comments) h gap m =
-      let n : Node = record { kind = kind; parts = map piece_part (laid kind split open_break gap m (parts_of parts) (parts_of items) end) } in
-      subst (λ f. IsBuildPart (f gap m)) (sym (laid_plain (Form' kind s parts s' items end split open_break comments) (old_frame kind h.0)))
-      (build_node (p.Node n) n refl h.0 (each_in IsBuildPart (λ gap n. tt) (frame kind) kind split open_break gap m (parts_of parts) (parts_of items) end (build_row _ parts h.1) (build_row _ items h.2)))
+      let n : Node = record { kind = kind; parts = map piece_part (laid Lines.Counted kind split open_break gap m (parts_of Lines.Counted parts) (parts_of Lines.Counted items) end) } in
+      subst (λ f. IsBuildPart (f gap m)) (sym (laid_plain Lines.Counted (Form' kind s parts s' items end split open_break comments) (old_frame kind h.0)))
+      (build_node (p.Node n) n refl h.0 (each_in Lines.Counted IsBuildPart (λ gap n. tt) (frame kind) kind split open_break gap m (parts_of Lines.Counted parts) (parts_of Lines.Counted items) end (build_row _ parts h.1) (build_row _ items h.2)))
 
-  build_row : (m : _) (r : Row_of-Expr m) → AreBuildExprs r → AreBuildLaid (parts_of r)
+  build_row : (m : _) (r : Row_of-Expr m) → AreBuildExprs r → AreBuildLaid (parts_of Lines.Counted r)
   build_row m end_of-Expr h = tt
   build_row m (more_of-Expr x rest) h = (build_part x h.0, build_row _ rest h.1)
 
@@ -78,8 +56,8 @@ build_lines : (items : List Item) → AllByRecursion IsBuildItem items → (gap 
 build_lines [] h gap = (tt, tt)
 build_lines (i.Block texts ∷ items) h gap = build_lines items h.1 ((gap ++ comment_lines texts) ++ before_next (i.Block texts) items)
 build_lines (i.Stmt x ∷ items) h gap =
-    let n : Node = record { kind = k.Line; parts = part_of x (gap ++ comment_lines (comments_of x).before) 0 ∷ newline_part (comments_of x).suffix ∷ [] } in
-    subst (AllByRecursion IsBuildPart) (sym (plain_first gap x items (build_plain x h.0)))
+    let n : Node = record { kind = k.Line; parts = part_of Lines.Counted x (gap ++ comment_lines (comments_of x).before) 0 ∷ newline_part (comments_of x).suffix ∷ [] } in
+    subst (AllByRecursion IsBuildPart) (sym (plain_first Lines.Counted gap x items (build_plain x h.0)))
     (build_node (p.Node n) n refl (omega arith) (build_part x h.0 _ 0, (tt, tt)), build_lines items h.1 (before_next (i.Stmt x) items))
 
 pub build_laid_out : BuildLayoutIsBuild

@@ -1,17 +1,6 @@
 -- What the windows that are made say of the layout.
-use Rattle.std.proofs.Common.{ℕ, suc, Bool, min, ◌^◌, ◌≡◌, ◌<◌, ◌≤◌, ◌-◌, List, [], ◌+◌, length, sym, ap, ◌∙◌, subst, arith, flat_map}
-use Rattle.std.specs.Prelude.{Option, None, Some, MatchOption, Result, Ok, Err, IfOk}
-use Rattle.bz_layout.specs.Words.{AreThere, window_parts, with_windows, PartWindow, spell_part, spell_node, limit, Node, Part, IsProperBuild, IsProper, AreOver, Item, Window}
-use Rattle.bz_layout.specs.LaidOut.{laid_out, lines_from}
-use Rattle.bz_layout.specs.Windows.{AreTextsOf, IsLayoutOf}
-use Rattle.bz_layout.specs.Written.{layout}
-use Rattle.bz_layout.specs.declared.writer.TextWindow.{TextWindow}
-use Rattle.bz_layout.specs.declared.writer.Writer.{Writer}
-use Rattle.bz_layout.specs.private.Reached.{IsPut, gone_length, text_count}
-use Rattle.bz_layout.specs.private.Windows.{line_count_in, AreCounted}
-use Rattle.bz_layout.proofs.Reaching.{size_put, gone_most}
-use Rattle.bz_layout.proofs.Spelled.{laid_out_spelled}
-use Rattle.bz_layout.proofs.Windows.{length_lines}
+use Rattle.bz_layout.proofs.Words.{[], ◌+◌, ◌-◌, ◌<◌, ◌^◌, ◌∙◌, ◌≡◌, ◌≤◌, ℕ, ap, AreCounted, AreOver, AreTextsOf, AreThere, arith, Bool, Err, flat_map, gone_length, IfOk, IsLayoutOf, IsProper, IsProperBuild, IsPut, Item, laid_out, layout, length, limit, line_count_in, Lines, lines_from, List, MatchOption, min, Node, None, Ok, Option, Part, PartWindow, Result, Some, spell_node, spell_part, subst, suc, sym, text_count, TextWindow, Window, window_parts, with_windows, Writer}
+use Rattle.bz_layout.proofs.{Reaching.size_put, Reaching.gone_most, Spelled.laid_out_spelled, Windows.length_lines}
 
 pub parts_put : (tree : Node) (before items : List Item) (made : List TextWindow) (bytes done : ℕ) → IsLayoutOf before tree → IsPut tree.parts (lines_from [] items) made bytes done →
     (new : List PartWindow) × AreTextsOf made new × AreThere new tree.parts × (with_windows new tree ≡ laid_out items)
@@ -33,7 +22,7 @@ pub whole_length : (tree : Node) (items : List Item) (parts : List Part) (ts : L
 whole_length tree items parts ts found w old gone less n h short same made lost left sum there match is =
     let p : IsPut tree.parts (lines_from [] items) w.made w.bytes w.done = of_some _ _ found w there match in
     let all : length (flat_map spell_part (window_parts p.windows.new tree.parts)) + gone_length w.made tree.parts ≡ length (spell_node tree) + text_count w.made = size_put w.made p.windows.new tree.parts p.windows.texts in
-    let new : length (flat_map spell_part (window_parts p.windows.new tree.parts)) ≡ length (layout items) = ap (λ ps. length (flat_map spell_part ps)) p.put ∙ ap length (laid_out_spelled items h) in
+    let new : length (flat_map spell_part (window_parts p.windows.new tree.parts)) ≡ length (layout items) = ap (λ ps. length (flat_map spell_part ps)) p.put ∙ ap length (laid_out_spelled Lines.Counted items h) in
     let most : gone_length w.made tree.parts ≤ length (spell_node tree) = gone_most w.made tree.parts in
     let own : gone ≡ gone_length w.made tree.parts = lost ∙ (ap (λ us. gone_length us parts) made ∙ ap (gone_length w.made) same) in
     omega (arith, all, new, most, p.windows.count, p.windows.few, short, is, own, left, sum)
@@ -53,4 +42,4 @@ of_tree tree file items parts windows counted lines (Ok found) e f proper is ove
     (h before own l.proper (subst IsProperBuild (sym e) proper) (over before (omega (arith, all, is)) (subst (AreOver windows before) (sym e) o))))
 
 pub past_limit : (items : List Item) → IsProper items → limit < length (flat_map spell_part (lines_from [] items)) → limit < length (layout items)
-past_limit items h long = subst (λ n. limit < n) (ap length (laid_out_spelled items h)) long
+past_limit items h long = subst (λ n. limit < n) (ap length (laid_out_spelled Lines.Counted items h)) long

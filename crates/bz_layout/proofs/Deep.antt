@@ -1,23 +1,10 @@
 -- What is laid out of a value is as deep as the value says.
-use Rattle.std.proofs.Common.{ℕ, suc, max, Bool, true, false, not, ◌&&◌, ◌≡◌, ◌<◌, List, [], ◌∷◌, ◌++◌, ◌+◌, if◌then◌else◌, length, get_or, drop, map, refl, ap, ◌∙◌, arith, sym}
-use Rattle.std.specs.Prelude.{Option, None, nat_eq}
-use Rattle.std.proofs.lemmas.List.{drop_more}
-use Rattle.bz_layout.specs.Words.{Kind, Form, Expr, Token, Form', Row_of-Expr, end_of-Expr, more_of-Expr, items-the_row-Expr, Item, Bytes, colon, comma, space, is_empty, comments_of, mark_leaf, has_suite}
-use Rattle.bz_grammar.specs.declared.kind.Kind.TheVariants as k
-use Rattle.bz_grammar.specs.declared.tree.Part.{Part, Node', Row_of-Part, end_of-Part, more_of-Part, items-the_row-Part}
+use Rattle.bz_layout.proofs.Words.{[], ◌&&◌, ◌++◌, ◌+◌, ◌<◌, ◌∙◌, ◌∷◌, ◌≡◌, alternative_parts, ap, arith, at_margin, before_next_in, body, Bool, Bytes, colon, comma, comment_lines, comments_of, compound, deepest, deepest_both, deepest_by, deepest_line, deepest_of, depth_expr, depth_exprs, depth_form, depth_in, depth_items, depth_line, depth_lines, depth_Node, depth_of, depth_part, depth_row, drop, drop_more, end_of-Expr, end_of-Part, Expr, false, firsts, Form, Form', Frame, frame, gap_after, gap_to_margin, get_or, has_brackets, has_suite, headed, if◌then◌else◌, indented_lines, is_broken_in, is_compound, is_empty, is_tuple, Item, Item as i, item_margin, items-the_row-Expr, items-the_row-Part, joined, Kind, Kind as k, laid_out_in, last_left, left_of, length, Lines, lines_from_in, List, map, margin_after, mark, mark_leaf, max, more_of-Expr, more_of-Part, nat_eq, newline_part, Node', node_by_frame, None, not, Option, Part, part_of, PartAt, parts_in, parts_of, Piece, piece_part, refl, row, Row_of-Expr, Row_of-Part, rowed, sequence, space, stacked, statement_part, statement_parts, suc, suite_node, suite_part, sym, Token, true, with_more_parts, ℕ}
 use Rattle.bz_grammar.specs.declared.tree.Part.TheVariants as p
-use Rattle.bz_grammar.proofs.Trees.{deepest_both}
-use Rattle.bz_grammar.specs.Spell.{depth_part, depth_row, deepest, depth_of}
-use Rattle.bz_grammar.proofs.Spells.{depth_Node}
 use Rattle.bz_value.specs.declared.value.Token.{Token as TokenValue}
 use Rattle.bz_value.specs.declared.value.Expr.TheVariants as e
-use Rattle.bz_value.specs.declared.value.Item.TheVariants as i
-use Rattle.bz_value.specs.Frames.{Frame, row, sequence, compound, frame, has_brackets, is_compound}
-use Rattle.bz_layout.specs.Layout.{Piece, mark, rowed, headed, joined, stacked, body, is_broken, is_tuple, gap_after, margin_after, firsts}
-use Rattle.bz_layout.specs.LaidOut.{PartAt, part_of, parts_of, piece_part, gap_to_margin, newline_part, left_of, last_left, parts_in, with_more_parts, statement_part, statement_parts, alternative_parts, suite_part, suite_node, node_by_frame, before_next, lines_from, laid_out}
-use Rattle.bz_layout.specs.Written.{at_margin, indented_lines, comment_lines}
-use Rattle.bz_layout.specs.private.Depths.{depth_in, depth_expr, depth_exprs, depth_line, depth_lines, deepest_by, deepest_of, deepest_line, depth_form, depth_items}
 use Rattle.bz_layout.proofs.Made.{parts_row, items_row, parts_of_row, items_of_row, two, parts_values}
+use Rattle.bz_layout.proofs.Ends.{by_followed}
 
 abbrev pub LayingOut : Type 0
 LayingOut = Expr × PartAt
@@ -50,16 +37,6 @@ joined_depth : (m : ℕ) (gap : Bytes) (closer : ℕ) (one : Bool) (xs : List La
 joined_depth m gap closer one [] h = omega arith
 joined_depth m gap closer one (x ∷ xs) h =
     two max (h.0 gap m) (comma_depth (is_empty xs && not one) (joined m (space ∷ []) closer false xs) ∙ joined_depth m (space ∷ []) closer false xs h.1)
-
-stacked_depth : (m : ℕ) (suffix : Option Bytes) (closer : ℕ) (end : List Bytes) (xs : List LayingOut) → AsDeep xs → depth_pieces (stacked m suffix closer end xs) ≡ deepest_of (firsts xs)
-stacked_depth m suffix closer end [] h = omega arith
-stacked_depth m suffix closer end (x ∷ xs) h =
-    let more : depth_pieces (stacked m (comments_of x.0).suffix closer end xs) ≡ deepest_of (firsts xs) = stacked_depth m (comments_of x.0).suffix closer end xs h.1 in
-    two max (h.0 _ (m + 4)) (omega (arith, more))
-
-pub body_depth : (b one : Bool) (m : ℕ) (closer : ℕ) (end : List Bytes) (xs : List LayingOut) → AsDeep xs → depth_pieces (if b then stacked m None closer end xs else joined m [] closer one xs) ≡ deepest_of (firsts xs)
-body_depth true one m closer end xs h = stacked_depth m None closer end xs h
-body_depth false one m closer end xs h = joined_depth m [] closer one xs h
 
 -- ---- suites
 
@@ -114,16 +91,6 @@ suited_depth suffix gap m (h ∷ others) xs end a b =
 
 -- ---- expressions
 
-node_depth : (f : Frame) (kind : Kind) (split open_break : Bool) (suffix : Option Bytes) (gap : Bytes) (m : ℕ) (hs xs : List LayingOut) (end : List Bytes) → AsDeep hs → AsDeep xs →
-    depth_part (node_by_frame f kind split open_break suffix gap m hs xs end) ≡ depth_in f (deepest_of (firsts hs)) (deepest_of (firsts xs)) (deepest_line (firsts xs))
-node_depth row kind split open_break suffix gap m hs xs end a b = depth_Node (record { kind = kind; parts = _ }) ∙ ap suc (rowed_depth kind open_break m gap m hs a)
-node_depth (sequence opener closer) kind split open_break suffix gap m hs xs end a b =
-    depth_Node (record { kind = kind; parts = _ }) ∙
-    ap suc
-    (headed_depth m gap opener hs (body kind split m closer xs end) a ∙
-    ap (λ n. max (deepest_of (firsts hs)) n) (body_depth (is_broken kind split (firsts xs) end) (is_tuple kind && nat_eq (length xs) 1) m closer end xs b))
-node_depth compound kind split open_break suffix gap m hs xs end a b = suited_depth suffix gap m hs xs end a b
-
 exprs_row : (n : _) (r : Row_of-Expr n) → depth_exprs r ≡ deepest_of (items-the_row-Expr n r)
 exprs_row n end_of-Expr = refl
 exprs_row n (more_of-Expr x rest) = ap (λ d. max (depth_expr x) d) (exprs_row _ rest)
@@ -134,27 +101,6 @@ lines_row n (more_of-Expr x rest) = ap (λ d. max (depth_line x) d) (lines_row _
 
 three : (f : Frame) {a b c a' b' c' : ℕ} → a ≡ a' → b ≡ b' → c ≡ c' → depth_in f a b c ≡ depth_in f a' b' c'
 three f {a} {b} {c} {a'} {b'} {c'} d e g = two (λ x y. depth_in f x y c) d e ∙ ap (λ z. depth_in f a' b' z) g
-
-mutual
-  pub depth_laid_out : (x : Expr) (gap : Bytes) (m : ℕ) → depth_part (part_of x gap m) ≡ depth_expr x
-  depth_laid_out (Token t) gap m = refl
-  depth_laid_out (Form' kind s parts s' items end split open_break comments) gap m =
-      node_depth (frame kind) kind split open_break comments.suffix gap m (parts_of parts) (parts_of items) end (all_laid_out _ parts) (all_laid_out _ items) ∙
-      three (frame kind) (ap deepest_of (parts_values _ parts) ∙ sym (exprs_row _ parts)) (ap deepest_of (parts_values _ items) ∙ sym (exprs_row _ items)) (ap deepest_line (parts_values _ items) ∙ sym (lines_row _ items))
-
-  all_laid_out : (n : _) (r : Row_of-Expr n) → AsDeep (parts_of r)
-  all_laid_out n end_of-Expr = tt
-  all_laid_out n (more_of-Expr x rest) = (λ gap m. depth_laid_out x gap m, all_laid_out _ rest)
-
--- ---- files
-
-lines_depth : (gap : Bytes) (xs : List Item) → deepest (lines_from gap xs) ≡ depth_items xs
-lines_depth gap [] = refl
-lines_depth gap (i.Block texts ∷ xs) = lines_depth ((gap ++ comment_lines texts) ++ before_next (i.Block texts) xs) xs
-lines_depth gap (i.Stmt x ∷ xs) = two max (statement_depth 0 gap (x, part_of x) (depth_laid_out x)) (lines_depth (indented_lines (left_of 0 x) ++ before_next (i.Stmt x) xs) xs)
-
-pub laid_out_depth : (xs : List Item) → depth_of (laid_out xs) ≡ suc (depth_items xs)
-laid_out_depth xs = ap suc (lines_depth [] xs)
 
 -- ---- forms
 
@@ -198,3 +144,49 @@ form_next xs k d f h is = deepest_next depth_expr xs k d h ∙ ap (λ n. max n (
 
 pub token_next : (xs : List Expr) (k : ℕ) (d : Expr) (t : TokenValue) → k < length xs → get_or xs k d ≡ e.Token t → deepest_of (drop k xs) ≡ deepest_of (drop (k + 1) xs)
 token_next xs k d t h is = deepest_next depth_expr xs k d h ∙ (ap (λ n. max n (deepest_of (drop (k + 1) xs))) (ap depth_expr is) ∙ omega arith)
+
+module _ (mode : Lines) where
+  stacked_depth : (kind : Kind) (n m : ℕ) (suffix : Option Bytes) (closer : ℕ) (end : List Bytes) (xs : List LayingOut) → AsDeep xs → depth_pieces (stacked mode kind n m suffix closer end xs) ≡ deepest_of (firsts xs)
+  stacked_depth kind n m suffix closer end [] h = omega arith
+  stacked_depth kind n m suffix closer end (x ∷ xs) h =
+      let below : List (Piece PartAt) = stacked mode kind n m (comments_of x.0).suffix closer end xs in
+      let more : depth_pieces below ≡ deepest_of (firsts xs) = stacked_depth kind n m (comments_of x.0).suffix closer end xs h.1 in
+      two max (h.0 _ n)
+      (by_followed (λ ps. depth_pieces ps ≡ deepest_of (firsts xs)) mode kind x.0 (firsts xs) end closer below (λ closed. ap deepest_of (sym closed.last.alone)) (λ last. more) (omega (arith, more)))
+
+  pub body_depth : (b : Bool) (kind : Kind) (n : ℕ) (one : Bool) (m : ℕ) (closer : ℕ) (end : List Bytes) (xs : List LayingOut) → AsDeep xs → depth_pieces (if b then stacked mode kind n m None closer end xs else joined m [] closer one xs) ≡ deepest_of (firsts xs)
+  body_depth true kind n one m closer end xs h = stacked_depth kind n m None closer end xs h
+  body_depth false kind n one m closer end xs h = joined_depth m [] closer one xs h
+
+  -- ---- expressions
+
+  node_depth : (f : Frame) (kind : Kind) (split open_break : Bool) (suffix : Option Bytes) (gap : Bytes) (m : ℕ) (hs xs : List LayingOut) (end : List Bytes) → AsDeep hs → AsDeep xs →
+      depth_part (node_by_frame mode f kind split open_break suffix gap m hs xs end) ≡ depth_in f (deepest_of (firsts hs)) (deepest_of (firsts xs)) (deepest_line (firsts xs))
+  node_depth row kind split open_break suffix gap m hs xs end a b = depth_Node (record { kind = kind; parts = _ }) ∙ ap suc (rowed_depth kind open_break m gap m hs a)
+  node_depth (sequence opener closer) kind split open_break suffix gap m hs xs end a b =
+      depth_Node (record { kind = kind; parts = _ }) ∙
+      ap suc
+      (headed_depth m gap opener hs (body mode kind split m closer xs end) a ∙
+      ap (λ n. max (deepest_of (firsts hs)) n) (body_depth (is_broken_in mode kind split (firsts xs) end) kind (item_margin mode kind m) (is_tuple kind && nat_eq (length xs) 1) m closer end xs b))
+  node_depth compound kind split open_break suffix gap m hs xs end a b = suited_depth suffix gap m hs xs end a b
+
+  mutual
+    pub depth_laid_out : (x : Expr) (gap : Bytes) (m : ℕ) → depth_part (part_of mode x gap m) ≡ depth_expr x
+    depth_laid_out (Token t) gap m = refl
+    depth_laid_out (Form' kind s parts s' items end split open_break comments) gap m =
+        node_depth (frame kind) kind split open_break comments.suffix gap m (parts_of mode parts) (parts_of mode items) end (all_laid_out _ parts) (all_laid_out _ items) ∙
+        three (frame kind) (ap deepest_of (parts_values mode _ parts) ∙ sym (exprs_row _ parts)) (ap deepest_of (parts_values mode _ items) ∙ sym (exprs_row _ items)) (ap deepest_line (parts_values mode _ items) ∙ sym (lines_row _ items))
+
+    all_laid_out : (n : _) (r : Row_of-Expr n) → AsDeep (parts_of mode r)
+    all_laid_out n end_of-Expr = tt
+    all_laid_out n (more_of-Expr x rest) = (λ gap m. depth_laid_out x gap m, all_laid_out _ rest)
+
+  -- ---- files
+
+  lines_depth : (gap : Bytes) (xs : List Item) → deepest (lines_from_in mode gap xs) ≡ depth_items xs
+  lines_depth gap [] = refl
+  lines_depth gap (i.Block texts ∷ xs) = lines_depth ((gap ++ comment_lines texts) ++ before_next_in mode (i.Block texts) xs) xs
+  lines_depth gap (i.Stmt x ∷ xs) = two max (statement_depth 0 gap (x, part_of mode x) (depth_laid_out x)) (lines_depth (indented_lines (left_of 0 x) ++ before_next_in mode (i.Stmt x) xs) xs)
+
+  pub laid_out_depth : (xs : List Item) → depth_of (laid_out_in mode xs) ≡ suc (depth_items xs)
+  laid_out_depth xs = ap suc (lines_depth [] xs)

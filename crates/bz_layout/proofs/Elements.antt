@@ -1,25 +1,7 @@
 -- What a part of a node is, known by its neighbours in the shape: the items of sequences, what is before a bracket, and
 -- what is in a comprehension.
-use Rattle.std.proofs.Common.{◌≡◌, ℕ, Bool, true, false, not, ◌||◌, List, [], ◌∷◌, ◌++◌, inl, inr, Some, None, refl, sym, subst, codes, ◌&&◌}
-use Rattle.std.specs.List.{list_all, AllByRecursion}
-use Rattle.std.proofs.lemmas.Bool.{and_parts, or_cases, both_ways, not-true, and_from, or_left, or_right}
-use Rattle.std.proofs.lemmas.Slice.Eq.{bytes_eq-Decides}
-use Rattle.bz_token.specs.declared.class.Class.{Class}
-use Rattle.bz_token.specs.declared.class.Class.TheVariants as c
-use Rattle.bz_layout.specs.Words.{Leaf, Kind, Part, Node', comma}
-use Rattle.bz_grammar.specs.declared.kind.Kind.TheVariants as k
-use Rattle.bz_grammar.specs.declared.tree.Part.TheVariants as p
+use Rattle.bz_layout.proofs.Words.{[], ◌&&◌, ◌++◌, ◌||◌, ◌∷◌, ◌≡◌, AllByRecursion, and_from, and_parts, apart, Bool, both_ways, bytes_eq-Decides, Class, Class as c, codes, comma, compound, each_with_comma, false, Fits, Frame, frame, has_brackets, has_nonterminal, has_token, in_frame, inl, inner_kind, inr, is_compound, is_comprehension, is_lone, is_one_of, is_spaced_after, is_spaced_before, is_terminal, is_value, IsNonterminal, Kind, Kind as k, Leaf, leaves_at, line_shape, List, list_all, lone, mark_leaf, no_such, Node', None, Nonterminal, not, not-true, of_terminals, opens, or_cases, or_left, or_right, Part, Part as p, refl, role, row, row_in, same_class, sequence, Shape, Some, space_after, space_before, subst, sym, Terminal, true, whole_shape, ℕ}
 use Rattle.bz_grammar.specs.Shapes as s
-use Rattle.bz_grammar.specs.Shapes.{Nonterminal, Terminal, Shape, Fits, has_nonterminal, has_token, is_one_of, is_terminal, leaves_at}
-use Rattle.bz_grammar.specs.Legal.{IsNonterminal}
-use Rattle.bz_grammar.specs.Spots.{opens, role}
-use Rattle.bz_grammar.proofs.Balance.{same_class, no_such}
-use Rattle.bz_value.specs.Frames.{Frame, row, sequence, compound, frame, has_brackets, is_comprehension, is_compound}
-use Rattle.bz_value.specs.LineShapes.{line_shape, whole_shape}
-use Rattle.bz_value.specs.Proper.{in_frame}
-use Rattle.bz_value.specs.Roots.{mark_leaf, each_with_comma, row_in}
-use Rattle.bz_hosts.proofs.InnerParts.{of_terminals, inner_kind}
-use Rattle.bz_layout.specs.Spaces.{is_value, lone, space_after, space_before, is_spaced_after, is_spaced_before, is_lone, apart}
 use Rattle.bz_layout.proofs.Neighbours.{Element, T, S, Is, passes, Pair, Links, links, never_lone, spaced, is_word}
 
 -- ---- the spaces of the layout: what the elements of a shape require, the parts show

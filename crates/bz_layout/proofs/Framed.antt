@@ -1,17 +1,5 @@
 -- What the shape of a kind says of a row of parts: that it has a part, and where its signs are.
-use Rattle.std.proofs.Common.{◌≡◌, Bool, true, false, not, ◌&&◌, List, [], ◌∷◌, inl, inr, None, refl, ap, ◌∙◌}
-use Rattle.std.proofs.Math.Bool.{and-false}
-use Rattle.std.proofs.lemmas.Bool.{cases_Bool, not-true}
-use Rattle.bz_layout.specs.Words.{Kind, Part, Node', is_empty}
-use Rattle.bz_grammar.specs.declared.kind.Kind.TheVariants as k
-use Rattle.bz_grammar.specs.declared.tree.Part.TheVariants as p
-use Rattle.bz_grammar.specs.Shapes.{Nonterminal, Fits}
-use Rattle.bz_grammar.specs.Legal.{IsNonterminal}
-use Rattle.bz_grammar.proofs.Balance.{no_such}
-use Rattle.bz_value.specs.Frames.{frame, is_binary, is_comprehension, is_compound}
-use Rattle.bz_value.specs.LineShapes.{whole_shape}
-use Rattle.bz_value.specs.Proper.{is_operator_class}
-use Rattle.bz_hosts.proofs.InnerParts.{nonterminal_unsigned, binary_begins}
+use Rattle.bz_layout.proofs.Words.{[], ◌&&◌, ◌∙◌, ◌∷◌, ◌≡◌, and-false, ap, binary_begins, Bool, cases_Bool, false, Fits, frame, inl, inr, is_binary, is_compound, is_comprehension, is_empty, is_operator_class, IsNonterminal, Kind, Kind as k, List, no_such, Node', None, Nonterminal, nonterminal_unsigned, not, not-true, Part, Part as p, refl, true, whole_shape}
 use Rattle.bz_layout.proofs.Neighbours.{Element, T, S, passes, Links, links}
 use Rattle.bz_layout.proofs.Elements.{any_two, some_part}
 

@@ -1,16 +1,5 @@
 -- Whole lines in the gaps of the layout: a line may begin after them, and its indent is what is after them.
-use Rattle.std.proofs.Common.{◌≡◌, ℕ, Bool, true, false, ◌&&◌, List, [], ◌∷◌, ◌++◌, if◌then◌else◌, refl, ap, ◌∙◌, subst, append_assoc}
-use Rattle.std.specs.Prelude.{replicate}
-use Rattle.std.specs.List.{AllByRecursion}
-use Rattle.std.proofs.Math.Bool.{and-false}
-use Rattle.bz_lex.specs.Gaps.{indent, is_flush, is_indent, are_indents}
-use Rattle.bz_grammar.specs.Spots.{Begins}
-use Rattle.bz_grammar.proofs.Balance.{no_such}
-use Rattle.bz_value.specs.Proper.{IsComment}
-use Rattle.bz_items.specs.Characters.{Bytes, line_feed, space}
-use Rattle.bz_layout.specs.Layout.{margin_lines}
-use Rattle.bz_layout.specs.LaidOut.{gap_to_margin}
-use Rattle.bz_layout.specs.Written.{Indented, indented_lines}
+use Rattle.bz_layout.proofs.Words.{[], ◌&&◌, ◌++◌, ◌∙◌, ◌∷◌, ◌≡◌, AllByRecursion, and-false, ap, append_assoc, are_indents, Begins, Bool, Bytes, false, gap_to_margin, if◌then◌else◌, indent, Indented, indented_lines, is_flush, is_indent, IsComment, line_feed, List, margin_lines, no_such, refl, replicate, space, subst, true, ℕ}
 use Rattle.bz_layout.proofs.BackLines.{AreLeft, last_indent}
 use Rattle.bz_layout.proofs.Margins.{FitsAt, FitsFlush, first_append, first_nothing, flush_line, inner_nothing, inner_above, inner_append, inner_spaces, inner_comment}
 

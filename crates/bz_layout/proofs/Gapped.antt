@@ -1,14 +1,7 @@
 -- The gaps that the layout makes say what they were made of.
-use Rattle.std.proofs.Common.{◌≡◌, ℕ, zero, suc, true, false, List, [], ◌∷◌, ◌++◌, ◌+◌, refl, sym, ap, ◌∙◌, append-nil, arith}
-use Rattle.std.specs.Prelude.{Option, None, Some, replicate}
-use Rattle.std.specs.List.{AllByRecursion}
-use Rattle.std.proofs.lemmas.Bool.{ne_eqb}
-use Rattle.bz_lex.specs.Gaps.{IsOneLine}
-use Rattle.bz_items.specs.Characters.{Bytes, line_feed, number_sign, space}
-use Rattle.bz_value.specs.Gaps.{GapLine, LineRest, trimmed, lines_from, lines_of, rest_of_line, comments_in, first_comment, after_first_line}
-use Rattle.bz_value.specs.Proper.{IsComment, MaybeComment}
-use Rattle.bz_layout.specs.Layout.{new_line_at, ended, margin_lines, suffix_text}
-use Rattle.bz_layout.specs.Written.{Indented, at_margin}
+use Rattle.bz_layout.proofs.Words.{[], ◌++◌, ◌+◌, ◌∙◌, ◌∷◌, ◌≡◌, after_first_line, AllByRecursion, ap, append-nil, arith, at_margin, Bytes, comments_in, ended, false, first_comment, GapLine, Indented, IsComment, IsOneLine, line_feed, LineRest, lines_of, List, margin_lines, MaybeComment, ne_eqb, new_line_at, None, Option, refl, replicate, rest_of_line, Some, space, suc, suffix_text, sym, trimmed, true, zero, ℕ}
+use Rattle.bz_items.specs.Characters.{number_sign}
+use Rattle.bz_value.specs.Gaps.{lines_from}
 use Rattle.bz_layout.proofs.Margins.{rest_one_line}
 
 -- a line that a newline ends
@@ -94,19 +87,19 @@ pub lines_item : (suffix : Option Bytes) (texts : List Bytes) (m : ℕ) → Mayb
     lines_of (suffix_text suffix ++ (new_line_at m ++ margin_lines m texts)) ≡ ended_line (suffix_indent suffix) suffix ∷ commented m texts
 lines_item suffix texts m h k = suffix_first suffix (replicate m space ++ margin_lines m texts) h ∙ ap (λ z. ended_line (suffix_indent suffix) suffix ∷ z) (lines_above m texts k)
 
-ended_begins : (m : ℕ) (texts : List Bytes) → AllByRecursion IsComment texts → (rest : Bytes) × (ended m texts ≡ line_feed ∷ rest) × (lines_of rest ≡ commented (m + 4) texts)
-ended_begins m [] h = (replicate m space, refl, spaces_are_none m)
-ended_begins m (text ∷ texts) h =
-    let more = ended_begins m texts h.1 in (
-      replicate (m + 4) space ++ (text ++ ended m texts),
+ended_begins : (n m : ℕ) (texts : List Bytes) → AllByRecursion IsComment texts → (rest : Bytes) × (ended n m texts ≡ line_feed ∷ rest) × (lines_of rest ≡ commented n texts)
+ended_begins n m [] h = (replicate m space, refl, spaces_are_none m)
+ended_begins n m (text ∷ texts) h =
+    let more = ended_begins n m texts h.1 in (
+      replicate n space ++ (text ++ ended n m texts),
       refl,
-      margin_counted (m + 4) (text ++ ended m texts) ∙ (ap (λ z. lines_from (m + 4) (text ++ z)) more.1 ∙ (comment_line (m + 4) text more.0 h.0 ∙ ap (λ z. ended_line (m + 4) (Some text) ∷ z) more.2)),
+      margin_counted n (text ++ ended n m texts) ∙ (ap (λ z. lines_from n (text ++ z)) more.1 ∙ (comment_line n text more.0 h.0 ∙ ap (λ z. ended_line n (Some text) ∷ z) more.2)),
     )
 
 -- before a closing bracket
-pub lines_end : (suffix : Option Bytes) (texts : List Bytes) (m : ℕ) → MaybeComment suffix → AllByRecursion IsComment texts → lines_of (suffix_text suffix ++ ended m texts) ≡ ended_line (suffix_indent suffix) suffix ∷ commented (m + 4) texts
-lines_end suffix texts m h k =
-    let own = ended_begins m texts k in
+pub lines_end : (suffix : Option Bytes) (texts : List Bytes) (n m : ℕ) → MaybeComment suffix → AllByRecursion IsComment texts → lines_of (suffix_text suffix ++ ended n m texts) ≡ ended_line (suffix_indent suffix) suffix ∷ commented n texts
+lines_end suffix texts n m h k =
+    let own = ended_begins n m texts k in
     ap (λ z. lines_of (suffix_text suffix ++ z)) own.1 ∙ (suffix_first suffix own.0 h ∙ ap (λ z. ended_line (suffix_indent suffix) suffix ∷ z) own.2)
 
 -- ---- before a newline

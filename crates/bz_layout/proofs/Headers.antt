@@ -1,42 +1,9 @@
 -- Headers as they are laid out: a form whose parts are in lines. Its parts and a colon, and then a suite, are parts of a statement.
-use Rattle.std.proofs.Common.{◌≡◌, ◌⊎◌, ℕ, Bool, true, false, inl, inr, List, [], ◌∷◌, ◌++◌, if◌then◌else◌, map, None, codes, refl, ap, ◌∙◌, append_assoc, arith}
-use Rattle.std.specs.List.{AllByRecursion, flat_map}
-use Rattle.std.proofs.lemmas.Bool.{and_parts, or_cases}
-use Rattle.std.proofs.lemmas.Slice.Eq.{bytes_eq-Decides}
-use Rattle.bz_lex.specs.Gaps.{indent}
-use Rattle.bz_layout.specs.Words.{Kind, Part, Node', Bytes, Expr, Token, Form', Row_of-Expr, end_of-Expr, more_of-Expr, items-the_row-Expr}
-use Rattle.bz_grammar.specs.declared.kind.Kind.TheVariants as k
+use Rattle.bz_layout.proofs.Words.{[], ◌++◌, ◌∙◌, ◌∷◌, ◌≡◌, ◌⊎◌, ℕ, after_node, all_mapped, AllByRecursion, Along, and_parts, ap, append_assoc, AreInner, arith, as_bzl, At, AtParts, Begins, Bool, Bytes, bytes_eq-Decides, bzl_shape, codes, deepest, end_of-Expr, every, every_part, Expr, false, first_token_text, Fits, flat_map, Form', frame, framed_inner, has_header_kind, header_word, if◌then◌else◌, indent, inl, inner_nonterminal, inner_tokens, inr, is_binary, is_compound, is_header, is_inner, is_inner_frame, is_kind, IsNonterminal, items-the_row-Expr, join, Kind, Kind as k, laid, leaves_part, LegalBy, LegalPart, line_shape, Lines, List, Listed, map, more_of-Expr, narrow_head, narrow_items, narrow_row, no_more, no_such, Node', None, Nonterminal, nonterminal_has_kind, nonterminal_inner, once_more, one_keyword, or_cases, Owned, owned_shape, Part, part_of, parts_of, piece_part, plain_tokens, ProperBy, ProperRowBy, refl, roots, row_in, Row_of-Expr, rowed, Several, Shape, Spot, spot_after, Terminal, Times, Token, token_inner, true, whole_shape}
 use Rattle.bz_grammar.specs.declared.tree.Part.TheVariants as p
-use Rattle.bz_grammar.specs.Indents.{Owned}
-use Rattle.bz_grammar.specs.Legal.{IsNonterminal, LegalPart}
 use Rattle.bz_grammar.specs.Shapes as s
-use Rattle.bz_grammar.specs.Shapes.{Nonterminal, Shape, Terminal, Fits, Listed, Several, Times, no_more, once_more, bzl_shape, is_kind, nonterminal_has_kind, one_keyword}
-use Rattle.bz_grammar.specs.Spell.{leaves_part, deepest}
-use Rattle.bz_grammar.specs.Spots.{Spot, Begins, Along, after_node, AtParts}
-use Rattle.bz_grammar.proofs.Balance.{no_such, inner_nonterminal, spot_after}
-use Rattle.bz_grammar.proofs.Suites.{owned_shape}
-use Rattle.bz_grammar.proofs.Trees.{At, join}
-use Rattle.bz_value.specs.Frames.{frame, is_binary, is_compound, is_header, is_inner_frame}
-use Rattle.bz_value.specs.LineShapes.{line_shape, whole_shape}
-use Rattle.bz_value.specs.Proper.{ProperBy, ProperRowBy, roots}
-use Rattle.bz_value.specs.Roots.{row_in}
-use Rattle.bz_value.specs.Statements.{first_token_text, has_header_kind, header_word}
-use Rattle.bz_value.proofs.LegalBy.{LegalBy, as_bzl}
-use Rattle.bz_hosts.proofs.InnerParts.{is_inner, inner_tokens, plain_tokens, every, every_part, token_inner, nonterminal_inner}
-use Rattle.bz_hosts.proofs.Narrow.{AreInner, framed_inner, narrow_head, narrow_items, narrow_row}
-use Rattle.bz_hosts.proofs.SeenParts.{all_mapped}
 use Rattle.bz_hosts.proofs.HeadParts.{followed, def_along, plain_along}
-use Rattle.bz_layout.specs.Layout.{laid, rowed}
-use Rattle.bz_layout.specs.LaidOut.{part_of, parts_of, piece_part}
-use Rattle.bz_layout.proofs.Fitted.{root_same}
-use Rattle.bz_layout.proofs.Held.{parts_hold}
-use Rattle.bz_layout.proofs.LegalParts.{Begin, AreFormParts, form_good}
-use Rattle.bz_layout.proofs.Made.{laid_plain, line_plain}
-use Rattle.bz_layout.proofs.Margins.{FitsAt}
-use Rattle.bz_layout.proofs.Neighbours.{passes, neighbours, finals}
-use Rattle.bz_layout.proofs.Spots.{InFrame}
-use Rattle.bz_layout.proofs.Standing.{Placed, form_stands}
-use Rattle.bz_layout.proofs.Touching.{IsLex, Toks, row_tokens}
+use Rattle.bz_layout.proofs.{Fitted.root_same, Held.parts_hold, LegalParts.Begin, LegalParts.AreFormParts, LegalParts.form_good, Made.laid_plain, Made.line_plain, Margins.FitsAt, Neighbours.passes, Neighbours.neighbours, Neighbours.finals, Spots.InFrame, Standing.Placed, Standing.form_stands, Touching.IsLex, Touching.Toks, Touching.row_tokens}
 
 -- ---- one shape after another
 
@@ -108,33 +75,6 @@ HasSort word kind ps =
     ⊎ (((word ≡ codes "elif") × ((rest : List Part) → Fits IsNonterminal s.owned rest → Fits IsNonterminal elif_shape (ps ++ rest)))
     ⊎ ((word ≡ codes "else") × ((rest : List Part) → Fits IsNonterminal s.owned rest → Fits IsNonterminal else_shape (ps ++ rest)))))
 
--- a row that begins with a word
-word_is : (word : Bytes) (rest : Shape) (binary : Bool) (outer here : Spot) (kind : Kind) (open_break : Bool) (a n : ℕ) (gap : Bytes) (m : _) (r : Row_of-Expr m) → ProperRowBy line_shape binary outer here r →
-    Fits IsNonterminal (s.tok (one_keyword word) rest) (map piece_part (rowed kind open_break a gap n (parts_of r))) → first_token_text (items-the_row-Expr m r) ≡ word
-word_is word rest binary outer here kind open_break a n gap m end_of-Expr i h = absurd h
-word_is word rest binary outer here kind open_break a n gap m (more_of-Expr (Token t) xs) i h =
-    elim (or_cases _ false h.0) [ inl e ↦ (bytes_eq-Decides t.text word).0 (and_parts _ _ e).1 | inr e ↦ no_such e ]
-word_is word rest binary outer here kind open_break a n gap m (more_of-Expr (Form' kind' z parts z' items end split open_break' comments) xs) i h =
-    let x : Expr = Form' kind' z parts z' items end split open_break' comments in no_such ((root_same x (line_plain here x i.0) gap n).token (one_keyword word) ∙ h.0)
-
-module _ (m n : _) (parts : Row_of-Expr m) (items : Row_of-Expr n) (end : List Bytes) (split open_break : Bool) (gap : Bytes) (a : ℕ) where
-  abbrev laid_parts : Kind → List Part
-  laid_parts kind = map piece_part (laid kind split open_break gap a (parts_of parts) (parts_of items) end)
-
-  sort_is : (kind : Kind) → is_header kind ≡ true → InFrame line_shape (frame kind) kind Begins parts items end split open_break → Fits IsNonterminal (whole_shape kind) (laid_parts kind) →
-      HasSort (if is_kind kind k.IfStmt then first_token_text (items-the_row-Expr m parts) else []) kind (laid_parts kind)
-  sort_is k.Def e i h = inl (refl, λ rest g. (fits_followed (whole_shape k.Def) s.owned (laid_parts k.Def) rest h g, refl, refl))
-  sort_is k.ForStmt e i h = inl (refl, λ rest g. (fits_followed (whole_shape k.ForStmt) s.owned (laid_parts k.ForStmt) rest h g, refl, refl))
-  sort_is k.IfStmt e i h =
-      let word : (word : Bytes) (rest : Shape) → Fits IsNonterminal (s.tok (one_keyword word) rest) (laid_parts k.IfStmt) → first_token_text (items-the_row-Expr m parts) ≡ word =
-      λ word rest f. word_is word rest false Begins Begins k.IfStmt open_break a a gap m parts i.0 f in
-      elim h [
-        | inl f ↦ inr (inl (word (codes "if") (s.sub s.test s.done) f, λ rest g. (fits_followed (s.tok (one_keyword (codes "if")) (s.sub s.test s.done)) with_branches (laid_parts k.IfStmt) rest f g, refl, refl)))
-        | inr (inl f) ↦ inr (inr (inl (word (codes "elif") (s.sub s.test s.done) f, λ rest g. fits_followed (s.tok (one_keyword (codes "elif")) (s.sub s.test s.done)) s.owned (laid_parts k.IfStmt) rest f g)))
-        | inr (inr f) ↦ inr (inr (inr (word (codes "else") s.done f, λ rest g. fits_followed (s.tok (one_keyword (codes "else")) s.done) s.owned (laid_parts k.IfStmt) rest f g)))
-      ]
-  sort_is _ e i h = no_such e
-
 -- ---- what its shape says of each of its parts
 
 record IsHeaderKind (kind : Kind) : Type 0 where
@@ -197,13 +137,6 @@ pub record IsHeader (gap : Bytes) (ps : List Part) : Type 0 where
   pub following : spot_after Begins Begins ps ≡ Along
   pub tokens_then : (rest : Bytes) → Toks (flat_map leaves_part ps) (58 ∷ rest)
 
-pub record IsHeaded (x : Expr) : Type 0 where
-  pub kind : Kind
-  pub parts : Bytes → ℕ → List Part
-  pub laid : (gap : Bytes) (m : ℕ) → part_of x gap m ≡ p.Node (record { kind = kind; parts = parts gap m })
-  pub sort : (gap : Bytes) (m : ℕ) → HasSort (header_word x) kind (parts gap m)
-  pub known : (gap : Bytes) (m : ℕ) → FitsAt Begins gap → IsHeader gap (parts gap m)
-
 header_known : (kind : Kind) → is_header kind ≡ true → (gap : Bytes) (ps : List Part) → AreFormParts kind gap ps → AtParts Placed Begins Begins ps → IsHeader gap ps
 header_known kind e gap ps h there =
     let legal : AllByRecursion LegalPart ps = all_mapped (LegalBy line_shape) LegalPart (λ x. as_bzl x) ps h.legal in
@@ -217,21 +150,60 @@ header_known kind e gap ps h there =
       tokens_then = λ rest. row_tokens kind (whole_shape kind) (header_kind kind e).touches ps h.fits h.between h.legal (parts_hold Placed IsLex (λ here l q. q.lexeme) Begins Begins ps there) h.airy (58 ∷ rest) (inl refl);
     }
 
-pub header_is : (x : Expr) → has_header_kind x ≡ true → ProperBy whole_shape Begins x → IsHeaded x
-header_is (Token t) e h = no_such e
-header_is (Form' kind z parts z' items end split open_break comments) e h =
-    let own : IsHeaderKind kind = header_kind kind e in
-    let inner : AreInner (row_in (frame kind) (roots parts) (roots items)) = every_part (λ x. is_inner x ≡ true) inner_tokens inner_nonterminal token_inner nonterminal_inner (whole_shape kind) own.inner _ h.0 in
-    let inside : InFrame line_shape (frame kind) kind Begins parts items end split open_break =
-    framed_inner (frame kind) (roots parts) (roots items) _ _ _ _ _ _ own.framed inner
-    (λ v g. (narrow_row (is_binary kind) Begins Begins _ parts v g.0, g.1, g.2, g.3, g.4))
-    (λ v w g. (narrow_head Begins _ parts v g.0, narrow_items _ items w g.1, g.2, g.3))
-    h.1 in
-    let good = form_good Begins kind _ _ parts items end split open_break own.plain h.0 inside in
-    record {
-      kind = kind;
-      parts = λ gap m. map piece_part (laid kind split open_break gap m (parts_of parts) (parts_of items) end);
-      laid = λ gap m. ap (λ f. f gap m) (laid_plain (Form' kind z parts z' items end split open_break comments) own.plain);
-      sort = λ gap m. sort_is _ _ parts items end split open_break gap m kind e inside (good gap m).fits;
-      known = λ gap m g. header_known kind e gap _ (good gap m) (form_stands Begins kind _ _ parts items end split open_break own.plain h.0 inside gap m g);
-    }
+module _ (mode : Lines) where
+  -- ---- its sort
+
+  -- a row that begins with a word
+  word_is : (word : Bytes) (rest : Shape) (binary : Bool) (outer here : Spot) (kind : Kind) (open_break : Bool) (a n : ℕ) (gap : Bytes) (m : _) (r : Row_of-Expr m) → ProperRowBy line_shape binary outer here r →
+      Fits IsNonterminal (s.tok (one_keyword word) rest) (map piece_part (rowed kind open_break a gap n (parts_of mode r))) → first_token_text (items-the_row-Expr m r) ≡ word
+  word_is word rest binary outer here kind open_break a n gap m end_of-Expr i h = absurd h
+  word_is word rest binary outer here kind open_break a n gap m (more_of-Expr (Token t) xs) i h =
+      elim (or_cases _ false h.0) [ inl e ↦ (bytes_eq-Decides t.text word).0 (and_parts _ _ e).1 | inr e ↦ no_such e ]
+  word_is word rest binary outer here kind open_break a n gap m (more_of-Expr (Form' kind' z parts z' items end split open_break' comments) xs) i h =
+      let x : Expr = Form' kind' z parts z' items end split open_break' comments in no_such ((root_same mode x (line_plain here x i.0) gap n).token (one_keyword word) ∙ h.0)
+
+  module _ (m n : _) (parts : Row_of-Expr m) (items : Row_of-Expr n) (end : List Bytes) (split open_break : Bool) (gap : Bytes) (a : ℕ) where
+    abbrev laid_parts : Kind → List Part
+    laid_parts kind = map piece_part (laid mode kind split open_break gap a (parts_of mode parts) (parts_of mode items) end)
+
+    sort_is : (kind : Kind) → is_header kind ≡ true → InFrame line_shape (frame kind) kind Begins parts items end split open_break → Fits IsNonterminal (whole_shape kind) (laid_parts kind) →
+        HasSort (if is_kind kind k.IfStmt then first_token_text (items-the_row-Expr m parts) else []) kind (laid_parts kind)
+    sort_is k.Def e i h = inl (refl, λ rest g. (fits_followed (whole_shape k.Def) s.owned (laid_parts k.Def) rest h g, refl, refl))
+    sort_is k.ForStmt e i h = inl (refl, λ rest g. (fits_followed (whole_shape k.ForStmt) s.owned (laid_parts k.ForStmt) rest h g, refl, refl))
+    sort_is k.IfStmt e i h =
+        let word : (word : Bytes) (rest : Shape) → Fits IsNonterminal (s.tok (one_keyword word) rest) (laid_parts k.IfStmt) → first_token_text (items-the_row-Expr m parts) ≡ word =
+        λ word rest f. word_is word rest false Begins Begins k.IfStmt open_break a a gap m parts i.0 f in
+        elim h [
+          | inl f ↦ inr (inl (word (codes "if") (s.sub s.test s.done) f, λ rest g. (fits_followed (s.tok (one_keyword (codes "if")) (s.sub s.test s.done)) with_branches (laid_parts k.IfStmt) rest f g, refl, refl)))
+          | inr (inl f) ↦ inr (inr (inl (word (codes "elif") (s.sub s.test s.done) f, λ rest g. fits_followed (s.tok (one_keyword (codes "elif")) (s.sub s.test s.done)) s.owned (laid_parts k.IfStmt) rest f g)))
+          | inr (inr f) ↦ inr (inr (inr (word (codes "else") s.done f, λ rest g. fits_followed (s.tok (one_keyword (codes "else")) s.done) s.owned (laid_parts k.IfStmt) rest f g)))
+        ]
+    sort_is _ e i h = no_such e
+
+  -- ---- a proper header
+
+  pub record IsHeaded (x : Expr) : Type 0 where
+    pub kind : Kind
+    pub parts : Bytes → ℕ → List Part
+    pub laid : (gap : Bytes) (m : ℕ) → part_of mode x gap m ≡ p.Node (record { kind = kind; parts = parts gap m })
+    pub sort : (gap : Bytes) (m : ℕ) → HasSort (header_word x) kind (parts gap m)
+    pub known : (gap : Bytes) (m : ℕ) → FitsAt Begins gap → IsHeader gap (parts gap m)
+
+  pub header_is : (x : Expr) → has_header_kind x ≡ true → ProperBy whole_shape Begins x → IsHeaded x
+  header_is (Token t) e h = no_such e
+  header_is (Form' kind z parts z' items end split open_break comments) e h =
+      let own : IsHeaderKind kind = header_kind kind e in
+      let inner : AreInner (row_in (frame kind) (roots parts) (roots items)) = every_part (λ x. is_inner x ≡ true) inner_tokens inner_nonterminal token_inner nonterminal_inner (whole_shape kind) own.inner _ h.0 in
+      let inside : InFrame line_shape (frame kind) kind Begins parts items end split open_break =
+      framed_inner (frame kind) (roots parts) (roots items) _ _ _ _ _ _ own.framed inner
+      (λ v g. (narrow_row (is_binary kind) Begins Begins _ parts v g.0, g.1, g.2, g.3, g.4))
+      (λ v w g. (narrow_head Begins _ parts v g.0, narrow_items _ items w g.1, g.2, g.3))
+      h.1 in
+      let good = form_good mode Begins kind _ _ parts items end split open_break own.plain h.0 inside in
+      record {
+        kind = kind;
+        parts = λ gap m. map piece_part (laid mode kind split open_break gap m (parts_of mode parts) (parts_of mode items) end);
+        laid = λ gap m. ap (λ f. f gap m) (laid_plain mode (Form' kind z parts z' items end split open_break comments) own.plain);
+        sort = λ gap m. sort_is _ _ parts items end split open_break gap m kind e inside (good gap m).fits;
+        known = λ gap m g. header_known kind e gap _ (good gap m) (form_stands mode Begins kind _ _ parts items end split open_break own.plain h.0 inside gap m g);
+      }

@@ -1,18 +1,5 @@
 -- What holds of each leaf of a part, and leaves whose tokens are those of the text.
-use Rattle.std.proofs.Common.{Bool, List, [], ◌∷◌, ◌++◌, inl, Option, Some, None, refl, sym, subst}
-use Rattle.std.specs.List.{AllByRecursion, flat_map}
-use Rattle.bz_token.specs.declared.class.Class.{Class}
-use Rattle.bz_token.specs.declared.class.Class.TheVariants as c
-use Rattle.bz_token.specs.Tokens.{IsToken}
-use Rattle.bz_layout.specs.Words.{Leaf, Bytes, line_feed}
-use Rattle.bz_lex.specs.Leaves.{spell_leaves}
-use Rattle.bz_lex.proofs.Lists.{spell_leaves-append}
-use Rattle.bz_grammar.specs.declared.tree.Part.{Part, Row_of-Part, end_of-Part, more_of-Part, Node'}
-use Rattle.bz_grammar.specs.declared.tree.Part.TheVariants as p
-use Rattle.bz_grammar.specs.Spell.{leaves_part, leaves_row}
-use Rattle.bz_grammar.specs.Spots.{Spot, after_part, AtLeaves, AtRow, AtParts, TokenStands, AreTokens}
-use Rattle.bz_value.proofs.GapComments.{all_joined}
-use Rattle.bz_layout.specs.Layout.{suffix_text}
+use Rattle.bz_layout.proofs.Words.{[], ◌++◌, ◌∷◌, after_part, all_joined, AllByRecursion, AreTokens, AtLeaves, AtParts, AtRow, Bool, Bytes, Class, Class as c, end_of-Part, flat_map, inl, IsToken, Leaf, leaves_part, leaves_row, line_feed, List, more_of-Part, Node', None, Option, Part, Part as p, refl, Row_of-Part, Some, spell_leaves, spell_leaves-append, Spot, subst, suffix_text, sym, TokenStands}
 use Rattle.bz_layout.proofs.Touching.{Toks, FollowsAs}
 
 module _ (P Q : Spot → Leaf → Type 0) (f : (here : Spot) (l : Leaf) → P here l → Q here l) where

@@ -1,23 +1,7 @@
 -- A sequence that fits with a comma after each item fits without the last comma, but for a tuple of one; and before its
 -- bracket all parts but the first are tokens.
-use Rattle.std.proofs.Common.{◌≡◌, ◌≤◌, ℕ, Bool, true, false, not, ◌&&◌, List, [], ◌∷◌, ◌++◌, inl, inr, if◌then◌else◌, length, refl, arith}
-use Rattle.std.specs.Prelude.{nat_eq}
-use Rattle.std.specs.List.{AllByRecursion}
-use Rattle.std.proofs.lemmas.Bool.{both_ways}
-use Rattle.bz_layout.specs.Words.{Kind, Part, Node', comma, is_empty}
-use Rattle.bz_grammar.specs.declared.kind.Kind.TheVariants as k
-use Rattle.bz_grammar.specs.declared.tree.Part.TheVariants as p
+use Rattle.bz_layout.proofs.Words.{[], ◌&&◌, ◌++◌, ◌∷◌, ◌≡◌, ◌≤◌, AllByRecursion, arith, Bool, both_ways, comma, compound, each_with_comma, false, Fits, Frame, frame, framed, has_nonterminal, has_token, if◌then◌else◌, in_frame, inl, inr, is_empty, is_tuple, IsNonterminal, items, Kind, Kind as k, lead, lead_before, length, List, Listed, mark_leaf, nat_eq, no_such, Node', Nonterminal, not, Part, Part as p, refl, row, row_in, sequence, Shape, Terminal, true, whole_shape, ℕ}
 use Rattle.bz_grammar.specs.Shapes as s
-use Rattle.bz_grammar.specs.Shapes.{Nonterminal, Terminal, Shape, Fits, Listed, has_nonterminal, has_token, items}
-use Rattle.bz_grammar.specs.Legal.{IsNonterminal}
-use Rattle.bz_grammar.proofs.Balance.{no_such}
-use Rattle.bz_value.specs.Frames.{Frame, row, sequence, compound, frame, lead}
-use Rattle.bz_value.specs.LineShapes.{whole_shape}
-use Rattle.bz_value.specs.Proper.{in_frame}
-use Rattle.bz_value.specs.Roots.{mark_leaf, each_with_comma, row_in}
-use Rattle.bz_layout.specs.Layout.{is_tuple}
-use Rattle.bz_value.proofs.FormParts.{framed}
-use Rattle.bz_value.proofs.LeadParts.{lead_before}
 
 -- the items with commas between them, one after the last where `one`, and then the closing bracket
 abbrev pub without_last : Bool → Part → List Part → List Part

@@ -1,37 +1,10 @@
 -- Names joined by dots: a row by its first part and the tokens that follow, and what follows the innermost of forms.
-use Rattle.std.proofs.Common.{ℕ, suc, Bool, true, ◌≡◌, ◌<◌, ◌≤◌, List, [], ◌∷◌, ◌++◌, ◌+◌, length, get_or, take, drop, ◌-◌, map, refl, sym, ap, ◌∙◌, append_assoc, append-nil, arith}
-use Rattle.std.specs.List.{list_all}
-use Rattle.std.proofs.lemmas.Bool.{and_parts}
-use Rattle.std.proofs.lemmas.List.{drop_more, take_all, length-drop, map-append}
-use Rattle.bz_layout.specs.Words.{Kind, Expr, Token, Form', Form, Bytes}
-use Rattle.bz_grammar.specs.declared.kind.Kind.TheVariants as k
-use Rattle.bz_grammar.specs.Kinds.{kind_number}
-use Rattle.bz_grammar.proofs.Numbers.{same_kind}
+use Rattle.bz_layout.proofs.Words.{[], ◌++◌, ◌+◌, ◌-◌, ◌<◌, ◌∙◌, ◌∷◌, ◌≡◌, ◌≤◌, ℕ, and_parts, ap, append-nil, append_assoc, arith, Bool, Bytes, Drafted, drop, drop_more, Expr, Form, Form', frame, fronts, gap_after, get_or, has_brackets, is_compound, is_lone_token, Kind, Kind as k, kind_number, length, length-drop, Lines, List, list_all, map, map-append, margin_after, past_first, past_front, pushed, refl, row_text, row_written, same_kind, suc, sym, take, take_all, text_in, Token, true}
 use Rattle.bz_value.specs.declared.value.Expr.TheVariants as e
-use Rattle.bz_value.specs.Frames.{frame, has_brackets, is_compound}
 use Rattle.bz_rule.specs.Values as v
-use Rattle.bz_rule.specs.private.Named.{fronts, fronts_among}
+use Rattle.bz_rule.specs.private.Named.{fronts_among}
 use Rattle.bz_rule.proofs.Forms.{fronts_Form}
-use Rattle.bz_layout.specs.Drafts.{Drafted, pushed}
-use Rattle.bz_layout.specs.Layout.{gap_after, margin_after}
-use Rattle.bz_layout.specs.Written.{text_of}
-use Rattle.bz_layout.specs.private.Writings.{row_text}
-use Rattle.bz_layout.specs.private.Spines.{is_lone_token, row_written, past_first, past_front}
-use Rattle.bz_layout.proofs.Pushing.{pushed_none, pushed_twice}
-use Rattle.bz_layout.proofs.Writing.{row_first, row_form, three_pushed}
-
-token_text : (x : Expr) (m : ℕ) → is_lone_token x ≡ true → text_of x m ≡ v.text_of x
-token_text (Token t) m h = refl
-token_text (Form' kind s parts s' items end split open_break comments) m h = absurd cc
-
-pub row_tokens : (kind : Kind) (open_break : Bool) (m n : ℕ) (x : Expr) (xs : List Expr) → list_all is_lone_token xs ≡ true →
-    row_text kind open_break m n (x ∷ xs) ≡ text_of x n ++ past_first kind open_break m (x ∷ xs)
-row_tokens kind open_break m n x [] h = row_first kind open_break m n x []
-row_tokens kind open_break m n x (y ∷ ys) h =
-    let w = and_parts (is_lone_token y) (list_all is_lone_token ys) h in
-    row_first kind open_break m n x (y ∷ ys) ∙
-    ap (λ t. text_of x n ++ (gap_after kind open_break m x (y ∷ ys) ++ t))
-    (row_tokens kind open_break m (margin_after open_break m x) y ys w.1 ∙ ap (λ t. t ++ past_first kind open_break m (y ∷ ys)) (token_text y (margin_after open_break m x) w.0))
+use Rattle.bz_layout.proofs.{Pushing.pushed_none, Pushing.pushed_twice, Writing.row_first, Writing.row_form, Writing.three_pushed}
 
 all_left : (ys : List Expr) (i : ℕ) → length (drop i ys) ≤ length ys - i
 all_left ys i = omega (arith, length-drop i ys)
@@ -41,35 +14,10 @@ first_and_rest : (form : Form) (xs : List Expr) (d x : Expr) → xs ≡ form.par
 first_and_rest form [] d x same l is = absurd (omega (arith, l))
 first_and_rest form (y ∷ ys) d x same l is = sym same ∙ ap (λ z. z ∷ ys) is
 
-pub front_row : (form front : Form) (xs : List Expr) (d : Expr) → xs ≡ form.parts → 1 ≤ length xs → get_or xs 0 d ≡ e.Form front → kind_number front.kind ≡ kind_number k.Dot →
-    true ≡ list_all is_lone_token (take (length xs - 1) (drop 1 xs)) → (m : ℕ) → row_written m form ≡ row_written m front ++ past_front m form
-front_row form front xs d same l is dot all m =
-    let tokens : List Expr = drop 1 xs in
-    let parts : form.parts ≡ e.Form front ∷ tokens = first_and_rest form xs d (e.Form front) same l is in
-    ap (row_text form.kind form.open_break m m) parts ∙
-    (row_tokens form.kind form.open_break m m (e.Form front) tokens (sym (all ∙ ap (list_all is_lone_token) (take_all (length xs - 1) tokens (all_left xs 1)))) ∙
-    (ap (λ t. t ++ past_first form.kind form.open_break m (e.Form front ∷ tokens)) (row_form front m (ap (λ kind. has_brackets (frame kind)) (same_kind front.kind k.Dot dot)) (ap (λ kind. is_compound (frame kind)) (same_kind front.kind k.Dot dot))) ∙
-    ap (λ ys. row_written m front ++ past_first form.kind form.open_break m ys) (sym parts)))
-
 pub front_is_less : (form front : Form) (xs : List Expr) (d : Expr) → xs ≡ form.parts → 1 ≤ length xs → get_or xs 0 d ≡ e.Form front → fronts (e.Form front) < fronts (e.Form form)
 front_is_less form front xs d same l is =
     let all : fronts (e.Form form) ≡ suc (fronts (e.Form front)) = fronts_Form form ∙ ap (λ ys. suc (fronts_among ys)) (first_and_rest form xs d (e.Form front) same l is) in
     omega (arith, all)
-
--- a row of tokens
-leaves_row : (kind : Kind) (open_break : Bool) (m : ℕ) (xs : List Expr) → list_all is_lone_token xs ≡ true → row_text kind open_break m m xs ≡ v.first_text xs ++ past_first kind open_break m xs
-leaves_row kind open_break m [] all = refl
-leaves_row kind open_break m (x ∷ xs) all =
-    let w = and_parts (is_lone_token x) (list_all is_lone_token xs) all in
-    row_tokens kind open_break m m x xs w.1 ∙ ap (λ t. t ++ past_first kind open_break m (x ∷ xs)) (token_text x m w.0)
-
--- the innermost of forms is written, and those that it is in are left
-pub leaves_turn : (form at : Form) (xs : List Expr) (m : ℕ) (out one two : Drafted) (text rest : Bytes) → xs ≡ at.parts → list_all is_lone_token xs ≡ true → row_written m form ≡ row_written m at ++ rest →
-    text ≡ v.first_text xs → one ≡ pushed out text → two ≡ pushed one (past_front m at) → pushed two rest ≡ pushed out (row_written m form)
-leaves_turn form at xs m out one two text rest same all so_far is first second =
-    let leaves : row_written m at ≡ v.first_text xs ++ past_front m at = rw (sym same) (leaves_row at.kind at.open_break m xs all) in
-    three_pushed out one two text (past_front m at) rest (row_written m form) first second
-    (so_far ∙ (ap (λ t. t ++ rest) leaves ∙ (ap (λ t. (t ++ past_front m at) ++ rest) (sym is) ∙ append_assoc text (past_front m at) rest)))
 
 -- ---- the loops
 
@@ -110,22 +58,63 @@ after_pushed : (m : ℕ) (forms : List Form) (form : Form) → after_all m (form
 after_pushed m [] form = sym (append-nil (past_front m form))
 after_pushed m (outer ∷ forms) form = ap (λ t. t ++ past_front m outer) (after_pushed m forms form) ∙ append_assoc (past_front m form) (after_all m forms) (past_front m outer)
 
-module _ {R : Type 0} (now : R → Form) (m : ℕ) where
-  all_pushed : (xs : List R) (x : R) → after_all m (map now (xs ++ x ∷ [])) ≡ past_front m (now x) ++ after_all m (map now xs)
-  all_pushed xs x = ap (after_all m) (map-append now xs (x ∷ [])) ∙ after_pushed m (map now xs) (now x)
+module _ (mode : Lines) where
+  token_text : (x : Expr) (m : ℕ) → is_lone_token x ≡ true → text_in mode x m ≡ v.text_of x
+  token_text (Token t) m h = refl
+  token_text (Form' kind s parts s' items end split open_break comments) m h = absurd cc
 
-  pub front_turn : (form front : Form) (old new : List R) (x : R) → new ≡ old ++ x ∷ [] → row_written m form ≡ row_written m (now x) ++ after_all m (map now old) →
-      row_written m (now x) ≡ row_written m front ++ past_front m (now x) → row_written m form ≡ row_written m front ++ after_all m (map now new)
-  front_turn form front old new x is so_far here =
-      so_far ∙ (ap (λ t. t ++ after_all m (map now old)) here ∙ (append_assoc (row_written m front) (past_front m (now x)) (after_all m (map now old)) ∙
-      ap (λ t. row_written m front ++ t) (sym (ap (λ xs. after_all m (map now xs)) is ∙ all_pushed old x))))
+  pub row_tokens : (kind : Kind) (open_break : Bool) (m n : ℕ) (x : Expr) (xs : List Expr) → list_all is_lone_token xs ≡ true →
+      row_text mode kind open_break m n (x ∷ xs) ≡ text_in mode x n ++ past_first kind open_break m (x ∷ xs)
+  row_tokens kind open_break m n x [] h = row_first mode kind open_break m n x []
+  row_tokens kind open_break m n x (y ∷ ys) h =
+      let w = and_parts (is_lone_token y) (list_all is_lone_token ys) h in
+      row_first mode kind open_break m n x (y ∷ ys) ∙
+      ap (λ t. text_in mode x n ++ (gap_after kind open_break m x (y ∷ ys) ++ t))
+      (row_tokens kind open_break m (margin_after open_break m x) y ys w.1 ∙ ap (λ t. t ++ past_first kind open_break m (y ∷ ys)) (token_text y (margin_after open_break m x) w.0))
 
-  pub next_turn : (d before after : Drafted) (old new : List R) (x : R) → old ≡ new ++ x ∷ [] → pushed before (after_all m (map now old)) ≡ d →
-      after ≡ pushed before (past_front m (now x)) → pushed after (after_all m (map now new)) ≡ d
-  next_turn d before after old new x is so_far here =
-      ap (λ t. pushed t (after_all m (map now new))) here ∙ (pushed_twice before (past_front m (now x)) (after_all m (map now new)) ∙
-      (ap (pushed before) (sym (ap (λ xs. after_all m (map now xs)) is ∙ all_pushed new x)) ∙ so_far))
+  pub front_row : (form front : Form) (xs : List Expr) (d : Expr) → xs ≡ form.parts → 1 ≤ length xs → get_or xs 0 d ≡ e.Form front → kind_number front.kind ≡ kind_number k.Dot →
+      true ≡ list_all is_lone_token (take (length xs - 1) (drop 1 xs)) → (m : ℕ) → row_written mode m form ≡ row_written mode m front ++ past_front m form
+  front_row form front xs d same l is dot all m =
+      let tokens : List Expr = drop 1 xs in
+      let parts : form.parts ≡ e.Form front ∷ tokens = first_and_rest form xs d (e.Form front) same l is in
+      ap (row_text mode form.kind form.open_break m m) parts ∙
+      (row_tokens form.kind form.open_break m m (e.Form front) tokens (sym (all ∙ ap (list_all is_lone_token) (take_all (length xs - 1) tokens (all_left xs 1)))) ∙
+      (ap (λ t. t ++ past_first form.kind form.open_break m (e.Form front ∷ tokens)) (row_form mode front m (ap (λ kind. has_brackets (frame kind)) (same_kind front.kind k.Dot dot)) (ap (λ kind. is_compound (frame kind)) (same_kind front.kind k.Dot dot))) ∙
+      ap (λ ys. row_written mode m front ++ past_first form.kind form.open_break m ys) (sym parts)))
 
-  pub all_turned : (d out : Drafted) (left : List R) → length left ≡ 0 → pushed out (after_all m (map now left)) ≡ d → out ≡ d
-  all_turned d out [] none so_far = sym (pushed_none out) ∙ so_far
-  all_turned d out (x ∷ left) none so_far = absurd (omega (arith, none))
+  -- a row of tokens
+  leaves_row : (kind : Kind) (open_break : Bool) (m : ℕ) (xs : List Expr) → list_all is_lone_token xs ≡ true → row_text mode kind open_break m m xs ≡ v.first_text xs ++ past_first kind open_break m xs
+  leaves_row kind open_break m [] all = refl
+  leaves_row kind open_break m (x ∷ xs) all =
+      let w = and_parts (is_lone_token x) (list_all is_lone_token xs) all in
+      row_tokens kind open_break m m x xs w.1 ∙ ap (λ t. t ++ past_first kind open_break m (x ∷ xs)) (token_text x m w.0)
+
+  -- the innermost of forms is written, and those that it is in are left
+  pub leaves_turn : (form at : Form) (xs : List Expr) (m : ℕ) (out one two : Drafted) (text rest : Bytes) → xs ≡ at.parts → list_all is_lone_token xs ≡ true → row_written mode m form ≡ row_written mode m at ++ rest →
+      text ≡ v.first_text xs → one ≡ pushed out text → two ≡ pushed one (past_front m at) → pushed two rest ≡ pushed out (row_written mode m form)
+  leaves_turn form at xs m out one two text rest same all so_far is first second =
+      let leaves : row_written mode m at ≡ v.first_text xs ++ past_front m at = rw (sym same) (leaves_row at.kind at.open_break m xs all) in
+      three_pushed out one two text (past_front m at) rest (row_written mode m form) first second
+      (so_far ∙ (ap (λ t. t ++ rest) leaves ∙ (ap (λ t. (t ++ past_front m at) ++ rest) (sym is) ∙ append_assoc text (past_front m at) rest)))
+
+  -- ---- the loops
+
+  module _ {R : Type 0} (now : R → Form) (m : ℕ) where
+    all_pushed : (xs : List R) (x : R) → after_all m (map now (xs ++ x ∷ [])) ≡ past_front m (now x) ++ after_all m (map now xs)
+    all_pushed xs x = ap (after_all m) (map-append now xs (x ∷ [])) ∙ after_pushed m (map now xs) (now x)
+
+    pub front_turn : (form front : Form) (old new : List R) (x : R) → new ≡ old ++ x ∷ [] → row_written mode m form ≡ row_written mode m (now x) ++ after_all m (map now old) →
+        row_written mode m (now x) ≡ row_written mode m front ++ past_front m (now x) → row_written mode m form ≡ row_written mode m front ++ after_all m (map now new)
+    front_turn form front old new x is so_far here =
+        so_far ∙ (ap (λ t. t ++ after_all m (map now old)) here ∙ (append_assoc (row_written mode m front) (past_front m (now x)) (after_all m (map now old)) ∙
+        ap (λ t. row_written mode m front ++ t) (sym (ap (λ xs. after_all m (map now xs)) is ∙ all_pushed old x))))
+
+    pub next_turn : (d before after : Drafted) (old new : List R) (x : R) → old ≡ new ++ x ∷ [] → pushed before (after_all m (map now old)) ≡ d →
+        after ≡ pushed before (past_front m (now x)) → pushed after (after_all m (map now new)) ≡ d
+    next_turn d before after old new x is so_far here =
+        ap (λ t. pushed t (after_all m (map now new))) here ∙ (pushed_twice before (past_front m (now x)) (after_all m (map now new)) ∙
+        (ap (pushed before) (sym (ap (λ xs. after_all m (map now xs)) is ∙ all_pushed new x)) ∙ so_far))
+
+    pub all_turned : (d out : Drafted) (left : List R) → length left ≡ 0 → pushed out (after_all m (map now left)) ≡ d → out ≡ d
+    all_turned d out [] none so_far = sym (pushed_none out) ∙ so_far
+    all_turned d out (x ∷ left) none so_far = absurd (omega (arith, none))

@@ -8,6 +8,7 @@ pub mod BuildLaid
 pub mod Changes
 pub mod Deep
 pub mod Elements
+pub mod Ends
 pub mod Fitted
 pub mod Flagged
 pub mod FlaggedProper
@@ -40,4 +41,5 @@ pub mod Viewed
 pub mod ViewedItems
 pub mod Waiting
 pub mod Windows
+mod Words
 pub mod Writing

@@ -1,18 +1,8 @@
 -- Windows of items: how many lines give way to them, and how deep the layout is.
-use Rattle.std.proofs.Common.{ℕ, zero, suc, ◌≡◌, ◌<◌, ◌≤◌, ◌-◌, List, [], ◌∷◌, ◌++◌, ◌+◌, length, get_or, take, drop, refl, sym, ap, ◌∙◌, subst, arith, length-drop, max, false, true, true≢false}
-use Rattle.std.proofs.lemmas.List.{drop-drop, drop_more, drop-take, length-take-le}
-use Rattle.std.proofs.Math.Dec.{eqb}
-use Rattle.std.proofs.lemmas.Bool.{eqb-true}
+use Rattle.bz_layout.proofs.Words.{[], ◌++◌, ◌+◌, ◌-◌, ◌<◌, ◌↔◌, ◌∙◌, ◌∷◌, ◌≡◌, ◌≤◌, ℕ, ap, AreCounted, AreLinesOver, AreOver, AreWithin, arith, Bool, come_end, come_items, depth_items, depth_limit, depth_of, drop, drop-drop, drop-take, drop_more, eqb, eqb-true, false, get_or, HaveLines, IfSome, IsTrue, Item, laid_out, length, length-drop, length-take-le, line_count_in, Lines, List, max, None, old_count, old_lines, Option, refl, Some, subst, suc, sym, take, true, true≢false, Window, zero}
 use Rattle.std.specs.Option.{option_eq}
-use Rattle.std.specs.Prelude.{◌↔◌, IfSome, IsTrue, Bool, None, Option, Some}
-use Rattle.bz_layout.specs.Words.{depth_of, depth_limit, Item, Window, AreOver, AreWithin}
 use Rattle.bz_value.specs.declared.value.Item.TheVariants as i
-use Rattle.bz_layout.specs.private.Windows.{line_count_in, come_items, old_count, old_lines, come_end, AreCounted, AreLinesOver, HaveLines}
-use Rattle.bz_layout.proofs.Windows.{cut_window}
-use Rattle.bz_layout.specs.private.Depths.{depth_items}
-use Rattle.bz_layout.specs.LaidOut.{laid_out}
-use Rattle.bz_layout.proofs.Deep.{laid_out_depth}
-use Rattle.bz_layout.proofs.Measured.{depth_first}
+use Rattle.bz_layout.proofs.{Windows.cut_window, Deep.laid_out_depth, Measured.depth_first}
 
 count_append : (xs ys : List Item) → line_count_in (xs ++ ys) ≡ line_count_in xs + line_count_in ys
 count_append [] ys = omega arith
@@ -207,15 +197,15 @@ over_depth (w ∷ ws) xs ys h =
 pub shallow_over : (ws : List Window) (before items : List Item) → depth_items (come_items ws items) ≤ depth_limit - 1 → AreOver ws before items →
     depth_of (laid_out before) ≤ depth_limit → depth_of (laid_out items) ≤ depth_limit
 shallow_over ws before items within h shallow =
-    let old : depth_of (laid_out before) ≡ suc (depth_items before) = laid_out_depth before in
-    let new : depth_of (laid_out items) ≡ suc (depth_items items) = laid_out_depth items in
+    let old : depth_of (laid_out before) ≡ suc (depth_items before) = laid_out_depth Lines.Counted before in
+    let new : depth_of (laid_out items) ≡ suc (depth_items items) = laid_out_depth Lines.Counted items in
     let most : depth_items items ≤ max (depth_items before) (depth_items (come_items ws items)) = over_depth ws before items h in
     omega (arith, old, new, most, within, shallow)
 
 pub deep_over : (ws : List Window) (items : List Item) → (depth_items (come_items ws items) ≤ depth_limit - 1 → false ≡ true) → depth_limit < depth_of (laid_out items)
 deep_over ws items deep =
     let deeper : depth_items (come_items ws items) ≤ depth_limit - 1 → ⊥ = λ shallow. let no_ : false ≡ true = deep shallow in cc in
-    let new : depth_of (laid_out items) ≡ suc (depth_items items) = laid_out_depth items in
+    let new : depth_of (laid_out items) ≡ suc (depth_items items) = laid_out_depth Lines.Counted items in
     let less : depth_items (come_items ws items) ≤ depth_items items = come_below ws items in
     omega (arith, new, less, deeper)
 

@@ -1,19 +1,5 @@
 -- The gaps that the layout makes are where they may be, and are texts of characters.
-use Rattle.std.proofs.Common.{◌≡◌, ◌≢◌, ◌<◌, ℕ, zero, suc, Bool, true, false, ◌+◌, ◌||◌, List, [], ◌∷◌, ◌++◌, Option, Some, None, if◌then◌else◌, get_or, refl, sym, ap, ◌∙◌, subst, append_assoc, arith}
-use Rattle.std.specs.Prelude.{replicate, IsUtf8}
-use Rattle.std.specs.List.{AllByRecursion}
-use Rattle.std.proofs.lemmas.List.Elements.{recursion_from_All}
-use Rattle.std.proofs.lemmas.Str.{IsUtf8-nil, IsUtf8-append, IsUtf8-from_ascii}
-use Rattle.bz_token.specs.declared.class.Class.{Class}
-use Rattle.bz_token.specs.declared.class.Class.TheVariants as c
-use Rattle.bz_lex.specs.Gaps.{IsOneLine, IsGap, nothing, blank, escaped, escaped_return, unescaped, comment, last_comment, is_flush}
-use Rattle.bz_layout.specs.Words.{Kind, Expr, Bytes, line_feed, space, root, is_empty}
-use Rattle.bz_grammar.specs.Spots.{Spot, Begins, Within, Along, GapStands}
-use Rattle.bz_grammar.proofs.Balance.{no_such}
-use Rattle.bz_value.specs.Proper.{IsComment, MaybeComment, has_break}
-use Rattle.bz_layout.specs.Spaces.{is_spaced}
-use Rattle.bz_layout.specs.Layout.{new_line_at, margin_lines, ended, suffix_text, gap_after}
-use Rattle.bz_layout.specs.Written.{comment_lines}
+use Rattle.bz_layout.proofs.Words.{[], ◌++◌, ◌+◌, ◌<◌, ◌||◌, ◌∙◌, ◌∷◌, ◌≡◌, ◌≢◌, AllByRecursion, Along, ap, append_assoc, arith, Begins, blank, Bool, Bytes, Class, Class as c, comment, comment_lines, ended, escaped, escaped_return, Expr, false, gap_after, GapStands, get_or, has_break, if◌then◌else◌, is_empty, is_flush, is_spaced, IsComment, IsGap, IsOneLine, IsUtf8, IsUtf8-append, IsUtf8-from_ascii, IsUtf8-nil, Kind, last_comment, line_feed, List, margin_lines, MaybeComment, new_line_at, no_such, None, nothing, Option, recursion_from_All, refl, replicate, root, Some, space, Spot, subst, suc, suffix_text, sym, true, unescaped, Within, zero, ℕ}
 use Rattle.bz_layout.proofs.Elements.{in_line_class}
 
 -- What may be before a token of a line: a gap, which is a text of characters. (The same may be before the first token
@@ -102,22 +88,22 @@ pub inner_suffix : (suffix : Option Bytes) (g : Bytes) → MaybeComment suffix �
 inner_suffix None g h i = inner_newline g i
 inner_suffix (Some text) g h i = inner_blank (space ∷ (text ++ (line_feed ∷ g))) (inner_blank (text ++ (line_feed ∷ g)) (inner_comment text g h i))
 
-pub inner_ended : (m : ℕ) (texts : List Bytes) → AllByRecursion IsComment texts → (g : Bytes) × (ended m texts ≡ line_feed ∷ g) × FitsAt Within g
-inner_ended m [] h = (replicate m space, refl, inner_spaces m)
-inner_ended m (text ∷ texts) h =
-    let w = inner_ended m texts h.1 in (
-      replicate (m + 4) space ++ (text ++ ended m texts),
+pub inner_ended : (n m : ℕ) (texts : List Bytes) → AllByRecursion IsComment texts → (g : Bytes) × (ended n m texts ≡ line_feed ∷ g) × FitsAt Within g
+inner_ended n m [] h = (replicate m space, refl, inner_spaces m)
+inner_ended n m (text ∷ texts) h =
+    let w = inner_ended n m texts h.1 in (
+      replicate n space ++ (text ++ ended n m texts),
       refl,
-      inner_append (replicate (m + 4) space) (text ++ ended m texts) (inner_spaces (m + 4)) (subst (λ z. FitsAt Within (text ++ z)) (sym w.1) (inner_comment text w.0 h.0 w.2)),
+      inner_append (replicate n space) (text ++ ended n m texts) (inner_spaces n) (subst (λ z. FitsAt Within (text ++ z)) (sym w.1) (inner_comment text w.0 h.0 w.2)),
     )
 
 -- before an item of a broken sequence, and before its closing bracket
 pub item_gap : (m : ℕ) (suffix : Option Bytes) (texts : List Bytes) → MaybeComment suffix → AllByRecursion IsComment texts → FitsAt Within (suffix_text suffix ++ (new_line_at m ++ margin_lines m texts))
 item_gap m suffix texts s h = inner_suffix suffix (replicate m space ++ margin_lines m texts) s (inner_append (replicate m space) (margin_lines m texts) (inner_spaces m) (inner_above m texts h))
 
-pub closer_gap : (m : ℕ) (suffix : Option Bytes) (texts : List Bytes) → MaybeComment suffix → AllByRecursion IsComment texts → FitsAt Within (suffix_text suffix ++ ended m texts)
-closer_gap m suffix texts s h =
-    let w = inner_ended m texts h in subst (λ z. FitsAt Within (suffix_text suffix ++ z)) (sym w.1) (inner_suffix suffix w.0 s w.2)
+pub closer_gap : (n m : ℕ) (suffix : Option Bytes) (texts : List Bytes) → MaybeComment suffix → AllByRecursion IsComment texts → FitsAt Within (suffix_text suffix ++ ended n m texts)
+closer_gap n m suffix texts s h =
+    let w = inner_ended n m texts h in subst (λ z. FitsAt Within (suffix_text suffix ++ z)) (sym w.1) (inner_suffix suffix w.0 s w.2)
 
 -- ---- in a row
 

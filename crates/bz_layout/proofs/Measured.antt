@@ -1,15 +1,9 @@
 -- The steps of the loops that measure files, and what the limits say of them.
-use Rattle.std.proofs.Common.{ℕ, max, ◌≡◌, ◌<◌, List, [], ◌∷◌, ◌++◌, ◌+◌, length, get_or, drop, ap, sym, ◌∙◌, arith, length-append}
-use Rattle.std.proofs.lemmas.List.{drop_more}
-use Rattle.bz_value.specs.declared.value.Item.{Item}
-use Rattle.bz_value.specs.declared.value.Item.TheVariants as i
-use Rattle.bz_layout.specs.Written.{item_text, layout}
-use Rattle.bz_layout.specs.LaidOut.{before_next}
-use Rattle.bz_layout.specs.private.Depths.{depth_items}
+use Rattle.bz_layout.proofs.Words.{[], ◌++◌, ◌+◌, ◌<◌, ◌∙◌, ◌∷◌, ◌≡◌, ℕ, ap, arith, before_next, depth_items, drop, drop_more, get_or, Item, Item as i, item_text, layout, length, length-append, Lines, List, max, sym}
 use Rattle.bz_layout.proofs.Spelled.{next_after}
 
 pub layout_first : (x : Item) (xs : List Item) → length (layout (x ∷ xs)) ≡ length (item_text x) + (length (before_next x xs) + length (layout xs))
-layout_first x xs = ap (λ t. length (item_text x ++ t)) (sym (next_after x xs)) ∙ (length-append (item_text x) (before_next x xs ++ layout xs) ∙ ap (λ n. length (item_text x) + n) (length-append (before_next x xs) (layout xs)))
+layout_first x xs = ap (λ t. length (item_text x ++ t)) (sym (next_after Lines.Counted x xs)) ∙ (length-append (item_text x) (before_next x xs ++ layout xs) ∙ ap (λ n. length (item_text x) + n) (length-append (before_next x xs) (layout xs)))
 
 pub depth_first : (x : Item) (xs : List Item) → depth_items (x ∷ xs) ≡ max (depth_items (x ∷ [])) (depth_items xs)
 depth_first (i.Block texts) xs = omega arith

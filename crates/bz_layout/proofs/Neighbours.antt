@@ -1,19 +1,6 @@
 -- Which parts of a node are beside each other, by a computed test on its shape.
-use Rattle.std.proofs.Common.{◌≡◌, ℕ, Bool, true, false, not, ◌&&◌, ◌||◌, List, [], ◌∷◌, inl, inr, Option, Some, None, refl, codes}
-use Rattle.std.specs.Prelude.{nat_eq}
-use Rattle.std.specs.List.{list_all}
-use Rattle.std.proofs.lemmas.Bool.{and_parts, both_ways}
-use Rattle.bz_token.specs.declared.class.Class.{Class}
-use Rattle.bz_token.specs.declared.class.Class.TheVariants as c
-use Rattle.bz_layout.specs.Words.{Kind, Part}
-use Rattle.bz_grammar.specs.declared.kind.Kind.TheVariants as k
+use Rattle.bz_layout.proofs.Words.{[], ◌&&◌, ◌||◌, ◌∷◌, ◌≡◌, and_parts, Bool, both_ways, Class, Class as c, codes, false, Fits, from_table, has_token, inl, inner_kind, inr, is_dot_terminal, IsNonterminal, Kind, Kind as k, line_shape, List, list_all, Listed, lone, nat_eq, None, Nonterminal, not, Option, Part, refl, Several, Shape, Some, space_after, space_before, starts, Terminal, true, ℕ}
 use Rattle.bz_grammar.specs.Shapes as s
-use Rattle.bz_grammar.specs.Shapes.{Nonterminal, Terminal, Shape, Fits, Listed, Several, has_token, is_one_of, is_terminal}
-use Rattle.bz_grammar.specs.Legal.{IsNonterminal}
-use Rattle.bz_grammar.specs.Reading.{starts}
-use Rattle.bz_value.specs.LineShapes.{line_shape}
-use Rattle.bz_hosts.proofs.InnerParts.{inner_kind}
-use Rattle.bz_layout.specs.Spaces.{from_table, lone, is_dot_terminal, space_after, space_before}
 
 -- what is at a place of a shape
 pub data Element : Type 0 where

@@ -1,11 +1,5 @@
 -- What is pushed onto a draft one after the other is pushed at once; and what that says of the text.
-use Rattle.std.proofs.Common.{ℕ, ◌≡◌, ◌<◌, ◌≤◌, List, [], ◌∷◌, ◌++◌, if◌then◌else◌, length, drop, refl, sym, ap, subst, ◌∙◌, append_assoc, arith, length-append, inl, inr}
-use Rattle.std.specs.Prelude.{Option, None, Some}
-use Rattle.std.proofs.lemmas.List.{append-nil, drop_all}
-use Rattle.std.proofs.lemmas.Option.{same_Some}
-use Rattle.std.proofs.lemmas.Bool.{lt-leb, le-leb, cases_lt}
-use Rattle.bz_items.specs.Characters.{Bytes}
-use Rattle.bz_layout.specs.Drafts.{Drafted, fitting, drafted, fitting_more, pushed}
+use Rattle.bz_layout.proofs.Words.{[], ◌++◌, ◌<◌, ◌∙◌, ◌∷◌, ◌≡◌, ◌≤◌, ap, append-nil, append_assoc, arith, Bytes, cases_lt, Drafted, drafted, drop, drop_all, fitting, fitting_more, if◌then◌else◌, inl, inr, le-leb, length, length-append, List, lt-leb, None, Option, pushed, refl, same_Some, Some, subst, sym, ℕ}
 
 fits : (limit : ℕ) (text : Bytes) → length text ≤ limit → fitting limit text ≡ Some text
 unfolding fitting

@@ -1,18 +1,6 @@
 -- Text windows over the parts of a tree, as they are made one after the other.
-use Rattle.std.proofs.Common.{ℕ, min, ◌^◌, Bool, true, false, ◌≡◌, ◌<◌, ◌≤◌, ◌-◌, List, [], ◌∷◌, ◌++◌, ◌+◌, length, get_or, if◌then◌else◌, take, drop, refl, sym, ap, ◌∙◌, subst, arith, flat_map, append_assoc, append-nil, length-append, length-drop, true≢false}
-use Rattle.std.specs.Prelude.{None, Some}
-use Rattle.std.proofs.lemmas.Bool.{le-leb}
-use Rattle.std.proofs.lemmas.List.{drop_more, take-append-drop, drop-drop, take_at, drop_at}
-use Rattle.std.proofs.Math.Seq.{take-add}
-use Rattle.std.proofs.lemmas.Grind.{flat_map-append}
-use Rattle.bz_layout.specs.Words.{AreThere, window_parts, PartWindow, Part, Bytes}
-use Rattle.bz_grammar.specs.Spell.{spell_part, limit, within_limit}
-use Rattle.bz_layout.specs.Drafts.{Drafted, drafted, pushed}
-use Rattle.bz_layout.specs.Windows.{AreTextsOf}
-use Rattle.bz_layout.specs.declared.writer.TextWindow.{TextWindow}
-use Rattle.bz_layout.specs.private.Reached.{windows_end, windows_front, text_count, gone_length, Reached, IsPut}
-use Rattle.bz_layout.proofs.Pushing.{pushed_none, pushed_twice}
-use Rattle.bz_layout.proofs.Windows.{cut_window}
+use Rattle.bz_layout.proofs.Words.{[], ◌++◌, ◌+◌, ◌-◌, ◌<◌, ◌^◌, ◌∙◌, ◌∷◌, ◌≡◌, ◌≤◌, ap, append-nil, append_assoc, AreTextsOf, AreThere, arith, Bool, Bytes, Drafted, drafted, drop, drop-drop, drop_at, drop_more, false, flat_map, flat_map-append, get_or, gone_length, if◌then◌else◌, IsPut, le-leb, length, length-append, length-drop, limit, List, min, None, Part, PartWindow, pushed, Reached, refl, Some, spell_part, subst, sym, take, take-add, take-append-drop, take_at, text_count, TextWindow, true, true≢false, window_parts, windows_end, windows_front, within_limit, ℕ}
+use Rattle.bz_layout.proofs.{Pushing.pushed_none, Pushing.pushed_twice, Windows.cut_window}
 
 -- ---- windows of parts, one after another
 

@@ -1,30 +1,6 @@
 -- What a proper expression has that its layout can be read back: said over lists, node by node, by the frame alone.
-use Rattle.std.proofs.Common.{◌≡◌, ℕ, Bool, true, false, not, ◌&&◌, inl, inr, ◌⊎◌, List, [], ◌∷◌, ◌++◌, refl, sym, ap, ◌∙◌, map, length, if◌then◌else◌, subst, true≢false}
-use Rattle.std.specs.Prelude.{codes, bytes_eq}
-use Rattle.std.specs.List.{AllByRecursion}
-use Rattle.std.proofs.lemmas.Bool.{and_parts, or_cases, eqb-true}
-use Rattle.std.proofs.lemmas.List.Elements.{recursion_from_All}
-use Rattle.std.proofs.lemmas.List.{length-map}
-use Rattle.bz_layout.specs.Words.{Kind, Part, Expr, Token, Form', Row_of-Expr, end_of-Expr, more_of-Expr, items-the_row-Expr, no_comments, Bytes, is_empty}
-use Rattle.bz_grammar.specs.declared.kind.Kind.TheVariants as k
-use Rattle.bz_grammar.specs.Legal.{IsNonterminal}
-use Rattle.bz_grammar.specs.Shapes.{Fits, is_kind}
-use Rattle.bz_grammar.specs.Spots.{Spot}
-use Rattle.bz_grammar.proofs.Balance.{no_such, inner_nonterminal}
-use Rattle.bz_grammar.proofs.Numbers.{same_kind}
-use Rattle.bz_hosts.proofs.InnerParts.{inner_kind, inner_tokens, every, every_part, token_inner, nonterminal_inner, is_inner}
-use Rattle.bz_hosts.proofs.SeenParts.{all_parted}
-use Rattle.bz_value.specs.Frames.{Frame, row, sequence, compound, frame, lead, is_binary, is_comprehension, has_brackets, is_header, is_compound, is_simple}
-use Rattle.bz_value.specs.LineShapes.{whole_shape}
-use Rattle.bz_value.specs.Proper.{IsComment, MaybeComment, comments_of, has_break, is_operator, begins_operator, roots, after_expr, IsEmptyRow, IsSomeRow, in_frame, ProperBy, ProperRowBy, ProperHeadBy, ProperItemsBy, ProperLinesBy}
-use Rattle.bz_value.specs.Roots.{root, mark_leaf, each_with_comma, row_in}
-use Rattle.bz_value.specs.Statements.{has_simple_kind, has_header_kind, has_suite, is_alternative, is_whole_statement, header_word, first_token_text, is_branch, alternatives_fit}
-use Rattle.bz_value.proofs.FormParts.{operator_first}
-use Rattle.bz_value.proofs.LeadParts.{lead_before}
-use Rattle.bz_layout.proofs.Elements.{InLine, within_line}
-use Rattle.bz_layout.proofs.Framed.{row_shape, is_sign_part, begins_sign, ends_sign, after_first}
-use Rattle.bz_layout.proofs.Made.{roots_row, none_mapped}
-use Rattle.bz_layout.proofs.Spots.{InFrame, EachProper, both_each, row_in_line}
+use Rattle.bz_layout.proofs.Words.{[], ◌&&◌, ◌++◌, ◌∙◌, ◌∷◌, ◌≡◌, ◌⊎◌, after_expr, all_parted, AllByRecursion, alternatives_fit, and_parts, ap, begins_operator, Bool, Bytes, bytes_eq, codes, comments_of, compound, each_with_comma, end_of-Expr, eqb-true, every, every_part, Expr, false, first_token_text, Fits, Form', Frame, frame, has_brackets, has_break, has_header_kind, has_simple_kind, has_suite, header_word, if◌then◌else◌, in_frame, inl, inner_kind, inner_nonterminal, inner_tokens, inr, is_alternative, is_binary, is_branch, is_compound, is_comprehension, is_empty, is_header, is_inner, is_kind, is_operator, is_simple, is_whole_statement, IsComment, IsEmptyRow, IsNonterminal, IsSomeRow, items-the_row-Expr, Kind, Kind as k, lead, lead_before, length, length-map, List, map, mark_leaf, MaybeComment, more_of-Expr, no_comments, no_such, nonterminal_inner, not, operator_first, or_cases, Part, ProperBy, ProperHeadBy, ProperItemsBy, ProperLinesBy, ProperRowBy, recursion_from_All, refl, root, roots, row, row_in, Row_of-Expr, same_kind, sequence, Spot, subst, sym, Token, token_inner, true, true≢false, whole_shape, ℕ}
+use Rattle.bz_layout.proofs.{Elements.InLine, Elements.within_line, Framed.row_shape, Framed.is_sign_part, Framed.begins_sign, Framed.ends_sign, Framed.after_first, Made.roots_row, Made.none_mapped, Spots.InFrame, Spots.EachProper, Spots.both_each, Spots.row_in_line}
 
 abbrev pub ends : List Expr → Bool
 ends [] = false

@@ -1,26 +1,8 @@
 -- The spaces that the layout puts in a row, and between brackets, are those that the neighbours require.
-use Rattle.std.proofs.Common.{◌≡◌, ℕ, Bool, true, false, not, ◌&&◌, ◌+◌, List, [], ◌∷◌, ◌++◌, inl, inr, Option, Some, None, if◌then◌else◌, length, refl, sym, ◌∙◌, subst, map}
-use Rattle.std.specs.Prelude.{replicate, nat_eq}
-use Rattle.std.specs.List.{AllByRecursion}
-use Rattle.std.proofs.Math.Bool.{and-false}
-use Rattle.std.proofs.lemmas.Bool.{both_ways, or_parts}
-use Rattle.bz_token.specs.declared.class.Class.{Class}
-use Rattle.bz_token.specs.declared.class.Class.TheVariants as c
-use Rattle.bz_layout.specs.Words.{Leaf, Kind, Part, Node', leaves_part, has_token, Expr, Token, Form', Bytes, comma, space, Frame, row, sequence, compound, frame, root, is_empty}
-use Rattle.bz_grammar.specs.declared.kind.Kind.TheVariants as k
-use Rattle.bz_grammar.specs.declared.tree.Part.TheVariants as p
+use Rattle.bz_layout.proofs.Words.{[], ◌&&◌, ◌++◌, ◌+◌, ◌∙◌, ◌∷◌, ◌≡◌, AllByRecursion, and-false, apart, Bool, both_ways, Bytes, Class, Class as c, comma, comments_of, compound, ended, Expr, false, firsts, Form', Frame, frame, gap_after, has_break, has_token, headed, if◌then◌else◌, in_frame, inl, inr, is_broken_in, is_empty, is_lone, is_number_leaf, is_spaced, is_spaced_after, is_spaced_before, is_tuple, is_value, item_margin, joined, Kind, Kind as k, laid, laid_in, Leaf, leaves_part, length, Lines, List, lone, map, margin_after, margin_lines, mark, nat_eq, new_line_at, no_such, Node', None, not, number_dot, Option, or_parts, Part, Part as p, PartAt, piece_part, refl, replicate, root, row, rowed, SameRoot, sequence, Some, space, space_after, space_before, stacked, subst, suffix_text, sym, Token, true, ℕ}
 use Rattle.bz_grammar.specs.Shapes as s
-use Rattle.bz_grammar.proofs.Balance.{no_such}
-use Rattle.bz_value.specs.Proper.{comments_of, has_break, in_frame}
-use Rattle.bz_value.proofs.Rooted.{SameRoot}
-use Rattle.bz_layout.specs.Spaces.{lone, space_after, space_before, is_value, is_spaced_after, is_spaced_before, is_lone, is_number_leaf, apart, number_dot, is_spaced}
-use Rattle.bz_layout.proofs.Neighbours.{is_word}
-use Rattle.bz_layout.specs.Layout.{mark, new_line_at, margin_lines, ended, suffix_text, is_broken, is_tuple, gap_after, margin_after, firsts, rowed, headed, joined, stacked, laid_in, laid}
-use Rattle.bz_layout.specs.LaidOut.{PartAt, piece_part}
-use Rattle.bz_layout.proofs.Fitted.{Child, rooted, IsRooted, Pieces}
-use Rattle.bz_layout.proofs.Made.{plain_part}
-use Rattle.bz_layout.proofs.Elements.{AreValues}
-use Rattle.bz_layout.proofs.Touching.{Fine, Between, Apart, OpensAt, BareAt, Opens, NumberDot}
+use Rattle.bz_layout.proofs.{Neighbours.is_word, Fitted.Child, Fitted.rooted, Fitted.IsRooted, Fitted.Pieces, Made.plain_part, Elements.AreValues, Touching.Fine, Touching.Between, Touching.Apart, Touching.OpensAt, Touching.BareAt, Touching.Opens, Touching.NumberDot}
+use Rattle.bz_layout.proofs.Ends.{by_followed}
 
 -- ---- what a part is to its neighbours does not hang on its gap
 
@@ -30,10 +12,6 @@ pub record SpacedAs (x y : Part) : Type 0 where
   pub value : is_value x ≡ is_value y
   pub alone : is_lone x ≡ is_lone y
   pub number : is_number_leaf x ≡ is_number_leaf y
-
-pub plain_spaced : (x : Expr) (gap : Bytes) (m : ℕ) → SpacedAs (root x) (plain_part x gap m)
-plain_spaced (Token t) gap m = record { after_it = λ kind. refl; before_it = λ kind. refl; value = refl; alone = refl; number = refl }
-plain_spaced (Form' kind z parts z' items end split open_break comments) gap m = record { after_it = λ kind. refl; before_it = λ kind. refl; value = refl; alone = refl; number = refl }
 
 same_apart : (kind : Kind) (x y x' y' : Part) → SpacedAs x x' → SpacedAs y y' → apart kind x' y' ≡ apart kind x y
 same_apart kind x y x' y' h i = rw (h.after_it kind, i.alone, i.before_it kind, h.value, i.value) refl
@@ -128,10 +106,10 @@ opens_suffix : (suffix : Option Bytes) (t : Bytes) → Opens (suffix_text suffix
 opens_suffix None t = refl
 opens_suffix (Some text) t = refl
 
-opens_ended : (suffix : Option Bytes) (m : ℕ) (end : List Bytes) → Opens (suffix_text suffix ++ ended m end)
-opens_ended None m [] = refl
-opens_ended None m (text ∷ texts) = refl
-opens_ended (Some text) m end = refl
+opens_ended : (suffix : Option Bytes) (n m : ℕ) (end : List Bytes) → Opens (suffix_text suffix ++ ended n m end)
+opens_ended None n m [] = refl
+opens_ended None n m (text ∷ texts) = refl
+opens_ended (Some text) n m end = refl
 
 -- a bracket, a comma or a colon
 record IsLone (n : ℕ) : Type 0 where
@@ -141,53 +119,6 @@ record IsLone (n : ℕ) : Type 0 where
 -- anything before such a mark
 before_lone : (kind : Kind) (n : ℕ) → IsLone n → (x : Part) → Fine kind x (mark_part [] n)
 before_lone kind n b x = inr (refl, touches_lone kind x (mark_part [] n) b.alone, λ d. both_ways (has_token s.dot (mark_part [] n)) (b.no_dot []) d.1)
-
-module _ (kind : Kind) (closer : ℕ) (closes : IsLone closer) where
-  before_comma : (x : Part) → Fine kind x (mark_part [] comma)
-  before_comma x = before_lone kind comma (record { alone = refl; no_dot = λ gap. refl }) x
-
-  after_space : (x : Part) (m : ℕ) (f : PartAt) → IsItem f → Fine kind x (f (space ∷ []) m)
-  after_space x m f h = inl (opens_at f (space ∷ []) m h.0 refl)
-
-  maybe_comma : (b : Bool) (x : Part) (after : Pieces) → Between kind x (map piece_part after) → Between kind (mark_part [] comma) (map piece_part after) → Between kind x (map piece_part ((if b then [] else (mark [] (comma ∷ []) ∷ [])) ++ after))
-  maybe_comma true x after h k = h
-  maybe_comma false x after h k = (before_comma x, k)
-
-  joined_between : (m : ℕ) (gap : Bytes) (one : Bool) (xs : List Child) (x : Part) → ((f : PartAt) → IsItem f → Fine kind x (f gap m)) → AreItems xs → Between kind x (map piece_part (joined m gap closer one xs))
-  joined_between m gap one [] x first h = (before_lone kind closer closes x, tt)
-  joined_between m gap one (y ∷ ys) x first h = (
-    first y.1 h.0,
-    maybe_comma (is_empty ys && not one) (y.1 gap m) (joined m (space ∷ []) closer false ys)
-        (joined_between m (space ∷ []) false ys (y.1 gap m) (after_space (y.1 gap m) m) h.1)
-        (joined_between m (space ∷ []) false ys (mark_part [] comma) (after_space (mark_part [] comma) m) h.1),
-  )
-
-  stacked_between : (m : ℕ) (suffix : Option Bytes) (end : List Bytes) (xs : List Child) (x : Part) → AreItems xs → Between kind x (map piece_part (stacked m suffix closer end xs))
-  stacked_between m suffix end [] x h = (inl (opens_ended suffix m end), tt)
-  stacked_between m suffix end (y ∷ ys) x h =
-      let gap : Bytes = suffix_text suffix ++ (new_line_at (m + 4) ++ margin_lines (m + 4) (comments_of y.0).before) in (
-        inl (opens_at y.1 gap (m + 4) h.0.0 (opens_suffix suffix (replicate (m + 4) space ++ margin_lines (m + 4) (comments_of y.0).before))),
-        (before_comma (y.1 gap (m + 4)), stacked_between m (comments_of y.0).suffix end ys (mark_part [] comma) h.1),
-      )
-
-  module _ (opener : ℕ) (opens : IsLone opener) (quiet : space_after kind (s.this c.Mark (opener ∷ [])) ≡ false) where
-    after_opener : (gap : Bytes) (m : ℕ) (f : PartAt) → IsItem f → Fine kind (mark_part gap opener) (f [] m)
-    after_opener gap m f h = inr (bare_at f m h.0, touches_opener kind (mark_part gap opener) (f [] m) quiet refl (h.1 [] m), λ d. no_such d.0)
-
-    -- what is after the opening bracket, broken or not
-    body_between : (broken one : Bool) (gap : Bytes) (m : ℕ) (end : List Bytes) (xs : List Child) → AreItems xs → Between kind (mark_part gap opener) (map piece_part (if broken then stacked m None closer end xs else joined m [] closer one xs))
-    body_between true one gap m end xs h = stacked_between m None end xs (mark_part gap opener) h
-    body_between false one gap m end xs h = joined_between m [] one xs (mark_part gap opener) (after_opener gap m) h
-
-    -- parts before the bracket, a space between them
-    heads_between : (x : Part) (m : ℕ) (heads : List Child) (body : Pieces) → AreAfter heads → Between kind (mark_part [] opener) (map piece_part body) → Between kind x (map piece_part (headed m (if is_empty heads then [] else (space ∷ [])) opener heads body))
-    heads_between x m [] body h b = (before_lone kind opener opens x, b)
-    heads_between x m (y ∷ ys) body h b = (inl (opens_at y.1 (space ∷ []) m h.0.starts refl), heads_between (y.1 (space ∷ []) m) m ys body h.1 b)
-
-    headed_apart : (broken one : Bool) (gap : Bytes) (m : ℕ) (end : List Bytes) (heads xs : List Child) → AreAfter heads → AreItems xs →
-        Apart kind (map piece_part (headed m gap opener heads (if broken then stacked m None closer end xs else joined m [] closer one xs)))
-    headed_apart broken one gap m end [] xs h i = body_between broken one gap m end xs i
-    headed_apart broken one gap m end (x ∷ heads) xs h i = heads_between (x.1 gap m) m heads _ h.1 (body_between broken one [] m end xs i)
 
 -- ---- all kinds
 
@@ -211,14 +142,74 @@ pub items_of : (xs : List Child) → AreAfter xs → AreValues (rooted xs) → A
 items_of [] h i = tt
 items_of (x ∷ xs) h i = ((h.0.starts, λ gap m. sym (h.0.spaced_as gap m).value ∙ i.0), items_of xs h.1 i.1)
 
-apart_in : (f : Frame) (kind : Kind) → Bracketed kind f → (split open_break : Bool) (gap : Bytes) (m : ℕ) (parts items : List Child) (end : List Bytes) → AreAfter parts → AreAfter items →
-    in_frame f (Unit {0}) (AreValues (rooted items)) (Unit {0}) → Apart kind (map piece_part (laid_in f kind split open_break gap m parts items end))
-apart_in row kind b split open_break gap m parts items end h i v = row_apart kind open_break m gap m parts h
-apart_in compound kind b split open_break gap m parts items end h i v = tt
-apart_in (sequence opener closer) kind b split open_break gap m parts items end h i v =
-    headed_apart kind closer b.1 opener b.0 b.2 (is_broken kind split (firsts items) end) (is_tuple kind && nat_eq (length items) 1) gap m end parts items h (items_of items i v)
+module _ (mode : Lines) where
+  -- ---- what a part is to its neighbours does not hang on its gap
 
--- each two neighbours of what is laid out of a form are apart where they must be
-pub laid_apart : (kind : Kind) (split open_break : Bool) (gap : Bytes) (m : ℕ) (parts items : List Child) (end : List Bytes) → AreAfter parts → AreAfter items →
-    in_frame (frame kind) (Unit {0}) (AreValues (rooted items)) (Unit {0}) → Apart kind (map piece_part (laid kind split open_break gap m parts items end))
-laid_apart kind split open_break gap m parts items end h i v = apart_in (frame kind) kind (bracketed kind) split open_break gap m parts items end h i v
+  pub plain_spaced : (x : Expr) (gap : Bytes) (m : ℕ) → SpacedAs (root x) (plain_part mode x gap m)
+  plain_spaced (Token t) gap m = record { after_it = λ kind. refl; before_it = λ kind. refl; value = refl; alone = refl; number = refl }
+  plain_spaced (Form' kind z parts z' items end split open_break comments) gap m = record { after_it = λ kind. refl; before_it = λ kind. refl; value = refl; alone = refl; number = refl }
+
+  -- ---- sequences: what touches a bracket or a comma
+
+  module _ (kind : Kind) (closer : ℕ) (closes : IsLone closer) where
+    before_comma : (x : Part) → Fine kind x (mark_part [] comma)
+    before_comma x = before_lone kind comma (record { alone = refl; no_dot = λ gap. refl }) x
+
+    after_space : (x : Part) (m : ℕ) (f : PartAt) → IsItem f → Fine kind x (f (space ∷ []) m)
+    after_space x m f h = inl (opens_at f (space ∷ []) m h.0 refl)
+
+    maybe_comma : (b : Bool) (x : Part) (after : Pieces) → Between kind x (map piece_part after) → Between kind (mark_part [] comma) (map piece_part after) → Between kind x (map piece_part ((if b then [] else (mark [] (comma ∷ []) ∷ [])) ++ after))
+    maybe_comma true x after h k = h
+    maybe_comma false x after h k = (before_comma x, k)
+
+    joined_between : (m : ℕ) (gap : Bytes) (one : Bool) (xs : List Child) (x : Part) → ((f : PartAt) → IsItem f → Fine kind x (f gap m)) → AreItems xs → Between kind x (map piece_part (joined m gap closer one xs))
+    joined_between m gap one [] x first h = (before_lone kind closer closes x, tt)
+    joined_between m gap one (y ∷ ys) x first h = (
+      first y.1 h.0,
+      maybe_comma (is_empty ys && not one) (y.1 gap m) (joined m (space ∷ []) closer false ys)
+          (joined_between m (space ∷ []) false ys (y.1 gap m) (after_space (y.1 gap m) m) h.1)
+          (joined_between m (space ∷ []) false ys (mark_part [] comma) (after_space (mark_part [] comma) m) h.1),
+    )
+
+    stacked_between : (n m : ℕ) (suffix : Option Bytes) (end : List Bytes) (xs : List Child) (x : Part) → AreItems xs → Between kind x (map piece_part (stacked mode kind n m suffix closer end xs))
+    stacked_between n m suffix end [] x h = (inl (opens_ended suffix n m end), tt)
+    stacked_between n m suffix end (y ∷ ys) x h =
+        let gap : Bytes = suffix_text suffix ++ (new_line_at n ++ margin_lines n (comments_of y.0).before) in (
+          inl (opens_at y.1 gap n h.0.0 (opens_suffix suffix (replicate n space ++ margin_lines n (comments_of y.0).before))),
+          by_followed (λ ps. Between kind (y.1 gap n) (map piece_part ps)) mode kind y.0 (firsts ys) end closer (stacked mode kind n m (comments_of y.0).suffix closer end ys)
+              (λ closed. (before_lone kind closer closes (y.1 gap n), tt)) (λ last. stacked_between n m (comments_of y.0).suffix end ys (y.1 gap n) h.1)
+              (before_comma (y.1 gap n), stacked_between n m (comments_of y.0).suffix end ys (mark_part [] comma) h.1),
+        )
+
+    module _ (opener : ℕ) (opens : IsLone opener) (quiet : space_after kind (s.this c.Mark (opener ∷ [])) ≡ false) where
+      after_opener : (gap : Bytes) (m : ℕ) (f : PartAt) → IsItem f → Fine kind (mark_part gap opener) (f [] m)
+      after_opener gap m f h = inr (bare_at f m h.0, touches_opener kind (mark_part gap opener) (f [] m) quiet refl (h.1 [] m), λ d. no_such d.0)
+
+      -- what is after the opening bracket, broken or not
+      body_between : (broken one : Bool) (gap : Bytes) (n m : ℕ) (end : List Bytes) (xs : List Child) → AreItems xs → Between kind (mark_part gap opener) (map piece_part (if broken then stacked mode kind n m None closer end xs else joined m [] closer one xs))
+      body_between true one gap n m end xs h = stacked_between n m None end xs (mark_part gap opener) h
+      body_between false one gap n m end xs h = joined_between m [] one xs (mark_part gap opener) (after_opener gap m) h
+
+      -- parts before the bracket, a space between them
+      heads_between : (x : Part) (m : ℕ) (heads : List Child) (body : Pieces) → AreAfter heads → Between kind (mark_part [] opener) (map piece_part body) → Between kind x (map piece_part (headed m (if is_empty heads then [] else (space ∷ [])) opener heads body))
+      heads_between x m [] body h b = (before_lone kind opener opens x, b)
+      heads_between x m (y ∷ ys) body h b = (inl (opens_at y.1 (space ∷ []) m h.0.starts refl), heads_between (y.1 (space ∷ []) m) m ys body h.1 b)
+
+      headed_apart : (broken one : Bool) (gap : Bytes) (n m : ℕ) (end : List Bytes) (heads xs : List Child) → AreAfter heads → AreItems xs →
+          Apart kind (map piece_part (headed m gap opener heads (if broken then stacked mode kind n m None closer end xs else joined m [] closer one xs)))
+      headed_apart broken one gap n m end [] xs h i = body_between broken one gap n m end xs i
+      headed_apart broken one gap n m end (x ∷ heads) xs h i = heads_between (x.1 gap m) m heads _ h.1 (body_between broken one [] n m end xs i)
+
+  -- ---- all kinds
+
+  apart_in : (f : Frame) (kind : Kind) → Bracketed kind f → (split open_break : Bool) (gap : Bytes) (m : ℕ) (parts items : List Child) (end : List Bytes) → AreAfter parts → AreAfter items →
+      in_frame f (Unit {0}) (AreValues (rooted items)) (Unit {0}) → Apart kind (map piece_part (laid_in mode f kind split open_break gap m parts items end))
+  apart_in row kind b split open_break gap m parts items end h i v = row_apart kind open_break m gap m parts h
+  apart_in compound kind b split open_break gap m parts items end h i v = tt
+  apart_in (sequence opener closer) kind b split open_break gap m parts items end h i v =
+      headed_apart kind closer b.1 opener b.0 b.2 (is_broken_in mode kind split (firsts items) end) (is_tuple kind && nat_eq (length items) 1) gap (item_margin mode kind m) m end parts items h (items_of items i v)
+
+  -- each two neighbours of what is laid out of a form are apart where they must be
+  pub laid_apart : (kind : Kind) (split open_break : Bool) (gap : Bytes) (m : ℕ) (parts items : List Child) (end : List Bytes) → AreAfter parts → AreAfter items →
+      in_frame (frame kind) (Unit {0}) (AreValues (rooted items)) (Unit {0}) → Apart kind (map piece_part (laid mode kind split open_break gap m parts items end))
+  laid_apart kind split open_break gap m parts items end h i v = apart_in (frame kind) kind (bracketed kind) split open_break gap m parts items end h i v

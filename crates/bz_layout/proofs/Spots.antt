@@ -1,29 +1,7 @@
 -- Proper expressions are parts of lines: where what follows them is.
-use Rattle.std.proofs.Common.{◌≡◌, Bool, true, false, ◌||◌, List, [], ◌∷◌, if◌then◌else◌, refl, sym, ap, subst, ◌∙◌}
-use Rattle.std.specs.Prelude.{All}
-use Rattle.bz_token.specs.declared.class.Class.{Class}
-use Rattle.bz_token.specs.declared.class.Class.TheVariants as c
-use Rattle.bz_token.specs.Lexemes.{IsLexeme}
-use Rattle.bz_layout.specs.Words.{Kind, Part, Expr, Token, Form', Row_of-Expr, end_of-Expr, more_of-Expr, Bytes, is_empty}
-use Rattle.bz_grammar.specs.declared.kind.Kind.TheVariants as k
-use Rattle.bz_grammar.specs.Shapes.{Shape, Fits}
-use Rattle.bz_grammar.specs.Legal.{IsNonterminal}
-use Rattle.bz_grammar.specs.Spots.{Spot, Begins, Within, onward, opens, closes, plain, role, following_token, after_node}
-use Rattle.bz_grammar.proofs.Balance.{no_such}
-use Rattle.bz_value.specs.Frames.{Frame, row, sequence, compound, frame, has_brackets, is_binary, is_comprehension, is_compound}
-use Rattle.bz_value.specs.LineShapes.{line_shape}
-use Rattle.bz_value.specs.Proper.{IsComment, has_break, after_expr, roots, IsEmptyRow, IsSomeRow, in_frame, ProperBy, ProperRowBy, ProperHeadBy, ProperItemsBy, ProperHeaderBy, ProperLinesBy}
-use Rattle.bz_value.specs.Statements.{is_alternative, is_whole_statement}
-use Rattle.bz_value.specs.Roots.{root, row_in}
-use Rattle.bz_hosts.proofs.InnerParts.{inner_kind, kind_goes}
-use Rattle.bz_layout.specs.Spaces.{is_value}
-use Rattle.bz_layout.proofs.Neighbours.{is_word}
-use Rattle.bz_layout.specs.Layout.{firsts}
-use Rattle.bz_layout.specs.LaidOut.{part_of, parts_of}
-use Rattle.bz_layout.proofs.Elements.{Inside, IsOpening, Opened, in_line_class, in_line_part, InLine, within_line}
-use Rattle.bz_layout.proofs.Fitted.{Child}
-use Rattle.bz_layout.proofs.Made.{line_plain}
-use Rattle.bz_layout.proofs.Margins.{is_begins}
+use Rattle.bz_layout.proofs.Words.{[], ◌||◌, ◌∙◌, ◌∷◌, ◌≡◌, after_expr, after_node, All, ap, Begins, Bool, Bytes, Class, Class as c, closes, compound, end_of-Expr, Expr, false, firsts, Fits, following_token, Form', Frame, frame, has_brackets, has_break, if◌then◌else◌, in_frame, inner_kind, is_alternative, is_binary, is_compound, is_comprehension, is_empty, is_value, is_whole_statement, IsComment, IsEmptyRow, IsLexeme, IsNonterminal, IsSomeRow, Kind, Kind as k, kind_goes, line_shape, Lines, List, more_of-Expr, no_such, onward, opens, Part, part_of, parts_of, ProperBy, ProperHeadBy, ProperHeaderBy, ProperItemsBy, ProperLinesBy, ProperRowBy, refl, role, root, roots, row, row_in, Row_of-Expr, sequence, Shape, Spot, subst, sym, Token, true, Within}
+use Rattle.bz_grammar.specs.Spots.{plain}
+use Rattle.bz_layout.proofs.{Neighbours.is_word, Elements.Inside, Elements.IsOpening, Elements.Opened, Elements.in_line_class, Elements.in_line_part, Elements.InLine, Elements.within_line, Fitted.Child, Made.line_plain, Margins.is_begins}
 
 -- ---- proper expressions are parts of lines
 
@@ -168,20 +146,23 @@ breaks_by : (open_break : Bool) (outer here : Spot) (x : Child) (xs : List Child
 breaks_by true outer here x xs b o e n = o refl n
 breaks_by false outer here x xs b o e n = b e
 
-later_breaks : (binary open_break : Bool) (outer here : Spot) (m : _) (r : Row_of-Expr m) → ProperRowBy line_shape binary outer here r → (open_break ≡ true → here ≡ Within) → (open_break ≡ true → Inside (roots r)) → RowBreaks open_break outer here (parts_of r)
-later_breaks binary open_break outer here m end_of-Expr h w i = tt
-later_breaks binary open_break outer here m (more_of-Expr x end_of-Expr) h w i = (breaks_by open_break outer here (x, part_of x) [] (λ e. (h.2 e).1) (λ e n. no_such (sym n)), tt)
-later_breaks binary open_break outer here m (more_of-Expr x (more_of-Expr y rest)) h w i =
-    let inside : open_break ≡ true → after_expr outer here x ≡ Within = λ o. subst (λ z. after_expr outer z x ≡ Within) (sym (w o)) (value_within outer here x h.0 (i o).0) in (
-      breaks_by open_break outer here (x, part_of x) ((y, part_of y) ∷ parts_of rest) (λ e. (h.2 e).1) (λ o n. inside o),
-      later_breaks binary open_break outer (after_expr outer here x) _ (more_of-Expr y rest) h.3 inside (λ o. (i o).1),
-    )
+module _ (mode : Lines) where
+  -- ---- new lines in a row begin inside brackets
 
--- in an open row an opening bracket is first
-pub row_breaks : (binary open_break : Bool) (outer here : Spot) (m : _) (r : Row_of-Expr m) → ProperRowBy line_shape binary outer here r → (open_break ≡ true → Opened (roots r)) → RowBreaks open_break outer here (parts_of r)
-row_breaks binary open_break outer here m end_of-Expr h i = tt
-row_breaks binary open_break outer here m (more_of-Expr x rest) h i =
-    let inside : open_break ≡ true → after_expr outer here x ≡ Within = λ o. opening_within outer here x (i o).0 in (
-      breaks_by open_break outer here (x, part_of x) (parts_of rest) (λ e. (h.2 e).1) (λ o n. inside o),
-      later_breaks binary open_break outer (after_expr outer here x) _ rest h.3 inside (λ o. (i o).1),
-    )
+  later_breaks : (binary open_break : Bool) (outer here : Spot) (m : _) (r : Row_of-Expr m) → ProperRowBy line_shape binary outer here r → (open_break ≡ true → here ≡ Within) → (open_break ≡ true → Inside (roots r)) → RowBreaks open_break outer here (parts_of mode r)
+  later_breaks binary open_break outer here m end_of-Expr h w i = tt
+  later_breaks binary open_break outer here m (more_of-Expr x end_of-Expr) h w i = (breaks_by open_break outer here (x, part_of mode x) [] (λ e. (h.2 e).1) (λ e n. no_such (sym n)), tt)
+  later_breaks binary open_break outer here m (more_of-Expr x (more_of-Expr y rest)) h w i =
+      let inside : open_break ≡ true → after_expr outer here x ≡ Within = λ o. subst (λ z. after_expr outer z x ≡ Within) (sym (w o)) (value_within outer here x h.0 (i o).0) in (
+        breaks_by open_break outer here (x, part_of mode x) ((y, part_of mode y) ∷ parts_of mode rest) (λ e. (h.2 e).1) (λ o n. inside o),
+        later_breaks binary open_break outer (after_expr outer here x) _ (more_of-Expr y rest) h.3 inside (λ o. (i o).1),
+      )
+
+  -- in an open row an opening bracket is first
+  pub row_breaks : (binary open_break : Bool) (outer here : Spot) (m : _) (r : Row_of-Expr m) → ProperRowBy line_shape binary outer here r → (open_break ≡ true → Opened (roots r)) → RowBreaks open_break outer here (parts_of mode r)
+  row_breaks binary open_break outer here m end_of-Expr h i = tt
+  row_breaks binary open_break outer here m (more_of-Expr x rest) h i =
+      let inside : open_break ≡ true → after_expr outer here x ≡ Within = λ o. opening_within outer here x (i o).0 in (
+        breaks_by open_break outer here (x, part_of mode x) (parts_of mode rest) (λ e. (h.2 e).1) (λ o n. inside o),
+        later_breaks binary open_break outer (after_expr outer here x) _ rest h.3 inside (λ o. (i o).1),
+      )

@@ -1,34 +1,8 @@
 -- What each item does to the windows that are made: those that and those that stay.
-use Rattle.std.proofs.Common.{ℕ, zero, suc, Bool, true, false, ◌≡◌, ◌<◌, ◌≤◌, ◌-◌, List, [], ◌∷◌, ◌++◌, ◌+◌, length, get_or, take, drop, refl, sym, ap, ◌∙◌, subst, arith, flat_map, append-nil, length-append, length-drop}
-use Rattle.std.proofs.lemmas.List.{drop_more, drop_all, drop-drop, drop-take, drop_at, get_or-take}
-use Rattle.std.specs.Prelude.{slice_get}
-use Rattle.std.specs.List.{AllByRecursion}
-use Rattle.std.proofs.lemmas.List.Elements.{recursion_from_All}
-use Rattle.bz_layout.specs.Words.{leaves_part, limit, Node, Part, Bytes, line_feed, Leaf, IsBuildItem, IsProperBuild, IsProperItem, comments_of, Expr, Item, has_suite, Window}
-use Rattle.bz_grammar.specs.Spots.{Begins}
-use Rattle.bz_grammar.specs.declared.kind.Kind.TheVariants as k
+use Rattle.bz_layout.proofs.Words.{[], ◌++◌, ◌+◌, ◌-◌, ◌<◌, ◌∙◌, ◌∷◌, ◌≡◌, ◌≤◌, ℕ, AllByRecursion, ap, append-nil, AreCounted, AreLinesOver, AreReached, arith, before_next, Begins, Bool, Bytes, Class as c, comment_lines, comments_of, Drafted, drafted, drop, drop-drop, drop-take, drop_all, drop_at, drop_more, Expr, false, flat_map, get_or, get_or-take, has_suite, HasGap, HasNext, IsAt, IsBuildItem, IsProperBuild, IsProperBuildItem, IsProperItem, Item, Item as i, Kind as k, Leaf, leaves_Node, leaves_part, left_gap, length, length-append, length-drop, limit, line_count_in, line_feed, line_part, Lines, lines_from, List, Node, own_text, Part, part_of, Passes, pushed, Reached, recursion_from_All, refl, slice_get, statement_gap, subst, suc, suffix_text, sym, take, true, Window, Writer, zero}
 use Rattle.bz_grammar.specs.declared.tree.Part.TheVariants as p
-use Rattle.bz_token.specs.declared.class.Class.TheVariants as c
-use Rattle.bz_grammar.proofs.Spells.{leaves_Node}
-use Rattle.bz_value.specs.declared.value.Item.TheVariants as i
-use Rattle.bz_layout.specs.Drafts.{Drafted, drafted, pushed}
-use Rattle.bz_layout.specs.Layout.{suffix_text}
-use Rattle.bz_layout.specs.LaidOut.{part_of, line_part, left_gap, before_next, lines_from}
-use Rattle.bz_layout.specs.Written.{comment_lines}
 use Rattle.bz_layout.specs.declared.writer.OpenWindow.{OpenWindow}
-use Rattle.bz_layout.specs.declared.writer.Writer.{Writer}
-use Rattle.bz_layout.specs.private.Reached.{IsProperBuildItem, Reached, AreReached, IsAt, HasGap, HasNext, Passes, own_text}
-use Rattle.bz_layout.specs.private.Windows.{line_count_in, statement_gap, AreCounted, AreLinesOver}
-use Rattle.bz_layout.proofs.LineWindows.{each_cut}
-use Rattle.bz_layout.proofs.LegalParts.{Begin, begin_with, laid_out_good}
-use Rattle.bz_layout.proofs.BuildLaid.{build_line, build_plain}
-use Rattle.bz_layout.proofs.Made.{plain_first}
-use Rattle.bz_layout.proofs.Pushing.{pushed_none}
-use Rattle.bz_layout.proofs.Reaching.{put_line, take_lines, skip_lines, opened, reach_as}
-use Rattle.bz_layout.proofs.Readable.{readable}
-use Rattle.bz_layout.proofs.Spelled.{spell_line}
-use Rattle.bz_layout.proofs.Windows.{front_lines, lines_cut, front_same, length_front}
-use Rattle.bz_layout.proofs.Writing.{rest_here}
+use Rattle.bz_layout.proofs.{LineWindows.each_cut, LegalParts.Begin, LegalParts.begin_with, LegalParts.laid_out_good, BuildLaid.build_line, BuildLaid.build_plain, Made.plain_first, Pushing.pushed_none, Reaching.put_line, Reaching.take_lines, Reaching.skip_lines, Reaching.opened, Reaching.reach_as, Readable.readable, Spelled.spell_line, Windows.front_lines, Windows.lines_cut, Windows.front_same, Windows.length_front, Writing.rest_here}
 
 -- what is left of both begins with the same item
 same_first : (n k : ℕ) (xs ys : List Item) (y : Item) → k < n → n ≤ length xs → take n xs ≡ take n ys → y ≡ get_or ys k y → drop k xs ≡ y ∷ drop (k + 1) xs
@@ -51,8 +25,8 @@ module _ {parts all : List Part} where
   line_put w left (i.Stmt x) ys h r =
       let gap : Bytes = w.window.gap.items in
       let plain : has_suite x ≡ false = build_plain x h.1 in
-      reach_as (ap (pushed w.window.text) (sym (spell_line gap x plain (readable Begins x h.0.1)))) refl refl
-      (put_line (line_part gap x) (reach_as refl refl (sym (plain_first gap x ys plain)) r))
+      reach_as (ap (pushed w.window.text) (sym (spell_line Lines.Counted gap x plain (readable Begins x h.0.1)))) refl refl
+      (put_line (line_part Lines.Counted gap x) (reach_as refl refl (sym (plain_first Lines.Counted gap x ys plain)) r))
 
   -- a turn of the loop over them
   pub came_turn : (w : Writer) (v : OpenWindow) (xs items : List Item) (at : ℕ) (y : Item) → at < length items → y ≡ get_or items at y → v.text ≡ pushed w.window.text (own_text w.window.gap.items y) →
@@ -113,23 +87,23 @@ module _ {parts all : List Part} where
 has_gap_at : (ls : List Leaf) (a g : Bytes) → Begin a ls → HasGap (slice_get ls 0) g → g ≡ a
 has_gap_at ls a g b h = let on : b.0.gap ≡ g = subst (λ (ms : List Leaf). HasGap (slice_get ms 0) g) b.2 h in sym on ∙ b.3
 
-line_begins : (gap : Bytes) (x : Expr) (rest : List Part) → IsProperBuildItem (i.Stmt x) → Begin (gap ++ comment_lines (comments_of x).before) (flat_map leaves_part (line_part gap x ∷ rest))
+line_begins : (gap : Bytes) (x : Expr) (rest : List Part) → IsProperBuildItem (i.Stmt x) → Begin (gap ++ comment_lines (comments_of x).before) (flat_map leaves_part (line_part Lines.Counted gap x ∷ rest))
 line_begins gap x rest h =
     let above : Bytes = gap ++ comment_lines (comments_of x).before in
     let node : Node = record {
       kind = k.Line;
-      parts = part_of x above 0 ∷ p.Leaf (record { class = c.Newline; gap = suffix_text (comments_of x).suffix; token = line_feed ∷ [] }) ∷ [];
+      parts = part_of Lines.Counted x above 0 ∷ p.Leaf (record { class = c.Newline; gap = suffix_text (comments_of x).suffix; token = line_feed ∷ [] }) ∷ [];
     } in
-    begin_with above (line_part gap x ∷ rest) (subst (Begin above) (sym (leaves_Node node)) (begin_with above node.parts ((laid_out_good Begins x (build_line x h.0.0 h.1 h.0.1)).stands.starts above 0)))
+    begin_with above (line_part Lines.Counted gap x ∷ rest) (subst (Begin above) (sym (leaves_Node node)) (begin_with above node.parts ((laid_out_good Lines.Counted Begins x (build_line x h.0.0 h.1 h.0.1)).stands.starts above 0)))
 
 -- a statement with the gap that its line has in the tree has this line
-same_line : (gap above : Bytes) (x : Expr) (xs : List Item) → IsProperBuildItem (i.Stmt x) → HasNext gap (i.Stmt x ∷ []) (lines_from above (i.Stmt x ∷ xs)) → line_part gap x ≡ line_part above x
+same_line : (gap above : Bytes) (x : Expr) (xs : List Item) → IsProperBuildItem (i.Stmt x) → HasNext gap (i.Stmt x ∷ []) (lines_from above (i.Stmt x ∷ xs)) → line_part Lines.Counted gap x ≡ line_part Lines.Counted above x
 same_line gap above x xs h has =
     let same : gap ++ comment_lines (comments_of x).before ≡ above ++ comment_lines (comments_of x).before =
-    has_gap_at _ _ _ (line_begins above x (lines_from (before_next (i.Stmt x) xs) xs) h) (subst (HasNext gap (i.Stmt x ∷ [])) (plain_first above x xs (build_plain x h.1)) has) in
+    has_gap_at _ _ _ (line_begins above x (lines_from (before_next (i.Stmt x) xs) xs) h) (subst (HasNext gap (i.Stmt x ∷ [])) (plain_first Lines.Counted above x xs (build_plain x h.1)) has) in
     ap (λ t. p.Node (record {
       kind = k.Line;
-      parts = part_of x t 0 ∷ p.Leaf (record { class = c.Newline; gap = suffix_text (comments_of x).suffix; token = line_feed ∷ [] }) ∷ [];
+      parts = part_of Lines.Counted x t 0 ∷ p.Leaf (record { class = c.Newline; gap = suffix_text (comments_of x).suffix; token = line_feed ∷ [] }) ∷ [];
     })) same
 
 module _ {parts all : List Part} where
@@ -142,7 +116,7 @@ module _ {parts all : List Part} where
       let here : Bytes = w.window.gap.items in
       let old : Bytes = statement_gap r.above (suc n) (i.Stmt x ∷ xs) in
       let kept : List Part = front_lines here (suc n) (i.Stmt x ∷ ys) in
-      let line : line_part here x ≡ line_part r.above x = same_line here r.above x xs r.proper.0 (subst (λ (ps : List Part). HasNext here (i.Stmt x ∷ []) ps) r.lines.left_is has) in
+      let line : line_part Lines.Counted here x ≡ line_part Lines.Counted r.above x = same_line here r.above x xs r.proper.0 (subst (λ (ps : List Part). HasNext here (i.Stmt x ∷ []) ps) r.lines.left_is has) in
       let first : front_lines r.above (suc n) (i.Stmt x ∷ xs) ≡ kept =
       front_same r.above (suc n) (i.Stmt x ∷ xs) (i.Stmt x ∷ ys) (omega (arith, g)) (omega (arith, h)) same ∙ ap (λ z. z ∷ front_lines (before_next (i.Stmt x) ys) n ys) (sym line) in
       let left : lines_from r.above (i.Stmt x ∷ xs) ≡ kept ++ lines_from old (drop n xs) = lines_cut r.above (suc n) (i.Stmt x ∷ xs) r.proper_before (omega (arith, g)) ∙ ap (λ ps. ps ++ lines_from old (drop n xs)) first in

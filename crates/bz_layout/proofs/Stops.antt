@@ -1,22 +1,15 @@
 -- Before which bytes a lexeme is a token: laws for all the pairs of neighbours that the layout joins without a space.
-use Rattle.std.proofs.Common.{◌≡◌, ℕ, Bool, true, false, List, [], ◌∷◌, ◌++◌, ◌||◌, not, is_none, eqb, inl, inr, Option, Some, None, if◌then◌else◌, refl, sym, ap, ◌∙◌, subst}
-use Rattle.std.proofs.lemmas.Bool.{both_ways, cases_Bool, or_cases, not-true, or_parts, eqb-true}
-use Rattle.std.proofs.lemmas.Option.{same_Some}
-use Rattle.bz_token.specs.declared.class.Class.{Class}
-use Rattle.bz_token.specs.declared.class.Class.TheVariants as c
+use Rattle.bz_layout.proofs.Words.{[], ◌++◌, ◌||◌, ◌∙◌, ◌∷◌, ◌≡◌, ap, Bool, both_ways, brackets_and_separators, cases_Bool, Class, Class as c, eqb, eqb-true, false, if◌then◌else◌, in_table, inl, inr, is_mark, is_none_at, IsLexeme, IsToken, List, marks, None, not, not-true, one_text, Option, or_cases, or_parts, refl, same_Some, Some, subst, sym, true, ℕ}
+use Rattle.std.proofs.Common.{is_none}
 use Rattle.bz_token.specs.declared.state.State.{State}
 use Rattle.bz_token.specs.declared.state.State.TheVariants.{Start, Opened, Empty, Ended, Operator, Star}
 use Rattle.bz_token.specs.declared.state.Quote.TheVariants.{Single, Double}
 use Rattle.bz_token.specs.Bytes.{is_quote}
-use Rattle.bz_token.specs.Lexemes.{IsLexeme, in_table, is_mark, marks}
-use Rattle.bz_token.specs.Tokens.{IsToken}
 use Rattle.bz_token.specs.private.Machine.{after, and_next}
 use Rattle.bz_token.specs.private.Scanner.{move, ends, keyword_or_name}
 use Rattle.bz_token.proofs.Laws.{state_of, not_quote, is_ended, ended_at, nothing_stops, longest_at, begins}
 pub use Rattle.bz_token.proofs.Laws.{is_stop, stop_before}
 use Rattle.bz_layout.proofs.Neighbours.{fronts, well_text, is_number}
-use Rattle.bz_layout.specs.Spaces.{brackets_and_separators}
-use Rattle.bz_token.proofs.Tables.{one_text, is_none_at}
 
 -- ---- before a dot
 

@@ -1,31 +1,7 @@
 -- A tree whose leaves hold lexemes, with a space or a newline where the kinds of its nodes require one, holds tokens.
-use Rattle.std.proofs.Common.{◌≡◌, ℕ, ◌≤◌, Bool, true, false, not, ◌&&◌, List, [], ◌∷◌, ◌++◌, ◌⊎◌, inl, inr, None, refl, sym, ap, ◌∙◌, subst, append_assoc, arith}
-use Rattle.std.specs.Prelude.{nat_eq, nat_le}
-use Rattle.std.specs.List.{list_all, AllByRecursion, flat_map}
-use Rattle.std.proofs.lemmas.Bool.{and_parts, or_cases, cases_Bool, both_ways, not-true, eqb-true, eq-eqb, leb-true, and_from}
-use Rattle.std.proofs.lemmas.Slice.Eq.{bytes_eq-Decides}
-use Rattle.bz_token.specs.declared.class.Class.{Class}
-use Rattle.bz_token.specs.declared.class.Class.TheVariants as c
-use Rattle.bz_token.specs.Lexemes.{IsLexeme, in_table}
-use Rattle.bz_token.specs.Tokens.{IsToken}
-use Rattle.bz_token.proofs.Tables.{one_text}
-use Rattle.bz_layout.specs.Words.{Leaf, Kind}
-use Rattle.bz_lex.specs.Leaves.{spell_leaves}
-use Rattle.bz_lex.proofs.Lists.{spell_leaves-append}
-use Rattle.bz_grammar.specs.declared.tree.Part.{Part, Row_of-Part, end_of-Part, more_of-Part, Node', items-the_row-Part}
-use Rattle.bz_grammar.specs.declared.tree.Part.TheVariants as p
-use Rattle.bz_grammar.specs.Spell.{leaves_part, depth_part}
+use Rattle.bz_layout.proofs.Words.{[], ◌&&◌, ◌++◌, ◌∙◌, ◌∷◌, ◌≡◌, ◌≤◌, ◌⊎◌, all_parted, AllByRecursion, and_from, and_parts, ap, apart, append_assoc, arith, as_bzl, Bool, both_ways, brackets_and_separators, bytes_eq-Decides, cases_Bool, Class, Class as c, depth_part, each_legal, end_of-Part, eq-eqb, eqb-true, false, Fits, flat_map, from_table, has_token, in_table, inl, inner_kind, inr, is_dot_terminal, is_number_leaf, is_one_of, IsLexeme, IsNonterminal, IsToken, items-the_row-Part, Kind, Leaf, leaves_part, leaves_rows, leb-true, LegalBy, line_shape, List, list_all, lone, more_of-Part, nat_eq, nat_le, no_such, Node', None, Nonterminal, not, not-true, of_terminals, one_text, or_cases, Part, Part as p, refl, Row_of-Part, Shape, spell_leaves, spell_leaves-append, starts, starts_with, subst, sym, Terminal, true, ℕ}
 use Rattle.bz_grammar.specs.Shapes as s
-use Rattle.bz_grammar.specs.Shapes.{Nonterminal, Terminal, Shape, Fits, has_token, is_one_of, is_terminal}
-use Rattle.bz_grammar.specs.Legal.{IsNonterminal}
-use Rattle.bz_grammar.specs.Reading.{starts, starts_with}
 use Rattle.bz_grammar.proofs.Levels.{begins}
-use Rattle.bz_grammar.proofs.Balance.{no_such, leaves_rows}
-use Rattle.bz_value.specs.LineShapes.{line_shape}
-use Rattle.bz_value.proofs.LegalBy.{LegalBy, each_legal, as_bzl}
-use Rattle.bz_hosts.proofs.SeenParts.{all_parted}
-use Rattle.bz_hosts.proofs.InnerParts.{of_terminals, inner_kind}
-use Rattle.bz_layout.specs.Spaces.{brackets_and_separators, lone, is_dot_terminal, apart, is_number_leaf, from_table}
 use Rattle.bz_layout.proofs.Neighbours.{Element, T, S, Is, Pair, Final, Links, passes, links, fronts, prefixed, well_text, named, spaced, is_primary, safe, neighbours, is_primary_kind, finals, all_pass, well, no_number, is_number}
 use Rattle.bz_layout.proofs.Stops.{is_stop, stop_before, dot_before, lone_before, front_before, dot_before_name, begins_well}
 use Rattle.bz_layout.proofs.Elements.{spaced_apart}

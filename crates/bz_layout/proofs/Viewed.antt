@@ -1,41 +1,9 @@
 -- A row that is laid out reads back: each part with its flags settled, breaks where they were, nothing loose.
-use Rattle.std.proofs.Common.{◌≡◌, ℕ, Bool, true, false, not, ◌&&◌, ◌||◌, List, [], ◌∷◌, ◌++◌, ◌+◌, if◌then◌else◌, refl, sym, ap, ◌∙◌, map, true≢false}
-use Rattle.std.specs.Prelude.{None}
-use Rattle.std.specs.List.{AllByRecursion}
-use Rattle.std.proofs.Math.Bool.{and-false, and-true}
-use Rattle.std.proofs.lemmas.Bool.{and_parts}
-use Rattle.bz_layout.specs.Words.{Kind, Expr, Bytes, space, no_comments, root, is_empty}
-use Rattle.bz_grammar.specs.declared.kind.Kind.TheVariants as k
-use Rattle.bz_value.specs.Frames.{is_binary, is_comprehension}
-use Rattle.bz_value.specs.Gaps.{GapLine, lines_of, comments_in, some_newline, all_in, has_newline}
-use Rattle.bz_value.specs.Proper.{comments_of, has_break, is_operator}
-use Rattle.bz_value.proofs.FormParts.{operator_first}
-use Rattle.bz_hosts.specs.Seen.{Seen, seen, plain, first_seen_gap, begins_seen_operator, loose_after, row_exprs, is_open}
-use Rattle.bz_layout.specs.Layout.{Piece, rowed, gap_after, margin_after, new_line_at, firsts}
-use Rattle.bz_layout.specs.Spaces.{is_spaced}
-use Rattle.bz_layout.specs.LaidOut.{PartAt, piece_part}
-use Rattle.bz_layout.specs.Flags.{with_flags}
-use Rattle.bz_layout.proofs.Fitted.{IsRooted}
-use Rattle.bz_layout.proofs.Framed.{after_first}
-use Rattle.bz_layout.proofs.Gapped.{ended_line, lines_line}
-use Rattle.bz_layout.proofs.Readable.{AreParts, ends}
+use Rattle.bz_layout.proofs.Words.{[], ◌&&◌, ◌++◌, ◌+◌, ◌||◌, ◌∙◌, ◌∷◌, ◌≡◌, ℕ, all_in, AllByRecursion, and-false, and-true, and_parts, ap, begins_seen_operator, Bool, Bytes, comments_in, comments_of, Expr, false, first_seen_gap, firsts, gap_after, GapLine, has_break, has_newline, if◌then◌else◌, is_binary, is_comprehension, is_empty, is_open, is_operator, is_spaced, Kind, Kind as k, Lines, lines_of, List, loose_after, map, margin_after, new_line_at, no_comments, None, not, operator_first, PartAt, Piece, piece_part, plain, refl, root, row_exprs, rowed, Seen, seen, some_newline, space, sym, true, true≢false, with_flags_in}
+use Rattle.bz_layout.proofs.{Fitted.IsRooted, Framed.after_first, Gapped.ended_line, Gapped.lines_line, Readable.AreParts, Readable.ends}
 
 abbrev pub look : List (Piece PartAt) → List Seen
 look ps = map seen (map piece_part ps)
-
--- What is laid out of an expression is seen as the expression with its flags settled; the gap comes back, and no comment is loose.
-pub record SeenAs (x : Expr × PartAt) : Type 0 where
-  pub value : (g : Bytes) (m : ℕ) → (seen (x.1 g m)).make (comments_of x.0) (has_break x.0) ≡ with_flags x.0
-  pub sign : (g : Bytes) (m : ℕ) → is_operator (plain (seen (x.1 g m))) ≡ is_operator x.0
-  pub gap : (g : Bytes) (m : ℕ) → (seen (x.1 g m)).gap ≡ g
-  pub loose : (g : Bytes) (m : ℕ) → (seen (x.1 g m)).loose ≡ []
-  pub rooted : IsRooted x
-
-abbrev pub Reads : List (Expr × PartAt) → Type 0
-Reads xs = AllByRecursion SeenAs xs
-
-abbrev pub settled : List (Expr × PartAt) → List Expr
-settled xs = map (λ x. with_flags x.0) xs
 
 -- ---- truth values
 
@@ -96,14 +64,6 @@ gap_bare kind open_break m x ys = ap comments_in (gap_lines kind open_break m x 
 abbrev following : Kind → Bool → ℕ → Expr → List (Expr × PartAt) → List (Piece PartAt)
 following kind open_break m x ys = rowed kind open_break m (gap_after kind open_break m x (firsts ys)) (margin_after open_break m x) ys
 
-next_newline : (kind : Kind) (open_break : Bool) (m : ℕ) (x : Expr) (ys : List (Expr × PartAt)) → Reads ys → has_newline (first_seen_gap (look (following kind open_break m x ys))) ≡ ((open_break || has_break x) && not (is_empty (firsts ys)))
-next_newline kind open_break m x [] h = sym (and-false (open_break || has_break x))
-next_newline kind open_break m x (y ∷ ys) h = ap has_newline (h.0.gap (gap_after kind open_break m x (firsts (y ∷ ys))) (margin_after open_break m x)) ∙ gap_newline kind open_break m x (firsts (y ∷ ys))
-
-next_sign : (kind : Kind) (open_break : Bool) (m : ℕ) (g : Bytes) (n : ℕ) (ys : List (Expr × PartAt)) → Reads ys → begins_seen_operator (look (rowed kind open_break m g n ys)) ≡ operator_first (firsts ys)
-next_sign kind open_break m g n [] h = refl
-next_sign kind open_break m g n (y ∷ ys) h = h.0.sign g n
-
 last_next : (binary : Bool) (x : Expr) (xs : List Expr) → (binary && ends (x ∷ xs)) ≡ false → (binary && ends xs) ≡ false
 last_next binary x [] h = and-false binary
 last_next binary x (y ∷ ys) h = h
@@ -111,41 +71,6 @@ last_next binary x (y ∷ ys) h = h
 last_here : (binary : Bool) (x : Expr) (xs : List Expr) → (binary && ends (x ∷ xs)) ≡ false → is_empty xs ≡ true → (binary && is_operator x) ≡ false
 last_here binary x [] h e = h
 last_here binary x (y ∷ ys) h e = absurd (true≢false (sym e))
-
--- ---- rows
-
-pub row_back : (binary inside newline : Bool) (kind : Kind) (open_break : Bool) (m : ℕ) (g : Bytes) (n : ℕ) (xs : List (Expr × PartAt)) → Reads xs → AreParts binary (firsts xs) → (binary && ends (firsts xs)) ≡ false →
-    (binary ≡ true → open_break ≡ false) → ((binary && operator_first (firsts xs)) ≡ true → (if inside then newline else has_newline g) ≡ false) → row_exprs binary inside newline (look (rowed kind open_break m g n xs)) ≡ settled xs
-row_back binary inside newline kind open_break m g n [] r parts last o q = refl
-row_back binary inside newline kind open_break m g n (x ∷ xs) r parts last o q =
-    let s : Seen = seen (x.1 g n) in
-    let ss : List Seen = look (following kind open_break m x.0 xs) in
-    let operator : Bool = is_operator x.0 in
-    let before : Bool = if inside then newline else has_newline g in
-    let next : Bool = operator_first (firsts xs) in
-    let far : Bool = (open_break || has_break x.0) && not (is_empty (firsts xs)) in
-    let out : Bool → Bool → Bool → Bool → List Expr = (λ a b c d. s.make no_comments ((a && not c) && (b || d)) ∷ row_exprs binary a b ss) in
-    let rest : List Expr = row_exprs binary (binary && operator) before ss in
-    let fine : ((binary && operator) ≡ true → open_break ≡ false) = λ e. o (and_parts binary operator e).0 in
-    ap (λ z. out (binary && z) (if inside then newline else has_newline s.gap) (begins_seen_operator ss) (has_newline (first_seen_gap ss))) (r.0.sign g n) ∙
-    (ap (λ z. out (binary && operator) (if inside then newline else has_newline z) (begins_seen_operator ss) (has_newline (first_seen_gap ss))) (r.0.gap g n) ∙
-    (ap (λ z. out (binary && operator) before z (has_newline (first_seen_gap ss))) (next_sign kind open_break m (gap_after kind open_break m x.0 (firsts xs)) (margin_after open_break m x.0) xs r.1) ∙
-    (ap (λ z. out (binary && operator) before next z) (next_newline kind open_break m x.0 xs r.1) ∙
-    (ap (λ z. s.make no_comments z ∷ rest) (flag binary operator next before open_break (has_break x.0) (is_empty (firsts xs)) parts.1 q (last_here binary x.0 (firsts xs) last) fine) ∙
-    (ap (λ z. s.make z (has_break x.0) ∷ rest) (sym parts.0) ∙
-    (ap (λ z. z ∷ rest) (r.0.value g n) ∙
-    ap (λ z. with_flags x.0 ∷ z)
-    (row_back binary (binary && operator) before kind open_break m (gap_after kind open_break m x.0 (firsts xs)) (margin_after open_break m x.0) xs r.1 parts.2 (last_next binary x.0 (firsts xs) last) o
-    (λ e. ap (λ z. if binary && operator then before else z) (gap_newline kind open_break m x.0 (firsts xs)) ∙ quiet_next binary operator next before open_break (has_break x.0) (is_empty (firsts xs)) parts.1 q o e))))))))
-
--- nothing is loose in a row
-pub row_loose : (kind : Kind) (open_break : Bool) (m : ℕ) (g : Bytes) (n : ℕ) (xs : List (Expr × PartAt)) → Reads xs → all_in g ≡ [] → loose_after (look (rowed kind open_break m g n xs)) ≡ []
-row_loose kind open_break m g n [] r q = refl
-row_loose kind open_break m g n (x ∷ xs) r q =
-    let s : Seen = seen (x.1 g n) in
-    let rest : List Bytes = loose_after (look (following kind open_break m x.0 xs)) in
-    ap (λ z. (all_in z ++ s.loose) ++ rest) (r.0.gap g n) ∙
-    (ap (λ z. (z ++ s.loose) ++ rest) q ∙ (ap (λ z. z ++ rest) (r.0.loose g n) ∙ row_loose kind open_break m (gap_after kind open_break m x.0 (firsts xs)) (margin_after open_break m x.0) xs r.1 (gap_bare kind open_break m x.0 (firsts xs))))
 
 -- ---- open comprehensions
 
@@ -172,10 +97,72 @@ only_open : (open_break break last : Bool) → break ≡ false → last ≡ fals
 only_open true break last b l = ap (λ z. not z) l
 only_open false break last b l = ap (λ z. z && not last) b
 
--- a comprehension is open exactly where a new line begins after its bracket
-pub open_back : (kind : Kind) (open_break : Bool) (m : ℕ) (g : Bytes) (n : ℕ) (xs : List (Expr × PartAt)) → Reads xs → AreParts (is_binary kind) (firsts xs) → (is_comprehension kind ≡ true → is_empty (after_first (firsts xs)) ≡ false) →
-    (open_break ≡ true → is_comprehension kind ≡ true) → (is_comprehension kind && is_open (look (rowed kind open_break m g n xs))) ≡ open_break
-open_back kind open_break m g n [] r parts second opens = opened (is_comprehension kind) open_break false opens (λ e. absurd (true≢false (second e)))
-open_back kind open_break m g n (x ∷ xs) r parts second opens =
-    opened (is_comprehension kind) open_break (is_open (look (rowed kind open_break m g n (x ∷ xs)))) opens
-    (λ e. next_newline kind open_break m x.0 xs r.1 ∙ only_open open_break (has_break x.0) (is_empty (firsts xs)) (unbroken (is_binary kind) x.0 (firsts xs) (not_binary kind e) parts) (second e))
+module _ (mode : Lines) where
+  -- What is laid out of an expression is seen as the expression with its flags settled; the gap comes back, and no comment is loose.
+  pub record SeenAs (x : Expr × PartAt) : Type 0 where
+    pub value : (g : Bytes) (m : ℕ) → (seen (x.1 g m)).make (comments_of x.0) (has_break x.0) ≡ with_flags_in mode x.0
+    pub sign : (g : Bytes) (m : ℕ) → is_operator (plain (seen (x.1 g m))) ≡ is_operator x.0
+    pub gap : (g : Bytes) (m : ℕ) → (seen (x.1 g m)).gap ≡ g
+    pub loose : (g : Bytes) (m : ℕ) → (seen (x.1 g m)).loose ≡ []
+    pub rooted : IsRooted x
+
+  abbrev pub Reads : List (Expr × PartAt) → Type 0
+  Reads xs = AllByRecursion SeenAs xs
+
+  abbrev pub settled : List (Expr × PartAt) → List Expr
+  settled xs = map (λ x. with_flags_in mode x.0) xs
+
+  -- ---- gaps in rows
+
+  next_newline : (kind : Kind) (open_break : Bool) (m : ℕ) (x : Expr) (ys : List (Expr × PartAt)) → Reads ys → has_newline (first_seen_gap (look (following kind open_break m x ys))) ≡ ((open_break || has_break x) && not (is_empty (firsts ys)))
+  next_newline kind open_break m x [] h = sym (and-false (open_break || has_break x))
+  next_newline kind open_break m x (y ∷ ys) h = ap has_newline (h.0.gap (gap_after kind open_break m x (firsts (y ∷ ys))) (margin_after open_break m x)) ∙ gap_newline kind open_break m x (firsts (y ∷ ys))
+
+  next_sign : (kind : Kind) (open_break : Bool) (m : ℕ) (g : Bytes) (n : ℕ) (ys : List (Expr × PartAt)) → Reads ys → begins_seen_operator (look (rowed kind open_break m g n ys)) ≡ operator_first (firsts ys)
+  next_sign kind open_break m g n [] h = refl
+  next_sign kind open_break m g n (y ∷ ys) h = h.0.sign g n
+
+  -- ---- rows
+
+  pub row_back : (binary inside newline : Bool) (kind : Kind) (open_break : Bool) (m : ℕ) (g : Bytes) (n : ℕ) (xs : List (Expr × PartAt)) → Reads xs → AreParts binary (firsts xs) → (binary && ends (firsts xs)) ≡ false →
+      (binary ≡ true → open_break ≡ false) → ((binary && operator_first (firsts xs)) ≡ true → (if inside then newline else has_newline g) ≡ false) → row_exprs binary inside newline (look (rowed kind open_break m g n xs)) ≡ settled xs
+  row_back binary inside newline kind open_break m g n [] r parts last o q = refl
+  row_back binary inside newline kind open_break m g n (x ∷ xs) r parts last o q =
+      let s : Seen = seen (x.1 g n) in
+      let ss : List Seen = look (following kind open_break m x.0 xs) in
+      let operator : Bool = is_operator x.0 in
+      let before : Bool = if inside then newline else has_newline g in
+      let next : Bool = operator_first (firsts xs) in
+      let far : Bool = (open_break || has_break x.0) && not (is_empty (firsts xs)) in
+      let out : Bool → Bool → Bool → Bool → List Expr = (λ a b c d. s.make no_comments ((a && not c) && (b || d)) ∷ row_exprs binary a b ss) in
+      let rest : List Expr = row_exprs binary (binary && operator) before ss in
+      let fine : ((binary && operator) ≡ true → open_break ≡ false) = λ e. o (and_parts binary operator e).0 in
+      ap (λ z. out (binary && z) (if inside then newline else has_newline s.gap) (begins_seen_operator ss) (has_newline (first_seen_gap ss))) (r.0.sign g n) ∙
+      (ap (λ z. out (binary && operator) (if inside then newline else has_newline z) (begins_seen_operator ss) (has_newline (first_seen_gap ss))) (r.0.gap g n) ∙
+      (ap (λ z. out (binary && operator) before z (has_newline (first_seen_gap ss))) (next_sign kind open_break m (gap_after kind open_break m x.0 (firsts xs)) (margin_after open_break m x.0) xs r.1) ∙
+      (ap (λ z. out (binary && operator) before next z) (next_newline kind open_break m x.0 xs r.1) ∙
+      (ap (λ z. s.make no_comments z ∷ rest) (flag binary operator next before open_break (has_break x.0) (is_empty (firsts xs)) parts.1 q (last_here binary x.0 (firsts xs) last) fine) ∙
+      (ap (λ z. s.make z (has_break x.0) ∷ rest) (sym parts.0) ∙
+      (ap (λ z. z ∷ rest) (r.0.value g n) ∙
+      ap (λ z. with_flags_in mode x.0 ∷ z)
+      (row_back binary (binary && operator) before kind open_break m (gap_after kind open_break m x.0 (firsts xs)) (margin_after open_break m x.0) xs r.1 parts.2 (last_next binary x.0 (firsts xs) last) o
+      (λ e. ap (λ z. if binary && operator then before else z) (gap_newline kind open_break m x.0 (firsts xs)) ∙ quiet_next binary operator next before open_break (has_break x.0) (is_empty (firsts xs)) parts.1 q o e))))))))
+
+  -- nothing is loose in a row
+  pub row_loose : (kind : Kind) (open_break : Bool) (m : ℕ) (g : Bytes) (n : ℕ) (xs : List (Expr × PartAt)) → Reads xs → all_in g ≡ [] → loose_after (look (rowed kind open_break m g n xs)) ≡ []
+  row_loose kind open_break m g n [] r q = refl
+  row_loose kind open_break m g n (x ∷ xs) r q =
+      let s : Seen = seen (x.1 g n) in
+      let rest : List Bytes = loose_after (look (following kind open_break m x.0 xs)) in
+      ap (λ z. (all_in z ++ s.loose) ++ rest) (r.0.gap g n) ∙
+      (ap (λ z. (z ++ s.loose) ++ rest) q ∙ (ap (λ z. z ++ rest) (r.0.loose g n) ∙ row_loose kind open_break m (gap_after kind open_break m x.0 (firsts xs)) (margin_after open_break m x.0) xs r.1 (gap_bare kind open_break m x.0 (firsts xs))))
+
+  -- ---- open comprehensions
+
+  -- a comprehension is open exactly where a new line begins after its bracket
+  pub open_back : (kind : Kind) (open_break : Bool) (m : ℕ) (g : Bytes) (n : ℕ) (xs : List (Expr × PartAt)) → Reads xs → AreParts (is_binary kind) (firsts xs) → (is_comprehension kind ≡ true → is_empty (after_first (firsts xs)) ≡ false) →
+      (open_break ≡ true → is_comprehension kind ≡ true) → (is_comprehension kind && is_open (look (rowed kind open_break m g n xs))) ≡ open_break
+  open_back kind open_break m g n [] r parts second opens = opened (is_comprehension kind) open_break false opens (λ e. absurd (true≢false (second e)))
+  open_back kind open_break m g n (x ∷ xs) r parts second opens =
+      opened (is_comprehension kind) open_break (is_open (look (rowed kind open_break m g n (x ∷ xs)))) opens
+      (λ e. next_newline kind open_break m x.0 xs r.1 ∙ only_open open_break (has_break x.0) (is_empty (firsts xs)) (unbroken (is_binary kind) x.0 (firsts xs) (not_binary kind e) parts) (second e))

@@ -1,15 +1,6 @@
 -- Whole lines of comments at file level: their groups, and the Blocks that wait in a gap.
-use Rattle.std.proofs.Common.{◌≡◌, List, [], ◌∷◌, ◌++◌, refl, sym, ap, ◌∙◌, append_assoc, append-nil}
-use Rattle.std.specs.Prelude.{Option, None, Some}
-use Rattle.std.specs.List.{AllByRecursion}
-use Rattle.bz_layout.specs.Words.{Item, Bytes, line_feed}
-use Rattle.bz_value.specs.declared.value.Item.TheVariants as i
-use Rattle.bz_value.specs.Gaps.{GapLine, lines_of, before_groups, groups_of, all_but_last, last_group}
-use Rattle.bz_value.specs.Proper.{IsComment}
-use Rattle.bz_hosts.specs.Seen.{blocks}
-use Rattle.bz_layout.specs.Written.{comment_lines}
-use Rattle.bz_layout.proofs.Gapped.{ended_line, commented, comment_line}
-use Rattle.bz_layout.proofs.Made.{two}
+use Rattle.bz_layout.proofs.Words.{[], ◌++◌, ◌∙◌, ◌∷◌, ◌≡◌, all_but_last, AllByRecursion, ap, append-nil, append_assoc, before_groups, blocks, Bytes, comment_lines, GapLine, groups_of, IsComment, Item, Item as i, last_group, line_feed, lines_of, List, None, Option, refl, Some, sym}
+use Rattle.bz_layout.proofs.{Gapped.ended_line, Gapped.commented, Gapped.comment_line, Made.two}
 
 -- ---- whole lines
 

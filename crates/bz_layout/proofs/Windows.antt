@@ -1,16 +1,7 @@
 -- The lines in front of a place, how many there are, and the gap before it.
-use Rattle.std.proofs.Common.{ℕ, zero, suc, Bool, true, false, ◌≡◌, ◌<◌, ◌≤◌, ◌+◌, ◌-◌, List, [], ◌∷◌, ◌++◌, length, get_or, take, drop, count_by, cond, refl, sym, ap, ◌∙◌, arith, append_assoc}
-use Rattle.std.proofs.lemmas.List.{drop_more, take-append-drop, drop-drop}
+use Rattle.bz_layout.proofs.Words.{[], ◌++◌, ◌+◌, ◌-◌, ◌<◌, ◌∙◌, ◌∷◌, ◌≡◌, ◌≤◌, ℕ, AllByRecursion, ap, append_assoc, arith, before_next, Bool, Bytes, comment_lines, cond, count_by, drop, drop-drop, drop_more, Expr, false, gap_between, get_or, indented_lines, IsProperBuildItem, Item, Item as i, left_gap, left_of, length, line_count_in, line_part, Lines, lines_from, List, Part, refl, statement_gap, suc, sym, take, take-append-drop, true, zero}
 use Rattle.std.proofs.lemmas.List.Recursion.{is_count_by}
-use Rattle.std.specs.List.{AllByRecursion}
-use Rattle.bz_layout.specs.Words.{Part, Expr, Item, Bytes}
-use Rattle.bz_value.specs.declared.value.Item.TheVariants as i
-use Rattle.bz_layout.specs.Written.{gap_between, comment_lines, indented_lines}
-use Rattle.bz_layout.specs.LaidOut.{left_of, line_part, left_gap, before_next, lines_from}
-use Rattle.bz_layout.specs.private.Reached.{IsProperBuildItem}
-use Rattle.bz_layout.specs.private.Windows.{line_count_in, statement_gap}
-use Rattle.bz_layout.proofs.BuildLaid.{build_plain}
-use Rattle.bz_layout.proofs.Made.{plain_first}
+use Rattle.bz_layout.proofs.{BuildLaid.build_plain, Made.plain_first}
 
 -- ---- a window of a list
 
@@ -28,7 +19,7 @@ module _ {X : Type 0} (size : List X → ℕ) (joined : ℕ → ℕ → ℕ) (ap
 -- an item's own line
 abbrev own_lines : Bytes → Item → List Part
 own_lines gap (i.Block texts) = []
-own_lines gap (i.Stmt x) = line_part gap x ∷ []
+own_lines gap (i.Stmt x) = line_part Lines.Counted gap x ∷ []
 
 abbrev pub front_lines : Bytes → ℕ → List Item → List Part
 front_lines gap zero items = []
@@ -37,7 +28,7 @@ front_lines gap (suc n) (item ∷ items) = own_lines gap item ++ front_lines (le
 
 lines_first : (gap : Bytes) (x : Item) (xs : List Item) → IsProperBuildItem x → lines_from gap (x ∷ xs) ≡ own_lines gap x ++ lines_from (left_gap gap x ++ before_next x xs) xs
 lines_first gap (i.Block texts) xs p = refl
-lines_first gap (i.Stmt x) xs p = plain_first gap x xs (build_plain x p.1)
+lines_first gap (i.Stmt x) xs p = plain_first Lines.Counted gap x xs (build_plain x p.1)
 
 pub lines_cut : (gap : Bytes) (n : ℕ) (xs : List Item) → AllByRecursion IsProperBuildItem xs → n ≤ length xs → lines_from gap xs ≡ front_lines gap n xs ++ lines_from (statement_gap gap n xs) (drop n xs)
 lines_cut gap zero xs p h = refl

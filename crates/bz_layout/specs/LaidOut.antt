@@ -5,8 +5,10 @@ use Rattle.bz_layout.specs.Words.{Kind, Node, Part, Node', items-the_row-Part, E
 use Rattle.bz_grammar.specs.declared.kind.Kind.TheVariants as k
 use Rattle.bz_grammar.specs.declared.tree.Part.TheVariants as p
 use Rattle.bz_value.specs.declared.value.Item.TheVariants as i
+use Rattle.bz_layout.specs.declared.breaks.Lines.{Lines}
+use Rattle.bz_layout.specs.declared.breaks.Lines.TheVariants as l
 use Rattle.bz_layout.specs.Layout.{Piece, mark, part, laid_in, firsts, margin_lines, suffix_text}
-use Rattle.bz_layout.specs.Written.{Indented, at_margin, indented_lines, comment_lines, gap_between}
+use Rattle.bz_layout.specs.Written.{Indented, at_margin, indented_lines, comment_lines, gap_between_in}
 
 -- ---- comments that are left after a statement: the end comments of its last suites
 
@@ -90,33 +92,38 @@ piece_part (mark gap token) = p.Leaf (record { class = c.Mark; gap = gap; token 
 piece_part (part gap m x) = x gap m
 
 -- kind, flags split and open, suffix, gap, margin, parts, items, end comments
-abbrev pub node_by_frame : Frame → Kind → Bool → Bool → Option Bytes → Bytes → ℕ → List (Expr × PartAt) → List (Expr × PartAt) → List Bytes → Part
-node_by_frame compound kind split open_break suffix gap m parts items end = suite_node suffix gap m parts items end
-node_by_frame f kind split open_break suffix gap m parts items end = p.Node (record { kind = kind; parts = map piece_part (laid_in f kind split open_break gap m parts items end) })
+abbrev pub node_by_frame : Lines → Frame → Kind → Bool → Bool → Option Bytes → Bytes → ℕ → List (Expr × PartAt) → List (Expr × PartAt) → List Bytes → Part
+node_by_frame lines compound kind split open_break suffix gap m parts items end = suite_node suffix gap m parts items end
+node_by_frame lines f kind split open_break suffix gap m parts items end =
+    p.Node (record { kind = kind; parts = map piece_part (laid_in lines f kind split open_break gap m parts items end) })
 
 abbrev mutual
-  pub part_of : Expr → PartAt
-  part_of (Token t) gap m = p.Leaf (record { class = t.class; gap = gap; token = t.text })
-  part_of (Form' kind s parts s' items end split open_break comments) gap m = node_by_frame (frame kind) kind split open_break comments.suffix gap m (parts_of parts) (parts_of items) end
+  pub part_of : Lines → Expr → PartAt
+  part_of lines (Token t) gap m = p.Leaf (record { class = t.class; gap = gap; token = t.text })
+  part_of lines (Form' kind s parts s' items end split open_break comments) gap m =
+      node_by_frame lines (frame kind) kind split open_break comments.suffix gap m (parts_of lines parts) (parts_of lines items) end
 
-  pub parts_of : {n : _} → Row_of-Expr n → List (Expr × PartAt)
-  parts_of end_of-Expr = []
-  parts_of (more_of-Expr x rest) = (x, part_of x) ∷ parts_of rest
+  pub parts_of : Lines → {n : _} → Row_of-Expr n → List (Expr × PartAt)
+  parts_of lines end_of-Expr = []
+  parts_of lines (more_of-Expr x rest) = (x, part_of lines x) ∷ parts_of lines rest
 
 -- each expression with what is laid out of it
-abbrev pub layouts : List Expr → List (Expr × PartAt)
-layouts xs = map (λ x. (x, part_of x)) xs
+abbrev pub layouts : Lines → List Expr → List (Expr × PartAt)
+layouts lines xs = map (λ x. (x, part_of lines x)) xs
 
 -- ---- the file
 
 -- the line of a statement without a suite
-abbrev pub line_part : Bytes → Expr → Part
-line_part gap x = p.Node (record { kind = k.Line; parts = part_of x (gap ++ comment_lines (comments_of x).before) 0 ∷ newline_part (comments_of x).suffix ∷ [] })
+abbrev pub line_part : Lines → Bytes → Expr → Part
+line_part lines gap x = p.Node (record { kind = k.Line; parts = part_of lines x (gap ++ comment_lines (comments_of x).before) 0 ∷ newline_part (comments_of x).suffix ∷ [] })
 
 -- the blank line before the next item
+abbrev pub before_next_in : Lines → Item → List Item → Bytes
+before_next_in lines item [] = []
+before_next_in lines item (next ∷ items) = gap_between_in lines item next
+
 abbrev pub before_next : Item → List Item → Bytes
-before_next item [] = []
-before_next item (next ∷ items) = gap_between item next
+before_next item items = before_next_in l.Counted item items
 
 -- the gap that an item without suites leaves to what follows
 abbrev pub left_gap : Bytes → Item → Bytes
@@ -124,11 +131,18 @@ left_gap gap (i.Block texts) = gap ++ comment_lines texts
 left_gap gap (i.Stmt x) = []
 
 -- the lines of the items, the first after this gap: a Block's lines are in the gap of what follows
+abbrev pub lines_from_in : Lines → Bytes → List Item → List Part
+lines_from_in lines gap [] = p.Leaf (record { class = c.End; gap = gap; token = [] }) ∷ []
+lines_from_in lines gap (i.Block texts ∷ items) = lines_from_in lines ((gap ++ comment_lines texts) ++ before_next_in lines (i.Block texts) items) items
+lines_from_in lines gap (i.Stmt x ∷ items) =
+    statement_part 0 gap (x, part_of lines x) ∷ lines_from_in lines (indented_lines (left_of 0 x) ++ before_next_in lines (i.Stmt x) items) items
+
 abbrev pub lines_from : Bytes → List Item → List Part
-lines_from gap [] = p.Leaf (record { class = c.End; gap = gap; token = [] }) ∷ []
-lines_from gap (i.Block texts ∷ items) = lines_from ((gap ++ comment_lines texts) ++ before_next (i.Block texts) items) items
-lines_from gap (i.Stmt x ∷ items) = statement_part 0 gap (x, part_of x) ∷ lines_from (indented_lines (left_of 0 x) ++ before_next (i.Stmt x) items) items
+lines_from gap items = lines_from_in l.Counted gap items
 
 -- the tree of the layout
+abbrev pub laid_out_in : Lines → List Item → Node
+laid_out_in lines items = record { kind = k.File; parts = lines_from_in lines [] items }
+
 abbrev pub laid_out : List Item → Node
-laid_out items = record { kind = k.File; parts = lines_from [] items }
+laid_out items = laid_out_in l.Counted items

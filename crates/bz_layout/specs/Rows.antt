@@ -1,13 +1,14 @@
 -- Worked rows: small file values and their layout, byte for byte.
 use Prim.Native.String.{String}
-use Rattle.std.specs.Prelude.{◌≡◌, Bool, true, false, List, [], ◌∷◌, codes, None, Some}
+use Rattle.std.specs.Prelude.{◌≡◌, Bool, true, false, List, [], ◌∷◌, codes, None, Option, Some}
 use Rattle.bz_token.specs.declared.class.Class.TheVariants as c
 use Rattle.bz_grammar.specs.declared.kind.Kind.TheVariants as k
 use Rattle.bz_layout.specs.Words.{Expr, Item, no_comments}
 use Rattle.bz_value.specs.declared.value.Item.TheVariants as i
 use Rattle.bz_hosts.specs.Worked.{with, token, name, number, string, mark, keyword, form, row, sequence, paren, comprehension, pair, argument, assigned, bare, calling, described, suite, function, on, documented, alternatives, ends, one_line, tabbed, parameters, defined}
-use Rattle.bz_layout.specs.Flags.{flags}
-use Rattle.bz_layout.specs.Written.{layout}
+use Rattle.bz_layout.specs.Flags.{flags, flags_in}
+use Rattle.bz_layout.specs.Written.{layout, layout_in}
+use Rattle.bz_layout.specs.declared.breaks.Lines.TheVariants as l
 
 -- ---- values
 
@@ -132,3 +133,33 @@ WorkedRows =
     × (flags documented ≡ documented) × (flags ends ≡ ends) × (flags (parameters false) ≡ parameters true)
     × (flags (taking true (a ∷ [])) ≡ taking true (a ∷ [])) × (flags (taking true []) ≡ taking false [])
     × (flags (nested false) ≡ nested true)
+
+-- ---- lines as they were written
+
+-- f of a name and of a starred one: split or not, with this suffix of the last
+abbrev starring : Bool → Option String → List Item
+starring split suffix =
+    i.Stmt (sequence k.Call split (name "f" ∷ []) (a ∷ form (with [] suffix) k.Star false false (mark "**" ∷ b ∷ []) [] [] ∷ [])) ∷ []
+
+abbrev WrittenRow : List Item → String → Type 0
+WrittenRow items text = layout_in l.Written items ≡ codes text
+
+abbrev pub WrittenRows : Type 0
+WrittenRows =
+    -- nothing is counted
+    WrittenRow (i.Stmt (assigned "a" (list (a ∷ b ∷ []))) ∷ []) "a = [a, b]\n"
+    × WrittenRow (nested false) "def f():\n    x = [a, b]\n    if g(a = 1, b = 2):\n        return\n"
+    -- a split sequence is broken, also one without items
+    × WrittenRow (call (a ∷ sequence k.List true [] [] ∷ []) ∷ []) "f(a, [\n])\n"
+    × WrittenRow (i.Stmt (assigned "a" (sequence k.List true [] (b ∷ []))) ∷ []) "a = [\n    b,\n]\n"
+    -- after a starred last argument no comma
+    × WrittenRow (starring false None) "f(a, **b)\n"
+    × WrittenRow (starring true None) "f(\n    a,\n    **b\n)\n"
+    × WrittenRow (starring true (Some "# c")) "f(\n    a,\n    **b  # c\n)\n"
+    -- parameters eight further, the bracket right after the last one, but where there are comments after it
+    × WrittenRow (taking true (a ∷ b ∷ [])) "def f(\n        a,\n        b):\n    y\n"
+    × WrittenRow (parameters false) "def f(\n        # above\n        a,  # a\n        *,\n        # last\n        **b,\n        # end\n):\n    pass\n"
+    -- between two items nothing, but after a Block
+    × WrittenRow (i.Block (codes "# a" ∷ []) ∷ call [] ∷ call [] ∷ i.Block (codes "# b" ∷ []) ∷ i.Block (codes "# c" ∷ []) ∷ []) "# a\n\nf()\nf()\n# b\n\n# c\n"
+    -- ---- flags
+    × (flags_in l.Written (nested false) ≡ nested false) × (flags_in l.Written (taking true []) ≡ taking true []) × (flags_in l.Written (parameters false) ≡ parameters true)

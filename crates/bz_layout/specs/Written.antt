@@ -3,6 +3,8 @@ use Rattle.std.specs.Prelude.{ℕ, Bool, ◌&&◌, ◌||◌, List, [], ◌∷◌
 use Rattle.std.specs.List.{flat_map}
 use Rattle.bz_layout.specs.Words.{Kind, has_kind, Expr, Token, Form', Row_of-Expr, end_of-Expr, more_of-Expr, Item, Bytes, colon, line_feed, space, is_empty, Frame, compound, frame, comments_of, has_suite}
 use Rattle.bz_grammar.specs.declared.kind.Kind.TheVariants as k
+use Rattle.bz_layout.specs.declared.breaks.Lines.{Lines}
+use Rattle.bz_layout.specs.declared.breaks.Lines.TheVariants as l
 use Rattle.bz_value.specs.declared.value.Item.TheVariants as i
 use Rattle.bz_layout.specs.Layout.{Piece, mark, part, laid_in, margin_lines, suffix_text}
 
@@ -53,40 +55,56 @@ piece_text (mark gap token) = gap ++ token
 piece_text (part gap m x) = gap ++ x m
 
 -- kind, flags split and open, suffix, margin, parts, items, end comments
-abbrev pub text_by_frame : Frame → Kind → Bool → Bool → Option Bytes → ℕ → List (Expr × TextAt) → List (Expr × TextAt) → List Bytes → Bytes
-text_by_frame compound kind split open_break suffix m parts items end = suite_text suffix m parts items end
-text_by_frame f kind split open_break suffix m parts items end = flat_map piece_text (laid_in f kind split open_break [] m parts items end)
+abbrev pub text_by_frame : Lines → Frame → Kind → Bool → Bool → Option Bytes → ℕ → List (Expr × TextAt) → List (Expr × TextAt) → List Bytes → Bytes
+text_by_frame lines compound kind split open_break suffix m parts items end = suite_text suffix m parts items end
+text_by_frame lines f kind split open_break suffix m parts items end = flat_map piece_text (laid_in lines f kind split open_break [] m parts items end)
 
 abbrev mutual
-  pub text_of : Expr → TextAt
-  text_of (Token t) m = t.text
-  text_of (Form' kind s parts s' items end split open_break comments) m = text_by_frame (frame kind) kind split open_break comments.suffix m (texts_of parts) (texts_of items) end
+  pub text_in : Lines → Expr → TextAt
+  text_in lines (Token t) m = t.text
+  text_in lines (Form' kind s parts s' items end split open_break comments) m =
+      text_by_frame lines (frame kind) kind split open_break comments.suffix m (texts_in lines parts) (texts_in lines items) end
 
-  pub texts_of : {n : _} → Row_of-Expr n → List (Expr × TextAt)
-  texts_of end_of-Expr = []
-  texts_of (more_of-Expr x rest) = (x, text_of x) ∷ texts_of rest
+  pub texts_in : Lines → {n : _} → Row_of-Expr n → List (Expr × TextAt)
+  texts_in lines end_of-Expr = []
+  texts_in lines (more_of-Expr x rest) = (x, text_in lines x) ∷ texts_in lines rest
+
+abbrev pub text_of : Expr → TextAt
+text_of x = text_in l.Counted x
 
 -- ---- the file
 
 -- A Block is its lines.
+abbrev pub item_text_in : Lines → Item → Bytes
+item_text_in lines (i.Block texts) = comment_lines texts
+item_text_in lines (i.Stmt x) = statement_text 0 (x, text_in lines x)
+
 abbrev pub item_text : Item → Bytes
-item_text (i.Block lines) = comment_lines lines
-item_text (i.Stmt x) = statement_text 0 (x, text_of x)
+item_text item = item_text_in l.Counted item
 
 abbrev pub are_both : Kind → Expr → Expr → Bool
 are_both kind x y = has_kind kind x && has_kind kind y
 
--- One blank line between two items; none where both are Loads or both are Assigns and the later has no comment above.
+-- Counted: one blank line between two items; none where both are Loads or both are Assigns and the later has no comment above. Written: one
+-- after a Block alone, which would be read as the comments of what follows.
+abbrev pub gap_between_in : Lines → Item → Item → Bytes
+gap_between_in lines (i.Block texts) y = line_feed ∷ []
+gap_between_in l.Written (i.Stmt x) y = []
+gap_between_in l.Counted (i.Stmt x) (i.Stmt y) = if (are_both k.Load x y || are_both k.Assign x y) && is_empty (comments_of y).before then [] else (line_feed ∷ [])
+gap_between_in l.Counted (i.Stmt x) (i.Block texts) = line_feed ∷ []
+
 abbrev pub gap_between : Item → Item → Bytes
-gap_between (i.Stmt x) (i.Stmt y) = if (are_both k.Load x y || are_both k.Assign x y) && is_empty (comments_of y).before then [] else (line_feed ∷ [])
-gap_between _ _ = line_feed ∷ []
+gap_between x y = gap_between_in l.Counted x y
 
 -- the items from here on, after an item
-abbrev pub past_item : Item → List Item → Bytes
-past_item item [] = []
-past_item item (next ∷ items) = gap_between item next ++ (item_text next ++ past_item next items)
+abbrev pub past_item : Lines → Item → List Item → Bytes
+past_item lines item [] = []
+past_item lines item (next ∷ items) = gap_between_in lines item next ++ (item_text_in lines next ++ past_item lines next items)
 
 -- the layout's text of a file value
+abbrev pub layout_in : Lines → List Item → Bytes
+layout_in lines [] = []
+layout_in lines (item ∷ items) = item_text_in lines item ++ past_item lines item items
+
 abbrev pub layout : List Item → Bytes
-layout [] = []
-layout (item ∷ items) = item_text item ++ past_item item items
+layout items = layout_in l.Counted items

@@ -6,6 +6,7 @@ ghost use Rattle.bz_value.specs.declared.value.Expr.TheVariants as e;
 ghost use Rattle.bz_rule.specs.private.Named.{fronts};
 ghost use Rattle.bz_layout.specs.Drafts.{pushed};
 ghost use Rattle.bz_layout.specs.private.Spines.{past_front, is_lone_token, row_written};
+ghost use Rattle.bz_layout.specs.declared.breaks.Lines.{Lines};
 
 use crate::draft::Draft;
 use crate::row_gaps::push_row_gap;
@@ -23,7 +24,7 @@ fn are_tokens(parts: &[Expr]) -> bool
 /// The form that a row begins with, where it is of names joined by dots and tokens alone follow.
 #[tactic(auto, using(crate::proofs::JoinedNames::front_row, crate::proofs::JoinedNames::front_is_less))]
 fn front_of(form: &Form) -> Option<&Form>
-    ensures row { IfSome result (λ front. (margin : ℕ) → row_written margin form.now ≡ row_written margin front.now ++ past_front margin form.now) }
+    ensures row { IfSome result (λ front. (lines : Lines) (margin : ℕ) → row_written lines margin form.now ≡ row_written lines margin front.now ++ past_front margin form.now) }
     ensures less { IfSome result (λ front. fronts (e.Form front.now) < fronts (e.Form form.now)) }
 {
     match form.parts.as_slice() {
@@ -48,7 +49,7 @@ fn push_past_front(out: &mut Draft, form: &Form, margin: usize) -> Result<(), Me
 
 /// Appends the row of names joined by dots, and says whether it is one; else nothing is appended. The error: a growth was refused.
 pub fn push_dotted(out: &mut Draft, form: &Form, margin: usize) -> Result<bool, Memory>
-    ensures dotted { result ≡ Ok true → out.new ≡ pushed out.old (row_written margin form.now) }
+    ensures dotted { result ≡ Ok true → (lines : Lines) → out.new ≡ pushed out.old (row_written lines margin form.now) }
     ensures other { result ≡ Ok false → out.new ≡ out.old }
 {
     let mut outer = Vec::new(form.parts.alloc());

@@ -6,7 +6,6 @@ ghost use Rattle.bz_layout.specs.Drafts.{drafted, pushed};
 ghost use Rattle.bz_layout.specs.Layout.{new_line_at, margin_lines, suffix_text, ended};
 ghost use Rattle.bz_layout.specs.Written.{at_margin, indented_lines};
 
-use crate::gaps::deeper_margin;
 use bz_items::{Memory, Text};
 use std::alloc::AllocError;
 use std::marker::Model;
@@ -113,12 +112,11 @@ impl Draft {
         Ok(())
     }
 
-    /// Appends the end comments of a sequence, and the line of its closing bracket at the margin. The error: a growth was refused.
+    /// Appends the end comments of a sequence at their margin, and the line of its closing bracket. The error: a growth was refused.
     #[tactic(auto, using(crate::proofs::Pushing::pushed_twice, crate::proofs::Writing::ended_next))]
-    pub fn push_ended(&mut self, texts: &[Text], margin: usize) -> Result<(), Memory>
-        ensures { OnOk result (self.new ≡ pushed self.old (ended margin texts.now)) }
+    pub fn push_ended(&mut self, texts: &[Text], inner: usize, margin: usize) -> Result<(), Memory>
+        ensures { OnOk result (self.new ≡ pushed self.old (ended inner margin texts.now)) }
     {
-        let inner = deeper_margin(margin)?;
         for text in texts {
             self.push_new_line(inner)?;
             self.push_bytes(text.as_slice())?;

@@ -2,10 +2,13 @@
 ghost use Rattle.std.specs.Prelude.{◌≡◌, ◌++◌, ◌+◌, ◌-◌, ◌≤◌, drop, length, OnOk, IfOk};
 ghost use Rattle.bz_items.specs.Characters.{Bytes};
 ghost use Rattle.bz_layout.specs.LaidOut.{before_next, left_gap};
+ghost use Rattle.bz_layout.specs.Layout as layout;
 ghost use Rattle.bz_layout.specs.Written.{comment_lines};
 ghost use Rattle.bz_layout.specs.private.Windows.{statement_gap};
 
+use crate::breaks::{Lines, has_far_items};
 use crate::spaces::blank_before;
+use bz_grammar::Kind;
 use bz_items::{Memory, Text};
 use bz_value::Item;
 use std::alloc::AllocError;
@@ -15,6 +18,16 @@ pub fn deeper_margin(margin: usize) -> Result<usize, Memory>
     ensures { IfOk result (λ inner. inner ≡ margin + 4) }
 {
     margin.checked_add(4).ok_or(AllocError)
+}
+
+/// The margin of the items of a broken sequence of the kind. The error: no text is that wide.
+pub fn item_margin(lines: Lines, kind: Kind, margin: usize) -> Result<usize, Memory>
+    ensures { IfOk result (λ inner. inner ≡ layout.item_margin lines kind margin) }
+{
+    if has_far_items(lines, kind) {
+        return margin.checked_add(8).ok_or(AllocError);
+    }
+    deeper_margin(margin)
 }
 
 /// Appends comment lines, each with its newline. The error: a growth was refused.
@@ -36,7 +49,7 @@ pub fn leave_gap(gap: &mut Vec<u8>, item: &Item, others: &[Item]) -> Result<(), 
         Item::Block(texts) => push_comments(gap, texts.as_slice())?,
         Item::Stmt(_) => gap.clear(),
     }
-    gap.extend_from_slice(blank_before(Some(item), others))
+    gap.extend_from_slice(blank_before(Lines::Counted, Some(item), others))
 }
 
 /// From which of the first items on they decide what gap is after them: a statement leaves nothing of the one before it.

@@ -1,6 +1,7 @@
 ghost use Rattle.bz_layout.specs.Appended.{DepthsJoin, LayoutsJoin};
-ghost use Rattle.bz_layout.specs.Laws.{BuildLayoutIsBuild, FlagsKeepLayout, LayoutIsAccepted, LayoutIsTooDeep, LayoutReadsBack};
-ghost use Rattle.bz_layout.specs.Rows.{WorkedRows};
+ghost use Rattle.bz_layout.specs.Laws.{BuildLayoutIsBuild, FlagsKeepLayout, FlagsKeepLayoutIn, LayoutIsAccepted, LayoutIsAcceptedIn, LayoutIsTooDeep, LayoutIsTooDeepIn, LayoutReadsBack, LayoutReadsBackIn};
+ghost use Rattle.bz_layout.specs.Rows.{WorkedRows, WrittenRows};
+ghost use Rattle.bz_layout.specs.declared.breaks.Lines.{Lines};
 
 /// Settling the flags of a file value leaves its layout and the tree of it as they are, and keeps
 /// it proper.
@@ -8,10 +9,21 @@ pub fn flags_keep_layout()
     ensures { FlagsKeepLayout }
 {}
 
+/// The same with any lines.
+pub fn flags_keep_layout_in()
+    ensures { (lines : Lines) → FlagsKeepLayoutIn lines }
+{}
+
 /// The layout of a proper file value reads as its tree, where it is within the limits of length and depth.
 #[tactic(auto, using(crate::proofs::Accepting::accepted))]
 pub fn layout_is_accepted()
     ensures { LayoutIsAccepted }
+{}
+
+/// The same with any lines.
+#[tactic(auto, using(crate::proofs::Accepting::accepted))]
+pub fn layout_is_accepted_in()
+    ensures { (lines : Lines) → LayoutIsAcceptedIn lines }
 {}
 
 /// The tree of the layout of a BUILD file's value is one of a BUILD file.
@@ -26,10 +38,22 @@ pub fn layout_is_too_deep()
     ensures { LayoutIsTooDeep }
 {}
 
+/// The same with any lines.
+#[tactic(auto, using(crate::proofs::Accepting::too_deep))]
+pub fn layout_is_too_deep_in()
+    ensures { (lines : Lines) → LayoutIsTooDeepIn lines }
+{}
+
 /// The tree of the layout of a proper file value has that value, with its flags settled, as its view.
 #[tactic(auto, using(crate::proofs::BackFiles::items_read_back))]
 pub fn layout_reads_back()
     ensures { LayoutReadsBack }
+{}
+
+/// The same with any lines.
+#[tactic(auto, using(crate::proofs::BackFiles::items_read_back))]
+pub fn layout_reads_back_in()
+    ensures { (lines : Lines) → LayoutReadsBackIn lines }
 {}
 
 /// The layout of items after others is their own, after that of the others and the blank line between.
@@ -42,4 +66,9 @@ pub fn layouts_join()
 /// Small file values have the layout that they are to have, byte for byte; and the flags of some are settled as they are to be.
 pub fn worked_rows()
     ensures { WorkedRows }
+{}
+
+/// The same of lines as they were written.
+pub fn written_rows()
+    ensures { WrittenRows }
 {}

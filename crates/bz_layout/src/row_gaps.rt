@@ -3,8 +3,9 @@ ghost use Rattle.std.specs.Prelude.{◌≡◌, ◌++◌, ◌∷◌, [], ℕ, cod
 ghost use Rattle.bz_value.specs.Proper.{has_break};
 ghost use Rattle.bz_layout.specs.Drafts.{pushed};
 ghost use Rattle.bz_layout.specs.Layout as layout;
-ghost use Rattle.bz_layout.specs.Written.{text_of};
+ghost use Rattle.bz_layout.specs.Written.{text_in};
 ghost use Rattle.bz_layout.specs.private.Writings.{row_text};
+ghost use Rattle.bz_layout.specs.declared.breaks.Lines.{Lines};
 
 use crate::draft::Draft;
 use crate::gaps::deeper_margin;
@@ -22,8 +23,8 @@ fn has_break(expr: &Expr) -> bool
 /// Whether these parts are a name, the sign `=` and a value on its line, as those of most rows are.
 #[tactic(auto, using(crate::proofs::Writing::assignment_text))]
 pub fn is_assignment(form: &Form, name: &Expr, sign: &Expr, value: &Expr) -> bool
-    ensures { IsTrue result → (margin : ℕ) → row_text form.now.kind form.now.open_break margin margin (name.now ∷ sign.now ∷ value.now ∷ [])
-        ≡ text_of name.now margin ++ (codes " = " ++ text_of value.now margin) }
+    ensures { IsTrue result → (lines : Lines) (margin : ℕ) → row_text lines form.now.kind form.now.open_break margin margin (name.now ∷ sign.now ∷ value.now ∷ [])
+        ≡ text_in lines name.now margin ++ (codes " = " ++ text_in lines value.now margin) }
 {
     if form.open_break || has_break(name) || has_break(sign) {
         return false;

@@ -2,13 +2,14 @@ ghost use Rattle.std.specs.Prelude.{◌≡◌, ◌<◌, ◌≤◌, ◌++◌, IfO
 ghost use Rattle.bz_grammar.specs.Spell.{depth_of, limit, depth_limit};
 ghost use Rattle.bz_layout.specs.Appended.{gap_below};
 ghost use Rattle.bz_layout.specs.Drafts.{pushed};
-ghost use Rattle.bz_layout.specs.LaidOut.{laid_out};
-ghost use Rattle.bz_layout.specs.Written.{layout};
+ghost use Rattle.bz_layout.specs.LaidOut.{laid_out, laid_out_in};
+ghost use Rattle.bz_layout.specs.Written.{layout, layout_in};
 
+use crate::breaks::Lines;
 use crate::depth::are_items_within;
 use crate::draft::Draft;
 use crate::spaces::blank_before;
-use crate::texts::push_items;
+use crate::texts::push_items_in;
 use bz_grammar::{DEPTH_LIMIT, LENGTH_LIMIT};
 use bz_items::Text;
 use bz_value::Item;
@@ -53,15 +54,15 @@ pub fn append_items(out: &mut Draft, above: &Option<Item>, items: &[Item]) -> Op
     if !are_items_within(items, LINE_DEPTH) {
         return None;
     }
-    out.push_bytes(blank_before(above.as_ref(), items)).ok()?;
-    push_items(out, items).ok()?;
+    out.push_bytes(blank_before(Lines::Counted, above.as_ref(), items))
+        .ok()?;
+    push_items_in(out, Lines::Counted, items).ok()?;
     Some(())
 }
 
 /// The layout of items, as text, with no tree made for it: `about` how many bytes it has, by estimate, is the room that it begins
 /// with, and some more, since a text that doubles holds as much again. Errors: `TooLarge` exactly where the layout is past the limit
 /// of a text, else `TooDeep` exactly where its tree would be past the limit of depth; `Memory`: a growth was refused.
-#[tactic(auto, using(crate::proofs::Deep::laid_out_depth))]
 pub fn text_of_items(alloc: Global, items: &[Item], about: usize) -> Result<Text, SetFault>
     ensures text { IfOk result (λ text. text ≡ layout items.now) }
     ensures short { IfOk result (λ _. length (layout items.now) ≤ limit) }
@@ -69,9 +70,26 @@ pub fn text_of_items(alloc: Global, items: &[Item], about: usize) -> Result<Text
     ensures too_large { result ≡ Err SetFault.TooLarge → limit < length (layout items.now) }
     ensures too_deep { result ≡ Err SetFault.TooDeep → (length (layout items.now) ≤ limit) × (depth_limit < depth_of (laid_out items.now)) }
 {
+    text_of_items_in(alloc, Lines::Counted, items, about)
+}
+
+/// `text_of_items` with these lines.
+#[tactic(auto, using(crate::proofs::Deep::laid_out_depth))]
+pub fn text_of_items_in(
+    alloc: Global,
+    lines: Lines,
+    items: &[Item],
+    about: usize,
+) -> Result<Text, SetFault>
+    ensures text { IfOk result (λ text. text ≡ layout_in lines items.now) }
+    ensures short { IfOk result (λ _. length (layout_in lines items.now) ≤ limit) }
+    ensures shallow { IfOk result (λ _. depth_of (laid_out_in lines items.now) ≤ depth_limit) }
+    ensures too_large { result ≡ Err SetFault.TooLarge → limit < length (layout_in lines items.now) }
+    ensures too_deep { result ≡ Err SetFault.TooDeep → (length (layout_in lines items.now) ≤ limit) × (depth_limit < depth_of (laid_out_in lines items.now)) }
+{
     let room = Vec::with_capacity(alloc, about.saturating_add(about / 4))?;
     let mut out = Draft::new(room, LENGTH_LIMIT);
-    push_items(&mut out, items)?;
+    push_items_in(&mut out, lines, items)?;
     let bytes = out.into_bytes().ok_or(SetFault::TooLarge)?;
     if !are_items_within(items, LINE_DEPTH) {
         return Err(SetFault::TooDeep);

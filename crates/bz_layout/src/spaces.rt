@@ -3,11 +3,11 @@ ghost use Rattle.std.specs.Prelude.{◌≡◌, ◌∷◌, [], if◌then◌else�
 ghost use Rattle.std.specs.Option.{option_copied};
 ghost use Rattle.bz_layout.specs.Words.{line_feed, root};
 ghost use Rattle.bz_grammar.specs.Shapes as shapes;
-ghost use Rattle.bz_layout.specs.Appended.{gap_below};
+ghost use Rattle.bz_layout.specs.Appended.{gap_below_in};
 ghost use Rattle.bz_layout.specs.Spaces as spaces;
 ghost use Rattle.bz_layout.specs.Written as written;
 
-use crate::breaks::is_of_kind;
+use crate::breaks::{Lines, is_of_kind};
 use bz_grammar::{Class, Kind};
 use bz_value::{Expr, Item};
 
@@ -107,8 +107,8 @@ pub fn is_spaced(kind: Kind, left: &Expr, right: &Expr) -> bool
         || is_number(left) && has_mark(b".", right)
 }
 
-/// Whether a statement is right below another, with no blank line between.
-fn is_close(above: &Expr, below: &Expr) -> bool
+/// Whether a statement is right below another, with no blank line between, as lines are counted.
+fn are_close(above: &Expr, below: &Expr) -> bool
     ensures { (if result then [] else (line_feed ∷ [])) ≡ written.gap_between (Item.Stmt above.now) (Item.Stmt below.now) }
 {
     below.comments().before().is_empty()
@@ -116,13 +116,24 @@ fn is_close(above: &Expr, below: &Expr) -> bool
             || is_of_kind(Kind::Assign, above) && is_of_kind(Kind::Assign, below))
 }
 
+/// Whether an item is right below another, with no blank line between.
+fn is_close(lines: Lines, above: &Item, below: &Item) -> bool
+    ensures { (if result then [] else (line_feed ∷ [])) ≡ written.gap_between_in lines above.now below.now }
+{
+    match (lines, above, below) {
+        (_, Item::Block(_), _) | (Lines::Counted, _, Item::Block(_)) => false,
+        (Lines::Written, Item::Stmt(_), _) => true,
+        (Lines::Counted, Item::Stmt(above), Item::Stmt(below)) => are_close(above, below),
+    }
+}
+
 /// What is between an item, where there is one, and those that follow: a blank line, or nothing.
-pub fn blank_before(item: Option<&Item>, others: &[Item]) -> &'static [u8]
-    ensures { result.now ≡ gap_below (option_copied item.entry) others.now }
+pub fn blank_before(lines: Lines, item: Option<&Item>, others: &[Item]) -> &'static [u8]
+    ensures { result.now ≡ gap_below_in lines (option_copied item.entry) others.now }
 {
     match (item, others) {
         (None, _) | (_, []) => b"",
-        (Some(Item::Stmt(above)), [Item::Stmt(below), ..]) if is_close(above, below) => b"",
+        (Some(above), [below, ..]) if is_close(lines, above, below) => b"",
         _ => b"\n",
     }
 }

@@ -8,10 +8,11 @@ ghost use Rattle.bz_layout.specs.Written as written;
 ghost use Rattle.bz_layout.specs.private.Reached.{AreReached, HasGap, HasNext, IsAt, IsPut, Passes, own_text};
 ghost use Rattle.bz_layout.specs.private.Windows.{AreCounted, HaveLines};
 
+use crate::breaks::Lines;
 use crate::draft::Draft;
 use crate::gaps::{leave_gap, pass_over, push_comments};
 use crate::line_windows::{count_lines, lines_in, split_window};
-use crate::texts::push_statement;
+use crate::texts::push_statement_in;
 use bz_grammar::{LENGTH_LIMIT, Part, first_of};
 use bz_items::{Items, Memory, Text};
 use bz_value::{Item, Window};
@@ -117,7 +118,7 @@ fn put_item(window: &mut OpenWindow, item: &Item, others: &[Item]) -> Result<(),
 {
     if let Item::Stmt(expr) = item {
         window.text.push_bytes(&window.gap)?;
-        push_statement(&mut window.text, expr)?;
+        push_statement_in(&mut window.text, Lines::Counted, expr)?;
     }
     leave_gap(&mut window.gap, item, others)?;
     window.is_open = true;

@@ -1,7 +1,4 @@
-use Rattle.std.proofs.Common.{◌≡◌, ◌+◌, length, flat_map, refl, sym, ◌∙◌, subst, arith}
-use Rattle.std.proofs.lemmas.Option.{same_Some}
-use Rattle.std.specs.Option.{IsSome}
-use Rattle.bz_grammar.specs.Spell.{spell_part}
+use Rattle.bz_layout.proofs.Words.{◌+◌, ◌∙◌, ◌≡◌, arith, flat_map, IsSome, length, refl, same_Some, spell_part, subst, sym}
 use Rattle.bz_layout.proofs.Reaching.{within_fits, gone_turn}
 use Rattle.bz_layout.proofs.changed.length_gone.Goals as goal
 

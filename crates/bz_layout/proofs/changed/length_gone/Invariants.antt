@@ -1,6 +1,4 @@
-use Rattle.std.proofs.Common.{◌≡◌, ◌+◌, drop, flat_map, length, ◌≤◌}
-use Rattle.bz_grammar.specs.Spell.{limit, spell_part}
-use Rattle.bz_layout.specs.private.Reached.{gone_length}
+use Rattle.bz_layout.proofs.Words.{◌+◌, ◌≡◌, ◌≤◌, drop, flat_map, gone_length, length, limit, spell_part}
 use Rattle.bz_layout.proofs.changed.length_gone.Given as goal
 
 abbrev pub invariant-loop-window : goal.invariant-loop-window

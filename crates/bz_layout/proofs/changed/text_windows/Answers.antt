@@ -1,7 +1,4 @@
-use Rattle.std.proofs.Common.{◌≡◌, ◌≤◌, ◌<◌, length, ap, sym, ◌∙◌, subst, arith}
-use Rattle.bz_layout.specs.Words.{limit, depth_limit, depth_of, spell_node, IsProper, AreOver}
-use Rattle.bz_layout.specs.LaidOut.{laid_out}
-use Rattle.bz_layout.specs.Written.{layout}
+use Rattle.bz_layout.proofs.Words.{◌<◌, ◌∙◌, ◌≡◌, ◌≤◌, ap, AreOver, arith, depth_limit, depth_of, IsProper, laid_out, layout, length, limit, spell_node, subst, sym}
 use Rattle.bz_layout.proofs.Changes.{of_some, of_none, parts_put, whole_length}
 use Rattle.bz_layout.proofs.LineWindows.{shallow_over, deep_over}
 use Rattle.bz_layout.proofs.changed.text_windows.Goals as goal

@@ -1,5 +1,4 @@
-use Rattle.std.proofs.Common.{[], ◌∷◌, ap, sym, subst, ◌∙◌}
-use Rattle.bz_value.specs.Proper.{IsProper}
+use Rattle.bz_layout.proofs.Words.{[], ◌∙◌, ◌∷◌, ap, IsProper, subst, sym}
 use Rattle.bz_layout.proofs.Changes.{of_tree}
 use Rattle.bz_layout.proofs.LineWindows.{all_counted, all_lines, not_said, same_count}
 use Rattle.bz_layout.proofs.changed.written.Goals as goal

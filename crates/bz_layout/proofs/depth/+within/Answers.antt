@@ -1,6 +1,5 @@
 use Rattle.std.proofs.Common.{sym, ◌∙◌}
-use Rattle.bz_layout.proofs.Deep.{form_next}
-use Rattle.bz_layout.proofs.LineWindows.{both_less, deeper_first}
+use Rattle.bz_layout.proofs.{Deep.form_next, LineWindows.both_less, LineWindows.deeper_first}
 use Rattle.bz_layout.proofs.depth.+within.Goals as goal
 
 pub are_within-returns-then-not-is_form_within : goal.are_within-returns-then-not-is_form_within

@@ -1,6 +1,4 @@
-use Rattle.std.proofs.Common.{◌≤◌, drop}
-use Rattle.std.specs.Prelude.{◌↔◌}
-use Rattle.bz_layout.specs.private.Depths.{deepest_of, deepest_line}
+use Rattle.bz_layout.proofs.Words.{◌↔◌, ◌≤◌, deepest_line, deepest_of, drop}
 use Rattle.bz_layout.proofs.depth.+within.Given as goal
 
 abbrev pub invariant-are_within-loop-expr : goal.invariant-are_within-loop-expr

@@ -1,6 +1,4 @@
-use Rattle.std.proofs.Common.{◌≤◌, drop}
-use Rattle.std.specs.Prelude.{◌↔◌}
-use Rattle.bz_layout.specs.private.Depths.{depth_items}
+use Rattle.bz_layout.proofs.Words.{◌↔◌, ◌≤◌, depth_items, drop}
 use Rattle.bz_layout.proofs.depth.are_items_within.Given as goal
 
 abbrev pub invariant-loop-item : goal.invariant-loop-item

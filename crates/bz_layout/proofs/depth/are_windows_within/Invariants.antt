@@ -1,8 +1,4 @@
-use Rattle.std.proofs.Common.{◌≤◌, drop}
-use Rattle.std.specs.Prelude.{◌↔◌}
-use Rattle.bz_layout.specs.private.Depths.{depth_items}
-use Rattle.bz_layout.specs.private.Windows.{come_items}
-use Rattle.bz_value.specs.Windows.{AreWithin}
+use Rattle.bz_layout.proofs.Words.{◌↔◌, ◌≤◌, AreWithin, come_items, depth_items, drop}
 use Rattle.bz_layout.proofs.depth.are_windows_within.Given as goal
 
 abbrev pub invariant-loop-window : goal.invariant-loop-window

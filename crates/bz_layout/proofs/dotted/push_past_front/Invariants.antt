@@ -1,6 +1,4 @@
-use Rattle.std.proofs.Common.{◌≡◌, ◌-◌, drop}
-use Rattle.bz_layout.specs.Drafts.{pushed}
-use Rattle.bz_layout.specs.private.Spines.{past_first}
+use Rattle.bz_layout.proofs.Words.{◌-◌, ◌≡◌, drop, past_first, pushed}
 use Rattle.bz_layout.proofs.dotted.push_past_front.Given as goal
 
 abbrev pub invariant-loop-at : goal.invariant-loop-at

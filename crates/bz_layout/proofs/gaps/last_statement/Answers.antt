@@ -1,5 +1,4 @@
-use Rattle.std.proofs.Common.{◌+◌, ◌-◌, ◌∷◌, ◌∙◌, ℕ, drop, ap, sym, arith}
-use Rattle.std.proofs.lemmas.List.{drop_more}
+use Rattle.bz_layout.proofs.Words.{◌+◌, ◌-◌, ◌∙◌, ◌∷◌, ap, arith, drop, drop_more, sym, ℕ}
 use Rattle.bz_layout.proofs.Windows.{gap_from}
 use Rattle.bz_layout.proofs.gaps.last_statement.Goals as goal
 

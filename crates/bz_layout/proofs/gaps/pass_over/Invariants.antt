@@ -1,5 +1,4 @@
-use Rattle.std.proofs.Common.{◌≡◌, ◌-◌, drop}
-use Rattle.bz_layout.specs.private.Windows.{statement_gap}
+use Rattle.bz_layout.proofs.Words.{◌-◌, ◌≡◌, drop, statement_gap}
 use Rattle.bz_layout.proofs.gaps.pass_over.Given as goal
 
 -- what is left of the items makes of the gap so far the one that all of them leave

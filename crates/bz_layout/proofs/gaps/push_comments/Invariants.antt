@@ -1,5 +1,4 @@
-use Rattle.std.proofs.Common.{◌≡◌, ◌++◌, drop}
-use Rattle.bz_layout.specs.Written.{comment_lines}
+use Rattle.bz_layout.proofs.Words.{◌++◌, ◌≡◌, comment_lines, drop}
 use Rattle.bz_layout.proofs.gaps.push_comments.Given as goal
 
 abbrev pub invariant-loop-text : goal.invariant-loop-text

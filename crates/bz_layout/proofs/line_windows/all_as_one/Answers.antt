@@ -1,7 +1,5 @@
-use Rattle.std.proofs.Common.{◌≡◌, ◌∙◌, ◌-◌, ap, refl, rules, take}
-use Rattle.bz_layout.specs.private.Windows.{line_count_in}
-use Rattle.bz_layout.proofs.LineWindows.{first_from, one_over}
-use Rattle.bz_layout.proofs.Writing.{rest_here}
+use Rattle.bz_layout.proofs.Words.{◌-◌, ◌∙◌, ◌≡◌, ap, line_count_in, refl, rules, take}
+use Rattle.bz_layout.proofs.{LineWindows.first_from, LineWindows.one_over, Writing.rest_here}
 use Rattle.bz_layout.proofs.line_windows.all_as_one.Goals as goal
 
 pub returns-clause-over : goal.returns-clause-over

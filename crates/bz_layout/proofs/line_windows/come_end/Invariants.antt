@@ -1,6 +1,4 @@
-use Rattle.std.proofs.Common.{◌≡◌, ◌≤◌, ◌-◌, ◌+◌, drop, length}
-use Rattle.bz_layout.specs.private.Windows.{come_end}
-use Rattle.bz_value.specs.Windows.{AreWithin}
+use Rattle.bz_layout.proofs.Words.{◌+◌, ◌-◌, ◌≡◌, ◌≤◌, AreWithin, come_end, drop, length}
 use Rattle.bz_layout.proofs.line_windows.come_end.Given as goal
 
 abbrev pub invariant-loop-window : goal.invariant-loop-window

@@ -1,5 +1,4 @@
-use Rattle.std.proofs.Common.{◌≡◌, drop}
-use Rattle.bz_layout.specs.private.Windows.{old_count}
+use Rattle.bz_layout.proofs.Words.{◌≡◌, drop, old_count}
 use Rattle.bz_layout.proofs.line_windows.old_count.Given as goal
 
 abbrev pub invariant-loop-window : goal.invariant-loop-window

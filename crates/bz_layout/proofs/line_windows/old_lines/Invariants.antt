@@ -1,6 +1,4 @@
-use Rattle.std.proofs.Common.{◌≡◌, ◌+◌, drop}
-use Rattle.bz_layout.specs.private.Windows.{old_lines}
-use Rattle.bz_value.specs.Windows.{AreWithin}
+use Rattle.bz_layout.proofs.Words.{◌+◌, ◌≡◌, AreWithin, drop, old_lines}
 use Rattle.bz_layout.proofs.line_windows.old_lines.Given as goal
 
 abbrev pub invariant-loop-window : goal.invariant-loop-window

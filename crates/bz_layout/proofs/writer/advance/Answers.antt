@@ -1,8 +1,5 @@
-use Rattle.std.proofs.Common.{drop, refl, arith}
-use Rattle.std.proofs.lemmas.Grind.{common_steps}
-use Rattle.bz_layout.specs.private.Reached.{HasNext}
-use Rattle.bz_layout.proofs.LineWindows.{each_between}
-use Rattle.bz_layout.proofs.Staying.{advanced, stay_turn}
+use Rattle.bz_layout.proofs.Words.{arith, common_steps, drop, HasNext, refl}
+use Rattle.bz_layout.proofs.{LineWindows.each_between, Staying.advanced, Staying.stay_turn}
 use Rattle.bz_layout.proofs.writer.advance.Goals as goal
 
 pub loop-at-preserved : goal.loop-at-preserved

@@ -1,6 +1,4 @@
-use Rattle.std.proofs.Common.{◌≡◌, ◌+◌, ◌-◌, ◌^◌, min, [], ap, sym, ◌∙◌, flat_map, length, arith}
-use Rattle.bz_grammar.specs.Spell.{limit, spell_part}
-use Rattle.bz_layout.specs.Drafts.{drafted}
+use Rattle.bz_layout.proofs.Words.{[], ◌+◌, ◌-◌, ◌^◌, ◌∙◌, ◌≡◌, ap, arith, drafted, flat_map, length, limit, min, spell_part, sym}
 use Rattle.bz_layout.proofs.Reaching.{closed_as, past_as}
 use Rattle.bz_layout.proofs.writer.close.Goals as goal
 

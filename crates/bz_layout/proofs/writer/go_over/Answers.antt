@@ -1,10 +1,5 @@
-use Rattle.std.proofs.Common.{◌+◌, [], get_or, take, drop, length, refl, sym, arith, ap}
-use Rattle.bz_layout.specs.LaidOut.{lines_from}
-use Rattle.bz_layout.proofs.Changes.{past_limit}
-use Rattle.bz_layout.proofs.LineWindows.{within_next}
-use Rattle.bz_layout.proofs.Reaching.{finished}
-use Rattle.bz_layout.proofs.Staying.{over_next, over_none, over_last, over_turn}
-use Rattle.bz_value.specs.declared.windows.Window.{Window}
+use Rattle.bz_layout.proofs.Words.{[], ◌+◌, ap, arith, drop, get_or, length, lines_from, refl, sym, take, Window}
+use Rattle.bz_layout.proofs.{Changes.past_limit, LineWindows.within_next, Reaching.finished, Staying.over_next, Staying.over_none, Staying.over_last, Staying.over_turn}
 use Rattle.bz_layout.proofs.writer.go_over.Goals as goal
 
 abbrev none : Window

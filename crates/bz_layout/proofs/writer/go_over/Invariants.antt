@@ -1,7 +1,4 @@
-use Rattle.std.proofs.Common.{◌≡◌, List, [], drop}
-use Rattle.bz_layout.specs.LaidOut.{lines_from}
-use Rattle.bz_layout.specs.private.Windows.{AreCounted}
-use Rattle.bz_layout.specs.Words.{IsProperBuild, AreWithin, Item}
+use Rattle.bz_layout.proofs.Words.{[], ◌≡◌, AreCounted, AreWithin, drop, IsProperBuild, Item, lines_from, List}
 use Rattle.bz_layout.proofs.Staying.{IsOver}
 use Rattle.bz_layout.proofs.writer.go_over.Given as goal
 

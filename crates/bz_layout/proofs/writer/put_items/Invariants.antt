@@ -1,6 +1,4 @@
-use Rattle.std.proofs.Common.{List, drop}
-use Rattle.bz_layout.specs.Words.{Part, Item}
-use Rattle.bz_layout.specs.private.Reached.{AreReached}
+use Rattle.bz_layout.proofs.Words.{AreReached, drop, Item, List, Part}
 use Rattle.bz_layout.proofs.writer.put_items.Given as goal
 
 abbrev pub invariant-loop-at : goal.invariant-loop-at

@@ -1,6 +1,4 @@
-use Rattle.std.proofs.Common.{◌≡◌, drop}
-use Rattle.bz_layout.specs.Drafts.{pushed}
-use Rattle.bz_layout.specs.Layout.{margin_lines}
+use Rattle.bz_layout.proofs.Words.{◌≡◌, drop, margin_lines, pushed}
 use Rattle.bz_layout.proofs.draft.Draft.push_above.Given as goal
 
 abbrev pub invariant-loop-text : goal.invariant-loop-text

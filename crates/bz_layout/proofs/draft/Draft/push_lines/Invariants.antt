@@ -1,6 +1,4 @@
-use Rattle.std.proofs.Common.{◌≡◌, drop}
-use Rattle.bz_layout.specs.Drafts.{pushed}
-use Rattle.bz_layout.specs.Written.{at_margin, indented_lines}
+use Rattle.bz_layout.proofs.Words.{◌≡◌, at_margin, drop, indented_lines, pushed}
 use Rattle.bz_layout.proofs.draft.Draft.push_lines.Given as goal
 
 abbrev pub invariant-loop-text : goal.invariant-loop-text
