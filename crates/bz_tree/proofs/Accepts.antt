@@ -1,34 +1,14 @@
 -- What the parser reads is a legal tree of the text, and what it refuses has none.
-use Rattle.std.proofs.Common.{◌≡◌, ℕ, ◌≤◌, ◌<◌, true, false, List, [], ◌∷◌, ◌++◌, length, inl, inr, Result, Err, refl, sym, ap, ◌∙◌, subst, arith}
-use Rattle.std.specs.Prelude.{IfErr, IsUtf8}
+use Rattle.bz_tree.proofs.Words.{[], ◌++◌, ◌<◌, ◌∙◌, ◌∷◌, ◌≡◌, ◌≤◌, ap, arith, both_ways, bzl_shape, cases_lt, done, end, Err, false, Fits, flat_map, has_token, IfErr, inl, inr, is_one_of, IsBuild, IsFile, IsFileOf, IsNonterminal, IsUtf8, Kind, Leaf, leaves_of, leaves_part, Legal, length, limit, List, NoBzlTree, Node, node_spelled, NoTree, or_right, Part, ReadFault, ReadFault as f, Reads, ReadsBzl, refl, Result, Several, spell_node, stmt, subst, sym, take-length, tok, token_leaf, true, ℕ}
 use Rattle.std.specs.Str.{IsValidUpTo}
-use Rattle.std.proofs.Math.Seq.{take-length}
-use Rattle.std.proofs.lemmas.Bool.{cases_lt, both_ways, or_right}
-use Rattle.std.specs.List.{flat_map}
-use Rattle.bz_lex.specs.declared.leaf.Leaf.{Leaf}
-use Rattle.bz_lex.specs.declared.fault.ReadFault.{ReadFault}
-use Rattle.bz_lex.specs.declared.fault.ReadFault.TheVariants as f
-use Rattle.bz_lex.specs.Leaves.{AreLeaves, AreCoded, NoLeaves, spell_leaves}
-use Rattle.bz_lex.proofs.Coded.{leaves_coded, coded_spelled}
-use Rattle.bz_lex.proofs.Unique.{one_lexing}
-use Rattle.bz_lex.specs.declared.place.Place.TheVariants.{Fresh}
-use Rattle.bz_lex.proofs.Coming.{to_come, has_end, all_come}
+use Rattle.bz_lex.specs.{Leaves.AreLeaves, Leaves.AreCoded, Leaves.NoLeaves, Leaves.spell_leaves, declared.place.Place.TheVariants.Fresh}
+use Rattle.bz_lex.proofs.{Coded.leaves_coded, Coded.coded_spelled, Unique.one_lexing, Coming.to_come, Coming.has_end, Coming.all_come}
 use Rattle.bz_token.specs.declared.class.Class.{Class}
 use Rattle.bz_token.specs.declared.class.Class.TheVariants as c
-use Rattle.bz_grammar.specs.declared.kind.Kind.{Kind}
-use Rattle.bz_grammar.specs.declared.tree.Node.{Node}
-use Rattle.bz_grammar.specs.declared.tree.Part.{Part}
-use Rattle.bz_grammar.specs.Spell.{spell_node, leaves_part, leaves_of, limit}
-use Rattle.bz_grammar.specs.Shapes.{is_one_of, has_token, end, stmt, Several, Fits, done, tok, bzl_shape}
-use Rattle.bz_grammar.specs.Legal.{IsNonterminal, IsFile, IsFileOf, Legal, IsBuild, Reads, ReadsBzl, NoTree, NoBzlTree}
 use Rattle.bz_grammar.specs.Faults.{NoFile, IsOther}
-use Rattle.bz_tree.specs.declared.parsing.Dialect.{Dialect}
+use Rattle.bz_tree.specs.{declared.parsing.Dialect.Dialect, private.Dialects.NoTreeIn, private.Dialects.ReadsIn}
 use Rattle.bz_tree.specs.declared.parsing.Dialect.TheVariants as d
-use Rattle.bz_tree.specs.private.Dialects.{NoTreeIn, ReadsIn}
-use Rattle.bz_grammar.proofs.Exact.{token_leaf}
-use Rattle.bz_grammar.proofs.Spells.{node_spelled}
-use Rattle.bz_grammar.proofs.Unique.{one_bzl_tree}
-use Rattle.bz_grammar.proofs.Both.{leaves_bzl_legal, legal_leaves}
+use Rattle.bz_grammar.proofs.{Unique.one_bzl_tree, Both.leaves_bzl_legal, Both.legal_leaves}
 
 -- ---- the end of a file
 
@@ -132,9 +112,6 @@ same_at X n at one other a b e = cc
 pub answered_not_utf8 : {X : Type 0} (text : List ℕ) (n at : ℕ) → length text ≤ limit → IsValidUpTo text n → NotUtf8Exactly {X = X} (Err (f.NotUtf8 n)) text at
 answered_not_utf8 {X} text n at le v =
     (λ e. (le, subst (IsValidUpTo text) (same_at X n at (Err (f.NotUtf8 n)) (Err (f.NotUtf8 at)) refl refl e) v), λ w. ap (λ (z : ℕ). Err (f.NotUtf8 z)) (one_valid text n at v w.1))
-
-other_not : (fault : ReadFault) (at : ℕ) → IsOther fault → fault ≡ f.NotUtf8 at → ⊥
-other_not fault at h e = subst IsOther e h
 
 of_result : {X : Type 0} (result : Result X ReadFault) (at : ℕ) → IfErr result IsOther → result ≡ Err (f.NotUtf8 at) → ⊥
 of_result result at h e = let w = subst (λ (z : Result _ ReadFault). IfErr z IsOther) e h in w

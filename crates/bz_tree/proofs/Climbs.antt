@@ -1,46 +1,9 @@
 -- Parts, expressions and files as the parser reads them.
-use Rattle.std.proofs.Common.{◌≡◌, ℕ, zero, suc, ◌≤◌, ◌<◌, ◌-◌, Bool, true, false, cond, List, [], ◌∷◌, length, inl, inr, Option, Some, None, Result, Ok, Err, refl, sym, ap, ◌∙◌, arith, length-append}
-use Rattle.std.proofs.lemmas.Bool.{cases_Bool, cond-true, cond-false, le-leb}
-use Rattle.std.specs.Result.{IsErrAnd}
-use Rattle.std.proofs.lemmas.Option.{same_Some}
-use Rattle.bz_states.specs.declared.leaves.ParseHalt.{ParseHalt}
-use Rattle.bz_lex.specs.declared.leaf.Leaf.{Leaf}
-use Rattle.bz_grammar.specs.declared.kind.Kind.{Kind}
-use Rattle.bz_grammar.specs.declared.kind.Kind.TheVariants as k
-use Rattle.bz_grammar.specs.declared.tree.Part.{Part, items-the_row-Part}
+use Rattle.bz_tree.proofs.Words.{[], ◌-◌, ◌<◌, ◌>>=◌, ◌∙◌, ◌∷◌, ◌≡◌, ◌≤◌, all_leaves, ap, argument, argument_at, arith, as_kind, At, atom_at, begins, begun_at, Bool, bzl_shape, cases_Bool, clause, clause_plan, climb, climbed, comma_mark, compare_tail, cond, cond-false, cond-true, cond_tail, curly, depth_part, done, entry, equals, Err, Fails, false, finish, first, first_clause, first_of, fits_in, follow, found_by, found_from, FoundLevel, full_front, goes, Halts, has_token, Header, header_at, infix_at, inl, inr, IsErrAnd, items-the_row-Part, ItemsAt as items_at, Kind, Kind as k, le-leb, Leaf, length, length-append, level, level_at, line, List, list, ListedItems as items_row, loaded, name, named_tail, node_part, NodeState, NodeState as s, None, Nonterminal, nonterminal_of, Ok, open_curly, open_round, open_square, Option, param, param_at, param_tail, ParseHalt, Part, part_at, PartNonterminal as Place, PartNonterminal as q, plan_of_header, Precedence, Precedence as g, precedence_of, products, put_found, Read, reading, reading_exact, refl, Result, round, run, same_Some, Shape, shape_of_header, shifts, simple, small, small_plan, Some, square, starred, stars, starts_with, StatementAt as statement_at, string, suc, suffix_plan, SuffixAt as suffix_at, suffixes, suffixes_at, sums, sym, Tail as in_rest, Terminal, terminals_of, tok, token_at, token_leaf, token_part, TokenSet, TokenSet as t, true, with_found, with_part_first, wrap, wrap_found, zero, ℕ}
 use Rattle.bz_grammar.specs.declared.tree.Part as p
-use Rattle.bz_grammar.specs.Spell.{depth_part}
-use Rattle.bz_states.specs.declared.token.TokenSet.{TokenSet}
-use Rattle.bz_states.specs.declared.token.TokenSet.TheVariants as t
-use Rattle.bz_states.specs.declared.state.PartNonterminal.{PartNonterminal as Place}
-use Rattle.bz_states.specs.declared.state.PartNonterminal.TheVariants as q
-use Rattle.bz_states.specs.declared.state.Precedence.{Precedence}
-use Rattle.bz_states.specs.declared.state.Precedence.TheVariants as g
-use Rattle.bz_states.specs.declared.state.NodeState.{NodeState}
-use Rattle.bz_states.specs.declared.state.NodeState.TheVariants as s
-use Rattle.bz_states.specs.declared.state.Tail.TheVariants as in_rest
-use Rattle.bz_states.specs.declared.state.ItemsAt.TheVariants as items_at
-use Rattle.bz_states.specs.declared.state.ListedItems.TheVariants as items_row
 use Rattle.bz_states.specs.declared.state.StarredAt.TheVariants as starred_at
-use Rattle.bz_tree.specs.declared.indented.Header.{Header}
 use Rattle.bz_states.specs.declared.state.RoundAt.TheVariants as round_at
-use Rattle.bz_states.specs.declared.state.SuffixAt.TheVariants as suffix_at
-use Rattle.bz_states.specs.declared.state.StatementAt.TheVariants as statement_at
-use Rattle.bz_grammar.specs.Shapes.{Terminal, has_token, Nonterminal, level, argument, entry, clause, first_clause, loaded, small, line, param, Shape, done, tok, list, starred, bzl_shape, name, simple, string, equals, stars, products, sums, shifts, comma_mark, open_round, open_square, open_curly}
-use Rattle.bz_grammar.specs.Reading.{◌>>=◌, Read, starts_with, first, with_part_first, run, finish, first_of, FoundLevel, as_kind, put_found, follow, node_part, wrap, wrap_found, infix_at, fits_in, suffixes, climb, named_tail, param_tail, token_part, reading, round, square, curly, suffix_plan, clause_plan, small_plan}
-use Rattle.bz_states.specs.Tokens.{terminals_of, token_at, Halts, Fails}
-use Rattle.bz_tree.specs.private.Words.{part_at, with_found, found_by, found_from}
-use Rattle.bz_states.specs.States.{nonterminal_of, compare_tail, cond_tail, precedence_of}
-use Rattle.bz_tree.specs.private.Ranks.{begun_at, level_at, climbed, suffixes_at, atom_at, argument_at, param_at}
-use Rattle.bz_tree.specs.private.Rows.{plan_of_header, header_at, shape_of_header}
-use Rattle.bz_grammar.proofs.Nested.{items_of_row}
-use Rattle.bz_grammar.proofs.Terminals.{full_front}
-use Rattle.bz_grammar.proofs.Exact.{all_leaves, token_leaf}
-use Rattle.bz_grammar.proofs.Plans.{put_found_some, not_empty_plan, plan_exact}
-use Rattle.bz_grammar.proofs.Nodes.{wrap_found_some}
-use Rattle.bz_grammar.proofs.Trees.{At}
-use Rattle.bz_grammar.proofs.Levels.{begins, goes}
-use Rattle.bz_grammar.proofs.ExactNonterminals.{reading_exact}
+use Rattle.bz_grammar.proofs.{Nested.items_of_row, Plans.put_found_some, Plans.not_empty_plan, Plans.plan_exact, Nodes.wrap_found_some}
 use Rattle.bz_tree.proofs.Steps.{bind_same, halts, reading_sound, token_parts}
 
 -- ---- nodes of an empty row, and of one part
@@ -163,17 +126,8 @@ module _ (d n : ℕ) (ts : List Leaf) (h : n ≡ 0 → ⊥) where
   climb_by : (r : Precedence) → r ≡ precedence_of (n - 1) → level_at d n ts ≡ climbed d r (level_at d (n - 1)) ts
   climb_by r e = ap (λ (m : ℕ). level_at d m ts) (one_less n h) ∙ level_step d (n - 1) ts ∙ ap (λ (z : Precedence). climbed d z (level_at d (n - 1)) ts) (sym e)
 
-  pub level_same : g.Same ≡ precedence_of (n - 1) → level_at d n ts ≡ level_at d (n - 1) ts
-  level_same e = climb_by g.Same e
-
   pub level_prefix : (token : TokenSet) (state : NodeState) → g.Prefix token state ≡ precedence_of (n - 1) → starts_with (terminals_of token) ts ≡ true → level_at d n ts ≡ found_from d [] state ts
   level_prefix token state e b = climb_by (g.Prefix token state) e ∙ cond-true (starts_with (terminals_of token) ts) _ _ b
-
-  pub level_other : (token : TokenSet) (state : NodeState) → g.Prefix token state ≡ precedence_of (n - 1) → starts_with (terminals_of token) ts ≡ false → level_at d n ts ≡ level_at d (n - 1) ts
-  level_other token state e b = climb_by (g.Prefix token state) e ∙ cond-false (starts_with (terminals_of token) ts) _ _ b
-
-  pub level_none : (token : TokenSet) (state : NodeState) → g.Infix token state ≡ precedence_of (n - 1) → level_at d (n - 1) ts ≡ None → level_at d n ts ≡ None
-  level_none token state e b = climb_by (g.Infix token state) e ∙ ap (λ (o : Option (Part × List Leaf)). o >>= λ a. begun_at d token state a.0 a.1) b
 
   pub level_begun : (token : TokenSet) (state : NodeState) (a : Part) (rest : List Leaf) → g.Infix token state ≡ precedence_of (n - 1) → level_at d (n - 1) ts ≡ Some (a, rest) → level_at d n ts ≡ begun_at d token state a rest
   level_begun token state a rest e b = climb_by (g.Infix token state) e ∙ ap (λ (o : Option (Part × List Leaf)). o >>= λ a. begun_at d token state a.0 a.1) b
@@ -186,10 +140,6 @@ module _ (d : ℕ) (token : TokenSet) (state : NodeState) (a : Part) (ts : List 
   pub begun_goes : starts_with (terminals_of token) ts ≡ true → fits_in d a ≡ true → begun_at d token state a ts ≡ found_from d (a ∷ []) state ts
   unfolding begun_at
   begun_goes h f = cond-true (starts_with (terminals_of token) ts) _ _ h ∙ cond-true (fits_in d a) _ _ f
-
-  pub begun_none : starts_with (terminals_of token) ts ≡ true → cond (fits_in d a) (Some a) None ≡ None → begun_at d token state a ts ≡ None
-  unfolding begun_at
-  begun_none h f = cond-true (starts_with (terminals_of token) ts) _ _ h ∙ unfit (fits_in d a) a _ f
 
 -- ---- atoms
 

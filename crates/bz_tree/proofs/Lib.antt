@@ -10,3 +10,4 @@ pub mod Pushed
 pub mod Blocks
 pub mod Listed
 mod Turned
+mod Words

@@ -1,33 +1,9 @@
 -- The items of a row, one at a time: the moves from one to the next, joined.
-use Rattle.std.proofs.Common.{◌≡◌, ℕ, ◌<◌, true, false, List, [], length, Option, Some, None, refl, sym, ap, ◌∙◌, arith}
-use Rattle.bz_lex.specs.declared.leaf.Leaf.{Leaf}
-use Rattle.bz_grammar.specs.declared.kind.Kind.{Kind}
-use Rattle.bz_grammar.specs.declared.tree.Part.{Part}
-use Rattle.bz_grammar.specs.Shapes.{Terminal, Nonterminal}
-use Rattle.bz_grammar.specs.Reading.{starts_with, node_part}
-use Rattle.bz_states.specs.declared.token.TokenSet.{TokenSet}
-use Rattle.bz_states.specs.declared.state.ListedItems.{ListedItems}
-use Rattle.bz_states.specs.declared.state.PartNonterminal.{PartNonterminal}
+use Rattle.bz_tree.proofs.Words.{[], ◌<◌, ◌∙◌, ◌≡◌, ap, arith, Expects, false, found_from, ItemsAt as items_at, Kind, Kind as k, Leaf, length, List, ListedItems, ListedItems as rows, Move as m, node_part, NodeState, NodeState as s, None, Nonterminal, nonterminal_of, Option, Part, part_at, PartNonterminal, PartNonterminal as q, plan_at, refl, row_of_items, Some, starts_with, StatementAt, StatementAt as statement_at, SuffixAt, SuffixAt as suffix_at, sym, Tail as in_rest, Terminal, terminals_of, token_at, TokenSet, TokenSet as t, true, ℕ}
 use Rattle.bz_states.specs.declared.state.ItemRow.{ItemRow}
-use Rattle.bz_states.specs.declared.state.NodeState.{NodeState}
-use Rattle.bz_states.specs.declared.token.TokenSet.TheVariants as t
-use Rattle.bz_grammar.specs.declared.kind.Kind.TheVariants as k
-use Rattle.bz_states.specs.declared.state.PartNonterminal.TheVariants as q
-use Rattle.bz_states.specs.declared.state.ListedItems.TheVariants as rows
 use Rattle.bz_states.specs.declared.state.SquareOrCurly.TheVariants as brackets
 use Rattle.bz_states.specs.declared.state.BracketsAt.TheVariants as brackets_at
 use Rattle.bz_states.specs.declared.state.ClausesAt.TheVariants as clauses_at
-use Rattle.bz_states.specs.declared.state.StatementAt.{StatementAt}
-use Rattle.bz_states.specs.declared.state.SuffixAt.{SuffixAt}
-use Rattle.bz_states.specs.declared.state.SuffixAt.TheVariants as suffix_at
-use Rattle.bz_states.specs.declared.state.StatementAt.TheVariants as statement_at
-use Rattle.bz_states.specs.declared.state.ItemsAt.TheVariants as items_at
-use Rattle.bz_states.specs.declared.state.Move.TheVariants as m
-use Rattle.bz_states.specs.declared.state.NodeState.TheVariants as s
-use Rattle.bz_states.specs.declared.state.Tail.TheVariants as in_rest
-use Rattle.bz_states.specs.Tokens.{terminals_of, token_at}
-use Rattle.bz_states.specs.States.{nonterminal_of, plan_at, row_of_items, Expects}
-use Rattle.bz_tree.specs.private.Words.{part_at, found_from}
 use Rattle.bz_tree.proofs.Steps.{token_parts, reading_takes}
 use Rattle.bz_tree.proofs.Moves.{Adds, finishes, takes, takes_none, reads, reads_none, chooses_left, chooses_right}
 

@@ -1,12 +1,7 @@
 -- Where the faults of a text are.
-use Rattle.std.proofs.Common.{◌≡◌, ℕ, List, length, take, drop, min, sym, arith}
-use Rattle.std.proofs.lemmas.List.{take-append-drop, length-take-le}
-use Rattle.bz_lex.specs.declared.fault.ReadFault.{ReadFault}
-use Rattle.bz_lex.specs.declared.front.Reason.{Reason}
+use Rattle.bz_tree.proofs.Words.{◌≡◌, arith, drop, length, length-take-le, List, min, ReadFault, sym, take, take-append-drop, ℕ}
+use Rattle.bz_lex.specs.{declared.front.Reason.Reason, Faults.fault_of, Positions.line_at, Positions.column_of, Stops.IsFaultAt}
 use Rattle.bz_lex.specs.declared.front.Reason.TheVariants as r
-use Rattle.bz_lex.specs.Faults.{fault_of}
-use Rattle.bz_lex.specs.Positions.{line_at, column_of}
-use Rattle.bz_lex.specs.Stops.{IsFaultAt}
 
 -- line and column of a byte, or of the end
 abbrev Fault : Reason → List ℕ → ℕ → ReadFault

@@ -1,7 +1,5 @@
 -- A list of which the front is put after the rest, and cut there.
-use Rattle.std.proofs.Common.{◌≡◌, ℕ, ◌≤◌, ◌-◌, List, ◌++◌, length, take, drop, sym, ap, ◌∙◌, length-drop}
-use Rattle.std.proofs.Math.Seq.{drop-append_seam, take-append_seam}
-use Rattle.bz_grammar.specs.declared.tree.Part.{Part}
+use Rattle.bz_tree.proofs.Words.{◌++◌, ◌-◌, ◌∙◌, ◌≡◌, ◌≤◌, ap, drop, drop-append_seam, length, length-drop, List, Part, sym, take, take-append_seam, ℕ}
 
 module _ (from n : ℕ) (xs ys zs : List Part) (h : from ≤ length xs) (e : n ≡ length xs) (turned : ys ≡ drop from xs ++ take from xs) where
   seam : n - from ≡ length (drop from xs)

@@ -14,52 +14,14 @@ ghost use Rattle.bz_tree.specs.private.Words.{part_at};
 ghost use Rattle.bz_states.specs.States.{plan_at};
 ghost use Rattle.bz_tree.specs.private.Rows.{PutsAll, PutsOne, plan_of_header, header_at, owner_at, suite_at, statement_at, statements_at, if_at};
 
-use crate::expressions::part;
+use crate::parser::Parser;
 use crate::stack::Stack;
 use bz_grammar::Kind;
 use bz_lex::DEPTH_LIMIT;
-use bz_states::{HeaderAt, Leaves, Move, NodeState, ParseHalt, PartNonterminal, TokenSet};
-use std::alloc::Global;
+use bz_states::{HeaderAt, Move, NodeState, ParseHalt, PartNonterminal, TokenSet};
 
 /// Whether parts were read.
 type Done = Result<(), ParseHalt>;
-
-/// The parts of the file within the limit of depth that the leaves are.
-///
-/// Errors: `Unexpected` where no such file has these leaves; `Memory` where a growth was refused.
-pub fn file(alloc: Global, leaves: &mut Leaves) -> Result<Stack, ParseHalt>
-    ensures ok { IfOk result (λ parts. IsFileOf leaves.old (file_with parts)) }
-    ensures err { (result ≡ Err h.Unexpected) → (file : Node) → IsFileOf leaves.old file → ⊥ }
-{
-    whole(alloc, DEPTH_LIMIT - 1, leaves)
-}
-
-/// The parts, at most so deep, of the file that all leaves are.
-fn whole(alloc: Global, depth: u32, leaves: &mut Leaves) -> Result<Stack, ParseHalt>
-    requires { depth ≤ 2 * depth_limit }
-    ensures ok { IfOk result (λ parts. read_file depth leaves.old ≡ Some (file_with parts)) }
-    ensures err { Fails result (read_file depth leaves.old) }
-{
-    let mut stack = Stack::new(alloc);
-    statements(&[], depth, &mut stack, leaves)?;
-    let _end = stack.take(TokenSet::End, leaves)?;
-    if !leaves.is_empty() {
-        return Err(ParseHalt::Unexpected);
-    }
-    Ok(stack)
-}
-
-/// What is read of a file of which the parts are at most so deep: its statements, or where no file goes on with some leaf those
-/// in front of that one and then parts of the statement there. The error, `Memory` alone: a growth was refused.
-pub fn read_so_far(alloc: Global, depth: u32, leaves: &mut Leaves) -> Result<Stack, ParseHalt>
-    requires { depth ≤ 2 * depth_limit }
-{
-    let mut stack = Stack::new(alloc);
-    match statements(&[], depth, &mut stack, leaves) {
-        Err(ParseHalt::Memory) => Err(ParseHalt::Memory),
-        _ => Ok(stack),
-    }
-}
 
 /// What is before a suite, up to its colon.
 #[derive(Clone, Copy)]
@@ -85,40 +47,176 @@ impl Header {
     }
 }
 
-/// What is before a suite.
-fn head(which: Header, depth: u32, stack: &mut Stack, leaves: &mut Leaves) -> Done
-    requires small { depth ≤ 2 * depth_limit }
-    ensures ok { OnOk result (PutsAll (header_at depth which leaves.old) stack.old stack.new leaves.new) }
-    ensures err { Fails result (header_at depth which leaves.old) }
-{
-    let from = stack.len();
-    let mut state = which.state();
-    'moves: loop {
-        match state.next_move() {
-            Move::Finish(_) => return Ok(()),
-            Move::Take(token, next) => {
-                stack.take(token, leaves)?;
-                state = next;
-            }
-            Move::Read(nonterminal, next) => {
-                part(nonterminal, depth, stack, leaves)?;
-                state = next;
-            }
-            Move::Choose(token, one, other) => {
-                state = if leaves.next_is(token) { one } else { other };
+impl<'a> Parser<'a> {
+    /// Reads the parts of the file within the limit of depth that the leaves are.
+    ///
+    /// Errors: `Unexpected` where no such file has these leaves; `Memory` where a growth was refused.
+    pub fn file(&mut self) -> Done
+        requires { self.old.stack ≡ [] }
+        ensures ok { OnOk result (IsFileOf self.old.leaves (file_with self.new.stack)) }
+        ensures err { (result ≡ Err h.Unexpected) → (file : Node) → IsFileOf self.old.leaves file → ⊥ }
+    {
+        self.whole(DEPTH_LIMIT - 1)
+    }
+
+    /// Reads the parts, at most so deep, of the file that all leaves are.
+    fn whole(&mut self, depth: u32) -> Done
+        requires first { self.old.stack ≡ [] }
+        requires small { depth ≤ 2 * depth_limit }
+        ensures ok { OnOk result (read_file depth self.old.leaves ≡ Some (file_with self.new.stack)) }
+        ensures err { Fails result (read_file depth self.old.leaves) }
+    {
+        self.statements(&[], depth)?;
+        let _end = self.take(TokenSet::End)?;
+        if !self.leaves.is_empty() {
+            return Err(ParseHalt::Unexpected);
+        }
+        Ok(())
+    }
+
+    /// Reads what it can of a file of which the parts are at most so deep: its statements, or where no file goes on with some leaf those
+    /// in front of that one and then parts of the statement there. The error, `Memory` alone: a growth was refused.
+    pub fn read_so_far(&mut self, depth: u32) -> Done
+        requires { depth ≤ 2 * depth_limit }
+    {
+        match self.statements(&[], depth) {
+            Err(ParseHalt::Memory) => Err(ParseHalt::Memory),
+            _ => Ok(()),
+        }
+    }
+
+    /// What is before a suite.
+    fn head(&mut self, which: Header, depth: u32) -> Done
+        requires small { depth ≤ 2 * depth_limit }
+        ensures ok { OnOk result (PutsAll (header_at depth which self.old.leaves) self.old.stack self.new.stack self.new.leaves) }
+        ensures err { Fails result (header_at depth which self.old.leaves) }
+    {
+        let from = self.stack.len();
+        let mut state = which.state();
+        'moves: loop {
+            match state.next_move() {
+                Move::Finish(_) => return Ok(()),
+                Move::Take(token, next) => {
+                    self.take(token)?;
+                    state = next;
+                }
+                Move::Read(nonterminal, next) => {
+                    self.part(nonterminal, depth)?;
+                    state = next;
+                }
+                Move::Choose(token, one, other) => {
+                    state = if self.next_is(token) { one } else { other };
+                }
             }
         }
     }
-}
 
-/// A line that is at most so deep.
-fn one_line(depth: u32, stack: &mut Stack, leaves: &mut Leaves) -> Done
-    requires small { depth ≤ 2 * depth_limit }
-    ensures ok { OnOk result (PutsOne (part_at depth line leaves.old) stack.old stack.new leaves.new) }
-    ensures err { Fails result (part_at depth line leaves.old) }
-{
-    part(PartNonterminal::Line, depth, stack, leaves)?;
-    Ok(())
+    /// A line that is at most so deep.
+    fn one_line(&mut self, depth: u32) -> Done
+        requires small { depth ≤ 2 * depth_limit }
+        ensures ok { OnOk result (PutsOne (part_at depth line self.old.leaves) self.old.stack self.new.stack self.new.leaves) }
+        ensures err { Fails result (part_at depth line self.old.leaves) }
+    {
+        self.part(PartNonterminal::Line, depth)?;
+        Ok(())
+    }
+
+    /// A header and its suite, of a statement at this indent.
+    #[cycle(statements)]
+    fn owner(&mut self, which: Header, indent: &[u8], depth: u32) -> Done
+        requires small { depth ≤ 2 * depth_limit }
+        ensures ok { OnOk result (PutsAll (owner_at depth which indent.now self.old.leaves) self.old.stack self.new.stack self.new.leaves) }
+        ensures err { Fails result (owner_at depth which indent.now self.old.leaves) }
+    {
+        self.head(which, depth)?;
+        self.suite(indent, depth)
+    }
+
+    /// What is in an IfStmt at this indent.
+    #[cycle(statements)]
+    fn branches(&mut self, indent: &[u8], depth: u32) -> Done
+        requires small { depth ≤ 2 * depth_limit }
+        ensures ok { OnOk result (PutsAll (if_at depth indent.now self.old.leaves) self.old.stack self.new.stack self.new.leaves) }
+        ensures err { Fails result (if_at depth indent.now self.old.leaves) }
+    {
+        self.owner(Header::If, indent, depth)?;
+        'branches: while self.leaves.next_stands_at(TokenSet::Elif, indent) {
+            self.owner(Header::Elif, indent, depth)?;
+        }
+        if self.leaves.next_stands_at(TokenSet::Else, indent) {
+            return self.owner(Header::Else, indent, depth);
+        }
+        Ok(())
+    }
+
+    /// A statement at this indent that is at most so deep.
+    #[cycle(statements)]
+    fn statement(&mut self, indent: &[u8], depth: u32) -> Done
+        requires small { depth ≤ 2 * depth_limit }
+        ensures ok { OnOk result (PutsOne (statement_at depth indent.now self.old.leaves) self.old.stack self.new.stack self.new.leaves) }
+        ensures err { Fails result (statement_at depth indent.now self.old.leaves) }
+    {
+        if depth == 0 {
+            self.leaves.mark_next_too_deep();
+            return Err(ParseHalt::Unexpected);
+        }
+        let from = self.stack.len();
+        if self.next_is(TokenSet::Def) {
+            self.owner(Header::Def, indent, depth - 1)?;
+            return close(Kind::Def, from, &mut self.stack);
+        }
+        if self.next_is(TokenSet::If) {
+            self.branches(indent, depth - 1)?;
+            return close(Kind::IfStmt, from, &mut self.stack);
+        }
+        if self.next_is(TokenSet::For) {
+            self.owner(Header::For, indent, depth - 1)?;
+            return close(Kind::ForStmt, from, &mut self.stack);
+        }
+        self.one_line(depth)
+    }
+
+    /// The suite of a statement at this indent, at most so deep.
+    #[cycle(statements)]
+    fn suite(&mut self, indent: &[u8], depth: u32) -> Done
+        requires small { depth ≤ 2 * depth_limit }
+        ensures ok { OnOk result (PutsOne (suite_at depth indent.now self.old.leaves) self.old.stack self.new.stack self.new.leaves) }
+        ensures err { Fails result (suite_at depth indent.now self.old.leaves) }
+    {
+        if depth == 0 {
+            self.leaves.mark_next_too_deep();
+            return Err(ParseHalt::Unexpected);
+        }
+        if !self.next_is(TokenSet::Newline) {
+            return self.one_line(depth);
+        }
+        let from = self.stack.len();
+        self.take(TokenSet::Newline)?;
+        let inner = self.leaves.next_indent();
+        if !is_deeper(indent, inner) {
+            return Err(ParseHalt::Unexpected);
+        }
+        if !self.next_is(TokenSet::Statements) {
+            self.leaves.mark_indent(inner);
+            return Err(ParseHalt::Unexpected);
+        }
+        self.statements(inner, depth - 1)?;
+        close(Kind::Suite, from, &mut self.stack)
+    }
+
+    /// The statements at this indent, each at most so deep.
+    #[cycle(statements)]
+    fn statements(&mut self, indent: &[u8], depth: u32) -> Done
+        requires small { depth ≤ 2 * depth_limit }
+        ensures ok { OnOk result (PutsAll (statements_at depth indent.now self.old.leaves) self.old.stack self.new.stack self.new.leaves) }
+        ensures err { Fails result (statements_at depth indent.now self.old.leaves) }
+    {
+        'rows: while self.leaves.next_stands_at(TokenSet::Statements, indent) {
+            self.statement(indent, depth)?;
+        }
+        self.leaves.mark_indent(indent);
+        Ok(())
+    }
 }
 
 /// Puts the parts from a place on into a node of this kind. The error, `Memory` alone: a growth was refused.
@@ -128,103 +226,6 @@ fn close(kind: Kind, from: usize, stack: &mut Stack) -> Done
     ensures err { IfErr result (λ halt. halt ≡ h.Memory) }
 {
     stack.close(kind, from)?;
-    Ok(())
-}
-
-/// A header and its suite, of a statement at this indent.
-#[cycle(statements)]
-fn owner(which: Header, indent: &[u8], depth: u32, stack: &mut Stack, leaves: &mut Leaves) -> Done
-    requires small { depth ≤ 2 * depth_limit }
-    ensures ok { OnOk result (PutsAll (owner_at depth which indent.now leaves.old) stack.old stack.new leaves.new) }
-    ensures err { Fails result (owner_at depth which indent.now leaves.old) }
-{
-    head(which, depth, stack, leaves)?;
-    suite(indent, depth, stack, leaves)
-}
-
-/// What is in an IfStmt at this indent.
-#[cycle(statements)]
-fn branches(indent: &[u8], depth: u32, stack: &mut Stack, leaves: &mut Leaves) -> Done
-    requires small { depth ≤ 2 * depth_limit }
-    ensures ok { OnOk result (PutsAll (if_at depth indent.now leaves.old) stack.old stack.new leaves.new) }
-    ensures err { Fails result (if_at depth indent.now leaves.old) }
-{
-    owner(Header::If, indent, depth, stack, leaves)?;
-    'branches: while leaves.next_stands_at(TokenSet::Elif, indent) {
-        owner(Header::Elif, indent, depth, stack, leaves)?;
-    }
-    if leaves.next_stands_at(TokenSet::Else, indent) {
-        return owner(Header::Else, indent, depth, stack, leaves);
-    }
-    Ok(())
-}
-
-/// A statement at this indent that is at most so deep.
-#[cycle(statements)]
-fn statement(indent: &[u8], depth: u32, stack: &mut Stack, leaves: &mut Leaves) -> Done
-    requires small { depth ≤ 2 * depth_limit }
-    ensures ok { OnOk result (PutsOne (statement_at depth indent.now leaves.old) stack.old stack.new leaves.new) }
-    ensures err { Fails result (statement_at depth indent.now leaves.old) }
-{
-    if depth == 0 {
-        leaves.mark_next_too_deep();
-        return Err(ParseHalt::Unexpected);
-    }
-    let from = stack.len();
-    if leaves.next_is(TokenSet::Def) {
-        owner(Header::Def, indent, depth - 1, stack, leaves)?;
-        return close(Kind::Def, from, stack);
-    }
-    if leaves.next_is(TokenSet::If) {
-        branches(indent, depth - 1, stack, leaves)?;
-        return close(Kind::IfStmt, from, stack);
-    }
-    if leaves.next_is(TokenSet::For) {
-        owner(Header::For, indent, depth - 1, stack, leaves)?;
-        return close(Kind::ForStmt, from, stack);
-    }
-    one_line(depth, stack, leaves)
-}
-
-/// The suite of a statement at this indent, at most so deep.
-#[cycle(statements)]
-fn suite(indent: &[u8], depth: u32, stack: &mut Stack, leaves: &mut Leaves) -> Done
-    requires small { depth ≤ 2 * depth_limit }
-    ensures ok { OnOk result (PutsOne (suite_at depth indent.now leaves.old) stack.old stack.new leaves.new) }
-    ensures err { Fails result (suite_at depth indent.now leaves.old) }
-{
-    if depth == 0 {
-        leaves.mark_next_too_deep();
-        return Err(ParseHalt::Unexpected);
-    }
-    if !leaves.next_is(TokenSet::Newline) {
-        return one_line(depth, stack, leaves);
-    }
-    let from = stack.len();
-    stack.take(TokenSet::Newline, leaves)?;
-    let inner = leaves.next_indent();
-    if !is_deeper(indent, inner) {
-        return Err(ParseHalt::Unexpected);
-    }
-    if !leaves.next_is(TokenSet::Statements) {
-        leaves.mark_indent(inner);
-        return Err(ParseHalt::Unexpected);
-    }
-    statements(inner, depth - 1, stack, leaves)?;
-    close(Kind::Suite, from, stack)
-}
-
-/// The statements at this indent, each at most so deep.
-#[cycle(statements)]
-fn statements(indent: &[u8], depth: u32, stack: &mut Stack, leaves: &mut Leaves) -> Done
-    requires small { depth ≤ 2 * depth_limit }
-    ensures ok { OnOk result (PutsAll (statements_at depth indent.now leaves.old) stack.old stack.new leaves.new) }
-    ensures err { Fails result (statements_at depth indent.now leaves.old) }
-{
-    'rows: while leaves.next_stands_at(TokenSet::Statements, indent) {
-        statement(indent, depth, stack, leaves)?;
-    }
-    leaves.mark_indent(indent);
     Ok(())
 }
 

@@ -3,6 +3,7 @@
 
 mod expressions;
 mod indented;
+mod parser;
 mod parsing;
 mod stack;
 

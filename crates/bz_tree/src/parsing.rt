@@ -10,7 +10,7 @@ ghost use Rattle.bz_grammar.specs.Joined.{file_with};
 ghost use Rattle.bz_grammar.specs.Faults.{IsOfText, IsOther};
 ghost use Rattle.bz_tree.specs.private.Dialects.{IsIndentedAt, NoTreeIn, ReadsIn, is_wrong};
 
-use crate::indented::{file, read_so_far};
+use crate::parser::Parser;
 use crate::stack::Stack;
 use bz_grammar::{Kind, Tree};
 use bz_lex::{
@@ -87,18 +87,18 @@ fn parts_of(alloc: Global, dialect: Dialect, text: &[u8]) -> Result<Stack, ReadF
     ensures refused { IfErr result (λ fault. IsOfText fault → NoTreeIn dialect text.now) }
     ensures placed { IfErr result (λ fault. is_of_leaves fault ≡ true → IsFaultAt (is_wrong dialect) text.now fault) }
 {
-    let mut leaves = Leaves::new(alloc, text);
-    match file(alloc, &mut leaves) {
-        Ok(parts) => match dialect {
-            Dialect::Build if parts.holds_newer() => {
+    let mut parser = Parser::new(alloc, text);
+    match parser.file() {
+        Ok(()) => match dialect {
+            Dialect::Build if parser.stack.holds_newer() => {
                 let first = first_newer(alloc, text, text.len());
                 Err(unexpected_at(text, first.unwrap_or(0)))
             }
-            Dialect::Build => Ok(parts),
-            Dialect::Bzl => Ok(parts),
+            Dialect::Build => Ok(parser.stack),
+            Dialect::Bzl => Ok(parser.stack),
         },
         Err(ParseHalt::Memory) => Err(ReadFault::Memory),
-        Err(ParseHalt::Unexpected) => Err(fault_before(alloc, dialect, text, &leaves)),
+        Err(ParseHalt::Unexpected) => Err(fault_before(alloc, dialect, text, &parser.leaves)),
     }
 }
 
@@ -157,9 +157,9 @@ fn first_newer(alloc: Global, text: &[u8], until: usize) -> Option<usize>
 fn first_too_deep(alloc: Global, text: &[u8]) -> Result<Option<usize>, ParseHalt>
     requires { length text.now ≤ limit }
 {
-    let mut leaves = Leaves::new(alloc, text);
-    let read = read_so_far(alloc, 2 * DEPTH_LIMIT, &mut leaves)?;
-    Ok(deeper_at(read.as_slice(), DEPTH_LIMIT))
+    let mut parser = Parser::new(alloc, text);
+    parser.read_so_far(2 * DEPTH_LIMIT)?;
+    Ok(deeper_at(parser.stack.as_slice(), DEPTH_LIMIT))
 }
 
 fn too_deep(text: &[u8], at: usize) -> ReadFault

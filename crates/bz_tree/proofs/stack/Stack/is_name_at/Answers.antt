@@ -1,7 +1,4 @@
-use Rattle.std.proofs.Common.{sym, ap, ◌∙◌}
-use Rattle.std.proofs.lemmas.Option.{same_Some, none-some}
-use Rattle.std.specs.Option.{option_copied}
-use Rattle.bz_grammar.specs.Shapes.{name, has_token}
+use Rattle.bz_tree.proofs.Words.{◌∙◌, ap, has_token, name, none-some, option_copied, same_Some, sym}
 use Rattle.bz_tree.proofs.stack.Stack.is_name_at.Goals as goal
 
 pub returns-in-Some : goal.returns-in-Some

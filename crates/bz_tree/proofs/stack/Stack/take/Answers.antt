@@ -1,9 +1,5 @@
-use Rattle.std.proofs.Common.{ap, ◌∙◌, ◌++◌, ◌∷◌, [], List, take}
-use Rattle.bz_lex.specs.Fronts.{front_leaf}
-use Rattle.bz_grammar.specs.declared.tree.Part.{Part}
-use Rattle.bz_grammar.specs.declared.tree.Part.TheVariants as p
-use Rattle.bz_tree.proofs.Deepest.{leaf_depth}
-use Rattle.bz_tree.proofs.Pushed.{leaf_made}
+use Rattle.bz_tree.proofs.Words.{[], ◌++◌, ◌∙◌, ◌∷◌, ap, front_leaf, List, Part, Part as p, take}
+use Rattle.bz_tree.proofs.{Deepest.leaf_depth, Pushed.leaf_made}
 use Rattle.bz_tree.proofs.stack.Stack.take.Goals as goal
 
 pub returns-clause-ok : goal.returns-clause-ok

@@ -1,23 +1,12 @@
-use Rattle.std.proofs.Common.{rules, ◌≡◌, sym, ap, refl, ◌∙◌, ◌≤◌, List, [], ◌∷◌, ◌++◌, drop, arith}
-use Rattle.bz_grammar.specs.declared.tree.Part.{Part}
-use Rattle.bz_grammar.specs.declared.kind.Kind.TheVariants as k
-use Rattle.bz_states.specs.declared.token.TokenSet.TheVariants as token
-use Rattle.bz_states.specs.declared.state.PartNonterminal.TheVariants as q
-use Rattle.bz_states.specs.declared.state.NodeState.{NodeState}
-use Rattle.bz_states.specs.declared.state.NodeState.TheVariants as s
-use Rattle.bz_states.specs.declared.state.Tail.TheVariants as in_rest
+use Rattle.bz_tree.proofs.Words.{[], ◌++◌, ◌∙◌, ◌∷◌, ◌≡◌, ◌≤◌, ap, arith, drop, found_from, Kind as k, List, node_part, NodeState, NodeState as s, nonterminal_of, Part, part_at, PartNonterminal as q, refl, rules, sym, Tail as in_rest, terminals_of, token_at, TokenSet as token}
 use Rattle.bz_states.specs.declared.state.LambdaAt.TheVariants as lambda_at
-use Rattle.bz_grammar.specs.Reading.{node_part}
-use Rattle.bz_states.specs.Tokens.{terminals_of, token_at}
-use Rattle.bz_tree.specs.private.Words.{part_at, found_from}
-use Rattle.bz_states.specs.States.{nonterminal_of}
 use Rattle.bz_tree.proofs.Deepest.{made_depth, leaf_depth}
 use Rattle.bz_tree.proofs.Moves.{finishes, takes, takes_none, reads, reads_none, chooses_left, chooses_right, fewer_taken, fewer_read, fewer_left, fewer_right}
 use Rattle.bz_tree.proofs.Climbs.{handed_on, inside, level_is, argument_is, entry_is, clause_is, first_clause_is, small_is, line_is, alias_is, loaded_is, part_depth, level_prefix, atom_round, atom_square, atom_curly, atom_leaf, primary_atom, primary_none, suffix_stops, suffix_goes, suffix_shorter, star_is, argument_none, argument_odd, argument_stays, argument_named, param_is, starred_is, param_none, param_stays, param_valued}
 use Rattle.bz_tree.proofs.Listed.{more_ends, more_none, more_goes, square_unopened, square_empty, square_none, square_for, square_more, front_none, part_none, both_read, row_ends, item_none, item_last, separator_none, item_next, item_shorter}
 use Rattle.bz_tree.proofs.Pushed.{within_all, deepest_open, fitted_same, carry_ok, carry_err, added, take_push, within_push, deepest_more, drop_last, take_last, get_last, begins_last, depth_one, fits, unfit, fitted_begun, fitted_some, stays_last, suffix_fails}
 use Rattle.bz_tree.proofs.Rises.{from_parts, not_from, bound_infix, bound_other, bound_goes, bound_none, risen_end, passed, plain, starts_risen, starts_none}
-use Rattle.bz_tree.proofs.expressions.+parser.Goals as goal
+use Rattle.bz_tree.proofs.parser.Parser.+parser.Goals as goal
 
 pub part-returns-in-Entry-clause-ok : goal.part-returns-in-Entry-clause-ok
 part-returns-in-Entry-clause-ok t c = carry_ok _ _ _ _ _ _ _ (inside _ _ _ _ _ c.in-Entry.is c.if-depth-eq0.false (entry_is _ _)) (refl) c.begin-in-Entry.ensures.ok
@@ -119,10 +108,10 @@ pub argument-returns-clause-err : goal.argument-returns-clause-err
 argument-returns-clause-err t c = carry_err _ _ _ (argument_named _ _ _ _ (sym c.next_is.ensures ∙ c.if-next_is.false) c.in_ok-deep.ensures.ok.1 (sym (c.is_name_at.ensures c.in_ok-deep.ensures.ok.0 (get_last _ _ _ _ c.in_ok-deep.ensures.ok.2 c.len-from.ensures)) ∙ c.if-not-is_name_at.false) ∙ fitted_begun _ _ _ _ _ _ _ (drop_last _ _ _ _ c.in_ok-deep.ensures.ok.2 c.len-from.ensures) c.in_ok-deep.ensures.ok.3 (sym c.next_is-2.ensures ∙ c.if-not-next_is.false)) c.go_on.ensures.err
 
 pub begin-returns-clause-ok : goal.begin-returns-clause-ok
-begin-returns-clause-ok t c = carry_ok _ _ _ _ _ _ _ (ap (λ (ps : List Part). found_from c.args.depth ps c.args.state c.args.leaves.now) (sym (begins_last _ _ c.len-from.ensures).0)) ((begins_last _ _ c.len-from.ensures).1) c.follow.ensures.ok
+begin-returns-clause-ok t c = carry_ok _ _ _ _ _ _ _ (ap (λ (ps : List Part). found_from c.args.depth ps c.args.state c.args.self.now.leaves) (sym (begins_last _ _ c.len-from.ensures).0)) ((begins_last _ _ c.len-from.ensures).1) c.follow.ensures.ok
 
 pub begin-returns-clause-err : goal.begin-returns-clause-err
-begin-returns-clause-err t c = carry_err _ _ _ (ap (λ (ps : List Part). found_from c.args.depth ps c.args.state c.args.leaves.now) (sym (begins_last _ _ c.len-from.ensures).0)) c.follow.ensures.err
+begin-returns-clause-err t c = carry_err _ _ _ (ap (λ (ps : List Part). found_from c.args.depth ps c.args.state c.args.self.now.leaves) (sym (begins_last _ _ c.len-from.ensures).0)) c.follow.ensures.err
 
 pub go_on-returns-in-Some-clause-err : goal.go_on-returns-in-Some-clause-err
 go_on-returns-in-Some-clause-err t c = unfit _ _ _ _ _ (omega arith)
@@ -133,12 +122,12 @@ go_on-returns-in_default-clause-err t c = unfit _ _ _ _ _ (omega arith)
 pub go_on-returns-in-Rest-default-TokenPart-clause-ok : goal.go_on-returns-in-Rest-default-TokenPart-clause-ok
 go_on-returns-in-Rest-default-TokenPart-clause-ok t c =
     let same : c.args.state ≡ s.Rest c.in-Rest-default-TokenPart.kind (in_rest.TokenPart c.in-Rest-default-TokenPart.token c.in-Rest-default-TokenPart.nonterminal) = search rules in
-    carry_ok _ _ _ _ _ _ _ (fits _ _ _ _ _ (omega arith) ∙ ap (λ (state : NodeState). found_from c.args.depth (drop c.args.from c.args.stack.now) state c.args.leaves.now) same) refl c.token_and_part.ensures.ok
+    carry_ok _ _ _ _ _ _ _ (fits _ _ _ _ _ (omega arith) ∙ ap (λ (state : NodeState). found_from c.args.depth (drop c.args.from c.args.self.now.stack) state c.args.self.now.leaves) same) refl c.token_and_part.ensures.ok
 
 pub go_on-returns-in-Rest-default-TokenPart-clause-err : goal.go_on-returns-in-Rest-default-TokenPart-clause-err
 go_on-returns-in-Rest-default-TokenPart-clause-err t c =
     let same : c.args.state ≡ s.Rest c.in-Rest-default-TokenPart.kind (in_rest.TokenPart c.in-Rest-default-TokenPart.token c.in-Rest-default-TokenPart.nonterminal) = search rules in
-    carry_err _ _ _ (fits _ _ _ _ _ (omega arith) ∙ ap (λ (state : NodeState). found_from c.args.depth (drop c.args.from c.args.stack.now) state c.args.leaves.now) same) c.token_and_part.ensures.err
+    carry_err _ _ _ (fits _ _ _ _ _ (omega arith) ∙ ap (λ (state : NodeState). found_from c.args.depth (drop c.args.from c.args.self.now.stack) state c.args.self.now.leaves) same) c.token_and_part.ensures.err
 
 pub go_on-returns-clause-ok : goal.go_on-returns-clause-ok
 go_on-returns-clause-ok t c = carry_ok _ _ _ _ _ _ _ (fits _ _ _ _ _ (omega arith)) (refl) c.follow.ensures.ok
@@ -147,7 +136,7 @@ pub go_on-returns-clause-err : goal.go_on-returns-clause-err
 go_on-returns-clause-err t c = carry_err _ _ _ (fits _ _ _ _ _ (omega arith)) c.follow.ensures.err
 
 pub follow-returns-in-Finish-clause-ok : goal.follow-returns-in-Finish-clause-ok
-follow-returns-in-Finish-clause-ok t c = (node_part c.in-Finish.kind (drop c.args.from c.moves.stack), sym c.moves.invariant.rest ∙ finishes _ _ _ _ _ c.in-Finish.ensures.expects, c.in_ok-close-in-Finish.ensures ∙ ap (λ (ps : List Part). ps ++ (node_part c.in-Finish.kind (drop c.args.from c.moves.stack) ∷ [])) c.moves.invariant.below, made_depth c.in-Finish.kind _ _ _ refl c.moves.invariant.deep)
+follow-returns-in-Finish-clause-ok t c = (node_part c.in-Finish.kind (drop c.args.from c.moves.self.stack), sym c.moves.invariant.rest ∙ finishes _ _ _ _ _ c.in-Finish.ensures.expects, c.in_ok-close-in-Finish.ensures ∙ ap (λ (ps : List Part). ps ++ (node_part c.in-Finish.kind (drop c.args.from c.moves.self.stack) ∷ [])) c.moves.invariant.below, made_depth c.in-Finish.kind _ _ _ refl c.moves.invariant.deep)
 
 pub follow-returns-in_err-take-in-Take-clause-err : goal.follow-returns-in_err-take-in-Take-clause-err
 follow-returns-in_err-take-in-Take-clause-err t c = handed_on _ _ _ _ c.from_residual-in_err-take-in-Take.ensures.1 c.in_err-take-in-Take.ensures.err (λ n. sym c.moves.invariant.rest ∙ takes_none _ _ _ _ _ _ c.in-Take.ensures.expects n)
@@ -285,7 +274,7 @@ pub param-returns-clause-err : goal.param-returns-clause-err
 param-returns-clause-err t c = carry_err _ _ _ (param_valued _ _ _ _ (sym c.next_is.ensures ∙ c.if-next_is.false) c.in_ok-deep.ensures.ok.1 ∙ fitted_begun _ _ _ _ _ _ _ (drop_last _ _ _ _ c.in_ok-deep.ensures.ok.2 c.len-from.ensures) c.in_ok-deep.ensures.ok.3 (sym c.next_is-2.ensures ∙ c.if-not-next_is.false)) c.go_on.ensures.err
 
 pub items_of_row-returns-in_err-part-clause-err : goal.items_of_row-returns-in_err-part-clause-err
-items_of_row-returns-in_err-part-clause-err t c = handed_on _ _ _ _ c.from_residual.ensures.1 c.in_err-part.ensures.err (λ n. sym c.more.invariant.rest ∙ item_none c.args.depth c.args.listed c.row-row.result c.more.invariant.row (drop c.args.from c.more.stack) c.more.leaves (sym c.next_is.ensures ∙ c.more-test.true) n)
+items_of_row-returns-in_err-part-clause-err t c = handed_on _ _ _ _ c.from_residual.ensures.1 c.in_err-part.ensures.err (λ n. sym c.more.invariant.rest ∙ item_none c.args.depth c.args.listed c.row-row.result c.more.invariant.row (drop c.args.from c.more.self.stack) c.more.self.leaves (sym c.next_is.ensures ∙ c.more-test.true) n)
 
 pub items_of_row-closing_token-requires : goal.items_of_row-closing_token-requires
 items_of_row-closing_token-requires t c = record {
@@ -296,16 +285,16 @@ items_of_row-closing_token-requires t c = record {
 }
 
 pub items_of_row-returns-then-not-next_is-clause-ok : goal.items_of_row-returns-then-not-next_is-clause-ok
-items_of_row-returns-then-not-next_is-clause-ok t c = carry_ok _ _ _ _ _ _ _ (sym (item_last c.args.depth c.args.listed c.row-row.result c.more.invariant.row (drop c.args.from c.more.stack) c.more.leaves (sym c.next_is.ensures ∙ c.more-test.true) (drop c.args.from c.part.new.stack) c.part.new.leaves (added _ _ c.more.invariant.from (part_at c.args.depth (nonterminal_of c.row-row.result.nonterminal)) _ _ _ _ c.in_ok-part.ensures.ok) (sym c.next_is-in-more.ensures ∙ c.if-not-next_is.true) ∙ c.more.invariant.rest)) (take_push _ _ c.more.invariant.from _ _ c.in_ok-part.ensures.ok.2 ∙ c.more.invariant.below) c.closing_token.ensures.ok
+items_of_row-returns-then-not-next_is-clause-ok t c = carry_ok _ _ _ _ _ _ _ (sym (item_last c.args.depth c.args.listed c.row-row.result c.more.invariant.row (drop c.args.from c.more.self.stack) c.more.self.leaves (sym c.next_is.ensures ∙ c.more-test.true) (drop c.args.from c.part.new.self.stack) c.part.new.self.leaves (added _ _ c.more.invariant.from (part_at c.args.depth (nonterminal_of c.row-row.result.nonterminal)) _ _ _ _ c.in_ok-part.ensures.ok) (sym c.next_is-in-more.ensures ∙ c.if-not-next_is.true) ∙ c.more.invariant.rest)) (take_push _ _ c.more.invariant.from _ _ c.in_ok-part.ensures.ok.2 ∙ c.more.invariant.below) c.closing_token.ensures.ok
 
 pub items_of_row-returns-then-not-next_is-clause-err : goal.items_of_row-returns-then-not-next_is-clause-err
-items_of_row-returns-then-not-next_is-clause-err t c = carry_err _ _ _ (sym (item_last c.args.depth c.args.listed c.row-row.result c.more.invariant.row (drop c.args.from c.more.stack) c.more.leaves (sym c.next_is.ensures ∙ c.more-test.true) (drop c.args.from c.part.new.stack) c.part.new.leaves (added _ _ c.more.invariant.from (part_at c.args.depth (nonterminal_of c.row-row.result.nonterminal)) _ _ _ _ c.in_ok-part.ensures.ok) (sym c.next_is-in-more.ensures ∙ c.if-not-next_is.true) ∙ c.more.invariant.rest)) c.closing_token.ensures.err
+items_of_row-returns-then-not-next_is-clause-err t c = carry_err _ _ _ (sym (item_last c.args.depth c.args.listed c.row-row.result c.more.invariant.row (drop c.args.from c.more.self.stack) c.more.self.leaves (sym c.next_is.ensures ∙ c.more-test.true) (drop c.args.from c.part.new.self.stack) c.part.new.self.leaves (added _ _ c.more.invariant.from (part_at c.args.depth (nonterminal_of c.row-row.result.nonterminal)) _ _ _ _ c.in_ok-part.ensures.ok) (sym c.next_is-in-more.ensures ∙ c.if-not-next_is.true) ∙ c.more.invariant.rest)) c.closing_token.ensures.err
 
 pub items_of_row-returns-in_err-take-clause-err : goal.items_of_row-returns-in_err-take-clause-err
-items_of_row-returns-in_err-take-clause-err t c = handed_on _ _ _ _ c.from_residual-in_err-take.ensures.1 c.in_err-take.ensures.err (λ n. sym c.more.invariant.rest ∙ separator_none c.args.depth c.args.listed c.row-row.result c.more.invariant.row (drop c.args.from c.more.stack) c.more.leaves (sym c.next_is.ensures ∙ c.more-test.true) (drop c.args.from c.part.new.stack) c.part.new.leaves (added _ _ c.more.invariant.from (part_at c.args.depth (nonterminal_of c.row-row.result.nonterminal)) _ _ _ _ c.in_ok-part.ensures.ok) (sym c.next_is-in-more.ensures ∙ c.if-not-next_is.false) n)
+items_of_row-returns-in_err-take-clause-err t c = handed_on _ _ _ _ c.from_residual-in_err-take.ensures.1 c.in_err-take.ensures.err (λ n. sym c.more.invariant.rest ∙ separator_none c.args.depth c.args.listed c.row-row.result c.more.invariant.row (drop c.args.from c.more.self.stack) c.more.self.leaves (sym c.next_is.ensures ∙ c.more-test.true) (drop c.args.from c.part.new.self.stack) c.part.new.self.leaves (added _ _ c.more.invariant.from (part_at c.args.depth (nonterminal_of c.row-row.result.nonterminal)) _ _ _ _ c.in_ok-part.ensures.ok) (sym c.next_is-in-more.ensures ∙ c.if-not-next_is.false) n)
 
 pub items_of_row-more-smaller : goal.items_of_row-more-smaller
-items_of_row-more-smaller t c = item_shorter c.args.depth (nonterminal_of c.row-row.result.nonterminal) (terminals_of c.row-row.result.separator) c.more.leaves c.part.new.leaves c.take.new.leaves _ _ c.in_ok-part.ensures.ok.1 c.in_ok-take.ensures.ok.1
+items_of_row-more-smaller t c = item_shorter c.args.depth (nonterminal_of c.row-row.result.nonterminal) (terminals_of c.row-row.result.separator) c.more.self.leaves c.part.new.self.leaves c.take.new.self.leaves _ _ c.in_ok-part.ensures.ok.1 c.in_ok-take.ensures.ok.1
 
 pub items_of_row-more-preserved : goal.items_of_row-more-preserved
 items_of_row-more-preserved t c =
@@ -313,7 +302,7 @@ items_of_row-more-preserved t c =
     let within : c.max-deep.result ≤ c.args.depth = omega (arith, c.more.invariant.within, c.max-deep.ensures, c.in_ok-part.ensures.ok.3, part_depth _ _ _ _ _ c.in_ok-part.ensures.ok.1) in
     record {
       row = c.more.invariant.row;
-      rest = item_next c.args.depth c.args.listed c.row-row.result c.more.invariant.row (drop c.args.from c.more.stack) c.more.leaves (sym c.next_is.ensures ∙ c.more-test.true) (drop c.args.from c.part.new.stack) c.part.new.leaves (added _ _ c.more.invariant.from (part_at c.args.depth (nonterminal_of c.row-row.result.nonterminal)) _ _ _ _ c.in_ok-part.ensures.ok) (sym c.next_is-in-more.ensures ∙ c.if-not-next_is.false) (drop c.args.from c.take.new.self) c.take.new.leaves (added _ _ (within_push _ _ c.more.invariant.from _ _ c.in_ok-part.ensures.ok.2) (token_at (terminals_of c.row-row.result.separator)) _ _ _ _ c.in_ok-take.ensures.ok) ∙ c.more.invariant.rest;
+      rest = item_next c.args.depth c.args.listed c.row-row.result c.more.invariant.row (drop c.args.from c.more.self.stack) c.more.self.leaves (sym c.next_is.ensures ∙ c.more-test.true) (drop c.args.from c.part.new.self.stack) c.part.new.self.leaves (added _ _ c.more.invariant.from (part_at c.args.depth (nonterminal_of c.row-row.result.nonterminal)) _ _ _ _ c.in_ok-part.ensures.ok) (sym c.next_is-in-more.ensures ∙ c.if-not-next_is.false) (drop c.args.from c.take.new.self.stack) c.take.new.self.leaves (added _ _ (within_push _ _ c.more.invariant.from _ _ c.in_ok-part.ensures.ok.2) (token_at (terminals_of c.row-row.result.separator)) _ _ _ _ c.in_ok-take.ensures.ok) ∙ c.more.invariant.rest;
       below = take_push _ _ (within_push _ _ c.more.invariant.from _ _ c.in_ok-part.ensures.ok.2) _ _ c.in_ok-take.ensures.ok.2 ∙ (take_push _ _ c.more.invariant.from _ _ c.in_ok-part.ensures.ok.2 ∙ c.more.invariant.below);
       from = within_push _ _ (within_push _ _ c.more.invariant.from _ _ c.in_ok-part.ensures.ok.2) _ _ c.in_ok-take.ensures.ok.2;
       deep = deepest_more _ _ (within_push _ _ c.more.invariant.from _ _ c.in_ok-part.ensures.ok.2) _ _ _ _ _ _ deep c.in_ok-take.ensures.ok c.max-deep-in-more.ensures;
@@ -321,10 +310,10 @@ items_of_row-more-preserved t c =
     }
 
 pub items_of_row-returns-clause-ok : goal.items_of_row-returns-clause-ok
-items_of_row-returns-clause-ok t c = carry_ok _ _ _ _ _ _ _ (sym (row_ends c.args.depth c.args.listed c.row-row.result c.more.invariant.row (drop c.args.from c.more.stack) c.more.leaves (sym c.next_is.ensures ∙ c.more-test.false) ∙ c.more.invariant.rest)) c.more.invariant.below c.closing_token-2.ensures.ok
+items_of_row-returns-clause-ok t c = carry_ok _ _ _ _ _ _ _ (sym (row_ends c.args.depth c.args.listed c.row-row.result c.more.invariant.row (drop c.args.from c.more.self.stack) c.more.self.leaves (sym c.next_is.ensures ∙ c.more-test.false) ∙ c.more.invariant.rest)) c.more.invariant.below c.closing_token-2.ensures.ok
 
 pub items_of_row-returns-clause-err : goal.items_of_row-returns-clause-err
-items_of_row-returns-clause-err t c = carry_err _ _ _ (sym (row_ends c.args.depth c.args.listed c.row-row.result c.more.invariant.row (drop c.args.from c.more.stack) c.more.leaves (sym c.next_is.ensures ∙ c.more-test.false) ∙ c.more.invariant.rest)) c.closing_token-2.ensures.err
+items_of_row-returns-clause-err t c = carry_err _ _ _ (sym (row_ends c.args.depth c.args.listed c.row-row.result c.more.invariant.row (drop c.args.from c.more.self.stack) c.more.self.leaves (sym c.next_is.ensures ∙ c.more-test.false) ∙ c.more.invariant.rest)) c.closing_token-2.ensures.err
 
 pub token_and_part-returns-in_err-take-clause-err : goal.token_and_part-returns-in_err-take-clause-err
 token_and_part-returns-in_err-take-clause-err t c = handed_on _ _ _ _ c.from_residual.ensures.1 c.in_err-take.ensures.err (λ n. front_none _ _ _ _ _ _ n)
@@ -341,20 +330,20 @@ token_and_part-overflow_add-result t c =
 pub token_and_part-returns-clause-ok : goal.token_and_part-returns-clause-ok
 token_and_part-returns-clause-ok t c =
     let from = within_push _ _ c.requires.from _ _ c.in_ok-take.ensures.ok.2 in (
-      node_part c.args.kind (drop c.args.from c.part.new.stack),
+      node_part c.args.kind (drop c.args.from c.part.new.self.stack),
       both_read _ _ _ _ _ _ _ _ (added _ _ c.requires.from (token_at (terminals_of c.args.token)) _ _ _ _ c.in_ok-take.ensures.ok) _ _ (added _ _ from (part_at c.args.depth (nonterminal_of c.args.nonterminal)) _ _ _ _ c.in_ok-part.ensures.ok),
-      c.in_ok-close.ensures ∙ ap (λ (ps : List Part). ps ++ (node_part c.args.kind (drop c.args.from c.part.new.stack) ∷ [])) (take_push _ _ from _ _ c.in_ok-part.ensures.ok.2 ∙ take_push _ _ c.requires.from _ _ c.in_ok-take.ensures.ok.2),
+      c.in_ok-close.ensures ∙ ap (λ (ps : List Part). ps ++ (node_part c.args.kind (drop c.args.from c.part.new.self.stack) ∷ [])) (take_push _ _ from _ _ c.in_ok-part.ensures.ok.2 ∙ take_push _ _ c.requires.from _ _ c.in_ok-take.ensures.ok.2),
       made_depth c.args.kind _ _ _ refl (deepest_more _ _ from _ _ _ _ _ _ (deepest_more _ _ c.requires.from _ _ _ _ _ _ c.requires.deep c.in_ok-take.ensures.ok c.max-front.ensures) c.in_ok-part.ensures.ok c.max-whole.ensures),
     )
 
 pub more_of_row-returns-then-next_is-clause-ok : goal.more_of_row-returns-then-next_is-clause-ok
-more_of_row-returns-then-next_is-clause-ok t c = carry_ok _ _ _ _ _ _ _ (sym (more_ends c.args.depth c.args.listed c.row-row.result c.row-row.ensures (drop c.args.from c.args.stack.now) c.args.leaves.now (sym c.next_is.ensures ∙ c.if-next_is.true))) refl c.closing_token.ensures.ok
+more_of_row-returns-then-next_is-clause-ok t c = carry_ok _ _ _ _ _ _ _ (sym (more_ends c.args.depth c.args.listed c.row-row.result c.row-row.ensures (drop c.args.from c.args.self.now.stack) c.args.self.now.leaves (sym c.next_is.ensures ∙ c.if-next_is.true))) refl c.closing_token.ensures.ok
 
 pub more_of_row-returns-then-next_is-clause-err : goal.more_of_row-returns-then-next_is-clause-err
-more_of_row-returns-then-next_is-clause-err t c = carry_err _ _ _ (sym (more_ends c.args.depth c.args.listed c.row-row.result c.row-row.ensures (drop c.args.from c.args.stack.now) c.args.leaves.now (sym c.next_is.ensures ∙ c.if-next_is.true))) c.closing_token.ensures.err
+more_of_row-returns-then-next_is-clause-err t c = carry_err _ _ _ (sym (more_ends c.args.depth c.args.listed c.row-row.result c.row-row.ensures (drop c.args.from c.args.self.now.stack) c.args.self.now.leaves (sym c.next_is.ensures ∙ c.if-next_is.true))) c.closing_token.ensures.err
 
 pub more_of_row-returns-in_err-take-clause-err : goal.more_of_row-returns-in_err-take-clause-err
-more_of_row-returns-in_err-take-clause-err t c = handed_on _ _ _ _ c.from_residual.ensures.1 c.in_err-take.ensures.err (λ n. more_none c.args.depth c.args.listed c.row-row.result c.row-row.ensures (drop c.args.from c.args.stack.now) c.args.leaves.now (sym c.next_is.ensures ∙ c.if-next_is.false) n)
+more_of_row-returns-in_err-take-clause-err t c = handed_on _ _ _ _ c.from_residual.ensures.1 c.in_err-take.ensures.err (λ n. more_none c.args.depth c.args.listed c.row-row.result c.row-row.ensures (drop c.args.from c.args.self.now.stack) c.args.self.now.leaves (sym c.next_is.ensures ∙ c.if-next_is.false) n)
 
 pub more_of_row-items_of_row-requires : goal.more_of_row-items_of_row-requires
 more_of_row-items_of_row-requires t c = (
@@ -368,10 +357,10 @@ more_of_row-items_of_row-requires t c = (
 )
 
 pub more_of_row-returns-clause-ok : goal.more_of_row-returns-clause-ok
-more_of_row-returns-clause-ok t c = carry_ok _ _ _ _ _ _ _ (sym (more_goes c.args.depth c.args.listed c.row-row.result c.row-row.ensures (drop c.args.from c.args.stack.now) c.args.leaves.now (sym c.next_is.ensures ∙ c.if-next_is.false) _ _ (added _ _ c.requires.from (token_at (terminals_of c.row-row.result.separator)) _ _ _ _ c.in_ok-take.ensures.ok))) (take_push _ _ c.requires.from _ _ c.in_ok-take.ensures.ok.2) c.items_of_row.ensures.ok
+more_of_row-returns-clause-ok t c = carry_ok _ _ _ _ _ _ _ (sym (more_goes c.args.depth c.args.listed c.row-row.result c.row-row.ensures (drop c.args.from c.args.self.now.stack) c.args.self.now.leaves (sym c.next_is.ensures ∙ c.if-next_is.false) _ _ (added _ _ c.requires.from (token_at (terminals_of c.row-row.result.separator)) _ _ _ _ c.in_ok-take.ensures.ok))) (take_push _ _ c.requires.from _ _ c.in_ok-take.ensures.ok.2) c.items_of_row.ensures.ok
 
 pub more_of_row-returns-clause-err : goal.more_of_row-returns-clause-err
-more_of_row-returns-clause-err t c = carry_err _ _ _ (sym (more_goes c.args.depth c.args.listed c.row-row.result c.row-row.ensures (drop c.args.from c.args.stack.now) c.args.leaves.now (sym c.next_is.ensures ∙ c.if-next_is.false) _ _ (added _ _ c.requires.from (token_at (terminals_of c.row-row.result.separator)) _ _ _ _ c.in_ok-take.ensures.ok))) c.items_of_row.ensures.err
+more_of_row-returns-clause-err t c = carry_err _ _ _ (sym (more_goes c.args.depth c.args.listed c.row-row.result c.row-row.ensures (drop c.args.from c.args.self.now.stack) c.args.self.now.leaves (sym c.next_is.ensures ∙ c.if-next_is.false) _ _ (added _ _ c.requires.from (token_at (terminals_of c.row-row.result.separator)) _ _ _ _ c.in_ok-take.ensures.ok))) c.items_of_row.ensures.err
 
 pub square-returns-in_err-open-clause-err : goal.square-returns-in_err-open-clause-err
 square-returns-in_err-open-clause-err t c = handed_on _ _ _ _ c.from_residual.ensures.1 c.in_err-open.ensures.err (λ n. square_unopened _ _ _ n)
@@ -388,18 +377,18 @@ pub square-returns-then-next_is-clause-ok : goal.square-returns-then-next_is-cla
 square-returns-then-next_is-clause-ok t c =
     let le = within_all _ _ c.len-from.ensures in
     let begins = begins_last _ _ c.len-from.ensures in
-    carry_ok _ _ _ _ _ _ _ (ap (λ (ps : List Part). found_from c.args.depth ps s.Square c.args.leaves.now) (sym begins.0) ∙ sym (square_empty _ _ _ _ _ (added _ _ le (token_at (terminals_of token.OpenSquare)) _ _ _ _ c.in_ok-open.ensures.ok) (sym c.next_is.ensures ∙ c.if-next_is.true))) (take_push _ _ le _ _ c.in_ok-open.ensures.ok.2 ∙ begins.1) c.closing_token.ensures.ok
+    carry_ok _ _ _ _ _ _ _ (ap (λ (ps : List Part). found_from c.args.depth ps s.Square c.args.self.now.leaves) (sym begins.0) ∙ sym (square_empty _ _ _ _ _ (added _ _ le (token_at (terminals_of token.OpenSquare)) _ _ _ _ c.in_ok-open.ensures.ok) (sym c.next_is.ensures ∙ c.if-next_is.true))) (take_push _ _ le _ _ c.in_ok-open.ensures.ok.2 ∙ begins.1) c.closing_token.ensures.ok
 
 pub square-returns-then-next_is-clause-err : goal.square-returns-then-next_is-clause-err
 square-returns-then-next_is-clause-err t c =
     let le = within_all _ _ c.len-from.ensures in
     let begins = begins_last _ _ c.len-from.ensures in
-    carry_err _ _ _ (ap (λ (ps : List Part). found_from c.args.depth ps s.Square c.args.leaves.now) (sym begins.0) ∙ sym (square_empty _ _ _ _ _ (added _ _ le (token_at (terminals_of token.OpenSquare)) _ _ _ _ c.in_ok-open.ensures.ok) (sym c.next_is.ensures ∙ c.if-next_is.true))) c.closing_token.ensures.err
+    carry_err _ _ _ (ap (λ (ps : List Part). found_from c.args.depth ps s.Square c.args.self.now.leaves) (sym begins.0) ∙ sym (square_empty _ _ _ _ _ (added _ _ le (token_at (terminals_of token.OpenSquare)) _ _ _ _ c.in_ok-open.ensures.ok) (sym c.next_is.ensures ∙ c.if-next_is.true))) c.closing_token.ensures.err
 
 pub square-returns-in_err-part-clause-err : goal.square-returns-in_err-part-clause-err
 square-returns-in_err-part-clause-err t c =
     let le = within_all _ _ c.len-from.ensures in
-    handed_on _ _ _ _ c.from_residual-in_err-part.ensures.1 c.in_err-part.ensures.err (λ n. ap (λ (ps : List Part). found_from c.args.depth ps s.Square c.args.leaves.now) (sym (begins_last _ _ c.len-from.ensures).0) ∙ square_none _ _ _ _ _ (added _ _ le (token_at (terminals_of token.OpenSquare)) _ _ _ _ c.in_ok-open.ensures.ok) (sym c.next_is.ensures ∙ c.if-next_is.false) n)
+    handed_on _ _ _ _ c.from_residual-in_err-part.ensures.1 c.in_err-part.ensures.err (λ n. ap (λ (ps : List Part). found_from c.args.depth ps s.Square c.args.self.now.leaves) (sym (begins_last _ _ c.len-from.ensures).0) ∙ square_none _ _ _ _ _ (added _ _ le (token_at (terminals_of token.OpenSquare)) _ _ _ _ c.in_ok-open.ensures.ok) (sym c.next_is.ensures ∙ c.if-next_is.false) n)
 
 pub square-follow-requires : goal.square-follow-requires
 square-follow-requires t c = (
@@ -428,23 +417,23 @@ square-returns-then-next_is-2-clause-ok t c =
     let le = within_all _ _ c.len-from.ensures in
     let begins = begins_last _ _ c.len-from.ensures in
     let on = within_push _ _ le _ _ c.in_ok-open.ensures.ok.2 in
-    carry_ok _ _ _ _ _ _ _ (ap (λ (ps : List Part). found_from c.args.depth ps s.Square c.args.leaves.now) (sym begins.0) ∙ sym (square_for _ _ _ _ _ (added _ _ le (token_at (terminals_of token.OpenSquare)) _ _ _ _ c.in_ok-open.ensures.ok) (sym c.next_is.ensures ∙ c.if-next_is.false) _ _ (added _ _ on (part_at c.args.depth (nonterminal_of (q.Level 13))) _ _ _ _ c.in_ok-part.ensures.ok) (sym c.next_is-2.ensures ∙ c.if-next_is-2.true))) (take_push _ _ on _ _ c.in_ok-part.ensures.ok.2 ∙ take_push _ _ le _ _ c.in_ok-open.ensures.ok.2 ∙ begins.1) c.follow.ensures.ok
+    carry_ok _ _ _ _ _ _ _ (ap (λ (ps : List Part). found_from c.args.depth ps s.Square c.args.self.now.leaves) (sym begins.0) ∙ sym (square_for _ _ _ _ _ (added _ _ le (token_at (terminals_of token.OpenSquare)) _ _ _ _ c.in_ok-open.ensures.ok) (sym c.next_is.ensures ∙ c.if-next_is.false) _ _ (added _ _ on (part_at c.args.depth (nonterminal_of (q.Level 13))) _ _ _ _ c.in_ok-part.ensures.ok) (sym c.next_is-2.ensures ∙ c.if-next_is-2.true))) (take_push _ _ on _ _ c.in_ok-part.ensures.ok.2 ∙ take_push _ _ le _ _ c.in_ok-open.ensures.ok.2 ∙ begins.1) c.follow.ensures.ok
 
 pub square-returns-then-next_is-2-clause-err : goal.square-returns-then-next_is-2-clause-err
 square-returns-then-next_is-2-clause-err t c =
     let le = within_all _ _ c.len-from.ensures in
     let on = within_push _ _ le _ _ c.in_ok-open.ensures.ok.2 in
-    carry_err _ _ _ (ap (λ (ps : List Part). found_from c.args.depth ps s.Square c.args.leaves.now) (sym (begins_last _ _ c.len-from.ensures).0) ∙ sym (square_for _ _ _ _ _ (added _ _ le (token_at (terminals_of token.OpenSquare)) _ _ _ _ c.in_ok-open.ensures.ok) (sym c.next_is.ensures ∙ c.if-next_is.false) _ _ (added _ _ on (part_at c.args.depth (nonterminal_of (q.Level 13))) _ _ _ _ c.in_ok-part.ensures.ok) (sym c.next_is-2.ensures ∙ c.if-next_is-2.true))) c.follow.ensures.err
+    carry_err _ _ _ (ap (λ (ps : List Part). found_from c.args.depth ps s.Square c.args.self.now.leaves) (sym (begins_last _ _ c.len-from.ensures).0) ∙ sym (square_for _ _ _ _ _ (added _ _ le (token_at (terminals_of token.OpenSquare)) _ _ _ _ c.in_ok-open.ensures.ok) (sym c.next_is.ensures ∙ c.if-next_is.false) _ _ (added _ _ on (part_at c.args.depth (nonterminal_of (q.Level 13))) _ _ _ _ c.in_ok-part.ensures.ok) (sym c.next_is-2.ensures ∙ c.if-next_is-2.true))) c.follow.ensures.err
 
 pub square-returns-clause-ok : goal.square-returns-clause-ok
 square-returns-clause-ok t c =
     let le = within_all _ _ c.len-from.ensures in
     let begins = begins_last _ _ c.len-from.ensures in
     let on = within_push _ _ le _ _ c.in_ok-open.ensures.ok.2 in
-    carry_ok _ _ _ _ _ _ _ (ap (λ (ps : List Part). found_from c.args.depth ps s.Square c.args.leaves.now) (sym begins.0) ∙ sym (square_more _ _ _ _ _ (added _ _ le (token_at (terminals_of token.OpenSquare)) _ _ _ _ c.in_ok-open.ensures.ok) (sym c.next_is.ensures ∙ c.if-next_is.false) _ _ (added _ _ on (part_at c.args.depth (nonterminal_of (q.Level 13))) _ _ _ _ c.in_ok-part.ensures.ok) (sym c.next_is-2.ensures ∙ c.if-next_is-2.false))) (take_push _ _ on _ _ c.in_ok-part.ensures.ok.2 ∙ take_push _ _ le _ _ c.in_ok-open.ensures.ok.2 ∙ begins.1) c.more_of_row.ensures.ok
+    carry_ok _ _ _ _ _ _ _ (ap (λ (ps : List Part). found_from c.args.depth ps s.Square c.args.self.now.leaves) (sym begins.0) ∙ sym (square_more _ _ _ _ _ (added _ _ le (token_at (terminals_of token.OpenSquare)) _ _ _ _ c.in_ok-open.ensures.ok) (sym c.next_is.ensures ∙ c.if-next_is.false) _ _ (added _ _ on (part_at c.args.depth (nonterminal_of (q.Level 13))) _ _ _ _ c.in_ok-part.ensures.ok) (sym c.next_is-2.ensures ∙ c.if-next_is-2.false))) (take_push _ _ on _ _ c.in_ok-part.ensures.ok.2 ∙ take_push _ _ le _ _ c.in_ok-open.ensures.ok.2 ∙ begins.1) c.more_of_row.ensures.ok
 
 pub square-returns-clause-err : goal.square-returns-clause-err
 square-returns-clause-err t c =
     let le = within_all _ _ c.len-from.ensures in
     let on = within_push _ _ le _ _ c.in_ok-open.ensures.ok.2 in
-    carry_err _ _ _ (ap (λ (ps : List Part). found_from c.args.depth ps s.Square c.args.leaves.now) (sym (begins_last _ _ c.len-from.ensures).0) ∙ sym (square_more _ _ _ _ _ (added _ _ le (token_at (terminals_of token.OpenSquare)) _ _ _ _ c.in_ok-open.ensures.ok) (sym c.next_is.ensures ∙ c.if-next_is.false) _ _ (added _ _ on (part_at c.args.depth (nonterminal_of (q.Level 13))) _ _ _ _ c.in_ok-part.ensures.ok) (sym c.next_is-2.ensures ∙ c.if-next_is-2.false))) c.more_of_row.ensures.err
+    carry_err _ _ _ (ap (λ (ps : List Part). found_from c.args.depth ps s.Square c.args.self.now.leaves) (sym (begins_last _ _ c.len-from.ensures).0) ∙ sym (square_more _ _ _ _ _ (added _ _ le (token_at (terminals_of token.OpenSquare)) _ _ _ _ c.in_ok-open.ensures.ok) (sym c.next_is.ensures ∙ c.if-next_is.false) _ _ (added _ _ on (part_at c.args.depth (nonterminal_of (q.Level 13))) _ _ _ _ c.in_ok-part.ensures.ok) (sym c.next_is-2.ensures ∙ c.if-next_is-2.false))) c.more_of_row.ensures.err

@@ -1,12 +1,5 @@
-use Rattle.std.proofs.Common.{◌≡◌, ◌+◌, ◌*◌, ◌-◌, ◌≤◌, ◌++◌, ◌∷◌, [], length, take, drop}
-use Rattle.bz_grammar.specs.declared.tree.Part.{Part}
-use Rattle.bz_grammar.specs.Spell.{depth_part, deepest}
-use Rattle.bz_states.specs.declared.state.NodeState.TheVariants as s
-use Rattle.bz_states.specs.declared.state.ItemsAt.TheVariants as items_at
-use Rattle.bz_states.specs.States.{plan_at, choices, row_of_items}
-use Rattle.bz_tree.specs.private.Words.{found_from}
-use Rattle.bz_tree.specs.private.Ranks.{suffixes_at, level_at, RisesFrom}
-use Rattle.bz_tree.proofs.expressions.+parser.Given as goal
+use Rattle.bz_tree.proofs.Words.{[], ◌*◌, ◌++◌, ◌+◌, ◌-◌, ◌∷◌, ◌≡◌, ◌≤◌, choices, deepest, depth_part, drop, found_from, ItemsAt as items_at, length, level_at, NodeState as s, Part, plan_at, RisesFrom, row_of_items, suffixes_at, take}
+use Rattle.bz_tree.proofs.parser.Parser.+parser.Given as goal
 
 -- each part inside is one deeper; the functions of one depth in the order in which they call each other
 abbrev pub decreases-part : goal.decreases-part
@@ -57,33 +50,33 @@ decreases-param l = 20 * l.depth + 9
 abbrev pub invariant-items_of_row-more : goal.invariant-items_of_row-more
 invariant-items_of_row-more l = record {
   row : l.row ≡ row_of_items l.fn.listed;
-  rest : found_from l.depth (drop l.from l.stack) (s.Items l.fn.listed items_at.Begin) l.leaves ≡ found_from l.fn.depth (drop l.fn.from l.fn.stack) (s.Items l.fn.listed items_at.Begin) l.fn.leaves;
-  below : take l.from l.stack ≡ take l.fn.from l.fn.stack;
-  from : l.from ≤ length l.stack;
-  deep : l.deep ≡ deepest (drop l.from l.stack);
+  rest : found_from l.depth (drop l.from l.self.stack) (s.Items l.fn.listed items_at.Begin) l.self.leaves ≡ found_from l.fn.depth (drop l.fn.from l.fn.self.stack) (s.Items l.fn.listed items_at.Begin) l.fn.self.leaves;
+  below : take l.from l.self.stack ≡ take l.fn.from l.fn.self.stack;
+  from : l.from ≤ length l.self.stack;
+  deep : l.deep ≡ deepest (drop l.from l.self.stack);
   within : l.deep ≤ l.depth;
 }
 
 abbrev pub decreases-items_of_row-more : goal.decreases-items_of_row-more
-decreases-items_of_row-more l = length l.leaves
+decreases-items_of_row-more l = length l.self.leaves
 
 abbrev pub invariant-follow-moves : goal.invariant-follow-moves
 invariant-follow-moves l = record {
-  rest : found_from l.depth (drop l.from l.stack) l.state l.leaves ≡ found_from l.fn.depth (drop l.fn.from l.fn.stack) l.fn.state l.fn.leaves;
-  below : take l.from l.stack ≡ take l.fn.from l.fn.stack;
-  from : l.from ≤ length l.stack;
-  deep : l.deep ≡ deepest (drop l.from l.stack);
+  rest : found_from l.depth (drop l.from l.self.stack) l.state l.self.leaves ≡ found_from l.fn.depth (drop l.fn.from l.fn.self.stack) l.fn.state l.fn.self.leaves;
+  below : take l.from l.self.stack ≡ take l.fn.from l.fn.self.stack;
+  from : l.from ≤ length l.self.stack;
+  deep : l.deep ≡ deepest (drop l.from l.self.stack);
   within : l.deep ≤ l.depth;
 }
 
 -- each move takes a leaf or leaves fewer choices
 abbrev pub decreases-follow-moves : goal.decreases-follow-moves
-decreases-follow-moves l = 8 * length l.leaves + choices (plan_at l.state)
+decreases-follow-moves l = 8 * length l.self.leaves + choices (plan_at l.state)
 
 abbrev pub invariant-expression-ranks : goal.invariant-expression-ranks
 invariant-expression-ranks l = record {
-  from : l.from ≡ length l.fn.stack;
-  rises : RisesFrom l.depth l.rank l.n l.fn.leaves l.leaves l.fn.stack l.stack l.deep;
+  from : l.from ≡ length l.fn.self.stack;
+  rises : RisesFrom l.depth l.rank l.n l.fn.self.leaves l.self.leaves l.fn.self.stack l.self.stack l.deep;
 }
 
 abbrev pub decreases-expression-ranks : goal.decreases-expression-ranks
@@ -91,9 +84,9 @@ decreases-expression-ranks l = l.n - l.rank
 
 abbrev pub invariant-primary-suffixes : goal.invariant-primary-suffixes
 invariant-primary-suffixes l = record {
-  from : l.from ≡ length l.fn.stack;
-  goes : (a : Part) × (suffixes_at l.depth a l.leaves ≡ level_at l.fn.depth 0 l.fn.leaves) × (l.stack ≡ l.fn.stack ++ (a ∷ [])) × (l.deep ≡ depth_part a);
+  from : l.from ≡ length l.fn.self.stack;
+  goes : (a : Part) × (suffixes_at l.depth a l.self.leaves ≡ level_at l.fn.depth 0 l.fn.self.leaves) × (l.self.stack ≡ l.fn.self.stack ++ (a ∷ [])) × (l.deep ≡ depth_part a);
 }
 
 abbrev pub decreases-primary-suffixes : goal.decreases-primary-suffixes
-decreases-primary-suffixes l = length l.leaves
+decreases-primary-suffixes l = length l.self.leaves

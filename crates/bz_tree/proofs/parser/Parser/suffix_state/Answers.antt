@@ -1,6 +1,6 @@
 use Rattle.std.proofs.Common.{sym, ◌∙◌}
 use Rattle.bz_tree.proofs.Listed.{suffix_dot, suffix_call, suffix_index}
-use Rattle.bz_tree.proofs.expressions.suffix_state.Goals as goal
+use Rattle.bz_tree.proofs.parser.Parser.suffix_state.Goals as goal
 
 pub returns-then-next_is : goal.returns-then-next_is
 returns-then-next_is c d front = suffix_dot d front _ (sym c.next_is.ensures ∙ c.if-next_is.true)

@@ -1,6 +1,6 @@
 use Rattle.std.proofs.Common.{sym, ◌∙◌}
 use Rattle.bz_tree.proofs.Listed.{small_load, small_return, small_flow, small_expression}
-use Rattle.bz_tree.proofs.expressions.small_state.Goals as goal
+use Rattle.bz_tree.proofs.parser.Parser.small_state.Goals as goal
 
 pub returns-then-next_is : goal.returns-then-next_is
 returns-then-next_is c d = small_load d _ (sym c.next_is.ensures ∙ c.if-next_is.true)
