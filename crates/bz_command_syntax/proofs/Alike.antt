@@ -1,17 +1,8 @@
 -- Patterns whose matches a caller sees alike make the same of a body.
-use Rattle.std.proofs.Common.{◌≡◌, ℕ, ◌+◌, ◌*◌, ◌<◌, ◌≤◌, List, [], ◌∷◌, ◌++◌, map, length, get_or, Option, Some, None, IsSomeAnd, chars, refl, ap, ap₂, ◌∙◌, slice_range, true, ◌==◌}
-use Rattle.std.specs.Prelude.{if◌then◌else◌}
-use Rattle.regex_syntax.specs.Grammar.{Names, group_count, read}
+use Rattle.bz_command_syntax.proofs.Imported.{[], ◌*◌, ◌++◌, ◌+◌, ◌<◌, ◌==◌, ◌∙◌, ◌∷◌, ◌≡◌, ◌≤◌, ap, ap₂, chars, default_config, get_or, group_count, if◌then◌else◌, IsSomeAnd, length, List, map, Match, missing_after, missing_group, Names, None, Option, option_and_then, Re, read, refl, replaced_in, SameCaptures, slice_range, Some, substituted_by, true, written_after, ℕ}
 use Rattle.regex_syntax.specs.Brackets.{Nested}
-use Rattle.regex.specs.Patterns.{Re, Match, SameCaptures, Reads, default_config}
-use Rattle.regex.specs.Replace.{replaced_by, group_bytes, bytes_of}
-use Rattle.regex.specs.Writes.{both}
-use Rattle.regex.specs.Templates.{written_after}
-use Rattle.regex.specs.Strings.{regex_pattern, regex_names, regex_source, regex_config, IsReadFromSource}
-use Rattle.regex.specs.declared.string.regex.Regex.{Regex}
+use Rattle.regex.specs.{Patterns.Reads, Replace.replaced_by, Replace.group_bytes, Replace.bytes_of, Writes.both, Strings.regex_pattern, Strings.regex_names, Strings.regex_source, Strings.regex_config, Strings.IsReadFromSource, declared.string.regex.Regex.Regex}
 use Rattle.regex.proofs.ForCallers.{spans, find_all_alike}
-use Rattle.std.specs.Option.{option_and_then}
-use Rattle.bz_command_syntax.specs.Patterns.{missing_after, missing_group, replaced_in, substituted_by}
 
 -- what a caller sees of a match: where it starts and ends, and its slots
 abbrev Seen : Type 0

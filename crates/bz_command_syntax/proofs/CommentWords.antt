@@ -1,8 +1,5 @@
 -- The words of a comment, by the last of them.
-use Rattle.std.proofs.Common.{◌≡◌, false, List, [], ◌∷◌, ◌++◌, Some, None, refl, ap, ◌∙◌, option_map}
-use Rattle.std.specs.Option.{option_and_then}
-use Rattle.bz_items.specs.Characters.{Bytes}
-use Rattle.bz_command_syntax.specs.Commands.{host_text, is_one_line, split_last}
+use Rattle.bz_command_syntax.proofs.Imported.{[], ◌++◌, ◌∙◌, ◌∷◌, ◌≡◌, ap, Bytes, false, host_text, is_one_line, List, None, option_and_then, option_map, refl, Some, split_last}
 
 last_split : (front : List Bytes) (last : Bytes) → split_last (front ++ last ∷ []) ≡ Some (front, last)
 last_split [] last = refl

@@ -1,17 +1,7 @@
 -- An identifier is a lexeme of class Name, and what the reader of tokens says of one.
-use Rattle.std.proofs.Common.{◌≡◌, ◌==◌, ◌≤◌, ℕ, Bool, true, false, [], ◌∷◌, ◌++◌, ◌&&◌, ◌||◌, not, length, take, drop, refl, sym, ap, ◌∙◌, ◌⊎◌, subst, inl, inr, arith, length-append}
-use Rattle.std.specs.Prelude.{if◌then◌else◌}
-use Rattle.std.proofs.lemmas.Bool.{false_from_ne_true, and_parts, and_from, not-true, not_from_false, cases_Bool, eqb-true, eqb-false}
-use Rattle.std.proofs.lemmas.List.{append-nil, take-append-drop, length-take-le, drop_all}
-use Rattle.std.proofs.Math.Seq.{take-length}
-use Rattle.bz_token.specs.declared.class.Class.{Class}
-use Rattle.bz_token.specs.declared.class.Class.TheVariants as class
-use Rattle.bz_token.specs.Bytes.{is_digit, is_high, is_letter}
-use Rattle.bz_token.specs.Lexemes.{is_keyword, IsLetters, none, one, three, IsWord, IsLexeme}
+use Rattle.bz_command_syntax.proofs.Imported.{[], ◌&&◌, ◌++◌, ◌==◌, ◌||◌, ◌∙◌, ◌∷◌, ◌≡◌, ◌≤◌, ◌⊎◌, and_from, and_parts, ap, append-nil, are_letters, arith, Bool, Bytes, cases_Bool, Class, Class as class, drop, drop_all, end_a_letter, eqb-false, eqb-true, false, false_from_ne_true, IdentifiersAreNames, if◌then◌else◌, inl, inr, is_digit, is_high, is_identifier, is_keyword, is_letter, is_word_of_letters, IsLetters, IsLexeme, IsWord, length, length-append, length-take-le, none, not, not-true, not_from_false, one, refl, subst, sym, take, take-append-drop, take-length, three, true, ℕ}
 use Rattle.bz_token.specs.Tokens.{IsToken, NoToken, TokenAt}
 use Rattle.bz_token.proofs.Laws.{one_token}
-use Rattle.bz_items.specs.Characters.{Bytes}
-use Rattle.bz_command_syntax.specs.Identifiers.{are_letters, end_a_letter, is_word_of_letters, is_identifier, IdentifiersAreNames}
 
 -- ---- letters
 

@@ -1,10 +1,5 @@
 -- The words of a text, byte by byte.
-use Rattle.std.proofs.Common.{◌≡◌, ◌==◌, ℕ, List, [], ◌∷◌, ◌++◌, filter, Bool, true, false, ◌&&◌, not, refl, ap, sym, append_assoc, inl, inr}
-use Rattle.std.specs.List.{onto_first}
-use Rattle.std.proofs.lemmas.Bool.{cases_Bool}
-use Rattle.std.proofs.lemmas.List.{append-nil}
-use Rattle.bz_items.specs.Characters.{Bytes, backslash, space}
-use Rattle.bz_command_syntax.specs.Words.{pieces, begins_with_space, is_nonempty, words_of, words_after}
+use Rattle.bz_command_syntax.proofs.Imported.{[], ◌&&◌, ◌++◌, ◌==◌, ◌∷◌, ◌≡◌, ap, append-nil, append_assoc, backslash, begins_with_space, Bool, Bytes, cases_Bool, false, filter, inl, inr, is_nonempty, List, not, onto_first, pieces, refl, space, sym, true, words_after, words_of, ℕ}
 pub use Rattle.bz_command_syntax.specs.Words.{after_word}
 
 pub after_word-onto_first : (word : Bytes) (byte : ℕ) (all : List Bytes) → after_word word (onto_first byte all) ≡ after_word (word ++ byte ∷ []) all

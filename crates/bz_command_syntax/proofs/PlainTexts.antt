@@ -1,11 +1,5 @@
 -- What a body becomes, by whether it, the template and what is made of them are texts.
-use Rattle.std.proofs.Common.{◌≡◌, ◌&&◌, true, false, Bool, ℕ, List, chars, IsUtf8, refl, if◌then◌else◌}
-use Rattle.std.specs.Str.{is_utf8}
-use Rattle.std.proofs.lemmas.Bool.{false_from_ne_true}
-use Rattle.std.proofs.lemmas.Str.{IsUtf8-from_is_utf8, is_utf8-from_IsUtf8}
-use Rattle.regex_syntax.specs.Grammar.{read}
-use Rattle.regex.specs.Patterns.{default_config}
-use Rattle.bz_command_syntax.specs.Patterns.{substituted, substituted_by, TextStaysText}
+use Rattle.bz_command_syntax.proofs.Imported.{◌&&◌, ◌≡◌, Bool, chars, default_config, false, false_from_ne_true, if◌then◌else◌, is_utf8, is_utf8-from_IsUtf8, IsUtf8, IsUtf8-from_is_utf8, List, read, refl, substituted, substituted_by, TextStaysText, true, ℕ}
 
 is_no_text : (bytes : List ℕ) → (IsUtf8 bytes → ⊥) → is_utf8 bytes ≡ false
 is_no_text bytes other = false_from_ne_true _ (λ e. other (IsUtf8-from_is_utf8 bytes e))

@@ -1,20 +1,9 @@
 -- Every command that is read is proper.
-use Rattle.std.proofs.Common.{◌≡◌, Bool, true, false, List, [], ◌∷◌, ◌&&◌, not, Option, Some, None, Ok, Err, refl, sym, subst, true≢false, arith, IsUtf8, IfSome, codes, bytes_eq, option_map}
-use Rattle.std.specs.Prelude.{if◌then◌else◌}
-use Rattle.std.specs.Str.{is_utf8, chars}
-use lib.Utf8.{encode}
-use Rattle.std.specs.List.{list_any}
-use Rattle.std.specs.Option.{option_and_then, option_map_or}
-use Rattle.std.proofs.lemmas.Bool.{and_parts}
-use Rattle.std.proofs.lemmas.Str.{IsUtf8-from_is_utf8}
-use Rattle.bz_items.specs.Characters.{Bytes, colon, equals_sign}
-use Rattle.bz_command_syntax.specs.Words.{is_nonempty}
-use Rattle.bz_command_syntax.specs.Identifiers.{is_identifier, is_rule_kind}
+use Rattle.bz_command_syntax.proofs.Imported.{[], ◌&&◌, ◌∷◌, ◌≡◌, and_parts, AreAttributes, AreMoved, AreSome, AreUsages, AreUtf8, AreValues, Arguments, arith, Bool, Bytes, bytes_eq, chars, codes, colon, EachIs, encode, equals_sign, Err, false, IfSome, if◌then◌else◌, is_identifier, is_nonempty, is_rule_kind, is_utf8, IsAttribute, IsEntry, IsField, IsHost, IsKind, IsPlace, IsProperCommand, IsRepo, IsSymbol, IsUtf8, IsUtf8-from_is_utf8, List, list_any, None, not, Ok, Option, option_and_then, option_map, option_map_or, ReadCommand, refl, Some, subst, sym, true, true≢false, Unknown}
 use Rattle.bz_command_syntax.specs.Commands as c
-use Rattle.bz_command_syntax.specs.Commands.{ReadCommand}
-use Rattle.bz_command_syntax.specs.Proper.{AreUtf8, EachIs, AreSome, IsAttribute, IsKind, IsPlace, AreAttributes, AreValues, AreMoved, IsEntry, IsSymbol, IsRepo, AreUsages, IsHost, IsField, IsProperCommand}
 use Rattle.bz_command_syntax.specs.declared.command.{Attributes.Attributes, Fixes.Fixes, Operation.Operation, Usages.Usages}
 use Rattle.bz_command_syntax.specs.declared.command.Values.TheVariants.{All, These}
+use Rattle.bz_command_syntax.specs.declared.command.Selects.TheVariants.{Skipped}
 use Rattle.bz_command_syntax.specs.declared.command.Repo.TheVariants as rp
 use Rattle.bz_command_syntax.specs.declared.command.Operation.TheVariants as w
 use Rattle.bz_command_syntax.specs.declared.command.RuleOperation.TheVariants as wr
@@ -23,7 +12,9 @@ use Rattle.bz_command_syntax.specs.declared.command.ValueOperation.TheVariants a
 use Rattle.bz_command_syntax.specs.declared.command.DictOperation.TheVariants as wd
 use Rattle.bz_command_syntax.specs.declared.command.LoadOperation.TheVariants as wl
 use Rattle.bz_command_syntax.specs.declared.command.CommentOperation.TheVariants as wc
-use Rattle.bz_command_syntax.specs.declared.fault.CommandFault.TheVariants.{Unknown}
+use Rattle.bz_command_syntax.specs.declared.profile.Profile.{Profile}
+use Rattle.bz_command_syntax.specs.declared.profile.Profile.TheVariants.{Own, Bazelbuild}
+use Rattle.bz_command_syntax.proofs.Profiles.{entering_proper}
 use Rattle.bz_command_syntax.proofs.Utf8Texts.{cut_utf8}
 
 -- ---- what is there, where there is something
@@ -229,7 +220,8 @@ fixes_proper (Some fixes) = tt
 field_proper : (word : Bytes) → IsUtf8 word → IfSome (c.field_of word) IsField
 field_proper word u =
     either _ (bytes_eq word (codes "kind")) _ _ (λ _. tt) (either _ (bytes_eq word (codes "startline")) _ _ (λ _. tt)
-    (either _ (bytes_eq word (codes "rule")) _ _ (λ _. tt) (given_is IsField _ _ (λ h. ((and_parts (is_identifier word) (not (c.is_unknown_field word)) h).0, u)))))
+    (either _ (bytes_eq word (codes "rule")) _ _ (λ _. tt) (either _ (bytes_eq word (codes "label")) _ _ (λ _. tt)
+    (given_is IsField _ _ (λ h. ((and_parts (is_identifier word) (not (c.is_unknown_field word)) h).0, u))))))
 
 name_is_text : is_utf8 (codes "name") ≡ true
 unfolding is_utf8 chars encode
@@ -280,7 +272,7 @@ remove_proper : IsProperReader c.remove_of
 remove_proper [] u = tt
 remove_proper (attribute ∷ []) u = by_form (λ attributes. w.Attribute (wa.Remove attributes)) (λ words. c.attributes_of attribute) (λ words v. attributes_proper attribute u.0) [] tt
 remove_proper (attribute ∷ value ∷ values) u =
-    made_proper (λ attributes. w.Value (wv.Remove attributes (value ∷ values))) (c.attributes_of attribute)
+    made_proper (λ attributes. w.Value (wv.Remove attributes (value ∷ values) Skipped)) (c.attributes_of attribute)
     (mapped_proper (c.attributes_of attribute) (attributes_proper attribute u.0))
   where
     mapped_proper : (o : Option Attributes) → IfSome o AreAttributes → IfSome o (λ attributes. AreAttributes attributes × AreValues (value ∷ values))
@@ -308,8 +300,8 @@ commands_proper =
     (with_row (by_form (λ parts. w.Value (wv.Add parts.0 parts.1)) c.attribute_values values_proper)
     (with_row remove_proper
     (with_row (by_form (λ parts. w.Value (wv.RemoveIfEqual parts.0 parts.1)) c.attribute_word word_proper)
-    (with_row (by_form (λ parts. w.Value (wv.Replace parts.0 parts.1 parts.2)) c.attributes_words words_proper)
-    (with_row (by_form (λ parts. w.Value (wv.Substitute parts.0 parts.1 parts.2)) c.attributes_words words_proper)
+    (with_row (by_form (λ parts. w.Value (wv.Replace parts.0 parts.1 parts.2 Skipped)) c.attributes_words words_proper)
+    (with_row (by_form (λ parts. w.Value (wv.Substitute parts.0 parts.1 parts.2 Skipped)) c.attributes_words words_proper)
     (with_row (by_form (λ parts. w.Value (wv.Move parts.0 parts.1 parts.2)) c.moved_values moved_proper)
     (with_row (by_form (λ parts. w.Attribute (wa.Rename parts.0 parts.1)) c.two_attributes two_proper)
     (with_row (by_form (λ parts. w.Attribute (wa.Copy parts.0 parts.1)) c.attribute_word word_proper)
@@ -340,8 +332,19 @@ found_proper : (words : List Bytes) → AreUtf8 words → (o : Option (Bytes × 
 found_proper words u (Some command) h = h words u
 found_proper words u None h = tt
 
+-- ---- profiles
+
+by_profile_proper : (profile : Profile) (operation : Operation) → IsProperCommand operation → ReadsProper (c.by_profile profile operation)
+by_profile_proper Own operation proper = if_proper (c.prints_label operation) (Err Arguments) (Ok operation) (λ _. tt) proper
+by_profile_proper Bazelbuild operation proper = entering_proper operation proper
+
+profile_proper : (profile : Profile) (read : ReadCommand) → ReadsProper read → ReadsProper (c.read_by_profile profile read)
+profile_proper profile (Ok operation) proper = by_profile_proper profile operation proper
+profile_proper profile (Err fault) proper = tt
+
 -- The operation that is read in words is proper.
-pub read_proper : (name : Bytes) (words all : List Bytes) (operation : Operation) → all ≡ name ∷ words → AreUtf8 all → c.command_in true (name ∷ words) ≡ Ok operation
-    → IsProperCommand operation
-read_proper name words all operation is u e =
-    subst ReadsProper e (found_proper words (subst AreUtf8 is u).1 (c.row_named c.commands name) (named_proper c.commands commands_proper name))
+pub read_proper : (profile : Profile) (name : Bytes) (words all : List Bytes) (operation : Operation) → all ≡ name ∷ words → AreUtf8 all
+    → c.command_in profile true (name ∷ words) ≡ Ok operation → IsProperCommand operation
+read_proper profile name words all operation is u e =
+    let listed = found_proper words (subst AreUtf8 is u).1 (c.row_named c.commands name) (named_proper c.commands commands_proper name) in
+    subst ReadsProper e (profile_proper profile (c.listed_in true (name ∷ words)) listed)

@@ -1,12 +1,5 @@
 -- A word between quotation marks is a lexeme of class String.
-use Rattle.std.proofs.Common.{◌≡◌, ◌==◌, ℕ, false, [], ◌∷◌, ◌++◌, ◌||◌, refl, ap, ◌∙◌, inl, inr}
-use Rattle.std.specs.List.{flat_map, list_any}
-use Rattle.std.proofs.lemmas.Bool.{cases_Bool, or_parts}
-use Rattle.bz_token.specs.declared.class.Class.TheVariants as class
-use Rattle.bz_items.specs.Characters.{Bytes, backslash, line_feed, quotation_mark}
-use Rattle.bz_token.specs.Bytes.{among}
-use Rattle.bz_token.specs.Lexemes.{IsShort, short_end, short_plain, short_taken, single, IsLexeme}
-use Rattle.bz_command_syntax.specs.Quoted.{is_escaped, escaped, quoted_of}
+use Rattle.bz_command_syntax.proofs.Imported.{[], ◌++◌, ◌==◌, ◌||◌, ◌∙◌, ◌∷◌, ◌≡◌, among, ap, backslash, Bytes, cases_Bool, Class as class, escaped, false, flat_map, inl, inr, is_escaped, IsLexeme, IsShort, line_feed, list_any, or_parts, quotation_mark, quoted_of, refl, short_end, short_plain, short_taken, single, ℕ}
 
 -- a byte that is written as it is
 pub written_plain : (byte : ℕ) → is_escaped byte ≡ false → escaped byte ≡ byte ∷ []

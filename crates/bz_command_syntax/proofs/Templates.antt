@@ -1,18 +1,6 @@
 -- Templates: numbers and names of groups, references, and what is passed over.
-use Rattle.std.proofs.Common.{◌≡◌, ◌≢◌, ◌<◌, ◌&&◌, ◌||◌, if◌then◌else◌, ℕ, zero, suc, ◌+◌, ◌==◌, ◌≤◌, List, [], ◌∷◌, length, drop, take, slice_index, Option, Some, None, Bool, true, false, not, IsUtf8, refl, inl, inr, lt-ltb, le-ltb, ne_eqb, arith}
-use Rattle.std.specs.Prelude.{bytes_eq, nat_le, nat_lt}
-use Rattle.std.specs.Option.{option_map_or}
-use Rattle.std.specs.Str.{is_utf8}
-use Rattle.std.specs.Char.{is_ascii_digit}
-use Rattle.std.specs.List.{list_any, position_from, prefix_len}
-use Rattle.std.proofs.lemmas.Bool.{cases_Bool, false_from_ne_true, lt-leb}
-use Rattle.std.proofs.lemmas.Str.{IsUtf8-from_is_utf8, is_utf8-from_IsUtf8}
-use Rattle.regex_syntax.specs.Grammar.{Names}
+use Rattle.bz_command_syntax.proofs.Imported.{[], ◌&&◌, ◌+◌, ◌<◌, ◌==◌, ◌||◌, ◌∷◌, ◌≡◌, ◌≢◌, ◌≤◌, arith, backslash, Bool, bytes_eq, cases_Bool, dollar_sign, drop, false, false_from_ne_true, group_called, has_escaped_digit, if◌then◌else◌, inl, inr, is_ascii_digit, is_missing, is_name_byte, is_utf8, is_utf8-from_IsUtf8, IsUtf8, IsUtf8-from_is_utf8, le-ltb, length, List, list_any, lt-leb, lt-ltb, missing_after, name_at, name_is_text, Names, nat_le, nat_lt, ne_eqb, None, not, number_in, Option, option_map_or, position_from, prefix_len, refl, slice_index, Some, suc, take, true, zero, ℕ}
 use Rattle.regex_hir.specs.Text.{is_some_and}
-use Rattle.regex.specs.Templates.{group_called, is_name_byte, name_at, number_in}
-use Rattle.regex.proofs.TemplateLemmas.{name_is_text}
-use Rattle.bz_items.specs.Characters.{backslash}
-use Rattle.bz_command_syntax.specs.Patterns.{dollar_sign, has_escaped_digit, is_missing, missing_after}
 use Rattle.bz_command_syntax.specs.private.Braces.{left_brace, right_brace}
 
 -- ---- groups

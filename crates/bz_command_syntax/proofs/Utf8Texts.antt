@@ -1,20 +1,7 @@
 -- What is UTF-8 and cut beside ASCII stays UTF-8.
-use Rattle.std.proofs.Common.{◌≡◌, ◌==◌, ◌<◌, ◌+◌, ℕ, Bool, true, false, List, [], ◌∷◌, ◌++◌, ◌&&◌, ◌||◌, not, filter, length, position, take, drop, get_or, refl, sym, ap, ◌∙◌, subst, inl, inr, arith, length-append, append_assoc, IsUtf8, IfSome, Option, Some, None, option_map}
-use Rattle.std.specs.List.{flat_map}
-use Rattle.std.proofs.lemmas.Bool.{cases_Bool, eqb-true, or_cases, and_parts}
-use Rattle.std.proofs.lemmas.List.{take_at, drop_at, append-nil}
-use Rattle.std.proofs.lemmas.Str.{IsUtf8-take, IsUtf8-drop, IsUtf8-append, IsUtf8-from_ascii, IsCharBoundary-before_ascii, IsCharBoundary-after_ascii}
-use Rattle.std.proofs.lemmas.Str.Ascii.{IsAscii-from_all}
-use Rattle.std.proofs.lemmas.List.Elements.{All-cons}
-use Rattle.std.proofs.lemmas.List.Quantifiers.{position-Some}
-use Rattle.std.proofs.Math.Seq.{get_or-append_seam}
-use Rattle.bz_items.specs.Characters.{Bytes, backslash, letter_n, line_feed, quotation_mark, space}
-use Rattle.bz_command_syntax.specs.Commands.{cut_at}
-use Rattle.bz_command_syntax.specs.Proper.{AreUtf8}
-use Rattle.bz_command_syntax.specs.Quoted.{is_escaped, escaped, quoted_of}
-use Rattle.bz_command_syntax.specs.Words.{pieces, begins_with_space, is_nonempty, after_word, words_of}
-use Rattle.bz_command_syntax.proofs.Pieces.{after_word-onto_first}
-use Rattle.bz_command_syntax.proofs.Strings.{written_plain}
+use Rattle.bz_command_syntax.proofs.Imported.{[], ◌&&◌, ◌++◌, ◌+◌, ◌<◌, ◌==◌, ◌||◌, ◌∙◌, ◌∷◌, ◌≡◌, after_word, and_parts, ap, append-nil, append_assoc, AreUtf8, arith, backslash, begins_with_space, Bool, Bytes, cases_Bool, cut_at, drop, drop_at, eqb-true, escaped, false, filter, flat_map, get_or, get_or-append_seam, IfSome, inl, inr, is_escaped, is_nonempty, IsCharBoundary-after_ascii, IsCharBoundary-before_ascii, IsUtf8, IsUtf8-append, IsUtf8-drop, IsUtf8-from_ascii, IsUtf8-take, length, length-append, letter_n, line_feed, List, None, not, Option, option_map, or_cases, pieces, position, quotation_mark, quoted_of, refl, Some, space, subst, sym, take, take_at, true, words_of, ℕ}
+use Rattle.std.proofs.{lemmas.Str.Ascii.IsAscii-from_all, lemmas.List.Elements.All-cons, lemmas.List.Quantifiers.position-Some}
+use Rattle.bz_command_syntax.proofs.{Pieces.after_word-onto_first, Strings.written_plain}
 
 -- a text on both sides of an ASCII byte
 pub beside_ascii : (front : Bytes) (byte : ℕ) (rest : Bytes) → byte < 128 → IsUtf8 (front ++ byte ∷ rest) → IsUtf8 front × IsUtf8 rest

@@ -17,10 +17,13 @@ use Rattle.bz_command_syntax.specs.declared.command.CommentOperation.TheVariants
 use Rattle.bz_command_syntax.specs.declared.command.RulePlace.TheVariants.{End, Before, After}
 use Rattle.bz_command_syntax.specs.declared.command.Attributes.TheVariants.{All as AllAttributes, Named}
 use Rattle.bz_command_syntax.specs.declared.command.Values.TheVariants.{All as AllValues, These}
+use Rattle.bz_command_syntax.specs.declared.command.Selects.TheVariants.{Skipped, Entered}
 use Rattle.bz_command_syntax.specs.declared.command.Host.TheVariants as h
 use Rattle.bz_command_syntax.specs.declared.command.Field.TheVariants as f
 use Rattle.bz_command_syntax.specs.declared.command.Usages.TheVariants as u
 use Rattle.bz_command_syntax.specs.declared.command.Repo.TheVariants as rp
+use Rattle.bz_command_syntax.specs.declared.profile.Profile.{Profile}
+use Rattle.bz_command_syntax.specs.declared.profile.Profile.TheVariants.{Own, Bazelbuild}
 use Rattle.bz_command_syntax.specs.declared.fault.CommandFault.{CommandFault}
 use Rattle.bz_command_syntax.specs.declared.fault.CommandFault.TheVariants.{Unknown, Arguments}
 
@@ -133,7 +136,7 @@ set_if_absent_of words =
 abbrev pub remove_of : List Bytes → ReadCommand
 remove_of [] = Err Arguments
 remove_of (attribute ∷ values) =
-    operation_of (λ attributes. if is_nonempty values then w.Value (wv.Remove attributes values) else w.Attribute (wa.Remove attributes)) (attributes_of attribute)
+    operation_of (λ attributes. if is_nonempty values then w.Value (wv.Remove attributes values Skipped) else w.Attribute (wa.Remove attributes)) (attributes_of attribute)
 
 -- FROM TO VALUE..
 abbrev pub moved_values : List Bytes → Option (Bytes × Bytes × Values)
@@ -232,7 +235,7 @@ usages_repos words = option_and_then repos_of (usages_of words)
 abbrev pub host_of : List Bytes → Option Host
 host_of [] = Some h.Rule
 host_of (attribute ∷ []) = given (is_identifier attribute) (h.Attribute attribute)
-host_of (attribute ∷ value ∷ []) = given (is_identifier attribute) (h.Item attribute value)
+host_of (attribute ∷ value ∷ []) = given (is_identifier attribute) (h.Item attribute value Skipped)
 host_of _ = None
 
 -- what is before the last word, and the last word
@@ -265,7 +268,7 @@ fixes_of words = fixes_from (record { move_package_to_top = false; unused_loads 
 
 -- these words name fields that are not known
 abbrev pub is_unknown_field : Bytes → Bool
-is_unknown_field word = bytes_eq word (codes "label") || (bytes_eq word (codes "endline") || bytes_eq word (codes "path"))
+is_unknown_field word = bytes_eq word (codes "endline") || bytes_eq word (codes "path")
 
 -- a field's name, else an attribute
 abbrev pub field_of : Bytes → Option Field
@@ -273,7 +276,8 @@ field_of word =
     if bytes_eq word (codes "kind") then Some f.Kind
     else (if bytes_eq word (codes "startline") then Some f.StartLine
     else (if bytes_eq word (codes "rule") then Some f.Rule
-    else given (is_identifier word && not (is_unknown_field word)) (f.Attribute word)))
+    else (if bytes_eq word (codes "label") then Some f.Label
+    else given (is_identifier word && not (is_unknown_field word)) (f.Attribute word))))
 
 -- Where none is named, the name and the kind are meant.
 abbrev pub fields_of : List Bytes → Option (List Field)
@@ -293,8 +297,8 @@ commands =
     ∷ (codes "add", (codes "'add ATTR VALUE..'", λ words. operation_of (λ parts. w.Value (wv.Add parts.0 parts.1)) (attribute_values words)))
     ∷ (codes "remove", (codes "'remove ATTR', 'remove *', 'remove ATTR VALUE..' or 'remove * VALUE..'", remove_of))
     ∷ (codes "remove_if_equal", (codes "'remove_if_equal ATTR VALUE'", λ words. operation_of (λ parts. w.Value (wv.RemoveIfEqual parts.0 parts.1)) (attribute_word words)))
-    ∷ (codes "replace", (codes "'replace ATTR OLD NEW' or 'replace * OLD NEW'", λ words. operation_of (λ parts. w.Value (wv.Replace parts.0 parts.1 parts.2)) (attributes_words words)))
-    ∷ (codes "substitute", (codes "'substitute ATTR PATTERN TEMPLATE' or 'substitute * PATTERN TEMPLATE'", λ words. operation_of (λ parts. w.Value (wv.Substitute parts.0 parts.1 parts.2)) (attributes_words words)))
+    ∷ (codes "replace", (codes "'replace ATTR OLD NEW' or 'replace * OLD NEW'", λ words. operation_of (λ parts. w.Value (wv.Replace parts.0 parts.1 parts.2 Skipped)) (attributes_words words)))
+    ∷ (codes "substitute", (codes "'substitute ATTR PATTERN TEMPLATE' or 'substitute * PATTERN TEMPLATE'", λ words. operation_of (λ parts. w.Value (wv.Substitute parts.0 parts.1 parts.2 Skipped)) (attributes_words words)))
     ∷ (codes "move", (codes "'move FROM TO VALUE..' or 'move FROM TO *'", λ words. operation_of (λ parts. w.Value (wv.Move parts.0 parts.1 parts.2)) (moved_values words)))
     ∷ (codes "rename", (codes "'rename OLD NEW'", λ words. operation_of (λ parts. w.Attribute (wa.Rename parts.0 parts.1)) (two_attributes words)))
     ∷ (codes "copy", (codes "'copy ATTR RULE'", λ words. operation_of (λ parts. w.Attribute (wa.Copy parts.0 parts.1)) (attribute_word words)))
@@ -332,11 +336,50 @@ row_named (row ∷ rows) name = if bytes_eq name row.0 then Some row.1 else row_
 abbrev pub text_limit : ℕ
 text_limit = 65536
 
--- An unknown name is reported first, then a text that is too long, then what is wrong with the words.
-abbrev pub command_in : Bool → List Bytes → ReadCommand
-command_in fits [] = Err Unknown
-command_in fits (name ∷ words) = option_map_or (λ command. if fits then command.1 words else Err Arguments) (row_named commands name) (Err Unknown)
+-- What the table reads in words. An unknown name is reported first, then a text that is too long, then what is wrong with the words.
+abbrev pub listed_in : Bool → List Bytes → ReadCommand
+listed_in fits [] = Err Unknown
+listed_in fits (name ∷ words) = option_map_or (λ command. if fits then command.1 words else Err Arguments) (row_named commands name) (Err Unknown)
 
--- The command of a text.
-abbrev pub command_of : Bytes → ReadCommand
-command_of text = command_in (nat_le (length text) text_limit) (words_of text)
+-- ---- profiles
+
+abbrev pub is_label : Field → Bool
+is_label f.Label = true
+is_label _ = false
+
+-- one of the fields that are printed is the label
+abbrev pub prints_label : Operation → Bool
+prints_label (w.Print fields) = list_any is_label fields
+prints_label _ = false
+
+-- an item is sought in the branches of `select` too
+abbrev pub entering_host : Host → Host
+entering_host (h.Item attribute value selects) = h.Item attribute value Entered
+entering_host host = host
+
+-- the same command, for which the lists in the branches of `select` are among the lists of a value
+abbrev pub entering : Operation → Operation
+entering (w.Value (wv.Remove attributes values selects)) = w.Value (wv.Remove attributes values Entered)
+entering (w.Value (wv.Replace attributes old new selects)) = w.Value (wv.Replace attributes old new Entered)
+entering (w.Value (wv.Substitute attributes pattern template selects)) = w.Value (wv.Substitute attributes pattern template Entered)
+entering (w.Comment (wc.Add host text)) = w.Comment (wc.Add (entering_host host) text)
+entering (w.Comment (wc.Print host)) = w.Comment (wc.Print (entering_host host))
+entering (w.Comment (wc.Remove host)) = w.Comment (wc.Remove (entering_host host))
+entering operation = operation
+
+-- What a profile makes of a command of the table: the own one has no field `label`, bazelbuild's enters the branches of `select`.
+abbrev pub by_profile : Profile → Operation → ReadCommand
+by_profile Own operation = if prints_label operation then Err Arguments else Ok operation
+by_profile Bazelbuild operation = Ok (entering operation)
+
+abbrev pub read_by_profile : Profile → ReadCommand → ReadCommand
+read_by_profile profile (Ok operation) = by_profile profile operation
+read_by_profile profile (Err fault) = Err fault
+
+-- The command of these words in a profile.
+abbrev pub command_in : Profile → Bool → List Bytes → ReadCommand
+command_in profile fits words = read_by_profile profile (listed_in fits words)
+
+-- The command of a text in a profile.
+abbrev pub command_of : Profile → Bytes → ReadCommand
+command_of profile text = command_in profile (nat_le (length text) text_limit) (words_of text)

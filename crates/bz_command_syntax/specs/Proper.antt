@@ -62,12 +62,13 @@ IsSymbol symbol = IsAttribute symbol.to × IsAttribute symbol.from
 abbrev pub IsHost : Host → Type 0
 IsHost h.Rule = Unit {0}
 IsHost (h.Attribute name) = IsAttribute name
-IsHost (h.Item name value) = IsAttribute name × IsUtf8 value
+IsHost (h.Item name value selects) = IsAttribute name × IsUtf8 value
 
 abbrev pub IsField : Field → Type 0
 IsField f.Kind = Unit {0}
 IsField f.StartLine = Unit {0}
 IsField f.Rule = Unit {0}
+IsField f.Label = Unit {0}
 IsField (f.Attribute name) = IsAttribute name
 
 -- the names of a repository
@@ -94,9 +95,9 @@ IsProperCommand (w.Attribute (wa.Rename from to)) = IsAttribute from × IsAttrib
 IsProperCommand (w.Attribute (wa.Copy attribute rule)) = IsAttribute attribute × IsUtf8 rule
 IsProperCommand (w.Attribute (wa.CopyNoOverwrite attribute rule)) = IsAttribute attribute × IsUtf8 rule
 IsProperCommand (w.Value (wv.Add attribute values)) = IsAttribute attribute × AreValues values
-IsProperCommand (w.Value (wv.Remove attributes values)) = AreAttributes attributes × AreValues values
-IsProperCommand (w.Value (wv.Replace attributes old new)) = AreAttributes attributes × IsUtf8 old × IsUtf8 new
-IsProperCommand (w.Value (wv.Substitute attributes pattern template)) = AreAttributes attributes × IsUtf8 pattern × IsUtf8 template
+IsProperCommand (w.Value (wv.Remove attributes values selects)) = AreAttributes attributes × AreValues values
+IsProperCommand (w.Value (wv.Replace attributes old new selects)) = AreAttributes attributes × IsUtf8 old × IsUtf8 new
+IsProperCommand (w.Value (wv.Substitute attributes pattern template selects)) = AreAttributes attributes × IsUtf8 pattern × IsUtf8 template
 IsProperCommand (w.Value (wv.Move from to values)) = IsAttribute from × IsAttribute to × AreMoved values
 IsProperCommand (w.Value (wv.RemoveIfEqual attribute value)) = IsAttribute attribute × IsUtf8 value
 IsProperCommand (w.Dict (wd.Add attribute entries)) = IsAttribute attribute × AreSome IsEntry entries

@@ -7,11 +7,12 @@ use Rattle.bz_command_syntax.specs.declared.command.Operation.TheVariants as w
 use Rattle.bz_command_syntax.specs.declared.command.ValueOperation.TheVariants as wv
 use Rattle.bz_command_syntax.specs.declared.command.LoadOperation.TheVariants as wl
 use Rattle.bz_command_syntax.specs.declared.fault.CommandFault.{CommandFault}
+use Rattle.bz_command_syntax.specs.declared.profile.Profile.TheVariants.{Own}
 use Rattle.bz_command_syntax.specs.declared.fault.CommandFault.TheVariants.{BadPattern, Memory}
 
 -- a substitution whose pattern `regex` refuses
 abbrev pub HasBadPattern : ReadCommand → Type 0
-HasBadPattern (Ok (w.Value (wv.Substitute attributes pattern template))) = IsRefusedPattern pattern
+HasBadPattern (Ok (w.Value (wv.Substitute attributes pattern template selects))) = IsRefusedPattern pattern
 HasBadPattern (Ok (w.Load (wl.Substitute pattern template))) = IsRefusedPattern pattern
 HasBadPattern _ = ⊥
 
@@ -20,7 +21,7 @@ abbrev pub IsReadFault : ReadCommand → CommandFault → Type 0
 IsReadFault read fault = (read ≡ Err fault) ⊎ ((fault ≡ BadPattern) × HasBadPattern read)
 
 abbrev pub IsCommandFault : Bytes → CommandFault → Type 0
-IsCommandFault text fault = IsReadFault (command_of text) fault
+IsCommandFault text fault = IsReadFault (command_of Own text) fault
 
 -- what is read by this definition, unless its pattern is refused or memory is
 abbrev pub IsReadAs : ReadCommand → ReadCommand → Type 0

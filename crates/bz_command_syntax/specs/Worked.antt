@@ -17,10 +17,12 @@ use Rattle.bz_command_syntax.specs.declared.command.CommentOperation.TheVariants
 use Rattle.bz_command_syntax.specs.declared.command.RulePlace.TheVariants.{Before}
 use Rattle.bz_command_syntax.specs.declared.command.Attributes.TheVariants.{All as AllAttributes, Named}
 use Rattle.bz_command_syntax.specs.declared.command.Values.TheVariants.{All as AllValues}
+use Rattle.bz_command_syntax.specs.declared.command.Selects.TheVariants.{Skipped, Entered}
 use Rattle.bz_command_syntax.specs.declared.command.Host.TheVariants as h
 use Rattle.bz_command_syntax.specs.declared.command.Field.TheVariants as f
 use Rattle.bz_command_syntax.specs.declared.command.Usages.TheVariants as u
 use Rattle.bz_command_syntax.specs.declared.command.Repo.TheVariants as rp
+use Rattle.bz_command_syntax.specs.declared.profile.Profile.TheVariants.{Own, Bazelbuild}
 use Rattle.bz_command_syntax.specs.declared.fault.CommandFault.TheVariants.{Unknown, Arguments}
 
 abbrev pub WorkedWords : Type 0
@@ -40,10 +42,10 @@ WorkedIdentifiers =
 -- ---- commands
 
 abbrev reads : Bytes → Operation → Type 0
-reads text operation = command_of text ≡ Ok operation
+reads text operation = command_of Own text ≡ Ok operation
 
 abbrev is_refused : Bytes → Type 0
-is_refused text = command_of text ≡ Err Arguments
+is_refused text = command_of Own text ≡ Err Arguments
 
 abbrev Rules : Type 0
 Rules =
@@ -63,12 +65,12 @@ Attributes =
 abbrev Values : Type 0
 Values =
     reads (codes "add deps :x a\\ b") (w.Value (wv.Add (codes "deps") (codes ":x" ∷ codes "a b" ∷ [])))
-    × reads (codes "remove deps * x") (w.Value (wv.Remove (Named (codes "deps")) (codes "*" ∷ codes "x" ∷ [])))
-    × reads (codes "remove * x") (w.Value (wv.Remove AllAttributes (codes "x" ∷ []))) × is_refused (codes "remove :x y")
+    × reads (codes "remove deps * x") (w.Value (wv.Remove (Named (codes "deps")) (codes "*" ∷ codes "x" ∷ []) Skipped))
+    × reads (codes "remove * x") (w.Value (wv.Remove AllAttributes (codes "x" ∷ []) Skipped)) × is_refused (codes "remove :x y")
     × reads (codes "remove_if_equal size 5") (w.Value (wv.RemoveIfEqual (codes "size") (codes "5"))) × is_refused (codes "remove_if_equal * x")
-    × reads (codes "replace * a b") (w.Value (wv.Replace AllAttributes (codes "a") (codes "b")))
+    × reads (codes "replace * a b") (w.Value (wv.Replace AllAttributes (codes "a") (codes "b") Skipped))
     -- a backslash stays unless a space follows; what is no pattern is seen later
-    × reads (codes "substitute srcs (\\.c$ $1") (w.Value (wv.Substitute (Named (codes "srcs")) (codes "(\\.c$") (codes "$1")))
+    × reads (codes "substitute srcs (\\.c$ $1") (w.Value (wv.Substitute (Named (codes "srcs")) (codes "(\\.c$") (codes "$1") Skipped))
     × reads (codes "move a b c *") (w.Value (wv.Move (codes "a") (codes "b") AllValues)) × is_refused (codes "move a b")
 
 abbrev Others : Type 0
@@ -87,10 +89,10 @@ Others =
     × reads (codes "substitute_load ^@a// @b//") (w.Load (wl.Substitute (codes "^@a//") (codes "@b//"))) × is_refused (codes "substitute_load a")
     × reads (codes "fix unusedLoads") (w.Load (wl.Fix (record { move_package_to_top = false; unused_loads = true })))
     × is_refused (codes "fix unusedLoads unusedLoads")
-    × reads (codes "comment deps :x why\\ not") (w.Comment (wc.Add (h.Item (codes "deps") (codes ":x")) (codes "why not")))
+    × reads (codes "comment deps :x why\\ not") (w.Comment (wc.Add (h.Item (codes "deps") (codes ":x") Skipped) (codes "why not")))
     × is_refused (codes "comment why\nnot") × reads (codes "remove_comment") (w.Comment (wc.Remove h.Rule))
     × reads (codes "print_comment deps") (w.Comment (wc.Print (h.Attribute (codes "deps"))))
-    × reads (codes "print") (w.Print (f.Attribute (codes "name") ∷ f.Kind ∷ [])) × is_refused (codes "print label")
+    × reads (codes "print") (w.Print (f.Attribute (codes "name") ∷ f.Kind ∷ [])) × is_refused (codes "print label") × is_refused (codes "print name label kind")
 
 abbrev Repositories : Type 0
 Repositories =
@@ -103,12 +105,28 @@ Repositories =
 
 abbrev Names : Type 0
 Names =
-    (command_of [] ≡ Err Unknown) × (command_of (codes "Delete") ≡ Err Unknown)
+    (command_of Own [] ≡ Err Unknown) × (command_of Own (codes "Delete") ≡ Err Unknown)
     -- a text that is too long
-    × (command_in false (codes "delete" ∷ []) ≡ Err Arguments) × (command_in false (codes "grow" ∷ []) ≡ Err Unknown)
+    × (command_in Own false (codes "delete" ∷ []) ≡ Err Arguments) × (command_in Own false (codes "grow" ∷ []) ≡ Err Unknown)
+
+abbrev enters : Bytes → Operation → Type 0
+enters text operation = command_of Bazelbuild text ≡ Ok operation
+
+-- Bazelbuild's profile: values and hosts of comments in the branches of `select`, the field `label`; all else is as it is.
+abbrev Entering : Type 0
+Entering =
+    enters (codes "remove * x") (w.Value (wv.Remove AllAttributes (codes "x" ∷ []) Entered)) × enters (codes "remove *") (w.Attribute (wa.Remove AllAttributes))
+    × enters (codes "replace a b c") (w.Value (wv.Replace (Named (codes "a")) (codes "b") (codes "c") Entered))
+    × enters (codes "substitute a b c") (w.Value (wv.Substitute (Named (codes "a")) (codes "b") (codes "c") Entered))
+    × enters (codes "comment a b c") (w.Comment (wc.Add (h.Item (codes "a") (codes "b") Entered) (codes "c")))
+    × enters (codes "print_comment a b") (w.Comment (wc.Print (h.Item (codes "a") (codes "b") Entered)))
+    × enters (codes "remove_comment a b") (w.Comment (wc.Remove (h.Item (codes "a") (codes "b") Entered)))
+    × enters (codes "print name label") (w.Print (f.Attribute (codes "name") ∷ f.Label ∷ [])) × enters (codes "set label x") (w.Attribute (wa.Set (codes "label") (codes "x" ∷ [])))
+    × (command_of Bazelbuild (codes "print label endline") ≡ Err Arguments) × (command_of Bazelbuild (codes "print path") ≡ Err Arguments)
+    × (command_in Bazelbuild false (codes "print" ∷ codes "label" ∷ []) ≡ Err Arguments) × (command_of Bazelbuild (codes "grow") ≡ Err Unknown)
 
 abbrev pub WorkedCommands : Type 0
-WorkedCommands = Rules × Attributes × Values × Others × Repositories × Names
+WorkedCommands = Rules × Attributes × Values × Others × Repositories × Entering × Names
 
 abbrev pub WorkedStrings : Type 0
 WorkedStrings = (quoted_of [] ≡ codes "\"\"") × (quoted_of (codes "a\"b\\\n") ≡ codes "\"a\\\"b\\\\\\n\"")

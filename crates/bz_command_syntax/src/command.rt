@@ -119,18 +119,21 @@ pub enum ValueOperation {
     Remove {
         attributes: Attributes,
         values: Texts,
+        selects: Selects,
     },
     /// A value becomes another one, in lists or alone.
     Replace {
         attributes: Attributes,
         old: Text,
         new: Text,
+        selects: Selects,
     },
     /// In the plain strings of lists, or in one alone, each match of the pattern is replaced by the template.
     Substitute {
         attributes: Attributes,
         pattern: Pattern,
         template: Text,
+        selects: Selects,
     },
     /// Values go from one attribute's lists to another's.
     Move {
@@ -286,6 +289,15 @@ impl Drop for Attributes {
     }
 }
 
+/// Whether the lists in the branches of a `select` are among the lists of a value.
+#[derive(Clone, Copy)]
+pub enum Selects {
+    /// They are not.
+    Skipped,
+    /// They are.
+    Entered,
+}
+
 /// The values that are moved.
 #[derive(Drop)]
 pub enum Values {
@@ -316,7 +328,11 @@ pub enum Host {
     /// The attribute of this name.
     Attribute(Text),
     /// The first item of the attribute's lists that is this value.
-    Item { attribute: Text, value: Text },
+    Item {
+        attribute: Text,
+        value: Text,
+        selects: Selects,
+    },
 }
 
 impl Drop for Host {
@@ -327,6 +343,7 @@ impl Drop for Host {
             Host::Item {
                 attribute: _,
                 value: _,
+                selects: _,
             } => {}
         }
     }
@@ -350,6 +367,8 @@ pub enum Field {
     StartLine,
     /// The rule's text.
     Rule,
+    /// The rule's label.
+    Label,
     /// The value of the attribute of this name.
     Attribute(Text),
 }

@@ -6,7 +6,8 @@ ghost use Rattle.bz_command_syntax.specs.Identifiers.{is_identifier as is_identi
 ghost use Rattle.bz_command_syntax.specs.Words.{is_nonempty};
 
 use crate::command::{
-    Attributes, Entries, Entry, Field, Fixes, Host, Repo, RulePlace, Symbol, Texts, Usages, Values,
+    Attributes, Entries, Entry, Field, Fixes, Host, Repo, RulePlace, Selects, Symbol, Texts,
+    Usages, Values,
 };
 use crate::fault::CommandFault;
 use bz_items::{Items, Text};
@@ -224,7 +225,11 @@ pub(crate) fn host_of(mut words: Vec<Text>) -> Read<Host>
         return Ok(Host::Attribute(attribute));
     };
     ensure!(words.is_empty());
-    Ok(Host::Item { attribute, value })
+    Ok(Host::Item {
+        attribute,
+        value,
+        selects: Selects::Skipped,
+    })
 }
 
 // The fixes and one more, where the word names one that isn't among them.
@@ -461,7 +466,7 @@ pub(crate) fn usages_repos(mut words: Vec<Text>) -> Read<(Usages, Items<Repo>)>
 fn is_unknown_field(word: &[u8]) -> bool
     ensures { result ≡ c.is_unknown_field word.now }
 {
-    word == b"label".as_slice() || word == b"endline".as_slice() || word == b"path".as_slice()
+    word == b"endline".as_slice() || word == b"path".as_slice()
 }
 
 impl FromWord for Field {
@@ -478,6 +483,9 @@ impl FromWord for Field {
         }
         if word == b"rule".as_slice() {
             return Ok(Field::Rule);
+        }
+        if word == b"label".as_slice() {
+            return Ok(Field::Label);
         }
         ensure!(is_identifier(word) && !is_unknown_field(word));
         Ok(Field::Attribute(Text::from_slice(alloc, word)?))

@@ -7,14 +7,15 @@ mod forms;
 mod laws;
 mod pattern;
 mod prepared;
+mod profile;
 mod table;
 mod template;
 mod words;
 
 pub use command::{
     AttributeOperation, Attributes, Command, CommentOperation, DictOperation, Entry, Field, Fixes,
-    Host, LoadOperation, Operation, Repo, RuleOperation, RulePlace, Symbol, Usages, ValueOperation,
-    Values,
+    Host, LoadOperation, Operation, Repo, RuleOperation, RulePlace, Selects, Symbol, Usages,
+    ValueOperation, Values,
 };
 pub use fault::CommandFault;
 pub use forms::{as_text, is_identifier, is_kind_name};
@@ -23,6 +24,7 @@ pub use laws::{
     worked_templates, worked_words,
 };
 pub use pattern::Pattern;
+pub use profile::Profile;
 pub use table::{COMMAND_NAMES, TEXT_LIMIT, command_form};
 pub use template::has_escaped_digit;
 pub use words::{quoted, read_words};

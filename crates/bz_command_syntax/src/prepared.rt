@@ -27,6 +27,7 @@ fn with_compiled(alloc: Global, operation: &Operation) -> Result<Option<Operatio
                 attributes,
                 pattern,
                 template,
+                selects,
             },
         ) => {
             let Some(pattern) = pattern.prepared(alloc)? else {
@@ -38,6 +39,7 @@ fn with_compiled(alloc: Global, operation: &Operation) -> Result<Option<Operatio
                 attributes,
                 pattern,
                 template,
+                selects: *selects,
             })))
         }
         Operation::Load(LoadOperation::Substitute { pattern, template }) => {

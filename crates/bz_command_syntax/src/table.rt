@@ -6,7 +6,7 @@ ghost use Rattle.bz_command_syntax.specs.Refused.{IsCommandFault, IsReadAs, IsRe
 
 use crate::command::{
     AttributeOperation, Command, CommentOperation, DictOperation, LoadOperation, Operation,
-    RuleOperation, ValueOperation,
+    RuleOperation, Selects, ValueOperation,
 };
 use crate::fault::CommandFault;
 use crate::forms::{
@@ -16,6 +16,7 @@ use crate::forms::{
     path_symbols, take_first, two_attributes, two_words, usages_repos,
 };
 use crate::pattern::Pattern;
+use crate::profile::{Profile, by_profile};
 use crate::words::read_words;
 use bz_items::{Items, Text};
 use std::alloc::Global;
@@ -61,7 +62,11 @@ fn remove_of(mut words: Vec<Text>) -> Read<Operation>
     let attributes = attributes_of(attribute)?;
     if has_values(&words) {
         let values = Items::from_vec(words);
-        return Ok(Operation::Value(ValueOperation::Remove { attributes, values }));
+        return Ok(Operation::Value(ValueOperation::Remove {
+            attributes,
+            values,
+            selects: Selects::Skipped,
+        }));
     }
     Ok(Operation::Attribute(AttributeOperation::Remove { attributes }))
 }
@@ -69,7 +74,7 @@ fn remove_of(mut words: Vec<Text>) -> Read<Operation>
 // The pattern is compiled last, so that what is wrong with the words is reported first.
 fn substitute_of(words: Vec<Text>) -> Read<Operation>
     requires { AreUtf8 words.items }
-    ensures { IsReadAs (c.command_in true (codes "substitute" ∷ words.items)) result }
+    ensures { IsReadAs (c.listed_in true (codes "substitute" ∷ words.items)) result }
 {
     let alloc = *words.allocator();
     let (attributes, pattern, template) = attributes_and_words(words)?;
@@ -78,12 +83,13 @@ fn substitute_of(words: Vec<Text>) -> Read<Operation>
         attributes,
         pattern,
         template,
+        selects: Selects::Skipped,
     }))
 }
 
 fn substitute_load_of(words: Vec<Text>) -> Read<Operation>
     requires { AreUtf8 words.items }
-    ensures { IsReadAs (c.command_in true (codes "substitute_load" ∷ words.items)) result }
+    ensures { IsReadAs (c.listed_in true (codes "substitute_load" ∷ words.items)) result }
 {
     let alloc = *words.allocator();
     let (pattern, template) = two_words(words)?;
@@ -107,7 +113,7 @@ fn is_one_line(text: &Text) -> bool
 
 #[tactic(auto, using(crate::proofs::CommentWords::comment_cut, crate::proofs::CommentWords::comment_refused))]
 fn comment_of(mut words: Vec<Text>) -> Read<Operation>
-    ensures { result ≡ c.command_in true (codes "comment" ∷ words.items) }
+    ensures { result ≡ c.listed_in true (codes "comment" ∷ words.items) }
 {
     let Some(text) = words.pop() else {
         return Err(CommandFault::Arguments);
@@ -134,7 +140,7 @@ macro_rules! commands {
             "remove_if_equal" => "'remove_if_equal ATTR VALUE'",
                 attribute_and_word, |(attribute, value)| Operation::Value(ValueOperation::RemoveIfEqual { attribute, value });
             "replace" => "'replace ATTR OLD NEW' or 'replace * OLD NEW'",
-                attributes_and_words, |(attributes, old, new)| Operation::Value(ValueOperation::Replace { attributes, old, new });
+                attributes_and_words, |(attributes, old, new)| Operation::Value(ValueOperation::Replace { attributes, old, new, selects: Selects::Skipped });
             "substitute" => "'substitute ATTR PATTERN TEMPLATE' or 'substitute * PATTERN TEMPLATE'", substitute_of;
             "move" => "'move FROM TO VALUE..' or 'move FROM TO *'",
                 moved_values, |(from, to, values)| Operation::Value(ValueOperation::Move { from, to, values });
@@ -221,21 +227,38 @@ pub fn command_form(name: &str) -> Option<&'static str>
 #[tactic(auto, using(crate::proofs::Named::by_name))]
 fn read_named(name: &str, words: Vec<Text>) -> Read<Operation>
     requires { AreUtf8 words.items }
-    ensures { IsReadAs (c.command_in true (name.now ∷ words.items)) result }
+    ensures { IsReadAs (c.listed_in true (name.now ∷ words.items)) result }
 {
     commands!(name words)
+}
+
+// The same in a profile.
+#[tactic(auto, using(crate::proofs::Profiles::read_in))]
+fn read_in(profile: Profile, name: &str, words: Vec<Text>) -> Read<Operation>
+    requires { AreUtf8 words.items }
+    ensures { IsReadAs (c.command_in profile true (name.now ∷ words.items)) result }
+{
+    match read_named(name, words) {
+        Ok(operation) => by_profile(profile, operation),
+        Err(fault) => Err(fault),
+    }
 }
 
 /// The most bytes of a command's text.
 pub const TEXT_LIMIT: usize = 65_536;
 
 impl Command {
-    /// The command of these words; `fits` says that their text is not too long. The errors are those of `read`.
+    /// The command of these words in a profile; `fits` says that their text is not too long. The errors are those of `read`; `label` is a
+    /// field of `print` in bazelbuild's profile alone.
     #[tactic(auto, using(crate::proofs::ProperCommands::read_proper, crate::proofs::Named::too_long))]
-    pub fn of_words(mut words: Vec<Text>, fits: bool) -> Result<Command, CommandFault>
+    pub fn of_words_in(
+        profile: Profile,
+        mut words: Vec<Text>,
+        fits: bool,
+    ) -> Result<Command, CommandFault>
         requires { AreUtf8 words.items }
-        ensures ok { IfOk result (λ command. c.command_in fits words.items ≡ Ok command) }
-        ensures err { IfErr result (λ fault. IsReadFault (c.command_in fits words.items) fault ⊎ (fault ≡ CommandFault.Memory)) }
+        ensures ok { IfOk result (λ command. c.command_in profile fits words.items ≡ Ok command) }
+        ensures err { IfErr result (λ fault. IsReadFault (c.command_in profile fits words.items) fault ⊎ (fault ≡ CommandFault.Memory)) }
     {
         let Ok(name) = take_first(&mut words) else {
             return Err(CommandFault::Unknown);
@@ -247,16 +270,25 @@ impl Command {
                 None => Err(CommandFault::Unknown),
             };
         }
-        let operation = read_named(as_text(&name), words)?;
+        let operation = read_in(profile, as_text(&name), words)?;
         Ok(Command { operation })
     }
 
-    /// The command of a text: its words are separated by runs of spaces, where a space right after a backslash belongs
+    /// The command of these words in the own profile.
+    pub fn of_words(words: Vec<Text>, fits: bool) -> Result<Command, CommandFault>
+        requires { AreUtf8 words.items }
+        ensures ok { IfOk result (λ command. c.command_in Profile.Own fits words.items ≡ Ok command) }
+        ensures err { IfErr result (λ fault. IsReadFault (c.command_in Profile.Own fits words.items) fault ⊎ (fault ≡ CommandFault.Memory)) }
+    {
+        Command::of_words_in(Profile::Own, words, fits)
+    }
+
+    /// The command of a text in the own profile: its words are separated by runs of spaces, where a space right after a backslash belongs
     /// to the word and the backslash goes. The errors, in this order: `Unknown`: the first word is no command's name, or
     /// there is none; `Arguments`: the text is longer than 65,536 bytes, or the further words don't have the command's form;
     /// `BadPattern`: `regex` refuses the pattern of `substitute`; at any time `Memory`: a growth was refused.
     pub fn read(alloc: Global, text: &str) -> Result<Command, CommandFault>
-        ensures ok { IfOk result (λ command. c.command_of text.now ≡ Ok command) }
+        ensures ok { IfOk result (λ command. c.command_of Profile.Own text.now ≡ Ok command) }
         ensures err { IfErr result (λ fault. IsCommandFault text.now fault ⊎ (fault ≡ CommandFault.Memory)) }
     {
         let words = read_words(alloc, text.as_bytes())?;

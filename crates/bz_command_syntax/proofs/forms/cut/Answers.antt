@@ -1,6 +1,4 @@
-use Rattle.std.proofs.Common.{◌∙◌, ◌+◌, Some, ap, sym, take, drop}
-use Rattle.std.specs.Option.{option_map}
-use Rattle.std.proofs.lemmas.List.{take_rest}
+use Rattle.bz_command_syntax.proofs.Imported.{◌+◌, ◌∙◌, ap, drop, option_map, Some, sym, take, take_rest}
 use Rattle.bz_command_syntax.proofs.forms.cut.Goals as goal
 
 pub returns-in-Some : goal.returns-in-Some

@@ -1,5 +1,4 @@
-use Rattle.std.proofs.Common.{◌≡◌, ◌++◌, drop, option_map}
-use Rattle.bz_command_syntax.specs.Commands.{each_of}
+use Rattle.bz_command_syntax.proofs.Imported.{◌++◌, ◌≡◌, drop, each_of, option_map}
 use Rattle.bz_command_syntax.proofs.forms.each.Given as goal
 
 -- what was made so far, and what the words that are left are, is what all words are

@@ -1,5 +1,4 @@
-use Rattle.std.proofs.Common.{◌≡◌, drop}
-use Rattle.bz_command_syntax.specs.Commands.{fixes_from, fixes_of}
+use Rattle.bz_command_syntax.proofs.Imported.{◌≡◌, drop, fixes_from, fixes_of}
 use Rattle.bz_command_syntax.proofs.forms.fixes_of.Given as goal
 
 -- the fixes so far go on as those of no word do with all words

@@ -1,9 +1,5 @@
-use Rattle.std.proofs.Common.{◌==◌, rules}
-use Rattle.std.proofs.lemmas.Iterator.Search.{all_from_yields_List}
-use Rattle.std.proofs.lemmas.Iterator.Splits.{YieldsList-from_slice_split}
-use borrow.Author.Tests.{tests}
-use Rattle.bz_items.specs.Characters.{full_stop}
-use Rattle.bz_command_syntax.specs.Identifiers.{is_identifier}
+use Rattle.bz_command_syntax.proofs.Imported.{◌==◌, full_stop, is_identifier, rules, tests}
+use Rattle.std.proofs.{lemmas.Iterator.Search.all_from_yields_List, lemmas.Iterator.Splits.YieldsList-from_slice_split}
 use Rattle.bz_command_syntax.proofs.forms.is_kind_name.Goals as goal
 
 pub returns : goal.returns

@@ -1,5 +1,4 @@
-use Rattle.std.proofs.Common.{◌≡◌, ◌++◌, length, option_map}
-use Rattle.bz_command_syntax.specs.Commands.{pairs_of}
+use Rattle.bz_command_syntax.proofs.Imported.{◌++◌, ◌≡◌, length, option_map, pairs_of}
 use Rattle.bz_command_syntax.proofs.forms.pairs_of.Given as goal
 
 -- what was made so far, and what the words that are left are, is what all words are

@@ -1,5 +1,4 @@
-use Rattle.std.proofs.Common.{◌≡◌, drop, map}
-use Rattle.bz_command_syntax.specs.Commands.{row_named}
+use Rattle.bz_command_syntax.proofs.Imported.{◌≡◌, drop, map, row_named}
 use Rattle.bz_command_syntax.proofs.table.row_named.Given as goal
 
 -- the rows so far have other names

@@ -1,6 +1,4 @@
-use Rattle.std.proofs.Common.{◌∙◌, ap, sym}
-use Rattle.std.specs.Char.{is_ascii_digit}
-use Rattle.bz_command_syntax.specs.Patterns.{has_escaped_digit}
+use Rattle.bz_command_syntax.proofs.Imported.{◌∙◌, ap, has_escaped_digit, is_ascii_digit, sym}
 use Rattle.bz_command_syntax.proofs.Templates.{escaped_there, no_backslash, no_digit, none_escaped}
 use Rattle.bz_command_syntax.proofs.template.has_escaped_digit.Goals.{else-byte-eq92-via-then-byte-eq92+else-is_ascii_digit, else-byte-eq92-via-else-byte-eq92}
 use Rattle.bz_command_syntax.proofs.template.has_escaped_digit.Goals as goal

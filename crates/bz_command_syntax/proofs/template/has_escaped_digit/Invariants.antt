@@ -1,5 +1,4 @@
-use Rattle.std.proofs.Common.{◌≡◌, length}
-use Rattle.bz_command_syntax.specs.Patterns.{has_escaped_digit}
+use Rattle.bz_command_syntax.proofs.Imported.{◌≡◌, has_escaped_digit, length}
 use Rattle.bz_command_syntax.proofs.template.has_escaped_digit.Given as goal
 
 abbrev pub invariant-loop-byte : goal.invariant-loop-byte

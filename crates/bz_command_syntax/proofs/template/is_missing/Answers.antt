@@ -1,5 +1,4 @@
-use Rattle.std.proofs.Common.{◌∙◌, ap, not, refl, sym}
-use Rattle.regex.proofs.TemplateLemmas.{number_parsed}
+use Rattle.bz_command_syntax.proofs.Imported.{◌∙◌, ap, not, number_parsed, refl, sym}
 use Rattle.bz_command_syntax.proofs.Templates.{missing_name, missing_number}
 use Rattle.bz_command_syntax.proofs.template.is_missing.Goals as goal
 

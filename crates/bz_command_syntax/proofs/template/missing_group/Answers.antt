@@ -1,6 +1,5 @@
-use Rattle.std.proofs.Common.{◌∙◌, ap, sym, List, ℕ}
+use Rattle.bz_command_syntax.proofs.Imported.{◌∙◌, ap, List, missing_after, sym, ℕ}
 use Rattle.bz_token.proofs.Tokens.{whole_rest}
-use Rattle.bz_command_syntax.specs.Patterns.{missing_after}
 use Rattle.bz_command_syntax.proofs.Templates.{after_passed, none_missing}
 use Rattle.bz_command_syntax.proofs.template.missing_group.Goals as goal
 

@@ -1,5 +1,4 @@
-use Rattle.std.proofs.Common.{◌≡◌, length}
-use Rattle.bz_command_syntax.specs.Patterns.{missing_after}
+use Rattle.bz_command_syntax.proofs.Imported.{◌≡◌, length, missing_after}
 use Rattle.bz_command_syntax.proofs.template.missing_group.Given as goal
 
 abbrev pub invariant-loop-byte : goal.invariant-loop-byte

@@ -1,10 +1,6 @@
-use Rattle.std.proofs.Common.{◌≡◌, sym, ◌∙◌, subst, IsUtf8, arith}
+use Rattle.bz_command_syntax.proofs.Imported.{◌∙◌, ◌≡◌, arith, Class as class, IsLexeme, IsUtf8, quoted_of, subst, sym}
 use Rattle.std.proofs.lemmas.Grind.{common_steps}
-use Rattle.bz_token.specs.declared.class.Class.TheVariants as class
-use Rattle.bz_token.specs.Lexemes.{IsLexeme}
-use Rattle.bz_command_syntax.specs.Quoted.{quoted_of}
-use Rattle.bz_command_syntax.proofs.Strings.{quoted_lexeme, quoted_plain}
-use Rattle.bz_command_syntax.proofs.Utf8Texts.{quoted_utf8}
+use Rattle.bz_command_syntax.proofs.{Strings.quoted_lexeme, Strings.quoted_plain, Utf8Texts.quoted_utf8}
 use Rattle.bz_command_syntax.proofs.words.quoted.Goals as goal
 
 pub returns : goal.returns

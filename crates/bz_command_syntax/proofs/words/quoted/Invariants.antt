@@ -1,7 +1,4 @@
-use Rattle.std.proofs.Common.{◌≡◌, ◌∷◌, ◌++◌, drop}
-use Rattle.std.specs.List.{flat_map}
-use Rattle.bz_items.specs.Characters.{quotation_mark}
-use Rattle.bz_command_syntax.specs.Quoted.{escaped}
+use Rattle.bz_command_syntax.proofs.Imported.{◌++◌, ◌∷◌, ◌≡◌, drop, escaped, flat_map, quotation_mark}
 use Rattle.bz_command_syntax.proofs.words.quoted.Given as goal
 
 abbrev pub invariant-loop-byte : goal.invariant-loop-byte

@@ -1,10 +1,5 @@
-use Rattle.std.proofs.Common.{◌++◌, ◌∙◌, ap, subst, sym}
-use Rattle.std.proofs.lemmas.List.{nil_from_length}
-use Rattle.bz_items.specs.Characters.{Bytes}
-use Rattle.bz_command_syntax.specs.Proper.{AreUtf8}
-use Rattle.bz_command_syntax.specs.Words.{words_after}
-use Rattle.bz_command_syntax.proofs.Pieces.{words_end}
-use Rattle.bz_command_syntax.proofs.Utf8Texts.{words_utf8}
+use Rattle.bz_command_syntax.proofs.Imported.{◌++◌, ◌∙◌, ap, AreUtf8, Bytes, nil_from_length, subst, sym, words_after}
+use Rattle.bz_command_syntax.proofs.{Pieces.words_end, Utf8Texts.words_utf8}
 use Rattle.bz_command_syntax.proofs.words.read_words.Goals as goal
 
 pub returns : goal.returns

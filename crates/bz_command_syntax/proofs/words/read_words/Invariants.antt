@@ -1,5 +1,4 @@
-use Rattle.std.proofs.Common.{◌≡◌, ◌++◌, length}
-use Rattle.bz_command_syntax.specs.Words.{words_after, words_of}
+use Rattle.bz_command_syntax.proofs.Imported.{◌++◌, ◌≡◌, length, words_after, words_of}
 use Rattle.bz_command_syntax.proofs.words.read_words.Given as goal
 
 abbrev pub invariant-loop-byte : goal.invariant-loop-byte

@@ -1,5 +1,4 @@
-use Rattle.std.proofs.Common.{ap, ◌∙◌, sym, subst, IsUtf8}
-use Rattle.std.proofs.lemmas.Str.{IsUtf8-string_bytes}
+use Rattle.bz_command_syntax.proofs.Imported.{◌∙◌, ap, IsUtf8, IsUtf8-string_bytes, subst, sym}
 use Rattle.bz_command_syntax.proofs.Alike.{as_matched}
 use Rattle.bz_command_syntax.proofs.pattern.Compiled.replaced.Goals as goal
 

@@ -1,6 +1,4 @@
-use Rattle.std.proofs.Common.{ap, ◌∙◌, List, ℕ}
-use Rattle.regex_syntax.specs.Grammar.{Names}
-use Rattle.bz_command_syntax.specs.Patterns.{missing_after, missing_group}
+use Rattle.bz_command_syntax.proofs.Imported.{◌∙◌, ap, List, missing_after, missing_group, Names, ℕ}
 use Rattle.bz_command_syntax.proofs.pattern.Pattern.missing_group.Goals as goal
 
 pub returns : goal.returns
