@@ -1,17 +1,6 @@
 -- A named argument with another value: its name, and its value once more changed.
-use Rattle.std.proofs.Common.{◌≡◌, Bool, true, false, ◌||◌, List, [], ◌∷◌, refl, sym, ap, ◌∙◌, subst, true≢false, inl, inr}
-use Rattle.std.specs.Prelude.{Option, Some, None, is_some, if◌then◌else◌}
-use Rattle.std.specs.List.{list_any, slice_index_or}
-use Rattle.std.proofs.lemmas.Bool.{cases_Bool}
-use Rattle.bz_grammar.specs.declared.kind.Kind.TheVariants as k
-use Rattle.bz_grammar.specs.Shapes.{is_kind}
-use Rattle.bz_value.specs.declared.value.Form.{Form}
-use Rattle.bz_attribute.specs.Words.{Expr, Bytes, has_kind, parts_of, with_parts, on_third}
+use Rattle.bz_attribute.proofs.Words.{[], ◌||◌, ◌∙◌, ◌∷◌, ◌≡◌, ap, Bool, by_test, Bytes, cases_Bool, Class as c, Expr, false, Form, has_kind, if◌then◌else◌, inl, inr, is_attribute, is_kind, is_some, is_text, Kind as k, List, list_any, None, on_first_that, on_third, on_value, Option, parts_of, refl, slice_index_or, Some, subst, sym, text_in, true, true≢false, value_after, value_named, with_parts, with_value, without, without_first}
 use Rattle.bz_value.specs.declared.value.Expr.TheVariants as e
-use Rattle.bz_token.specs.declared.class.Class.TheVariants as c
-use Rattle.bz_rule.specs.Rules.{is_text, text_in, value_after, value_named}
-use Rattle.bz_rule.proofs.ProperChanges.{by_test}
-use Rattle.bz_attribute.specs.Attributes.{is_attribute, on_first_that, without_first, on_value, with_value, without}
 use Rattle.bz_attribute.proofs.FormsAgain.{if_false, row_changed, row_twice, own_value, value_changed, three_parts}
 use Rattle.bz_attribute.proofs.MakingForms.{part_list}
 

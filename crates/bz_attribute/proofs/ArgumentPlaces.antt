@@ -1,18 +1,6 @@
 -- The first element of a list that passes a test, by its index.
-use Rattle.std.proofs.Common.{◌≡◌, ℕ, ◌<◌, ◌≤◌, Bool, true, false, List, [], ◌∷◌, ◌++◌, length, get_or, set, take, drop, subst, refl, ap, sym, arith, zero, suc, ◌∙◌}
-use Rattle.std.specs.Prelude.{Option, Some, None, cond, not, slice_get, slice_set}
-use Rattle.std.specs.List.{position, position_or_len, insert, remove}
-use Rattle.std.specs.Option.{unwrap_or}
-use Rattle.std.proofs.lemmas.List.Quantifiers.{position-Some}
-use Rattle.std.proofs.lemmas.List.Sums.{prefix_len_passes}
-use Rattle.std.proofs.lemmas.Bool.{ltb-false, not-true}
-use Rattle.std.proofs.lemmas.List.{length-set}
-use Rattle.std.proofs.lemmas.List.Edits.{insert_end}
-use Rattle.std.proofs.Math.Seq.{take-append_seam}
-use Rattle.std.proofs.lemmas.Option.{get_or_from_slice_get}
-use Rattle.bz_grammar.specs.declared.kind.Kind.TheVariants as k
-use Rattle.bz_attribute.specs.Words.{Expr, has_kind}
-use Rattle.bz_attribute.specs.Attributes.{on_first_that, without_first, inserted}
+use Rattle.bz_attribute.proofs.Words.{[], ◌++◌, ◌<◌, ◌∙◌, ◌∷◌, ◌≡◌, ◌≤◌, ap, arith, Bool, cond, drop, Expr, false, get_or, has_kind, insert, inserted, Kind as k, length, length-set, List, ltb-false, None, not, not-true, on_first_that, Option, position, position_or_len, refl, remove, set, slice_get, slice_set, Some, subst, suc, sym, take, true, unwrap_or, without_first, zero, ℕ}
+use Rattle.std.proofs.{lemmas.List.Quantifiers.position-Some, lemmas.List.Sums.prefix_len_passes, lemmas.List.Edits.insert_end, Math.Seq.take-append_seam, lemmas.Option.get_or_from_slice_get}
 
 -- i is the index of the first element that passes
 pub record IsFirst {X : Type 0} (test : X → Bool) (xs : List X) (i : ℕ) : Type 0 where

@@ -1,17 +1,5 @@
 -- Attributes that are there and absent ones, values that are put in again, and what is made where nothing is refused.
-use Rattle.std.proofs.Common.{◌≡◌, false, List, [], ◌∷◌, Option, Some, None, Ok, refl, sym, ap, ◌∙◌, subst, codes, true≢false}
-use Rattle.std.specs.Prelude.{is_some, bytes_eq}
-use Rattle.std.specs.Option.{option_or}
-use Rattle.std.proofs.lemmas.Bool.{or_parts}
-use Rattle.std.proofs.lemmas.Slice.Eq.{bytes_eq-Decides}
-use Rattle.bz_token.specs.declared.class.Class.TheVariants as c
-use Rattle.bz_attribute.specs.Words.{Kind, Bytes, has_kind, parts_of, on_third}
-use Rattle.bz_grammar.specs.declared.kind.Kind.TheVariants as k
-use Rattle.bz_value.specs.declared.value.Expr.{Expr, items_hidden-the_row-Expr-0}
-use Rattle.bz_rule.specs.Rules.{text_in, is_text, value_after, value_named, attribute}
-use Rattle.bz_rule.proofs.ProperChanges.{by_test}
-use Rattle.bz_attribute.specs.Attributes.{Arguments, by_value, is_attribute, has_attribute, on_value, with_value, without, inserted, with_new}
-use Rattle.bz_attribute.specs.Made.{node, mark, argument_of}
+use Rattle.bz_attribute.proofs.Words.{[], ◌∙◌, ◌∷◌, ◌≡◌, ap, argument_of, Arguments, attribute, by_test, by_value, Bytes, bytes_eq, bytes_eq-Decides, Class as c, codes, Expr, false, has_attribute, has_kind, inserted, is_attribute, is_some, is_text, items_hidden-the_row-Expr-0, Kind, Kind as k, List, mark, node, None, Ok, on_third, on_value, Option, option_or, or_parts, parts_of, refl, Some, subst, sym, text_in, true≢false, value_after, value_named, with_new, with_value, without}
 use Rattle.bz_attribute.specs.Made as new
 use Rattle.bz_attribute.proofs.FormsAgain.{if_true, if_false, row_same, value_answered, value_parts, value_changed, three_parts, attribute_first, by_first}
 

@@ -1,20 +1,7 @@
 -- Expressions whose parts or items were changed, once and back again; named arguments; and tests in turn.
-use Rattle.std.proofs.Common.{◌≡◌, Bool, true, false, ◌||◌, List, [], ◌∷◌, Option, Some, None, inl, inr, refl, sym, ap, ◌∙◌, true≢false}
-use Rattle.std.specs.Prelude.{if◌then◌else◌, is_some}
-use Rattle.std.specs.List.{list_any}
-use Rattle.std.specs.Option.{option_and_then, option_or}
-use Rattle.std.proofs.lemmas.Bool.{cases_Bool}
-use Rattle.bz_attribute.specs.Words.{Kind, Bytes}
-use Rattle.bz_grammar.specs.declared.kind.Kind.TheVariants as k
-use Rattle.bz_grammar.specs.Shapes.{is_kind}
-use Rattle.bz_value.specs.declared.value.Form.{Form}
-use Rattle.bz_value.specs.declared.value.Expr.{Expr, Token, Form', items-the_row-Expr, items_hidden-the_row-Expr-0}
+use Rattle.bz_attribute.proofs.Words.{[], ◌||◌, ◌∙◌, ◌∷◌, ◌≡◌, ap, attribute, Bool, Bytes, cases_Bool, Class as c, Expr, false, Form, Form', has_attribute, has_kind, if◌then◌else◌, inl, inr, is_attribute, is_kind, is_some, is_text, items-the_row-Expr, items_hidden-the_row-Expr-0, items_of, Kind, Kind as k, List, list_any, None, on_first_that, on_items, on_row, Option, option_and_then, option_or, parts_of, refl, Some, sym, text_in, Token, true, true≢false, value_after, value_named, with_items, with_parts}
 use Rattle.bz_value.specs.declared.value.Expr.TheVariants as e
-use Rattle.bz_token.specs.declared.class.Class.TheVariants as c
-use Rattle.bz_rule.specs.Rules.{is_text, text_in, value_after, value_named, attribute}
-use Rattle.bz_rule.specs.Values.{has_kind, parts_of, items_of, with_parts, with_items, on_row, on_items}
 pub use Rattle.bz_rule.proofs.Opened.{made, own_parts, own_items}
-use Rattle.bz_attribute.specs.Attributes.{is_attribute, has_attribute, on_first_that}
 
 -- ---- tests
 

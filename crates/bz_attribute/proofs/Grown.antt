@@ -1,10 +1,5 @@
 -- Sums that a change makes no smaller: of numbers, and of lists of any element.
-use Rattle.std.proofs.Common.{◌≤◌, ℕ, ◌+◌, Bool, List, [], ◌∷◌, ◌++◌, map, arith}
-use Rattle.bz_value.specs.Counted.{total}
-use Rattle.bz_value.proofs.Totals.{append_total}
-use Rattle.bz_rule.specs.Values.{on_first, on_third}
-use Rattle.bz_rule.proofs.ProperChanges.{by_test}
-use Rattle.bz_attribute.specs.Attributes.{on_first_that}
+use Rattle.bz_attribute.proofs.Words.{[], ◌++◌, ◌+◌, ◌∷◌, ◌≤◌, append_total, arith, Bool, by_test, List, map, on_first, on_first_that, on_third, total, ℕ}
 
 -- ---- numbers
 

@@ -1,19 +1,8 @@
 -- What is counted of the comments of an expression, and changes of expressions and of arguments that make it no smaller.
-use Rattle.std.proofs.Common.{◌≡◌, ◌≤◌, ℕ, ◌+◌, false, List, [], ◌∷◌, ◌++◌, Some, refl, sym, ap, subst, map, codes, arith}
-use Rattle.std.specs.Prelude.{IfOk}
-use Rattle.bz_attribute.specs.Words.{Kind, no_comments, Bytes}
-use Rattle.bz_grammar.specs.declared.kind.Kind.TheVariants as k
-use Rattle.bz_value.specs.declared.value.Expr.{Expr, Token, Form', Row_of-Expr, end_of-Expr, more_of-Expr, items-the_row-Expr}
-use Rattle.bz_value.specs.Counted.{total, amount, row_amount}
-use Rattle.bz_value.proofs.Totals.{form_amount}
-use Rattle.bz_rule.specs.Rules.{value_after, value_named, attribute}
-use Rattle.bz_rule.specs.Values.{has_kind, parts_of, items_of, with_parts, with_items, with_text, on_row, on_items, on_third, on_lists}
-use Rattle.bz_rule.proofs.ProperChanges.{by_test}
-use Rattle.bz_attribute.specs.Attributes.{Arguments, on_first_that, on_value, with_value, inserted}
-use Rattle.bz_attribute.specs.Lists.{with_more}
-use Rattle.bz_attribute.specs.Made.{mark, node, binds_looser, operand, plus}
+use Rattle.bz_attribute.proofs.Words.{[], ◌++◌, ◌+◌, ◌∷◌, ◌≡◌, ◌≤◌, ℕ, amount, ap, Arguments, arith, attribute, binds_looser, by_test, Bytes, codes, end_of-Expr, Expr, false, Form', form_amount, has_kind, IfOk, inserted, is_select, items-the_row-Expr, items_of, Kind, Kind as k, List, map, mark, more_of-Expr, no_comments, node, on_branches, on_first, on_first_that, on_items, on_lists, on_operand, on_operands, on_row, on_third, on_value, operand, parts_of, plus, refl, row_amount, Row_of-Expr, Selects, Some, subst, sym, Token, total, value_after, value_named, with_items, with_more, with_parts, with_text, with_value}
 use Rattle.bz_attribute.proofs.FormsAgain.{made, own_parts, value_parts, three_parts, by_first}
-use Rattle.bz_attribute.proofs.Grown.{itself, Grows, EachGrows, map_grows, third_grows, append_grows, first_that_grows}
+use Rattle.bz_attribute.proofs.Grown.{itself, in_turn, Grows, EachGrows, first_grows, map_grows, third_grows, append_grows, first_that_grows}
+use Rattle.bz_command_syntax.specs.declared.command.Selects.TheVariants.{Skipped, Entered}
 
 module _ (number : Bytes → ℕ) where
   abbrev pub whole : Expr → ℕ
@@ -53,11 +42,25 @@ module _ (number : Bytes → ℕ) where
   on_items_grows kind change g x =
       by_test (λ (y : Expr). whole x ≤ whole y) (has_kind kind x) (with_items (change (items_of x)) x) x (items_grow (change (items_of x)) x (g (items_of x))) (itself (whole x))
 
-  pub on_lists_grows : (change : List Expr → List Expr) → EachGrows whole change → Grows whole (on_lists change)
-  on_lists_grows change g x =
-      by_test (λ (y : Expr). whole x ≤ whole y) (has_kind k.Sum x) (on_row k.Sum (map (on_items k.List change)) x) (on_items k.List change x)
-      (on_row_grows k.Sum (map (on_items k.List change)) (map_grows whole (on_items k.List change) (on_items_grows k.List change g)) x)
-      (on_items_grows k.List change g x)
+  on_operands_grows : (change : Expr → Expr) → Grows whole change → Grows whole (on_operands change)
+  on_operands_grows change g x =
+      by_test (λ (y : Expr). whole x ≤ whole y) (has_kind k.Sum x) (on_row k.Sum (map change) x) (change x) (on_row_grows k.Sum (map change) (map_grows whole change g) x) (g x)
+
+  on_branches_grows : (change : Expr → Expr) → Grows whole change → Grows whole (on_branches change)
+  on_branches_grows change g x =
+      let in_entry : Expr → Expr = on_row k.Entry (on_third change) in
+      let in_dict : Expr → Expr = on_items k.Dict (map in_entry) in
+      let entry_grows : Grows whole in_entry = on_row_grows k.Entry (on_third change) (third_grows whole change g) in
+      let dict_grows : Grows whole in_dict = on_items_grows k.Dict (map in_entry) (map_grows whole in_entry entry_grows) in
+      by_test (λ (y : Expr). whole x ≤ whole y) (is_select x) (on_items k.Call (on_first in_dict) x) x (on_items_grows k.Call (on_first in_dict) (first_grows whole in_dict dict_grows) x) (itself (whole x))
+
+  on_operand_grows : (selects : Selects) (change : Expr → Expr) → Grows whole change → Grows whole (on_operand selects change)
+  on_operand_grows Skipped change g x = g x
+  on_operand_grows Entered change g x =
+      in_turn (whole x) (whole (change x)) (whole (on_operand Entered change x)) (g x) (on_branches_grows (on_operands change) (on_operands_grows change g) (change x))
+
+  pub on_lists_grows : (selects : Selects) (change : List Expr → List Expr) → EachGrows whole change → Grows whole (on_lists selects change)
+  on_lists_grows selects change g = on_operands_grows (on_operand selects (on_items k.List change)) (on_operand_grows selects (on_items k.List change) (on_items_grows k.List change g))
 
   pub on_value_grows : (change : Expr → Expr) → Grows whole change → Grows whole (on_value change)
   on_value_grows change g = on_row_grows k.Named (on_third change) (third_grows whole change g)

@@ -1,18 +1,7 @@
 -- A set of keys: what is found in it, and what it has after one key more.
-use Rattle.std.proofs.Common.{◌≡◌, ℕ, Bool, true, false, ◌||◌, List, [], ◌∷◌, inl, inr, refl, sym, ap, ◌∙◌, map}
-use Rattle.std.specs.Prelude.{Vec, bytes_eq}
-use Rattle.std.specs.List.{list_any}
-use Rattle.std.specs.declared.cmp.Ordering.{Ordering}
-use Rattle.std.specs.declared.cmp.Ordering.TheVariants.{Less, Equal, Greater}
-use Rattle.std.specs.Ordering.{is_eq, match_ordering, nat_cmp}
-use Rattle.std.specs.Cmp.Lexicographic.{slice_cmp}
-use Rattle.std.specs.BTreeMap.{is_at}
-use Rattle.std.specs.BTreeSet.{BTreeSet, insert_key}
-use Rattle.std.proofs.lemmas.Bool.{or_cases, or_left, or_right}
+use Rattle.bz_attribute.proofs.Words.{[], ◌||◌, ◌∙◌, ◌∷◌, ◌≡◌, ℕ, ap, Bool, BTreeSet, Bytes, bytes_eq, bytes_eq-Decides, false, is_eq, List, list_any, map, nat_cmp, refl, sym, true, Vec}
+use Rattle.std.specs.{declared.cmp.Ordering.Ordering, declared.cmp.Ordering.TheVariants.Less, declared.cmp.Ordering.TheVariants.Equal, declared.cmp.Ordering.TheVariants.Greater, Ordering.match_ordering, Cmp.Lexicographic.slice_cmp, BTreeMap.is_at, BTreeSet.insert_key, declared.alloc.Global.Global}
 use Rattle.std.proofs.lemmas.Map.Text.{is_eq-slice_cmp}
-use Rattle.std.proofs.lemmas.Slice.Eq.{bytes_eq-Decides}
-use Rattle.std.specs.declared.alloc.Global.{Global}
-use Rattle.bz_items.specs.Characters.{Bytes}
 use Rattle.bz_attribute.specs.Sets.{texts_of}
 
 -- ---- any of a list
@@ -24,13 +13,6 @@ any_map test view (key ∷ keys) = ap (λ z. test (view key) || z) (any_map test
 pub any_like : {K : Type 0} (one other : K → Bool) (like : (key : K) → one key ≡ other key) (keys : List K) → list_any one keys ≡ list_any other keys
 any_like one other like [] = refl
 any_like one other like (key ∷ keys) = ap (λ z. z || list_any one keys) (like key) ∙ ap (λ z. other key || z) (any_like one other like keys)
-
-pub any_on : {K : Type 0} (one other : K → Bool) → ((key : K) → one key ≡ true → other key ≡ true) → (keys : List K) → list_any one keys ≡ true → list_any other keys ≡ true
-any_on one other f [] h = h
-any_on one other f (key ∷ keys) h = elim (or_cases (one key) (list_any one keys) h) [
-  | inl t ↦ or_left (other key) (list_any other keys) (f key t)
-  | inr t ↦ or_right (other key) (list_any other keys) (any_on one other f keys t)
-]
 
 pub or_twice : (a b : Bool) → (a || b) ≡ (a || (a || b))
 or_twice true b = refl

@@ -5,6 +5,7 @@ pub mod FormsAgain
 pub mod Grown
 pub mod GrownArguments
 pub mod KeySets
+pub mod ListsChanged
 pub mod ListsThere
 pub mod MakingForms
 pub mod MakingPieces
@@ -12,3 +13,4 @@ pub mod PlainWords
 pub mod ProperAttributes
 pub mod ProperMade
 pub mod ProperTexts
+mod Words

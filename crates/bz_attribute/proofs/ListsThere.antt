@@ -1,14 +1,7 @@
 -- Whether a value has lists, and their items, one list after the other.
-use Rattle.std.proofs.Common.{◌≡◌, Bool, true, false, not, ◌&&◌, ◌||◌, List, [], ◌∷◌, ◌++◌, refl, sym, ap, ◌∙◌, true≢false}
-use Rattle.std.specs.Prelude.{if◌then◌else◌}
-use Rattle.std.specs.List.{list_any, filter, flat_map}
-use Rattle.std.proofs.lemmas.List.{append-nil}
+use Rattle.bz_attribute.proofs.Words.{[], ◌&&◌, ◌++◌, ◌||◌, ◌∙◌, ◌∷◌, ◌≡◌, ap, append-nil, Bool, branches_of, entries_of, Expr, false, filter, flat_map, Form', has_kind, has_lists, if◌then◌else◌, is_empty, is_kind, items_in, items_of, Kind, Kind as k, List, list_any, list_places, listed, not, operands_in, operands_of, parts_of, refl, Selects, sym, Token, true, true≢false, with_branches}
 use Rattle.std.proofs.lemmas.List.Folds.{list_any-append}
-use Rattle.bz_attribute.specs.Words.{Kind, has_kind, parts_of, items_of, is_empty}
-use Rattle.bz_grammar.specs.declared.kind.Kind.TheVariants as k
-use Rattle.bz_grammar.specs.Shapes.{is_kind}
-use Rattle.bz_value.specs.declared.value.Expr.{Expr, Token, Form'}
-use Rattle.bz_attribute.specs.Lists.{has_lists, items_in, listed}
+use Rattle.bz_command_syntax.specs.declared.command.Selects.TheVariants.{Skipped, Entered}
 
 some_step : {X : Type 0} (b c : Bool) (x : X) (xs : List X) → not (is_empty xs) ≡ c → not (is_empty (if b then x ∷ xs else xs)) ≡ (b || c)
 some_step true c x xs h = refl
@@ -18,13 +11,16 @@ pub some_filtered : {X : Type 0} (test : X → Bool) (xs : List X) → not (is_e
 some_filtered test [] = refl
 some_filtered test (x ∷ xs) = some_step (test x) (list_any test xs) x (filter test xs) (some_filtered test xs)
 
-lists_by : (a b : Bool) (value : Expr) (ps : List Expr) → not (is_empty (if a then value ∷ [] else (if b then filter (has_kind k.List) ps else []))) ≡ (a || (b && list_any (has_kind k.List) ps))
-lists_by true b value ps = refl
-lists_by false true value ps = some_filtered (has_kind k.List) ps
-lists_by false false value ps = refl
+-- by the operands of a sum, and by a value alone
+at_operands : {X : Type 0} (f : List Expr → X) (value : Expr) → f (operands_of value) ≡ (if has_kind k.Sum value then f (parts_of value) else f (value ∷ []))
+at_operands f value = by (has_kind k.Sum value)
+  where
+    by : (b : Bool) → f (if b then parts_of value else value ∷ []) ≡ (if b then f (parts_of value) else f (value ∷ []))
+    by true = refl
+    by false = refl
 
-pub lists_there : (value : Expr) → has_lists value ≡ (has_kind k.List value || (has_kind k.Sum value && list_any (has_kind k.List) (parts_of value)))
-lists_there value = lists_by (has_kind k.List value) (has_kind k.Sum value) value (parts_of value)
+pub lists_in : (selects : Selects) (value : Expr) → list_any (has_kind k.List) (list_places selects value) ≡ has_lists selects value
+lists_in selects value = sym (some_filtered (has_kind k.List) (list_places selects value))
 
 -- a sum is no list
 sum_kind : (kind : Kind) → is_kind kind k.Sum ≡ true → is_kind kind k.List ≡ false
@@ -43,31 +39,42 @@ each_listed : (xs : List Expr) → flat_map items_of (filter (has_kind k.List) x
 each_listed [] = refl
 each_listed (x ∷ xs) = listed_step (has_kind k.List x) x (filter (has_kind k.List) xs) (flat_map listed xs) (each_listed xs)
 
-items_by : (a b : Bool) (value : Expr) (ps : List Expr) → (b ≡ true → a ≡ false)
-    → flat_map items_of (if a then value ∷ [] else (if b then filter (has_kind k.List) ps else [])) ≡ (if b then flat_map listed ps else (if a then items_of value else []))
-items_by true true value ps h = absurd (true≢false (h refl))
-items_by true false value ps h = append-nil (items_of value)
-items_by false true value ps h = each_listed ps
-items_by false false value ps h = refl
+pub items_there : (selects : Selects) (value : Expr) → items_in selects value ≡ flat_map listed (list_places selects value)
+items_there selects value = each_listed (list_places selects value)
 
-pub items_there : (value : Expr) → items_in value ≡ (if has_kind k.Sum value then flat_map listed (parts_of value) else listed value)
-items_there value = items_by (has_kind k.List value) (has_kind k.Sum value) value (parts_of value) (sum_no_list value)
+pub in_sum : (value : Expr) → has_kind k.Sum value ≡ true → flat_map listed (parts_of value) ≡ items_in Skipped value
+in_sum value h = sym (items_there Skipped value ∙ (at_operands (flat_map listed) value ∙ ap (λ b. if b then flat_map listed (parts_of value) else flat_map listed (value ∷ [])) h))
 
--- by the operands of a sum, and by a value alone
-pub in_sum : (value : Expr) → has_kind k.Sum value ≡ true → flat_map listed (parts_of value) ≡ items_in value
-in_sum value h = sym (items_there value ∙ ap (λ b. if b then flat_map listed (parts_of value) else listed value) h)
+pub in_value : (value : Expr) → has_kind k.Sum value ≡ false → flat_map listed (value ∷ []) ≡ items_in Skipped value
+in_value value h = sym (items_there Skipped value ∙ (at_operands (flat_map listed) value ∙ ap (λ b. if b then flat_map listed (parts_of value) else flat_map listed (value ∷ [])) h))
 
-pub in_value : (value : Expr) → has_kind k.Sum value ≡ false → flat_map listed (value ∷ []) ≡ items_in value
-in_value value h = append-nil (listed value) ∙ sym (items_there value ∙ ap (λ b. if b then flat_map listed (parts_of value) else listed value) h)
+pub lists_there : (value : Expr) → has_lists Skipped value ≡ (has_kind k.List value || (has_kind k.Sum value && list_any (has_kind k.List) (parts_of value)))
+lists_there value =
+    sym (lists_in Skipped value) ∙ (at_operands (list_any (has_kind k.List)) value ∙ by (has_kind k.Sum value) (has_kind k.List value) (list_any (has_kind k.List) (parts_of value)) (sum_no_list value))
+  where
+    by : (sum list any : Bool) → (sum ≡ true → list ≡ false) → (if sum then any else (list || false)) ≡ (list || (sum && any))
+    by true list any h = rw (h refl) refl
+    by false true any h = refl
+    by false false any h = refl
 
 -- ---- whether an item passes a test
 
-pub any_listed : (test : Expr → Bool) (xs : List Expr) → list_any test (flat_map listed xs) ≡ list_any (λ x. list_any test (listed x)) xs
-any_listed test [] = refl
-any_listed test (x ∷ xs) = list_any-append test (listed x) (flat_map listed xs) ∙ ap (λ z. list_any test (listed x) || z) (any_listed test xs)
+pub any_flat : {X : Type 0} (test : X → Bool) (f : Expr → List X) (xs : List Expr) → list_any (λ x. list_any test (f x)) xs ≡ list_any test (flat_map f xs)
+any_flat test f [] = refl
+any_flat test f (x ∷ xs) = ap (λ z. list_any test (f x) || z) (any_flat test f xs) ∙ sym (list_any-append test (f x) (flat_map f xs))
 
-pub any_in_sum : (test : Expr → Bool) (value : Expr) → has_kind k.Sum value ≡ true → list_any test (items_in value) ≡ list_any (λ x. list_any test (listed x)) (parts_of value)
+pub any_listed : (test : Expr → Bool) (xs : List Expr) → list_any test (flat_map listed xs) ≡ list_any (λ x. list_any test (listed x)) xs
+any_listed test xs = sym (any_flat test listed xs)
+
+-- whether a list is in the branches, and in or among the operands
+pub any_branch : (x : Expr) → list_any (λ entry. list_any (has_kind k.List) (operands_in entry)) (entries_of x) ≡ list_any (has_kind k.List) (branches_of x)
+any_branch x = any_flat (has_kind k.List) operands_in (entries_of x)
+
+pub lists_entered : (value : Expr) → list_any (λ x. list_any (has_kind k.List) (with_branches x)) (operands_of value) ≡ has_lists Entered value
+lists_entered value = any_flat (has_kind k.List) with_branches (operands_of value) ∙ lists_in Entered value
+
+pub any_in_sum : (test : Expr → Bool) (value : Expr) → has_kind k.Sum value ≡ true → list_any test (items_in Skipped value) ≡ list_any (λ x. list_any test (listed x)) (parts_of value)
 any_in_sum test value h = ap (list_any test) (sym (in_sum value h)) ∙ any_listed test (parts_of value)
 
-pub any_alone : (test : Expr → Bool) (value : Expr) → has_kind k.Sum value ≡ false → list_any test (items_in value) ≡ list_any test (listed value)
+pub any_alone : (test : Expr → Bool) (value : Expr) → has_kind k.Sum value ≡ false → list_any test (items_in Skipped value) ≡ list_any test (listed value)
 any_alone test value h = ap (list_any test) (sym (in_value value h) ∙ append-nil (listed value))

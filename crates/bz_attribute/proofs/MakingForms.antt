@@ -1,10 +1,7 @@
 -- The rows after a form are its lists.
-use Rattle.std.proofs.Common.{◌≡◌, List}
+use Rattle.bz_attribute.proofs.Words.{◌≡◌, end_of-Expr, Expr, Form, Form', items-the_row-Expr, items_hidden-the_row-Expr-0, List, Row_of-Expr}
 use mathlib.Core.Former.{Count}
-use Rattle.bz_value.specs.declared.value.Form.{Form}
-use Rattle.bz_value.specs.declared.value.Expr.{Expr, Form', Row_of-Expr, end_of-Expr, items-the_row-Expr, items_hidden-the_row-Expr-0}
 use Rattle.bz_value.specs.declared.value.Expr.TheVariants as e
-use Rattle.bz_rule.specs.Values.{items_of}
 
 abbrev pub Row : Type 0
 Row = (n : Count) × Row_of-Expr n

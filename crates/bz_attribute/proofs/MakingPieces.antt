@@ -1,10 +1,6 @@
 -- The pieces of a text between its dots, cut off one after the other.
-use Rattle.std.proofs.Common.{◌≡◌, ℕ, ◌+◌, ◌-◌, ◌<◌, Bool, true, false, cond, Some, None, List, [], ◌∷◌, length, take, drop, refl, sym, ◌∙◌, ap, arith, nat_eq, position, nat_lt}
-use Rattle.std.specs.List.{slice_split, position_or_len}
-use Rattle.std.proofs.lemmas.Bool.Decides.{nat_tests}
-use Rattle.std.proofs.lemmas.List.{take_rest}
-use Rattle.std.proofs.lemmas.List.Splits.{slice_split_none, slice_split_first}
-use Rattle.bz_items.specs.Characters.{full_stop}
+use Rattle.bz_attribute.proofs.Words.{[], ◌+◌, ◌-◌, ◌<◌, ◌∙◌, ◌∷◌, ◌≡◌, ap, arith, Bool, cond, drop, false, full_stop, length, List, nat_eq, nat_lt, None, position, position_or_len, refl, slice_split, Some, sym, take, true, ℕ}
+use Rattle.std.proofs.{lemmas.Bool.Decides.nat_tests, lemmas.List.take_rest, lemmas.List.Splits.slice_split_none, lemmas.List.Splits.slice_split_first}
 use Rattle.bz_attribute.proofs.ArgumentPlaces.{none_passes}
 
 abbrev is_dot : ℕ → Bool

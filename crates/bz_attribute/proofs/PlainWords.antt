@@ -1,14 +1,6 @@
 -- The string of a plain word, and its body.
-use Rattle.std.proofs.Common.{◌≡◌, ℕ, ◌+◌, ◌-◌, Bool, true, false, ◌||◌, [], ◌∷◌, ◌++◌, Some, refl, ap, ◌∙◌, length, nat_eq, arith, length-append}
-use Rattle.std.specs.Prelude.{bytes_eq}
-use Rattle.std.specs.List.{list_any}
-use Rattle.std.proofs.lemmas.Bool.{or_parts}
-use Rattle.std.proofs.lemmas.List.{take_at}
-use Rattle.std.proofs.lemmas.Slice.Eq.{bytes_eq-Decides}
-use Rattle.bz_items.specs.Characters.{Bytes, backslash, quotation_mark}
-use Rattle.bz_command_syntax.specs.Quoted.{is_escaped, quoted_of}
-use Rattle.bz_command_syntax.proofs.Strings.{quoted_plain}
-use Rattle.bz_rule.specs.Rules.{inner, body}
+use Rattle.bz_attribute.proofs.Words.{[], ◌++◌, ◌+◌, ◌-◌, ◌||◌, ◌∙◌, ◌∷◌, ◌≡◌, ap, arith, backslash, body, Bool, Bytes, bytes_eq, bytes_eq-Decides, false, inner, length, length-append, list_any, nat_eq, or_parts, quotation_mark, quoted_of, quoted_plain, refl, Some, take_at, true, ℕ}
+use Rattle.bz_command_syntax.specs.Quoted.{is_escaped}
 use Rattle.bz_attribute.proofs.FormsAgain.{both}
 
 -- no quotation mark, no backslash and no newline

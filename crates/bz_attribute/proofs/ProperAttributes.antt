@@ -1,19 +1,10 @@
 -- The arguments of a rule with a value put in, with a new attribute, and with fewer.
-use Rattle.std.proofs.Common.{Bool, List, [], ◌∷◌}
-use Rattle.std.specs.Prelude.{IfSome, IfOk, Option, Some, None}
-use Rattle.std.specs.List.{AllByRecursion}
-use Rattle.bz_grammar.specs.declared.kind.Kind.TheVariants as k
+use Rattle.bz_attribute.proofs.Words.{[], ◌∙◌, ◌∷◌, AllByRecursion, AreOf, argument_of, Arguments, attribute, Bool, by_test, by_value, Bytes, EachStays, Expr, Grammar, has_attribute, has_kind, IfOk, IfSome, inserted, is_attribute, is_select, IsAttribute, IsItem, IsValue, Kind as k, List, map, None, on_branches, on_first, on_first_that, on_items, on_lists, on_operand, on_operands, on_row, on_third, on_value, Option, put, refl, Selects, Some, Stays, with_new, with_value, without}
 use Rattle.bz_grammar.specs.Shapes as s
-use Rattle.bz_attribute.specs.Words.{Expr, Bytes, has_kind, on_third, attribute}
-use Rattle.bz_value.specs.LineShapes.{Grammar}
-use Rattle.bz_command_syntax.specs.Proper.{IsAttribute}
 use Rattle.bz_rule.proofs.ProperArguments.{argument_changed, attribute_value, value_kept}
-use Rattle.bz_rule.proofs.ProperChanges.{by_test, Stays, EachStays}
-use Rattle.bz_rule.proofs.ProperForms.{EachInPlace, itself, none, both, all_itself}
-use Rattle.bz_rule.proofs.ProperItems.{IsValue}
-use Rattle.bz_rule.proofs.ProperSequences.{IsItem, AreOf}
-use Rattle.bz_attribute.specs.Made.{argument_of}
-use Rattle.bz_attribute.specs.Attributes.{is_attribute, has_attribute, on_first_that, on_value, with_value, without, inserted, with_new, put, Arguments, by_value}
+use Rattle.bz_rule.proofs.ProperChanges.{first_stays, items_stay, row_stays, third_stays}
+use Rattle.bz_rule.proofs.ProperForms.{EachInPlace, InPlace, itself, none, both, all_itself, each_mapped}
+use Rattle.bz_command_syntax.specs.declared.command.Selects.TheVariants.{Skipped, Entered}
 use Rattle.bz_attribute.proofs.ProperMade.{argument_item}
 
 pub first_that_kept : (P : Expr → Type 0) (test : Expr → Bool) (change : Expr → Expr) → ((x : Expr) → P x → P (change x)) → (xs : List Expr) → AllByRecursion P xs → AllByRecursion P (on_first_that test change xs)
@@ -29,6 +20,40 @@ module _ (grammar : Grammar) where
   first_that_stays test change h (x ∷ xs) =
       by_test (EachInPlace grammar (x ∷ xs)) (test x) (change x ∷ xs) (x ∷ on_first_that test change xs)
       (both x (change x) xs xs (h x) (all_itself grammar xs)) (both x x xs (on_first_that test change xs) (itself grammar x) (first_that_stays test change h xs))
+
+  -- ---- the lists of a value, changed in their places
+
+  in_turn : (x y z : Expr) → InPlace grammar x y → InPlace grammar y z → InPlace grammar x z
+  in_turn x y z h i = record {
+    proper = λ here p. i.proper here (h.proper here p);
+    roots = record { token = λ ts t. h.roots.token ts t ∙ i.roots.token ts t; nonterminal = λ q. h.roots.nonterminal q ∙ i.roots.nonterminal q };
+    comments = h.comments ∙ i.comments;
+    breaks = h.breaks ∙ i.breaks;
+    operator = h.operator ∙ i.operator;
+    following = λ outer here. h.following outer here ∙ i.following outer here;
+    statement = λ here p. h.statement here p ∙ i.statement here (h.proper here p);
+  }
+
+  operands_stay : (change : Expr → Expr) → Stays grammar change → Stays grammar (on_operands change)
+  operands_stay change h x =
+      by_test (InPlace grammar x) (has_kind k.Sum x) (on_row k.Sum (map change) x) (change x) (row_stays grammar k.Sum refl (map change) (each_mapped grammar change h) x) (h x)
+
+  branches_stay : (change : Expr → Expr) → Stays grammar change → Stays grammar (on_branches change)
+  branches_stay change h x =
+      let in_entry : Expr → Expr = on_row k.Entry (on_third change) in
+      let in_dict : Expr → Expr = on_items k.Dict (map in_entry) in
+      let entry_stays : Stays grammar in_entry = row_stays grammar k.Entry refl (on_third change) (third_stays grammar change h) in
+      let dict_stays : Stays grammar in_dict = items_stay grammar k.Dict refl (map in_entry) (each_mapped grammar in_entry entry_stays) in
+      by_test (InPlace grammar x) (is_select x) (on_items k.Call (on_first in_dict) x) x (items_stay grammar k.Call refl (on_first in_dict) (first_stays grammar in_dict dict_stays) x) (itself grammar x)
+
+  operand_stays : (selects : Selects) (change : Expr → Expr) → Stays grammar change → Stays grammar (on_operand selects change)
+  operand_stays Skipped change h x = h x
+  operand_stays Entered change h x = in_turn x (change x) (on_operand Entered change x) (h x) (branches_stay (on_operands change) (operands_stay change h) (change x))
+
+  pub lists_stay : (selects : Selects) (change : List Expr → List Expr) → Stays grammar (on_items k.List change) → Stays grammar (on_lists selects change)
+  lists_stay selects change h = operands_stay (on_operand selects (on_items k.List change)) (operand_stays selects (on_items k.List change) h)
+
+  -- ---- arguments
 
   pub value_stays : (change : Expr → Expr) → ((v : Expr) → IsValue grammar v → IsValue grammar (change v)) → (x : Expr) → IsItem grammar s.argument x → IsItem grammar s.argument (on_value change x)
   value_stays change f x = argument_changed grammar (on_third change) (value_kept grammar change f) x

@@ -1,34 +1,16 @@
 -- New parts of a file value are proper where they go.
-use Rattle.std.proofs.Common.{◌≡◌, ◌<◌, ℕ, Bool, true, false, ◌&&◌, List, [], ◌∷◌, ◌++◌, inl, inr, refl, sym, ap, ◌∙◌, subst, map, arith, true≢false}
-use Rattle.std.specs.Prelude.{IsUtf8, codes, nat_lt, nat_eq}
-use Rattle.std.specs.List.{AllByRecursion, slice_split}
+use Rattle.bz_attribute.proofs.Words.{[], ◌&&◌, ◌++◌, ◌<◌, ◌∙◌, ◌∷◌, ◌≡◌, AllByRecursion, ap, AreOf, AreUtf8, argument_of, arith, binds_looser, Bool, by_case, by_test, Bytes, Class, Class as c, codes, dotted_after, dotted_from, each_item, Expr, false, Fits, Form, Form', full_stop, function_of, Grammar, has_kind, inl, inr, is_kind, is_label_attribute, IsAttribute, IsItem, IsKind, IsUtf8, IsValue, items_again, KeepsRow, Kind, Kind as k, List, list_of, Listed, map, mark, name, nat_eq, nat_lt, no_comments, node, on_row, operand, plus, quoted_lexeme, quoted_of, quoted_utf8, rank, refl, row_within, rule_made, sequence, shortened, shortened_in, slice_split, string_of, string_text, Strung, subst, sym, Token, token, true, true≢false, value_shape, value_within, ℕ}
 use Rattle.std.proofs.lemmas.List.Elements.{All-nil}
-use Rattle.bz_attribute.specs.Words.{Class, Kind, is_label_attribute, shortened, no_comments, Bytes, full_stop, quoted_of, has_kind, on_row}
-use Rattle.bz_token.specs.declared.class.Class.TheVariants as c
 use Rattle.bz_token.specs.Lexemes.{IsLexeme, is_mark}
-use Rattle.bz_grammar.specs.declared.kind.Kind.TheVariants as k
 use Rattle.bz_grammar.specs.Shapes as s
-use Rattle.bz_grammar.specs.Shapes.{Fits, Listed, rank, is_kind}
-use Rattle.bz_grammar.specs.Legal.{IsNonterminal}
-use Rattle.bz_grammar.specs.Spots.{Spot, Begins, Within}
-use Rattle.bz_value.specs.declared.value.Form.{Form}
-use Rattle.bz_value.specs.declared.value.Expr.{Expr, Token, Form'}
+use Rattle.bz_grammar.specs.{Legal.IsNonterminal, Spots.Spot, Spots.Begins, Spots.Within}
 use Rattle.bz_value.specs.Frames.{Frame, row, frame, is_binary}
 use Rattle.bz_value.specs.Proper.{IsComment, AreComments, comments_of, has_break, in_frame, is_operator_class, is_operator, after_expr, ProperExpr, IsProperItemIn}
-use Rattle.bz_value.specs.LineShapes.{Grammar, value_shape}
 use Rattle.bz_value.specs.Roots.{root, row_in}
 use Rattle.bz_value.specs.Roots as r
 use Rattle.bz_value.proofs.FormParts.{ArePartsBy, AsRowBy, AsSequenceBy, AsCompoundBy, form_proper_by}
-use Rattle.bz_command_syntax.specs.Proper.{AreUtf8, IsAttribute, IsKind}
 use Rattle.bz_command_syntax.proofs.NameTests.{identifiers_are_names}
-use Rattle.bz_command_syntax.proofs.Strings.{quoted_lexeme}
-use Rattle.bz_command_syntax.proofs.Utf8Texts.{quoted_utf8}
-use Rattle.bz_rule.proofs.ProperChanges.{by_test, by_case, Strung}
-use Rattle.bz_rule.proofs.Opened.{made}
-use Rattle.bz_rule.proofs.ProperItems.{IsValue, KeepsRow, row_within, value_within}
-use Rattle.bz_rule.proofs.ProperRules.{IsFunction}
-use Rattle.bz_rule.proofs.ProperSequences.{IsItem, AreOf, items_again, each_item}
-use Rattle.bz_attribute.specs.Made.{token, node, sequence, name, mark, shortened_in, string_text, string_of, list_of, binds_looser, operand, plus, dotted_after, dotted_from, function_of, argument_of, rule_made}
+use Rattle.bz_rule.proofs.{Opened.made, ProperRules.IsFunction}
 use Rattle.bz_attribute.proofs.ProperTexts.{one_ascii, shortened_utf8, IsFull, split_full, kind_pieces}
 
 -- ---- tokens and lists

@@ -1,23 +1,11 @@
 -- Texts of characters, cut beside ASCII bytes: bodies of strings, shorter labels, and names joined by dots.
-use Rattle.std.proofs.Common.{◌≡◌, ◌<◌, ℕ, Bool, true, false, List, [], ◌∷◌, ◌++◌, ◌||◌, refl, sym, ap, subst, inl, inr, arith, append_assoc, IsUtf8}
-use Rattle.std.specs.Prelude.{IfSome, Option, Some, None, bytes_eq, nat_eq, if◌then◌else◌}
-use Rattle.std.specs.List.{AllByRecursion, list_all, onto_first, slice_split}
-use Rattle.std.proofs.lemmas.Bool.{cases_Bool, and_parts, or_cases, or_parts, eqb-true}
-use Rattle.std.proofs.lemmas.List.{append-nil}
-use Rattle.std.proofs.lemmas.Slice.Eq.{bytes_eq-Decides}
+use Rattle.bz_attribute.proofs.Words.{[], ◌++◌, ◌<◌, ◌||◌, ◌∷◌, ◌≡◌, AllByRecursion, and_parts, ap, apostrophe, append-nil, append_assoc, AreUtf8, arith, beside_ascii, body, Bool, by_case, by_test, Bytes, bytes_eq, bytes_eq-Decides, cases_Bool, eqb-true, false, full_stop, IfSome, if◌then◌else◌, inl, inner, inr, is_plain_in, IsAttribute, IsKind, IsUtf8, List, list_all, nat_eq, None, nothing_before, onto_first, Option, or_cases, or_parts, quotation_mark, refl, shortened, slice_split, Some, subst, sym, true, ℕ}
 use Rattle.std.proofs.lemmas.Str.{IsUtf8-nil, IsUtf8-append}
 use Rattle.bz_label.proofs.Colons.{halves, no_colon}
-use Rattle.bz_label.specs.Pieces.{is_colon, has_colon}
-use Rattle.bz_label.specs.Read.{is_own, shortened}
-use Rattle.bz_label.specs.Shorter.{before_colon, after_colon, is_repeated, unrepeated}
-use Rattle.bz_items.specs.Characters.{Bytes, apostrophe, full_stop, quotation_mark}
+use Rattle.bz_label.specs.{Pieces.is_colon, Pieces.has_colon, Read.is_own, Shorter.before_colon, Shorter.after_colon, Shorter.is_repeated, Shorter.unrepeated}
 use Rattle.bz_command_syntax.specs.Identifiers.{is_identifier}
-use Rattle.bz_command_syntax.specs.Proper.{AreUtf8, IsAttribute, IsKind}
 use Rattle.bz_command_syntax.proofs.Pieces.{after_word, after_word-onto_first}
 pub use Rattle.bz_command_syntax.proofs.Utf8Texts.{one_ascii}
-use Rattle.bz_command_syntax.proofs.Utf8Texts.{beside_ascii, nothing_before}
-use Rattle.bz_rule.specs.Rules.{inner, is_plain_in, body}
-use Rattle.bz_rule.proofs.ProperChanges.{by_test, by_case}
 
 -- ---- the body of a string
 

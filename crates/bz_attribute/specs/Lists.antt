@@ -1,24 +1,88 @@
--- The lists of an attribute: its value if that is a list, or the list operands of its value if that is a sum.
-use Rattle.std.specs.Prelude.{Bool, false, not, ◌||◌, ◌&&◌, List, [], ◌∷◌, ◌++◌, Option, if◌then◌else◌, bytes_eq}
+-- The lists of an attribute: its value if that is a list, or the list operands of its value if that is a sum. Where `select` is entered,
+-- also those in its branches: a branch is the value of an entry of its dict.
+use Rattle.std.specs.Prelude.{Bool, false, not, ◌||◌, ◌&&◌, List, [], ◌∷◌, ◌++◌, Option, if◌then◌else◌, bytes_eq, codes, map}
 use Rattle.std.specs.List.{filter, flat_map, list_any}
 use Rattle.std.specs.Option.{option_and_then, option_map_or}
 use Rattle.bz_token.specs.declared.class.Class.TheVariants as c
 use Rattle.bz_grammar.specs.declared.kind.Kind.TheVariants as k
-use Rattle.bz_attribute.specs.Words.{is_label_attribute, is_same, shortened, Expr, Bytes, body, text_in, has_kind, has_class, parts_of, items_of, with_text, on_row, on_items, quoted_of, is_empty}
+use Rattle.bz_command_syntax.specs.declared.command.Selects.TheVariants.{Skipped, Entered}
+use Rattle.bz_attribute.specs.Words.{is_label_attribute, is_same, shortened, Expr, Bytes, Selects, body, is_text, only, text_in, has_kind, has_class, parts_of, items_of, with_text, on_row, on_first, on_third, on_items, quoted_of, is_empty}
 use Rattle.bz_attribute.specs.Attributes.{on_first_that}
 
-abbrev pub lists_of : Expr → List Expr
-lists_of value = if has_kind k.List value then value ∷ [] else (if has_kind k.Sum value then filter (has_kind k.List) (parts_of value) else [])
+-- the operands of a sum, or the value alone
+abbrev pub operands_of : Expr → List Expr
+operands_of value = if has_kind k.Sum value then parts_of value else value ∷ []
 
-abbrev pub has_lists : Expr → Bool
-has_lists value = not (is_empty (lists_of value))
+-- ---- the branches of `select`
+
+abbrev pub is_first_dict : List Expr → Bool
+is_first_dict [] = false
+is_first_dict (x ∷ xs) = has_kind k.Dict x
+
+-- a call of the name `select` whose first item is a dict
+abbrev pub is_select : Expr → Bool
+is_select x = has_kind k.Call x && (is_text (codes "select") (option_and_then (text_in c.Name) (only (parts_of x))) && is_first_dict (items_of x))
+
+-- the entries of that dict
+abbrev pub entries_in : List Expr → List Expr
+entries_in [] = []
+entries_in (dict ∷ rest) = items_of dict
+
+abbrev pub entries_of : Expr → List Expr
+entries_of x = if is_select x then entries_in (items_of x) else []
+
+-- the operands of the value of an entry, key : value
+abbrev pub operands_after : List Expr → List Expr
+operands_after (key ∷ colon ∷ value ∷ rest) = operands_of value
+operands_after _ = []
+
+abbrev pub operands_in : Expr → List Expr
+operands_in entry = if has_kind k.Entry entry then operands_after (parts_of entry) else []
+
+-- the operands of all branches
+abbrev pub branches_of : Expr → List Expr
+branches_of x = flat_map operands_in (entries_of x)
+
+-- each branch changed
+abbrev pub on_branches : (Expr → Expr) → Expr → Expr
+on_branches change x = if is_select x then on_items k.Call (on_first (on_items k.Dict (map (on_row k.Entry (on_third change))))) x else x
+
+-- ---- the lists of a value
+
+-- an operand, and those in its branches; no further `select` is entered
+abbrev pub with_branches : Expr → List Expr
+with_branches x = x ∷ branches_of x
+
+-- among which the lists are
+abbrev pub list_places : Selects → Expr → List Expr
+list_places Skipped value = operands_of value
+list_places Entered value = flat_map with_branches (operands_of value)
+
+abbrev pub lists_of : Selects → Expr → List Expr
+lists_of selects value = filter (has_kind k.List) (list_places selects value)
+
+abbrev pub has_lists : Selects → Expr → Bool
+has_lists selects value = not (is_empty (lists_of selects value))
 
 -- the items of a list, and none of what is no list
 abbrev pub listed : Expr → List Expr
 listed x = if has_kind k.List x then items_of x else []
 
-abbrev pub items_in : Expr → List Expr
-items_in value = flat_map items_of (lists_of value)
+abbrev pub items_in : Selects → Expr → List Expr
+items_in selects value = flat_map items_of (lists_of selects value)
+
+-- each operand of a sum, or the value alone, changed
+abbrev pub on_operands : (Expr → Expr) → Expr → Expr
+on_operands change value = if has_kind k.Sum value then on_row k.Sum (map change) value else change value
+
+-- an operand changed, and those in its branches
+abbrev pub on_operand : Selects → (Expr → Expr) → Expr → Expr
+on_operand Skipped change x = change x
+on_operand Entered change x = on_branches (on_operands change) (change x)
+
+-- the lists of a value, each changed in its place
+abbrev pub on_lists : Selects → (List Expr → List Expr) → Expr → Expr
+on_lists selects change value = on_operands (on_operand selects (on_items k.List change)) value
 
 -- a string, a number and a dict can't be taken as a list
 abbrev pub is_no_list : Expr → Bool

@@ -17,7 +17,7 @@ pub use making::{
     string_of, string_text, token,
 };
 pub use readings::{
-    body_of, first_of_kind, has_kind, has_lists, is_empty_list, is_item, is_no_list, items_of,
-    operands_of, parts_of,
+    body_of, entries_of, first_of_kind, has_kind, has_lists, is_empty_list, is_item, is_no_list,
+    is_select, items_of, operands_in, operands_of, parts_of,
 };
 pub use sets::{has_text, insert_text};

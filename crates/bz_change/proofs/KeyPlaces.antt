@@ -1,34 +1,8 @@
 -- The places of the keys of entries, while entries are put to them, and the entries of chosen keys.
-use Rattle.std.proofs.Common.{◌≡◌, true, List, [], ◌∷◌, refl, sym, ap, ◌∙◌, ℕ, false, subst, ◌<◌, ◌≤◌, ◌+◌, ◌||◌, take, drop, zero, suc, Bool, ◌++◌, length, get_or, set, cond, arith, true≢false}
-use Rattle.std.specs.Prelude.{None, Vec, Option, Some, bytes_eq, is_some, slice_get, slice_set}
-use Rattle.bz_grammar.specs.declared.kind.Kind.TheVariants as k
-use Rattle.bz_change.specs.Words.{Expr, Bytes, Entry, list_of, string_of, strings_added, with_strings, mark, is_text, on_first_that}
-use Rattle.bz_rule.specs.Values.{has_kind, parts_of, with_parts, on_third}
-use Rattle.bz_rule.proofs.ProperChanges.{by_case}
-use Rattle.bz_attribute.proofs.FormsAgain.{both, if_true, parts_kind, parts_filled, if_false, if_either}
-use Rattle.bz_change.specs.Dicts.{on_entry, value_again, list_put, entry_with, key_in, key_of, has_some_key, has_key, entry_made, entry_changed, entry_put, entries_put}
-use Rattle.std.specs.List.{list_any, position, position_from}
-use Rattle.std.specs.Option.{option_map_or, option_or}
-use Rattle.std.specs.declared.alloc.Global.{Global}
-use Rattle.std.specs.Map.{KeepsOthers}
-use Rattle.std.specs.Cmp.{eq_by_cmp_equiv}
-use Rattle.std.specs.Cmp.Lexicographic.{nat_list_cmp_total}
-use Rattle.std.proofs.lemmas.Cmp.{nat_list_eq_equiv}
-use Rattle.std.specs.BTreeMap.{BTreeMap, Updates}
-use Rattle.std.specs.BTreeSet.{BTreeSet}
-use Rattle.std.proofs.Math.Path.{fun_ext}
-use Rattle.std.proofs.lemmas.List.Folds.{list_any_none, list_any_at}
-use Rattle.std.proofs.lemmas.List.{length-take-le, take_more, drop_more, drop_all}
-use Rattle.std.proofs.Math.Seq.{take-append_seam}
-use Rattle.std.proofs.lemmas.Map.Text.{is_eq-slice_cmp}
-use Rattle.std.proofs.lemmas.Option.{get_or_from_slice_get}
-use Rattle.bz_attribute.proofs.KeySets.{equal_texts, text_cmp, or_none as or_false}
-use Rattle.bz_attribute.specs.Sets.{texts_of}
-use Rattle.bz_change.specs.private.Outcomes.{place_at, AreIndexed}
-use Rattle.std.proofs.lemmas.Iterator.Adapters.{position_from-zero}
+use Rattle.bz_change.proofs.Words.{[], ◌++◌, ◌+◌, ◌<◌, ◌||◌, ◌∙◌, ◌∷◌, ◌≡◌, ◌≤◌, Add, ap, AreIndexed, arith, Bool, both, BTreeMap, BTreeSet, by_case, Bytes, bytes_eq, Change, cond, drop, entries_put, Entry, entry_changed, entry_made, entry_put, entry_with, equal_texts, Expr, false, get_or, has_key, has_kind, has_some_key, if_either, if_false, if_true, is_some, is_text, key_in, key_of, Kind as k, length, length-take-le, List, list_any, list_any_at, list_any_none, list_of, list_put, mark, None, on_entry, on_first_that, on_third, Option, option_map_or, option_or, or_none as or_false, parts_filled, parts_kind, parts_of, place_at, position, position_from, refl, Select, Set, slice_get, slice_set, Some, string_of, strings_added, subst, suc, sym, take, text_cmp, texts_of, true, true≢false, value_again, Vec, with_parts, with_strings, zero, ℕ}
+use Rattle.std.proofs.{Common.set, lemmas.Cmp.nat_list_eq_equiv, Math.Path.fun_ext, lemmas.List.take_more, lemmas.List.drop_more, lemmas.List.drop_all, Math.Seq.take-append_seam, lemmas.Map.Text.is_eq-slice_cmp, lemmas.Option.get_or_from_slice_get, lemmas.Iterator.Adapters.position_from-zero}
+use Rattle.std.specs.{declared.alloc.Global.Global, Map.KeepsOthers, Cmp.eq_by_cmp_equiv, Cmp.Lexicographic.nat_list_cmp_total, BTreeMap.Updates}
 use Rattle.bz_attribute.proofs.ArgumentPlaces.{IsFirst, is_first, none_passes, changed_there, changed_nowhere}
-use Rattle.bz_change.specs.declared.dicts.Change.{Change}
-use Rattle.bz_change.specs.declared.dicts.Change.TheVariants.{Add, Set, Select}
 
 -- ---- an entry with another value has its key
 

@@ -1,26 +1,6 @@
 -- Entries that are added, set and removed: which keys are there afterwards.
-use Rattle.std.proofs.Common.{◌≡◌, Bool, true, false, not, ◌||◌, ◌&&◌, List, [], ◌∷◌, ◌++◌, Option, Some, None, Ok, Err, refl, sym, subst, ap, ◌∙◌, codes, true≢false}
-use Rattle.std.specs.Prelude.{IfOk, if◌then◌else◌, is_some}
-use Rattle.std.specs.List.{AllByRecursion, filter, list_any}
-use Rattle.std.specs.Option.{option_map_or}
-use Rattle.std.proofs.lemmas.Bool.{and_parts, and_from, not-true, or_left, or_right}
-use Rattle.std.proofs.lemmas.List.Folds.{list_any-append}
-use Rattle.bz_token.specs.declared.class.Class.TheVariants as c
-use Rattle.bz_grammar.specs.declared.kind.Kind.TheVariants as k
-use Rattle.bz_value.specs.declared.value.Expr.{Expr, items_hidden-the_row-Expr-0}
-use Rattle.bz_change.specs.Words.{Bytes, Entry, is_escaped, quoted_of, is_nonempty, attribute, is_text, is_empty, Arguments, by_value, on_first_that, with_value, with_new, without, token, mark}
-use Rattle.bz_rule.specs.Values.{has_kind, items_of, on_items, with_items}
-use Rattle.bz_rule.proofs.ProperChanges.{by_test, by_case}
-use Rattle.bz_value.specs.declared.refusal.Refusal.TheVariants.{NotADict}
-use Rattle.bz_change.specs.declared.dicts.Change.{Change}
-use Rattle.bz_change.specs.declared.dicts.Change.TheVariants.{Add, Set}
-use Rattle.bz_change.specs.Dicts.{entry_with, value_made, key_in, key_of, has_key, has_some_key, entry_made, entry_changed, entry_put, entries_put, without_entries, dict_of, on_dict, with_dict_left, dict_remove}
-use Rattle.bz_change.specs.Laws.{are_keys, has_keys, have_plain_keys, keys_of, EntriesAddedAgain, EntriesAddedAreThere, EntriesSetAreThere, EntriesRemovedAgain}
-use Rattle.bz_attribute.proofs.ArgumentForms.{any_same}
-use Rattle.bz_attribute.proofs.AttributesAgain.{by_there, by_absent, same_made, with_value_same, node_parts, attribute_new, without_new, attribute_changed}
-use Rattle.bz_attribute.proofs.FormsAgain.{if_true, if_false, items_filled, items_kind, items_changed, items_same}
-use Rattle.bz_attribute.proofs.ProperAttributes.{first_that_kept}
-use Rattle.bz_attribute.proofs.PlainWords.{IsPlain, equal_self, body_quoted}
+use Rattle.bz_change.proofs.Words.{[], ◌&&◌, ◌++◌, ◌||◌, ◌∙◌, ◌∷◌, ◌≡◌, Add, AllByRecursion, and_from, and_parts, any_same, ap, are_keys, Arguments, attribute, attribute_changed, attribute_new, body_quoted, Bool, by_absent, by_case, by_test, by_there, by_value, Bytes, Change, Class as c, codes, dict_of, dict_remove, entries_put, EntriesAddedAgain, EntriesAddedAreThere, EntriesRemovedAgain, EntriesSetAreThere, Entry, entry_changed, entry_made, entry_put, entry_with, equal_self, Err, Expr, false, filter, first_that_kept, has_key, has_keys, has_kind, has_some_key, have_plain_keys, if_false, if_true, IfOk, if◌then◌else◌, is_empty, is_escaped, is_nonempty, is_some, is_text, IsPlain, items_changed, items_filled, items_kind, items_of, items_same, key_in, key_of, keys_of, Kind as k, List, list_any, list_any-append, mark, node_parts, None, not, not-true, NotADict, Ok, on_dict, on_first_that, on_items, Option, option_map_or, or_left, or_right, quoted_of, refl, same_made, Set, Some, subst, sym, token, true, true≢false, value_made, with_dict_left, with_items, with_new, with_value, with_value_same, without, without_entries, without_new}
+use Rattle.bz_value.specs.declared.value.Expr.{items_hidden-the_row-Expr-0}
 use Rattle.bz_change.proofs.KeyPlaces.{added_again, key_kept}
 
 -- ---- by the value of the attribute

@@ -1,29 +1,10 @@
 -- Values that are added to the list of a key, twice; and a `select` in the place of no value.
-use Rattle.std.proofs.Common.{◌≡◌, ◌≤◌, Bool, true, false, not, ◌&&◌, ◌||◌, List, [], ◌∷◌, ◌++◌, Option, Some, None, Ok, Err, inl, inr, refl, sym, subst, ap, ◌∙◌, codes, true≢false}
-use Rattle.std.specs.Prelude.{IfOk, is_some}
-use Rattle.std.specs.List.{list_any}
-use Rattle.std.specs.Option.{option_map_or}
-use Rattle.std.proofs.lemmas.Bool.{and_parts, and_from, cases_Bool, not-false, or_left, or_parts}
+use Rattle.bz_change.proofs.Words.{[], ◌&&◌, ◌++◌, ◌||◌, ◌∙◌, ◌∷◌, ◌≡◌, ◌≤◌, amount, and_from, and_parts, any_same, ap, Arguments, attribute, attribute_changed, attribute_new, become_plain, Bool, both, by_case, by_test, by_there, by_value, Bytes, cases_Bool, Class as c, codes, dict_list_add, dict_of, entry_with, Err, Expr, false, has_key, has_kind, has_list_in, has_list_value, has_lists, if_false, if_true, IfOk, inl, inr, is_some, is_text, IsPlain, items_changed, items_filled, items_in, items_kind, items_of, items_same, Kind, Kind as k, List, list_any, list_of, list_put, ListAddedTwice, mark, node_parts, None, not, not-false, NotADict, NotAList, Ok, on_dict, on_entry, on_first_that, on_items, on_row, on_third, one_if, Option, option_map_or, or_left, or_parts, parts_filled, parts_kind, parts_of, quoted_of, refl, refuses_items, row_changed, row_same, SelectKeepsComments, Some, strings_added, subst, sym, takes_no_items, token, total, true, true≢false, with_items, with_more, with_new, with_parts, with_strings, with_value, with_value_same}
+use Rattle.bz_command_syntax.specs.declared.command.Selects.TheVariants.{Skipped}
 use Rattle.std.proofs.Math.Bool.{or-false}
-use Rattle.bz_token.specs.declared.class.Class.TheVariants as c
-use Rattle.bz_grammar.specs.declared.kind.Kind.{Kind}
-use Rattle.bz_grammar.specs.declared.kind.Kind.TheVariants as k
-use Rattle.bz_value.specs.declared.refusal.Refusal.TheVariants.{NotADict, NotAList}
-use Rattle.bz_change.specs.Words.{Arguments, Bytes, Expr, amount, attribute, become_plain, by_value, has_lists, is_text, list_of, mark, on_first_that, quoted_of, token, one_if, strings_added, total, with_new, with_strings, with_value}
-use Rattle.bz_rule.specs.Values.{has_kind, items_of, on_items, on_row, on_third, parts_of, with_items, with_parts}
-use Rattle.bz_rule.proofs.ProperChanges.{by_test, by_case}
-use Rattle.bz_attribute.proofs.AttributesAgain.{attribute_changed, attribute_new, by_there, node_parts, with_value_same}
-use Rattle.bz_attribute.specs.Lists.{items_in, with_more}
-use Rattle.bz_attribute.proofs.ArgumentForms.{any_same}
 use Rattle.bz_attribute.proofs.ListsThere.{lists_there}
-use Rattle.bz_attribute.proofs.FormsAgain.{both, if_true, if_false, items_changed, items_filled, items_kind, items_same, parts_filled, parts_kind, row_changed, row_same}
-use Rattle.bz_attribute.proofs.PlainWords.{IsPlain}
 use Rattle.bz_list.proofs.LawAdded.{items_list, there_more, there_new, with_strings_same}
-use Rattle.bz_change.specs.Dicts.{dict_list_add, dict_of, entry_with, has_key, has_list_in, has_list_value, list_put, on_dict, on_entry, refuses_items, takes_no_items}
-use Rattle.bz_change.specs.Laws.{ListAddedTwice, SelectKeepsComments}
-use Rattle.bz_change.proofs.KeyPlaces.{value_key}
-use Rattle.bz_change.proofs.LawDicts.{dict_items, dict_there, new_key, there_last}
-use Rattle.bz_change.proofs.ProperDicts.{select_grows}
+use Rattle.bz_change.proofs.{KeyPlaces.value_key, LawDicts.dict_items, LawDicts.dict_there, LawDicts.new_key, LawDicts.there_last, ProperDicts.select_grows}
 
 -- ---- a list that grows stays one
 
@@ -34,14 +15,14 @@ module _ (more : List Expr) where
   longer_kind : (kind : Kind) (x : Expr) → has_kind kind (longer x) ≡ has_kind kind x
   longer_kind kind x = by_test (λ (y : Expr). has_kind kind y ≡ has_kind kind x) (has_kind k.List x) (with_items (items_of x ++ more) x) x (items_kind kind (items_of x ++ more) x) refl
 
-  more_has_lists : (value : Expr) → has_lists value ≡ true → has_lists (with_more more value) ≡ true
+  more_has_lists : (value : Expr) → has_lists Skipped value ≡ true → has_lists Skipped (with_more more value) ≡ true
   more_has_lists value l =
       let change : List Expr → List Expr = on_first_that (has_kind k.List) longer in
       let any : Bool = list_any (has_kind k.List) (parts_of value) in
-      by_case (λ (y : Expr). has_lists y ≡ true) (has_kind k.Sum value) (on_row k.Sum change value) (longer value)
+      by_case (λ (y : Expr). has_lists Skipped y ≡ true) (has_kind k.Sum value) (on_row k.Sum change value) (longer value)
       (λ is.
       let ps : List Expr = change (parts_of value) in
-      ap has_lists (row_changed k.Sum change value is)
+      ap (has_lists Skipped) (row_changed k.Sum change value is)
       ∙ (lists_there (with_parts ps value)
       ∙ (both (λ a b. a || b) (parts_kind k.List ps value)
       (both (λ a b. a && b) (parts_kind k.Sum ps value)
@@ -82,7 +63,7 @@ module _ (current name : Bytes) (words : List Bytes) (plain : become_plain words
   third_lists [] l = absurd (true≢false (sym l))
   third_lists (x ∷ []) l = absurd (true≢false (sym l))
   third_lists (x ∷ y ∷ []) l = absurd (true≢false (sym l))
-  third_lists (x ∷ y ∷ z ∷ rest) l = more_has_lists (strings_added current name words (items_in z)) z l
+  third_lists (x ∷ y ∷ z ∷ rest) l = more_has_lists (strings_added current name words (items_in Skipped z)) z l
 
   parts_after : (x : Expr) → has_kind k.Entry x ≡ true → parts_of (on_entry more x) ≡ on_third more (parts_of x)
   parts_after x is = ap parts_of (row_changed k.Entry (on_third more) x is) ∙ parts_filled k.Entry (on_third more (parts_of x)) x is

@@ -1,19 +1,8 @@
 -- Renaming an attribute there and back.
-use Rattle.std.proofs.Common.{◌≡◌, Bool, true, false, not, List, [], ◌∷◌, Option, Some, None, Ok, Err, inl, inr, refl, sym, ap, ◌∙◌, true≢false}
-use Rattle.std.specs.Prelude.{if◌then◌else◌, is_some}
-use Rattle.std.specs.List.{list_any}
-use Rattle.std.proofs.lemmas.Bool.{cases_Bool, or_parts}
+use Rattle.bz_change.proofs.Words.{[], ◌∙◌, ◌∷◌, ◌≡◌, ap, Arguments, attribute_any, attribute_parts, AttributeExists, Bool, both, Bytes, cases_Bool, Class as c, equal_self, Err, Expr, Expr as e, false, Form', has_attribute, if◌then◌else◌, inl, inr, is_attribute, is_some, is_text, Kind as k, List, list_any, NoAttribute, None, not, Ok, on_first, on_first_that, on_row, Option, or_parts, parts_of, refl, RenamedBack, row_back, Some, some_if, sym, Token, true, true≢false, value_changed, with_text}
 use Rattle.std.proofs.lemmas.Slice.Eq.{bytes_eq-Decides}
-use Rattle.bz_token.specs.declared.class.Class.TheVariants as c
-use Rattle.bz_grammar.specs.declared.kind.Kind.TheVariants as k
 use Rattle.bz_grammar.specs.Shapes.{is_class}
-use Rattle.bz_change.specs.Words.{Expr, Token, Form', Bytes, parts_of, with_text, on_row, on_first, Arguments, is_attribute, has_attribute, on_first_that}
-use Rattle.bz_value.specs.declared.value.Expr.TheVariants as e
-use Rattle.bz_rule.specs.Rules.{text_in, is_text, value_after}
-use Rattle.bz_attribute.proofs.FormsAgain.{both, some_if, row_back, attribute_parts, value_changed, attribute_any}
-use Rattle.bz_attribute.proofs.PlainWords.{equal_self}
-use Rattle.bz_change.specs.Changes.{RenamedBack}
-use Rattle.bz_value.specs.declared.refusal.Refusal.TheVariants.{NoAttribute, AttributeExists}
+use Rattle.bz_rule.specs.Rules.{text_in, value_after}
 
 -- ---- the name of an argument
 

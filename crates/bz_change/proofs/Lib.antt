@@ -5,3 +5,4 @@ pub mod LawRenaming
 pub mod ProperCommands
 pub mod ProperDicts
 pub mod SettingsTexts
+mod Words

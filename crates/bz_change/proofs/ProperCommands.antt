@@ -1,30 +1,9 @@
 -- What is set is a value.
-use Rattle.std.proofs.Common.{◌≡◌, true, false, ◌||◌, List, [], ◌∷◌, inl, inr, refl, sym, subst, map, true≢false, not}
-use Rattle.std.specs.Prelude.{IsUtf8, if◌then◌else◌, codes, bytes_eq, nat_lt, length, IfSome, Option, Ok, Err}
-use Rattle.std.specs.List.{list_all}
-use Rattle.std.specs.Option.{option_map_or}
+use Rattle.bz_change.proofs.Words.{[], ◌||◌, ◌∷◌, ◌≡◌, all_kept, and_parts, AreArguments, AreUtf8, attribute, AttributeExists, Attributes, Attributes as t, by_case, by_test, Bytes, bytes_eq, Class as c, codes, copy, copy_no_overwrite, Each, equal_texts, Err, Expr, false, first_that_kept, Grammar, has_attribute, identifiers_are_names, IfSome, if◌then◌else◌, inl, inr, is_attribute, is_constant, is_decimal, is_list_attribute, is_other_attribute, is_set, IsAttribute, IsDigits, IsItem, IsLexeme, IsUtf8, IsValue, Keeps, Kind as k, length, List, list_all, list_of, list_value, Made, map, nat_lt, new_value, NoAttribute, NoSource, not, of_value, Ok, on_first, on_first_that, on_row, Option, option_map_or, or_cases, put, put_kept, refl, remove, rename, set, set_if_absent, setting, single_setting, string_of, string_strung, string_text, string_value, subst, sym, token, token_new, true, true≢false, whole, with_text, without_kept, words_are_items}
 use Rattle.std.specs.Char.{is_ascii_digit}
-use Rattle.std.proofs.lemmas.Bool.{and_parts, or_cases}
-use Rattle.bz_attribute.proofs.KeySets.{equal_texts}
-use Rattle.bz_token.specs.declared.class.Class.TheVariants as c
 use Rattle.bz_token.specs.Bytes.{is_digit}
-use Rattle.bz_token.specs.Lexemes.{IsLexeme, IsDigits, Each, whole}
-use Rattle.bz_change.specs.Words.{is_list_attribute, Bytes, attribute, Expr, Attributes, with_text, on_row, on_first, is_attribute, has_attribute, is_other_attribute, on_first_that, put}
-use Rattle.bz_value.specs.LineShapes.{Grammar}
-use Rattle.bz_command_syntax.specs.Proper.{AreUtf8, IsAttribute}
-use Rattle.bz_command_syntax.proofs.NameTests.{identifiers_are_names}
-use Rattle.bz_rule.proofs.ProperChanges.{by_test, by_case}
-use Rattle.bz_rule.proofs.ProperItems.{IsValue, all_kept}
-use Rattle.bz_attribute.specs.Made.{token, string_text, string_of, list_of}
-use Rattle.bz_change.specs.Changes.{is_constant, is_decimal, single_setting, setting, is_set, set, set_if_absent, remove, rename, copy, copy_no_overwrite}
-use Rattle.bz_attribute.proofs.ProperMade.{token_new, new_value, list_value, string_value, string_strung, words_are_items}
-use Rattle.bz_grammar.specs.declared.kind.Kind.TheVariants as k
 use Rattle.bz_grammar.specs.Shapes as s
-use Rattle.bz_command_syntax.specs.declared.command.Attributes.TheVariants as t
 use Rattle.bz_rule.proofs.ProperArguments.{argument_changed, name_kept}
-use Rattle.bz_rule.proofs.ProperSequences.{IsItem}
-use Rattle.bz_value.specs.declared.refusal.Refusal.TheVariants.{NoAttribute, AttributeExists, NoSource}
-use Rattle.bz_attribute.proofs.ProperAttributes.{AreArguments, Made, Keeps, of_value, first_that_kept, without_kept, put_kept}
 
 -- ---- what is set
 

@@ -1,49 +1,19 @@
 -- What each command on dicts makes of the arguments of a rule is arguments; and which of them take no comment away.
-use Rattle.std.proofs.Common.{◌≡◌, ℕ, ◌≤◌, List, [], ◌∷◌, ◌++◌, Ok, Err, false, not, ◌&&◌, refl, sym, subst, ◌∙◌, map, arith, codes, true≢false, IsUtf8}
-use Rattle.std.specs.Prelude.{if◌then◌else◌}
-use Rattle.std.specs.List.{list_any}
-use Rattle.std.specs.Option.{option_map_or}
-use Rattle.std.proofs.lemmas.Bool.{false_from_ne_true}
-use Rattle.bz_grammar.specs.declared.kind.Kind.TheVariants as k
-use Rattle.bz_change.specs.Words.{Expr, Token, Form', Bytes, Entry, attribute, has_attribute, is_item, is_list_attribute, is_spelled, list_of, put, strings_added, with_strings, with_text, has_kind, on_items, items_of, on_third, with_value, with_new, on_first_that, without, quoted_of, is_empty}
-use Rattle.bz_attribute.specs.Lists.{items_in}
-use Rattle.bz_value.specs.Counted.{total}
-use Rattle.bz_value.specs.LineShapes.{Grammar, value_shape}
-use Rattle.bz_rule.proofs.ProperChanges.{by_test, by_case, Stays}
-use Rattle.bz_value.specs.declared.refusal.Refusal.TheVariants.{NotAList, NotADict}
-use Rattle.bz_attribute.specs.Made.{argument_of, token, mark, string_text, string_of}
-use Rattle.bz_attribute.proofs.AttributesAgain.{of_found}
+use Rattle.bz_change.proofs.Words.{[], ◌&&◌, ◌++◌, ◌∙◌, ◌∷◌, ◌≡◌, ◌≤◌, Add, All-nil, all_joined, all_kept, AreArguments, AreOf, AreSome, AreUtf8, arith, as_token, attribute, by_case, by_test, Bytes, call_new, Change, Class as c, codes, dict_add, dict_list_add, dict_of, dict_remove, dict_replace_if_equal, dict_set, each_item, EachIs, entries_put, Entry, entry_changed, entry_made, entry_put, entry_with, Err, Expr, false, false_from_ne_true, first_that_kept, Form', Grammar, has_attribute, has_key, has_kind, has_some_key, identifiers_are_names, if_false, if_true, if◌then◌else◌, is_constant, is_decimal, is_empty, is_item, is_list_attribute, is_select_set, is_spelled, IsAttribute, IsEntry, IsItem, IsNew, IsUtf8, IsValue, item_within, items_again, items_apart, items_in, items_of, Keeps, KeepsForms, KeepsRow, Kind as k, List, list_any, list_new, list_of, list_put, Made, map, mark, new_part, new_value, none_there, not, NotADict, NotAList, of_attribute, of_found, Ok, on_dict, on_entry, on_first_that, on_items, on_third, option_map_or, put, put_kept, quoted_of, quoted_string, refl, refuses_items, row_proper, row_within, Select, select_of, sequence_in_place, Set, set_select, setting, single_setting, Stays, string_of, string_strung, string_text, strings_added, subst, sym, Token, token, token_new, total, true≢false, value_again, value_in_place, value_made, value_replaced, value_shape, whole as whole_number, with_dict_left, with_new, with_new_kept, with_strings, with_text, with_value, with_value_kept, without, without_entries, without_kept, words_are_items, ℕ}
+use Rattle.bz_command_syntax.specs.declared.command.Selects.TheVariants.{Skipped}
+use Rattle.bz_attribute.specs.Made.{argument_of}
 use Rattle.bz_attribute.proofs.Grown.{itself as grown_itself, in_turn, Grows, EachGrows, append_grows, first_that_grows, third_grows}
 use Rattle.bz_attribute.proofs.GrownArguments.{whole, more_grows, on_row_grows, text_grows, on_items_grows, with_value_grows, inserted_grows, Grown}
-use Rattle.bz_change.specs.declared.dicts.Change.{Change}
-use Rattle.bz_change.specs.declared.dicts.Change.TheVariants.{Add, Set, Select}
-use Rattle.bz_change.specs.Dicts.{as_token, dict_list_add, dict_replace_if_equal, entry_with, is_select_set, list_put, on_entry, select_of, set_select, refuses_items, value_again, value_made, value_replaced, has_key, has_some_key, entry_made, entry_changed, entry_put, entries_put, without_entries, dict_of, on_dict, dict_add, dict_set, with_dict_left, dict_remove}
-use Rattle.std.proofs.lemmas.List.Elements.{All-nil}
-use Rattle.bz_token.specs.declared.class.Class.TheVariants as c
 use Rattle.bz_grammar.specs.Shapes as s
-use Rattle.bz_grammar.specs.Legal.{IsNonterminal}
-use Rattle.bz_grammar.specs.Spots.{Within}
-use Rattle.bz_value.specs.Comments.{no_comments}
-use Rattle.bz_value.specs.Proper.{IsComment, ProperExpr, comments_of, has_break, after_expr}
-use Rattle.bz_value.specs.Roots.{root}
+use Rattle.bz_grammar.specs.{Legal.IsNonterminal, Spots.Within, Spots.Spot}
+use Rattle.bz_value.specs.{Comments.no_comments, Proper.IsComment, Proper.ProperExpr, Proper.comments_of, Proper.has_break, Proper.after_expr, Roots.root}
 use Rattle.bz_value.specs.Roots as r
-use Rattle.bz_value.proofs.FormParts.{ArePartsBy, form_proper_by}
-use Rattle.bz_command_syntax.specs.Proper.{AreUtf8, IsAttribute, IsEntry, EachIs, AreSome}
-use Rattle.bz_value.proofs.LeadParts.{lead_before}
+use Rattle.bz_value.proofs.{FormParts.ArePartsBy, FormParts.form_proper_by, LeadParts.lead_before}
 use Rattle.bz_rule.proofs.ProperForms.{InPlace}
-use Rattle.bz_rule.proofs.ProperItems.{IsValue, KeepsRow, row_within, item_within, value_in_place, all_joined, all_kept}
-use Rattle.bz_rule.proofs.ProperSequences.{IsItem, AreOf, KeepsForms, items_apart, each_item, items_again, sequence_in_place}
 use Rattle.bz_rule.proofs.ProperSequences as sequences
-use Rattle.bz_attribute.proofs.ProperAttributes.{AreArguments, Made, Keeps, of_attribute, put_kept, first_that_kept, with_value_kept, without_kept, with_new_kept}
-use Rattle.bz_attribute.proofs.ProperMade.{IsNew, call_new, list_new, new_part, new_value, none_there, row_proper, token_new, quoted_string, string_strung, words_are_items}
-use Rattle.bz_attribute.proofs.FormsAgain.{if_false, if_true}
 use Rattle.bz_attribute.proofs.ProperTexts.{one_ascii}
-use Rattle.bz_grammar.specs.Spots.{Spot}
-use Rattle.bz_token.specs.Lexemes.{whole as whole_number}
-use Rattle.bz_command_syntax.proofs.NameTests.{identifiers_are_names}
 use Rattle.bz_list.specs.Changes.{replaced_item}
 use Rattle.bz_list.proofs.ProperCommands.{replaced_item_stays, strings_are_items, with_strings_stays}
-use Rattle.bz_change.specs.Changes.{is_constant, is_decimal, setting, single_setting}
 use Rattle.bz_change.proofs.ProperCommands.{constant_name, digits}
 
 module _ (number : Bytes → ℕ) (current name : Bytes) where
@@ -92,7 +62,7 @@ module _ (number : Bytes → ℕ) (current name : Bytes) where
   list_grows key words items =
       let more : List Expr = entry_with key (list_of (strings_added current name words [])) ∷ [] in
       by_test (λ (ys : List Expr). total (whole number) items ≤ total (whole number) ys) (list_any (has_key key) items) (on_first_that (has_key key) (on_entry (with_strings current name words)) items) (items ++ more)
-      (entry_grows (with_strings current name words) (λ x. more_grows number (strings_added current name words (items_in x)) x) key items) (append_grows (whole number) more items)
+      (entry_grows (with_strings current name words) (λ x. more_grows number (strings_added current name words (items_in Skipped x)) x) key items) (append_grows (whole number) more items)
 
   pub dict_list_add_grows : (key : Bytes) (words : List Bytes) (xs : List Expr) → Grown number xs (dict_list_add current name key words xs)
   dict_list_add_grows key words xs =

@@ -1,15 +1,6 @@
 -- Tokens beside items; and an attribute that gets another name.
-use Rattle.std.proofs.Common.{◌≡◌, ◌&&◌, ℕ, Bool, true, false, List, [], length, ap, sym, ◌∙◌}
-use Rattle.std.specs.Prelude.{Some, None, Ok, Err, not, if◌then◌else◌, slice_get, slice_set}
-use Rattle.bz_grammar.specs.declared.kind.Kind.TheVariants as k
-use Rattle.bz_value.specs.declared.refusal.Refusal.TheVariants.{NoAttribute, AttributeExists}
-use Rattle.bz_change.specs.Words.{with_text, on_row, on_first, Expr, Bytes, Arguments, is_attribute, has_attribute, on_first_that, mark}
-use Rattle.std.specs.List.{list_all, position, zip}
-use Rattle.std.proofs.lemmas.Bool.{eq-eqb}
-use Rattle.std.proofs.lemmas.List.Folds.{list_any_at, list_any_none}
+use Rattle.bz_change.proofs.Words.{[], ◌&&◌, ◌∙◌, ◌≡◌, ap, Arguments, attribute_any, AttributeExists, Bool, Bytes, each_same, eq-eqb, Err, Expr, false, has_attribute, if_false, if◌then◌else◌, is_attribute, Kind as k, length, List, list_all, list_any_at, list_any_none, mark, NoAttribute, None, not, Ok, on_first, on_first_that, on_row, position, rename, slice_get, slice_set, Some, sym, true, with_text, zip, ℕ}
 use Rattle.bz_attribute.proofs.ArgumentPlaces as places
-use Rattle.bz_attribute.proofs.FormsAgain.{attribute_any, if_false}
-use Rattle.bz_change.specs.Changes.{each_same, rename}
 
 pub each_beside : (test : Expr → Expr → Bool) (xs ys : List Expr) → length xs ≡ length ys → list_all (λ pair. test pair.0 pair.1) (zip xs ys) ≡ each_same test xs ys
 each_beside test xs ys same = sym (ap (λ (b : Bool). b && list_all (λ pair. test pair.0 pair.1) (zip xs ys)) (eq-eqb (length xs) (length ys) same))

@@ -1,5 +1,6 @@
 -- The dicts of attributes: entries that are added, set and removed. (Own profile of buildozer's dict commands.)
 use Rattle.std.specs.Prelude.{Bool, false, not, ◌&&◌, List, [], ◌∷◌, ◌++◌, Option, None, Ok, Err, codes, if◌then◌else◌}
+use Rattle.bz_command_syntax.specs.declared.command.Selects.TheVariants.{Skipped}
 use Rattle.std.specs.List.{list_any, filter}
 use Rattle.std.specs.Option.{option_map_or}
 use Rattle.bz_token.specs.declared.class.Class.TheVariants as c
@@ -76,7 +77,7 @@ without_entries keys items = filter (λ x. not (has_some_key keys x)) items
 
 -- the value of an entry is a list, or a sum with one
 abbrev pub has_list_in : List Expr → Bool
-has_list_in (x ∷ y ∷ z ∷ rest) = has_lists z
+has_list_in (x ∷ y ∷ z ∷ rest) = has_lists Skipped z
 has_list_in _ = false
 
 abbrev pub has_list_value : Expr → Bool

@@ -17,7 +17,7 @@ use bz_attribute::{
     is_item, items_of, new_token, node, parts_of, remove_first, sequence, set_text, set_value,
     string_of, string_text, take_value, token,
 };
-use bz_command_syntax::{DictOperation, Entry, quoted};
+use bz_command_syntax::{DictOperation, Entry, Selects, quoted};
 use bz_grammar::{Class, Kind};
 use bz_items::{Items, Memory, Text};
 use bz_label::bytes::is_list_attribute;
@@ -391,7 +391,7 @@ fn has_list_value(x: &Expr) -> bool
     ensures { result ≡ has_list_value x.now }
 {
     match parts_of(x) {
-        [_, _, value, ..] if has_kind(Kind::Entry, x) => has_lists(value),
+        [_, _, value, ..] if has_kind(Kind::Entry, x) => has_lists(Selects::Skipped, value),
         _ => false,
     }
 }

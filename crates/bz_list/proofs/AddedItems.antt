@@ -1,18 +1,6 @@
 -- What is added is what is not known yet.
-use Rattle.std.proofs.Common.{◌≡◌, Bool, true, false, not, ◌||◌, List, [], ◌∷◌, refl, sym, ap, ◌∙◌, map, true≢false}
-use Rattle.std.specs.Prelude.{Option, Some, if◌then◌else◌}
+use Rattle.bz_list.proofs.Words.{[], ◌||◌, ◌∙◌, ◌∷◌, ◌≡◌, Added, Added as a, added_by, added_to, ap, are_one, arriving, body_of, Bool, Bytes, Expr, false, fresh, fun_ext, if◌then◌else◌, is_item, is_known, is_there, List, list_any, map, new_items, new_ones, new_strings, not, Option, option_map_or, or_assoc, or_none, refl, Some, string_of, sym, travelled, true, true≢false, with_all, with_known}
 use Rattle.std.specs.Bool.{OnFalse}
-use Rattle.std.specs.List.{list_any}
-use Rattle.std.specs.Option.{option_map_or}
-use Rattle.std.proofs.Math.Bool.{or_assoc}
-use Rattle.std.proofs.Math.Path.{fun_ext}
-use Rattle.bz_list.specs.Words.{Expr, Bytes, string_of}
-use Rattle.bz_attribute.proofs.KeySets.{or_none}
-use Rattle.bz_attribute.specs.Lists.{body_of, are_one, is_item, fresh, travelled, is_there, arriving}
-use Rattle.bz_list.specs.declared.listed.Added.{Added}
-use Rattle.bz_list.specs.declared.listed.Added.TheVariants as a
-use Rattle.bz_list.specs.private.KnownValues.{is_known, with_known, with_all, new_ones}
-use Rattle.bz_list.specs.private.Listing.{added_by, added_to, new_items, new_strings}
 use Rattle.bz_list.proofs.KnownSteps.{all_known, known_by}
 
 choice : {X : Type 0} (b c : Bool) (x : X) (xs xs' ys ys' : List X) → b ≡ c → xs ≡ xs' → ys ≡ ys' → (if b then xs else x ∷ ys) ≡ (if c then xs' else x ∷ ys')

@@ -1,26 +1,9 @@
 -- What the texts that mean one value end with, so that most items are seen at their end to be none that a word means.
-use Rattle.std.proofs.Common.{◌≡◌, Bool, true, false, ◌||◌, ◌&&◌, List, [], ◌++◌, Option, Some, None, inl, inr, refl, sym, ap, ◌∙◌, true≢false, length, ◌-◌, take, take-append-drop, append_assoc, codes, not}
-use Rattle.std.specs.Prelude.{nat_eq, bytes_eq, ◌⊎◌, if◌then◌else◌}
-use Rattle.std.specs.Cmp.{unsigned_Decides}
-use Rattle.std.specs.List.{ends_with, flat_map, list_any, suffix_len}
-use Rattle.std.specs.Option.{option_and_then, option_map_or}
+use Rattle.bz_list.proofs.Words.{[], ◌&&◌, ◌++◌, ◌-◌, ◌||◌, ◌∙◌, ◌≡◌, ◌⊎◌, any_like, any_listed, ap, append_assoc, are_one, body, body_of, Bool, Bytes, bytes_eq, Class as c, codes, ends_with, equal_texts, Expr, false, flat_map, Form', found_if, if◌then◌else◌, inl, inner, inr, is_class, is_item, is_item_ending, is_label_attribute, is_plain_in, is_same, is_slash, key_by, Label, label_exact, label_in, label_meant, label_of, length, List, list_any, listed, nat_eq, None, not, Option, option_and_then, option_map_or, read_label, refl, same_exactly, Some, suffix_len, sym, take, take-append-drop, text_of, Token, true, true≢false, unsigned_Decides, word_key}
 use Rattle.std.proofs.lemmas.Slice.Eq.{ends_is}
-use Rattle.bz_token.specs.declared.class.Class.TheVariants as c
-use Rattle.bz_grammar.specs.Shapes.{is_class}
-use Rattle.bz_list.specs.Words.{label_of, is_label_attribute, Label, text_of, are_one, body_of, is_item, listed}
 use Rattle.bz_label.specs.Labels.{IsLabel, whole, package_alone, repository_alone, colon_name, bare_name}
-use Rattle.bz_label.specs.Pieces.{is_slash}
-use Rattle.bz_label.specs.Read.{label_in, is_same}
 use Rattle.bz_label.specs.declared.form.Parts.{Parts}
-use Rattle.bz_label.proofs.LabelFunctions.{label_exact, read_label, same_exactly}
-use Rattle.bz_value.specs.declared.value.Expr.{Expr, Token, Form'}
-use Rattle.bz_items.specs.Characters.{Bytes, apostrophe, quotation_mark}
-use Rattle.bz_rule.specs.Rules.{body, inner, is_plain_in}
-use Rattle.bz_attribute.proofs.FormsAgain.{found_if}
-use Rattle.bz_attribute.proofs.KeySets.{any_like, equal_texts}
-use Rattle.bz_attribute.proofs.ListsThere.{any_listed}
-use Rattle.bz_list.specs.private.KnownValues.{label_meant, key_by, word_key}
-use Rattle.bz_list.specs.private.Listing.{is_item_ending}
+use Rattle.bz_items.specs.Characters.{apostrophe, quotation_mark}
 
 -- ---- texts that mean one value end with one name
 

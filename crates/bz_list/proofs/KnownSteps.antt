@@ -1,29 +1,9 @@
 -- What is known, and what it becomes.
-use Rattle.std.proofs.Common.{◌≡◌, ℕ, ◌+◌, ◌<◌, ◌≤◌, length, drop, get_or, inl, inr, Bool, true, false, not, ◌||◌, ◌&&◌, List, [], ◌∷◌, ◌++◌, refl, sym, ap, ◌∙◌, true≢false}
-use Rattle.std.specs.Prelude.{bytes_eq, Option, Some, None, if◌then◌else◌}
-use Rattle.std.specs.List.{list_any, flat_map}
-use Rattle.std.specs.Option.{option_map_or}
-use Rattle.std.specs.declared.cmp.Ordering.{Ordering}
-use Rattle.std.specs.Ordering.{is_eq, ordering_then, bool_cmp, nat_cmp}
-use Rattle.std.specs.Cmp.{both_ways, tied_then}
-use Rattle.std.specs.Cmp.Lexicographic.{slice_cmp}
-use Rattle.std.specs.BTreeMap.{is_at}
-use Rattle.std.specs.BTreeSet.{BTreeSet, insert_key}
-use Rattle.std.proofs.lemmas.Bool.{cases_Bool, and_from, and_parts}
-use Rattle.std.proofs.lemmas.List.{at_drop_all, drop_more}
-use Rattle.std.proofs.lemmas.List.Folds.{list_any_none}
+use Rattle.bz_list.proofs.Words.{[], ◌&&◌, ◌++◌, ◌+◌, ◌<◌, ◌||◌, ◌∙◌, ◌∷◌, ◌≡◌, ◌≤◌, and_assoc, and_from, and_parts, any_inserted, any_like, ap, are_equal, are_one, are_one_key, at_drop_all, body_of, Bool, both, both_ways, BTreeSet, Bytes, bytes_eq, cases_Bool, chooses, drop, drop_more, equal_self, equal_texts, Expr, false, flat_map, fun_ext, get_or, if◌then◌else◌, inl, inr, is_eq, is_equal, is_label_attribute, is_same, is_some_item, key_by, knows_word, Label, label_in, length, List, list_any, list_any_none, listed, nat_cmp, None, not, Option, option_map_or, or_group, or_none, parts_of_key, refl, Some, sym, tied_then, true, true≢false, with_all, with_known, word_key, ℕ}
+use Rattle.std.specs.{declared.cmp.Ordering.Ordering, Ordering.ordering_then, Ordering.bool_cmp, Cmp.Lexicographic.slice_cmp, BTreeMap.is_at, BTreeSet.insert_key}
 use Rattle.std.proofs.lemmas.Map.Text.{is_eq-slice_cmp}
-use Rattle.std.proofs.Math.Bool.{and_assoc}
-use Rattle.std.proofs.Math.Path.{fun_ext}
-use Rattle.bz_list.specs.Words.{Label, is_label_attribute, Expr, Bytes, body_of, are_one, is_some_item, listed}
-use Rattle.bz_label.specs.Read.{label_in, is_equal, are_equal, is_same}
-use Rattle.bz_attribute.proofs.FormsAgain.{both}
-use Rattle.bz_attribute.proofs.KeySets.{any_like, equal_texts, or_group, or_none, any_inserted}
-use Rattle.bz_attribute.proofs.PlainWords.{equal_self}
 use Rattle.bz_list.specs.declared.known.Key.{Key}
 use Rattle.bz_list.specs.contracts.known.KeyOrd.TheImpl as key_ord
-use Rattle.bz_list.specs.private.Listing.{chooses}
-use Rattle.bz_list.specs.private.KnownValues.{key_by, word_key, are_one_key, parts_of_key, knows_word, with_known, with_all}
 
 -- ---- equal keys
 

@@ -1,39 +1,16 @@
 -- Adding what is there.
-use Rattle.std.proofs.Common.{◌≡◌, Bool, true, false, ◌||◌, List, [], ◌∷◌, ◌++◌, Some, Ok, Err, refl, ap, ◌∙◌, map, Option, None, codes, not, inl, inr, sym, subst, true≢false, ◌&&◌}
-use Rattle.std.specs.Prelude.{if◌then◌else◌, bytes_eq, is_some}
-use Rattle.std.specs.List.{list_any, list_all, flat_map, filter}
-use Rattle.std.proofs.lemmas.Bool.{and_parts, or_parts, cases_Bool, and_from, or_cases, not-true, or_left, or_right}
-use Rattle.std.proofs.lemmas.List.{append-nil}
-use Rattle.bz_grammar.specs.declared.kind.Kind.TheVariants as k
-use Rattle.bz_value.specs.declared.value.Expr.{Expr, items_hidden-the_row-Expr-0}
-use Rattle.bz_list.specs.Words.{Bytes, attribute, has_attribute, on_first_that, with_value, with_new, Arguments, without, has_lists, items_in, is_no_list, with_more, are_one, is_item, fresh, body_of, listed, is_empty_list, is_some_item, is_label_attribute, is_escaped, is_empty, is_nonempty}
-use Rattle.bz_rule.specs.Values.{has_kind, parts_of, items_of, on_row, on_items, with_parts, with_items, on_lists}
-use Rattle.bz_attribute.proofs.AttributesAgain.{by_there, by_absent, with_value_same, node_parts, attribute_new, attribute_changed, without_new, same_made}
-use Rattle.bz_attribute.proofs.FormsAgain.{if_true, if_either, row_same, items_same, both, if_false, parts_kind, items_kind, parts_filled, items_filled, row_changed, items_changed}
-use Rattle.bz_list.specs.Changes.{strings_added, with_strings, with_items_added, cleared, without_items, remove_values}
+use Rattle.bz_list.proofs.Words.{[], ◌&&◌, ◌++◌, ◌||◌, ◌∙◌, ◌∷◌, ◌≡◌, and_from, and_parts, any_alone, any_in_sum, ap, append-nil, are_one, Arguments, attribute, attribute_changed, attribute_new, binds_looser, body_of, body_quoted, Bool, both, by_absent, by_case, by_test, by_there, Bytes, bytes_eq, cases_Bool, cleared, codes, equal_self, Err, Expr, false, filter, flat_map, fresh, has_attribute, has_kind, has_lists, if_either, if_false, if_true, if◌then◌else◌, in_sum, inl, inr, is_colon, is_empty, is_empty_list, is_escaped, is_item, is_label_attribute, is_no_list, is_nonempty, is_own, is_same, is_shortened, is_some, is_some_item, IsPlain, items_changed, items_filled, items_hidden-the_row-Expr-0, items_in, items_kind, items_of, items_same, Kind as k, List, list_all, list_any, list_any-append, list_of, listed, lists_there, map, mark, node, node_parts, None, not, not-true, NotAList, Ok, on_first_that, on_items, on_lists, on_row, operand, Option, option_map_or, or-false, or_assoc, or_cases, or_left, or_parts, or_right, parts_filled, parts_kind, parts_of, plus, refl, remove_values, row_changed, row_same, same_exactly, same_made, shortened, shortened_in, Some, string_of, strings_added, subst, sum_no_list, sym, true, true≢false, value_with, with_items, with_items_added, with_more, with_new, with_parts, with_strings, with_value, with_value_same, without, without_items, without_new}
+use Rattle.bz_command_syntax.specs.declared.command.Selects.TheVariants.{Skipped}
 use Rattle.bz_list.specs.Laws.{AddedAgain, become_plain, are_there, AddedIsThere, RemovedAgain}
-use Rattle.bz_attribute.specs.Made.{string_of, list_of, plus, shortened_in, mark, node, binds_looser, operand}
-use Rattle.bz_value.specs.declared.refusal.Refusal.TheVariants.{NotAList}
-use Rattle.std.specs.Option.{option_map_or}
-use Rattle.bz_label.specs.Pieces.{is_colon}
-use Rattle.bz_label.specs.Read.{is_same, is_own, shortened}
 use Rattle.bz_label.specs.Shorter.{before_colon, after_colon, is_repeated, unrepeated}
-use Rattle.bz_label.proofs.LabelFunctions.{same_exactly, is_shortened}
 use Rattle.bz_label.proofs.Shorter.{shortened_same}
-use Rattle.bz_rule.proofs.ProperChanges.{by_test, by_case}
-use Rattle.bz_attribute.proofs.PlainWords.{IsPlain, equal_self, body_quoted}
-use Rattle.bz_list.proofs.KnownSteps.{meant_alike}
-use Rattle.bz_list.proofs.ListedForms.{added_found, some_lists}
-use Rattle.bz_list.specs.private.Listing.{value_with}
-use Rattle.std.proofs.Math.Bool.{or_assoc, or-false}
+use Rattle.bz_list.proofs.{KnownSteps.meant_alike, ListedForms.added_found, ListedForms.some_lists}
 use Rattle.std.proofs.lemmas.Grind.{flat_map-append}
-use Rattle.std.proofs.lemmas.List.Folds.{list_any-append}
-use Rattle.bz_attribute.proofs.ListsThere.{any_alone, any_in_sum, in_sum, lists_there, sum_no_list}
 
 -- what further items make of an attribute that is there
 abbrev pub grown : Bytes → (List Expr → List Expr) → List Expr → Expr → Arguments
 grown name added arguments value =
-    if has_lists value then Ok (with_value name (with_more (added (items_in value)) value) arguments)
+    if has_lists Skipped value then Ok (with_value name (with_more (added (items_in Skipped value)) value) arguments)
     else (if is_no_list value then Err NotAList else Ok (with_value name (plus value (list_of (added []))) arguments))
 
 added_absent : (name : Bytes) (added : List Expr → List Expr) (xs : List Expr) → has_attribute name xs ≡ false → with_items_added name added xs ≡ Ok (with_new name (list_of (added [])) xs)
@@ -65,14 +42,14 @@ more_none value =
 -- the value whose lists have all words stays
 pub with_strings_same : (current name : Bytes) (words : List Bytes) (value : Expr) → are_there current name words value ≡ true → with_strings current name words value ≡ value
 with_strings_same current name words value t =
-    ap (λ (strings : List Bytes). with_more (map (string_of current name) strings) value) (none_fresh current name (items_in value) words t) ∙ more_none value
+    ap (λ (strings : List Bytes). with_more (map (string_of current name) strings) value) (none_fresh current name (items_in Skipped value) words t) ∙ more_none value
 
 pub adding_again : AddedAgain
 adding_again current name words xs value e l t =
     let added : List Expr → List Expr = strings_added current name words in
     added_found name added xs value e
     ∙ (if_false (is_no_list value) (Err NotAList) _ (some_lists value l)
-    ∙ (ap (λ b. Ok (with_value name (if b then with_more (added (items_in value)) value else plus value (list_of (added []))) xs)) l
+    ∙ (ap (λ b. Ok (with_value name (if b then with_more (added (items_in Skipped value)) value else plus value (list_of (added []))) xs)) l
     ∙ ap Ok (ap (λ v. with_value name v xs) (with_strings_same current name words value t) ∙ with_value_same name value xs e)))
 
 -- ---- a shorter label of a plain word
@@ -128,7 +105,7 @@ pub list_items : (xs : List Expr) → items_of (list_of xs) ≡ xs
 list_items xs = items_hidden-the_row-Expr-0 xs
 
 -- the items of a value that is a new list
-pub items_list : (xs : List Expr) → items_in (list_of xs) ≡ xs
+pub items_list : (xs : List Expr) → items_in Skipped (list_of xs) ≡ xs
 items_list xs = append-nil (items_of (list_of xs)) ∙ list_items xs
 
 -- ---- words
@@ -200,7 +177,7 @@ any_grown first within change more grows (x ∷ xs) h = elim (cases_Bool (first 
   | inr n ↦ rw n (rw (any_grown first within change more grows xs (rw n at h)) (sym (or_assoc (within x) (list_any within xs) more)))
 ]
 
-any_more : (test : Expr → Bool) (more : List Expr) (value : Expr) → has_lists value ≡ true → list_any test (items_in (with_more more value)) ≡ (list_any test (items_in value) || list_any test more)
+any_more : (test : Expr → Bool) (more : List Expr) (value : Expr) → has_lists Skipped value ≡ true → list_any test (items_in Skipped (with_more more value)) ≡ (list_any test (items_in Skipped value) || list_any test more)
 any_more test more value l =
     let change : List Expr → List Expr = on_first_that (has_kind k.List) (longer more) in
     let any : Bool = list_any (has_kind k.List) (parts_of value) in
@@ -209,7 +186,7 @@ any_more test more value l =
       | inl w ↦
           let y : Expr = with_parts (change (parts_of value)) value in
           let some : any ≡ true = sym (both (λ a b. a || (b && any)) (sum_no_list value w) w) ∙ (sym (lists_there value) ∙ l) in
-          ap (λ z. list_any test (items_in z)) (if_true (has_kind k.Sum value) (on_row k.Sum change value) (longer more value) w ∙ row_changed k.Sum change value w)
+          ap (λ z. list_any test (items_in Skipped z)) (if_true (has_kind k.Sum value) (on_row k.Sum change value) (longer more value) w ∙ row_changed k.Sum change value w)
           ∙ (any_in_sum test y (parts_kind k.Sum (change (parts_of value)) value ∙ w)
           ∙ (ap (list_any within) (parts_filled k.Sum (change (parts_of value)) value w)
           ∙ (any_grown (has_kind k.List) within (longer more) (list_any test more) (any_longer test more) (parts_of value) some
@@ -218,7 +195,7 @@ any_more test more value l =
           let list : has_kind k.List value ≡ true = sym (or-false (has_kind k.List value)) ∙ (sym (ap (λ b. has_kind k.List value || (b && any)) n) ∙ (sym (lists_there value) ∙ l)) in
           let alone : has_kind k.Sum (longer more value) ≡ false =
           ap (has_kind k.Sum) (items_changed k.List (λ items. items ++ more) value list) ∙ (items_kind k.Sum (items_of value ++ more) value ∙ n) in
-          ap (λ z. list_any test (items_in z)) (if_false (has_kind k.Sum value) (on_row k.Sum change value) (longer more value) n)
+          ap (λ z. list_any test (items_in Skipped z)) (if_false (has_kind k.Sum value) (on_row k.Sum change value) (longer more value) n)
           ∙ (any_alone test (longer more value) alone ∙ (any_longer test more value list ∙ ap (λ b. b || list_any test more) (sym (any_alone test value n))))
     ]
 
@@ -240,17 +217,17 @@ items_after items = append-nil (items_of (list_of items)) ∙ list_items items
 no_operand : (value : Expr) → has_kind k.List value ≡ false → has_kind k.List (operand value) ≡ false
 no_operand value n = by_case (λ (x : Expr). has_kind k.List x ≡ false) (binds_looser value) (node k.Paren (mark (codes "(") ∷ value ∷ mark (codes ")") ∷ [])) value (λ b. refl) (λ b. n)
 
-items_plus : (value : Expr) (items : List Expr) → has_lists value ≡ false → items_in (plus value (list_of items)) ≡ items
+items_plus : (value : Expr) (items : List Expr) → has_lists Skipped value ≡ false → items_in Skipped (plus value (list_of items)) ≡ items
 items_plus value items h =
     let any : Bool = list_any (has_kind k.List) (parts_of value) in
     let none = or_parts (has_kind k.List value) (has_kind k.Sum value && any) (sym (lists_there value) ∙ h) in
     let more : List Expr → List Expr = λ parts. parts ++ following items in
     let ps : List Expr = operand value ∷ following items in
-    by_case (λ (x : Expr). items_in x ≡ items) (has_kind k.Sum value) (on_row k.Sum more value) (node k.Sum ps)
+    by_case (λ (x : Expr). items_in Skipped x ≡ items) (has_kind k.Sum value) (on_row k.Sum more value) (node k.Sum ps)
     (λ w.
     let y : Expr = with_parts (more (parts_of value)) value in
     let no : any ≡ false = sym (ap (λ b. b && any) w) ∙ none.1 in
-    ap items_in (row_changed k.Sum more value w)
+    ap (items_in Skipped) (row_changed k.Sum more value w)
     ∙ (sym (in_sum y (parts_kind k.Sum (more (parts_of value)) value ∙ w))
     ∙ (ap (flat_map listed) (parts_filled k.Sum (more (parts_of value)) value w)
     ∙ (flat_map-append listed (parts_of value) (following items) ∙ both (λ xs ys. xs ++ ys) (none_listed (parts_of value) no) (items_after items)))))
@@ -275,18 +252,18 @@ are_added current name words xs new value same found there =
     ∙ (ap (λ (o : Option Expr). option_map_or (are_there current name words) o false) found ∙ there)
 
 -- in a list or a sum that grows
-pub there_more : (current name : Bytes) (words : List Bytes) (value : Expr) → become_plain words ≡ true → has_lists value ≡ true
+pub there_more : (current name : Bytes) (words : List Bytes) (value : Expr) → become_plain words ≡ true → has_lists Skipped value ≡ true
     → are_there current name words (with_strings current name words value) ≡ true
 there_more current name words value p l =
-    let more : List Expr = strings_added current name words (items_in value) in
-    words_there current name (items_in value) (items_in (with_more more value))
+    let more : List Expr = strings_added current name words (items_in Skipped value) in
+    words_there current name (items_in Skipped value) (items_in Skipped (with_more more value))
     (λ word h. any_more (is_item current name word) more value l ∙ ap (λ b. b || list_any (is_item current name word) more) h) [] words p (λ word h. absurd (true≢false (sym h)))
-    (λ word h. any_more (is_item current name word) more value l ∙ or_right (list_any (is_item current name word) (items_in value)) (list_any (is_item current name word) more) h)
+    (λ word h. any_more (is_item current name word) more value l ∙ or_right (list_any (is_item current name word) (items_in Skipped value)) (list_any (is_item current name word) more) h)
 
 -- in a new list
-pub there_new : (current name : Bytes) (words : List Bytes) (value : Expr) → become_plain words ≡ true → items_in value ≡ strings_added current name words [] → are_there current name words value ≡ true
+pub there_new : (current name : Bytes) (words : List Bytes) (value : Expr) → become_plain words ≡ true → items_in Skipped value ≡ strings_added current name words [] → are_there current name words value ≡ true
 there_new current name words value p e =
-    words_there current name [] (items_in value) (λ word h. absurd (true≢false (sym h))) [] words p (λ word h. absurd (true≢false (sym h))) (λ word h. ap (list_any (is_item current name word)) e ∙ h)
+    words_there current name [] (items_in Skipped value) (λ word h. absurd (true≢false (sym h))) [] words p (λ word h. absurd (true≢false (sym h))) (λ word h. ap (list_any (is_item current name word)) e ∙ h)
 
 pub added_is_there : AddedIsThere
 added_is_there current name words xs new plain e = found_or_new (attribute name xs) refl
@@ -296,7 +273,7 @@ added_is_there current name words xs new plain e = found_or_new (attribute name 
 
     there_with : (value : Expr) → are_there current name words (value_with strings value) ≡ true
     there_with value =
-        by_case (λ made. are_there current name words made ≡ true) (has_lists value) (with_more (strings (items_in value)) value) (plus value (list_of (strings [])))
+        by_case (λ made. are_there current name words made ≡ true) (has_lists Skipped value) (with_more (strings (items_in Skipped value)) value) (plus value (list_of (strings [])))
         (there_more current name words value plain)
         (λ n. there_new current name words (plus value (list_of (strings []))) plain (items_plus value (strings []) n))
 
@@ -350,9 +327,9 @@ removing_again current name words xs new absent full plain e =
     let test : Expr → Bool = is_some_item current name words in
     let left : Expr → Bool = λ x. not (test x) in
     let same : ys ≡ new = same_made ys new _ (added_absent name (strings_added current name words) xs absent) e in
-    let some : list_any test (items_in value) ≡ true = ap (list_any test) (items_list items) ∙ some_made current name words full plain in
+    let some : list_any test (items_in Skipped value) ≡ true = ap (list_any test) (items_list items) ∙ some_made current name words full plain in
     let none : filter left (items_of value) ≡ [] = ap (filter left) (list_items items) ∙ none_left current name words [] words plain (λ x h. h) in
-    ap (remove_values current name words) (sym same)
-    ∙ (by_there (attribute name ys) value (Ok ys) (λ v. if is_no_list v then Err NotAList else Ok (without_items name test v ys)) (attribute_new name value xs absent)
-    ∙ ap Ok (if_true (list_any test (items_in value)) (cleared name (on_lists (filter left) value) ys) ys some
+    ap (remove_values Skipped current name words) (sym same)
+    ∙ (by_there (attribute name ys) value (Ok ys) (λ v. if is_no_list v then Err NotAList else Ok (without_items Skipped name test v ys)) (attribute_new name value xs absent)
+    ∙ ap Ok (if_true (list_any test (items_in Skipped value)) (cleared name (on_lists Skipped (filter left) value) ys) ys some
     ∙ (ap (λ zs. cleared name (with_items zs value) ys) none ∙ (emptied name ys items ∙ without_new name value xs absent))))

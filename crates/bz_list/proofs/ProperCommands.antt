@@ -1,42 +1,23 @@
 -- Lists of values with further items, with fewer and with other ones.
-use Rattle.std.proofs.Common.{◌≡◌, Bool, true, false, not, ◌&&◌, ◌||◌, List, [], ◌∷◌, ◌++◌, refl, sym, subst, map, true≢false}
-use Rattle.std.specs.Prelude.{IsUtf8, IfSome, Option, Some, None, if◌then◌else◌, bytes_eq, Ok, Err}
-use Rattle.std.specs.List.{AllByRecursion, filter, flat_map, list_any}
-use Rattle.std.specs.Option.{option_and_then, option_map_or}
-use Rattle.bz_token.specs.declared.class.Class.{Class}
-use Rattle.bz_token.specs.declared.class.Class.TheVariants as c
-use Rattle.bz_grammar.specs.declared.kind.Kind.{Kind}
-use Rattle.bz_grammar.specs.declared.kind.Kind.TheVariants as k
+use Rattle.bz_list.proofs.Words.{[], ◌&&◌, ◌++◌, ◌||◌, ◌∷◌, ◌≡◌, add, AllByRecursion, are_one, argument_left, arriving, attribute, Attributes, body, body_of, Bool, by_case, by_test, Bytes, bytes_eq, Class, Class as c, cleared, eqb-true, equals_word, Err, Expr, false, filter, first_text, flat_map, Form', fresh, has_class, has_kind, has_lists, IfSome, if◌then◌else◌, in_attributes, is_attribute, is_class, is_empty_list, is_item, is_label_attribute, is_moved, is_no_list, is_other_attribute, is_some_item, is_there, IsUtf8, items-the_row-Expr, items_in, items_moved, items_of, items_stay, Kind, Kind as k, List, list_any, list_of, listed, map, move, NoAttribute, None, not, NotAList, Ok, on_first_that, on_items, on_lists, on_row, on_value, Option, option_and_then, option_map_or, operands_of, parts_of, plus, quoted_of, refl, remove_everywhere, remove_if_equal, remove_values, replace, replaced_item, row_stays, Selects, shortened, Some, Stays, string_in_place, string_text, strings_added, subst, substitute, substituted, substituted_item, sym, text_of, Token, travelled, true, true≢false, Values, values_left, with_body, with_items_added, with_more, with_new, with_strings, with_text, with_value, without, without_items}
 use Rattle.bz_grammar.specs.Shapes as s
-use Rattle.bz_grammar.specs.Shapes.{is_class}
 use Rattle.bz_grammar.proofs.Numbers.{same_kind}
-use Rattle.std.proofs.lemmas.Bool.{eqb-true}
 use Rattle.bz_grammar.specs.Spots.{Spot, Within}
-use Rattle.bz_list.specs.Words.{attribute, is_label_attribute, Bytes, string_text, list_of, string_of, plus, on_first_that, is_attribute, is_other_attribute, on_value, with_value, with_new, without, Attributes, Values}
-use Rattle.bz_label.specs.Read.{shortened}
-use Rattle.bz_value.specs.declared.value.Expr.{Expr, Token, Form', items-the_row-Expr}
-use Rattle.bz_value.specs.LineShapes.{Grammar, value_shape}
-use Rattle.bz_value.specs.Proper.{ProperExpr, after_expr}
+use Rattle.bz_value.specs.{LineShapes.Grammar, LineShapes.value_shape, Proper.ProperExpr, Proper.after_expr}
 use Rattle.bz_value.proofs.FormParts.{ArePartsBy}
-use Rattle.bz_command_syntax.specs.Patterns.{substituted}
 use Rattle.bz_command_syntax.specs.Proper.{AreUtf8, IsAttribute}
-use Rattle.bz_command_syntax.specs.Quoted.{quoted_of}
-use Rattle.bz_rule.specs.Rules.{body}
-use Rattle.bz_rule.specs.Values.{has_kind, has_class, text_of, parts_of, items_of, with_text, on_row, on_items, on_lists, first_text}
-use Rattle.bz_rule.proofs.ProperChanges.{by_test, by_case, Stays, row_stays, items_stay, lists_stay, string_in_place}
 use Rattle.bz_rule.proofs.ProperForms.{InPlace, AsForm, itself, each_mapped, opened}
 use Rattle.bz_rule.proofs.ProperItems.{IsValue, from_in_place, item_within, value_in_place, all_joined, all_kept, all_changed}
 use Rattle.bz_rule.proofs.ProperArguments.{attribute_value}
 use Rattle.bz_rule.proofs.ProperSequences.{IsItem, AreOf, list_apart, list_in_place, where_true}
-use Rattle.bz_attribute.specs.Lists.{items_in, listed, with_more, body_of, are_one, is_item, fresh, travelled, is_there, arriving, has_lists, is_no_list, is_empty_list, is_some_item}
 use Rattle.bz_attribute.proofs.ListsThere as lists
-use Rattle.bz_attribute.proofs.ProperAttributes.{first_that_stays, AreArguments, Made, Keeps, of_attribute, first_that_kept, value_stays, with_value_kept, without_kept, with_new_kept}
-use Rattle.bz_list.specs.Changes.{in_value, replaced_item, with_body, substituted_item, with_items_added, add, cleared, without_items, values_left, remove_values, argument_left, remove_everywhere, equals_word, remove_if_equal, strings_added, with_strings, in_attributes, replace, substitute, is_moved, items_moved, move}
+use Rattle.bz_attribute.proofs.ProperAttributes.{first_that_stays, lists_stay, AreArguments, Made, Keeps, of_attribute, first_that_kept, value_stays, with_value_kept, without_kept, with_new_kept}
+use Rattle.bz_list.specs.Changes.{in_value}
 use Rattle.bz_list.proofs.LawAdded.{grown}
 use Rattle.bz_attribute.proofs.ProperMade.{string_strung, quoted_string, list_value, plus_value, words_are_items}
 use Rattle.bz_attribute.proofs.ProperTexts.{body_utf8, shortened_utf8}
 use Rattle.bz_command_syntax.specs.declared.command.Attributes.TheVariants as t
-use Rattle.bz_value.specs.declared.refusal.Refusal.TheVariants.{NoAttribute, NotAList}
+use Rattle.bz_command_syntax.specs.declared.command.Selects.TheVariants.{Skipped}
 
 -- ---- the items of a value
 
@@ -97,11 +78,11 @@ module _ (grammar : Grammar) where
       let f = subst (λ (by : Kind). AsForm grammar h.0 by (items-the_row-Expr _ parts) (items-the_row-Expr _ items) end split open_break) (same_kind kind k.Sum (eqb-true _ _ is)) (opened grammar h.0 (Form' kind s parts s' items end split open_break comments) h.1) in
       each_stands true h.0 h.0 (items-the_row-Expr _ parts) f.1.0
 
-  pub value_items : (x : Expr) → IsValue grammar x → AreOf grammar s.test (items_in x)
+  pub value_items : (x : Expr) → IsValue grammar x → AreOf grammar s.test (items_in Skipped x)
   value_items x v =
       let h : Stands x = (Within, v.0.0.0) in
-      subst (AreOf grammar s.test) (sym (lists.items_there x))
-      (by_case (AreOf grammar s.test) (has_kind k.Sum x) (flat_map listed (parts_of x)) (listed x) (λ is. all_listed (parts_of x) (parts_there x is h)) (λ n. listed_items x h))
+      subst (AreOf grammar s.test) (sym (lists.items_there Skipped x))
+      (all_listed (operands_of x) (by_case (AllByRecursion Stands) (has_kind k.Sum x) (parts_of x) (x ∷ []) (λ is. parts_there x is h) (λ n. (h, tt))))
 
   -- ---- further items
 
@@ -117,8 +98,8 @@ module _ (grammar : Grammar) where
 
   -- ---- fewer items
 
-  pub fewer_value : (test : Expr → Bool) (x : Expr) → IsValue grammar x → IsValue grammar (on_lists (filter test) x)
-  fewer_value test x v = value_in_place grammar x (on_lists (filter test) x) (lists_stay grammar (filter test) (list_in_place grammar (filter test) (λ xs a. all_kept (IsItem grammar s.test) test xs a)) x) v
+  pub fewer_value : (selects : Selects) (test : Expr → Bool) (x : Expr) → IsValue grammar x → IsValue grammar (on_lists selects (filter test) x)
+  fewer_value selects test x v = value_in_place grammar x (on_lists selects (filter test) x) (lists_stay grammar selects (filter test) (list_in_place grammar (filter test) (λ xs a. all_kept (IsItem grammar s.test) test xs a)) x) v
 
   -- ---- other items
 
@@ -128,9 +109,9 @@ module _ (grammar : Grammar) where
       (λ is. string_in_place grammar (string_text current name new) x (item_is_string current name old x is) (λ _. string_strung current name new u))
 
   -- what is in the value itself and in the items of its lists
-  pub changed_value : (change : Expr → Expr) → Stays grammar change → (x : Expr) → IsValue grammar x → IsValue grammar (in_value change x)
-  changed_value change stays x v =
-      value_in_place grammar (change x) (on_lists (map change) (change x)) (lists_stay grammar (map change) (items_stay grammar k.List refl (map change) (each_mapped grammar change stays)) (change x))
+  pub changed_value : (selects : Selects) (change : Expr → Expr) → Stays grammar change → (x : Expr) → IsValue grammar x → IsValue grammar (in_value selects change x)
+  changed_value selects change stays x v =
+      value_in_place grammar (change x) (on_lists selects (map change) (change x)) (lists_stay grammar selects (map change) (items_stay grammar k.List refl (map change) (each_mapped grammar change stays)) (change x))
       (value_in_place grammar x (change x) (stays x) v)
 
   substituted_string : (current name pattern template : Bytes) → KeepsText pattern template → (x : Expr) (found : Option Bytes) → body_of x ≡ found
@@ -175,9 +156,9 @@ module _ (grammar : Grammar) where
       h
       (with_new_kept grammar name (list_of (added [])) xs a (list_value grammar (added []) (f [])) h)
       (λ value v.
-      by_test (Made grammar) (has_lists value) (Ok (with_value name (with_more (added (items_in value)) value) xs))
+      by_test (Made grammar) (has_lists Skipped value) (Ok (with_value name (with_more (added (items_in Skipped value)) value) xs))
       (if is_no_list value then Err NotAList else Ok (with_value name (plus value (list_of (added []))) xs))
-      (with_value_kept grammar name (with_more (added (items_in value)) value) xs (more_value (added (items_in value)) value (f (items_in value)) v) h)
+      (with_value_kept grammar name (with_more (added (items_in Skipped value)) value) xs (more_value (added (items_in Skipped value)) value (f (items_in Skipped value)) v) h)
       (by_test (Made grammar) (is_no_list value) (Err NotAList) (Ok (with_value name (plus value (list_of (added []))) xs)) tt
       (with_value_kept grammar name (plus value (list_of (added []))) xs (plus_value grammar value (added []) v (f [])) h)))
 
@@ -185,7 +166,7 @@ module _ (grammar : Grammar) where
   strings_are_items current name words items u = words_are_items grammar current name (fresh current name items [] words) (fresh_utf8 current name items [] words u)
 
   pub with_strings_stays : (current name : Bytes) (words : List Bytes) → AreUtf8 words → Stays grammar (with_strings current name words)
-  with_strings_stays current name words u x = more_in_place (strings_added current name words (items_in x)) x (strings_are_items current name words (items_in x) u)
+  with_strings_stays current name words u x = more_in_place (strings_added current name words (items_in Skipped x)) x (strings_are_items current name words (items_in Skipped x) u)
 
   pub add_keeps : (current name : Bytes) (words : List Bytes) → IsAttribute name → AreUtf8 words → Keeps grammar (add current name words)
   add_keeps current name words a u = added_keeps name (strings_added current name words) a (λ items. strings_are_items current name words items u)
@@ -195,35 +176,35 @@ module _ (grammar : Grammar) where
   cleared_kept : (name : Bytes) (value : Expr) (xs : List Expr) → IsValue grammar value → AreArguments grammar xs → AreArguments grammar (cleared name value xs)
   cleared_kept name value xs v h = by_test (AreArguments grammar) (is_empty_list value) (without name xs) (with_value name value xs) (without_kept grammar name xs h) (with_value_kept grammar name value xs v h)
 
-  without_items_kept : (name : Bytes) (test : Expr → Bool) (value : Expr) (xs : List Expr) → IsValue grammar value → AreArguments grammar xs → AreArguments grammar (without_items name test value xs)
-  without_items_kept name test value xs v h =
-      let less : Expr = on_lists (filter (λ x. not (test x))) value in
-      by_test (AreArguments grammar) (list_any test (items_in value)) (cleared name less xs) xs (cleared_kept name less xs (fewer_value (λ x. not (test x)) value v) h) h
+  without_items_kept : (selects : Selects) (name : Bytes) (test : Expr → Bool) (value : Expr) (xs : List Expr) → IsValue grammar value → AreArguments grammar xs → AreArguments grammar (without_items selects name test value xs)
+  without_items_kept selects name test value xs v h =
+      let less : Expr = on_lists selects (filter (λ x. not (test x))) value in
+      by_test (AreArguments grammar) (list_any test (items_in selects value)) (cleared name less xs) xs (cleared_kept name less xs (fewer_value selects (λ x. not (test x)) value v) h) h
 
-  pub remove_values_keeps : (current name : Bytes) (words : List Bytes) → Keeps grammar (remove_values current name words)
-  remove_values_keeps current name words xs h =
-      of_attribute grammar name xs (Ok xs) (λ value. if is_no_list value then Err NotAList else Ok (without_items name (is_some_item current name words) value xs)) h h
-      (λ value v. by_test (Made grammar) (is_no_list value) (Err NotAList) (Ok (without_items name (is_some_item current name words) value xs)) tt
-      (without_items_kept name (is_some_item current name words) value xs v h))
+  pub remove_values_keeps : (selects : Selects) (current name : Bytes) (words : List Bytes) → Keeps grammar (remove_values selects current name words)
+  remove_values_keeps selects current name words xs h =
+      of_attribute grammar name xs (Ok xs) (λ value. if is_no_list value then Err NotAList else Ok (without_items selects name (is_some_item current name words) value xs)) h h
+      (λ value v. by_test (Made grammar) (is_no_list value) (Err NotAList) (Ok (without_items selects name (is_some_item current name words) value xs)) tt
+      (without_items_kept selects name (is_some_item current name words) value xs v h))
 
-  values_left_kept : (current name : Bytes) (words : List Bytes) (xs : List Expr) → AreArguments grammar xs → AreArguments grammar (values_left current name words xs)
-  values_left_kept current name words xs h = by (attribute name xs) (attribute_value grammar name xs h)
+  values_left_kept : (selects : Selects) (current name : Bytes) (words : List Bytes) (xs : List Expr) → AreArguments grammar xs → AreArguments grammar (values_left selects current name words xs)
+  values_left_kept selects current name words xs h = by (attribute name xs) (attribute_value grammar name xs h)
     where
       by : (found : Option Expr) → IfSome found (IsValue grammar)
-          → AreArguments grammar (option_map_or (λ value. without_items name (is_some_item current name words) value xs) found xs)
+          → AreArguments grammar (option_map_or (λ value. without_items selects name (is_some_item current name words) value xs) found xs)
       by None v = h
-      by (Some value) v = without_items_kept name (is_some_item current name words) value xs v h
+      by (Some value) v = without_items_kept selects name (is_some_item current name words) value xs v h
 
-  argument_left_kept : (current : Bytes) (words : List Bytes) (x : Expr) → IsItem grammar s.argument x → AreArguments grammar (argument_left current words x)
-  argument_left_kept current words x i =
-      by_test (AreArguments grammar) (is_other_attribute x) (values_left current (first_text (parts_of x)) words (x ∷ [])) (x ∷ [])
-      (values_left_kept current (first_text (parts_of x)) words (x ∷ []) (i, tt)) (i, tt)
+  argument_left_kept : (selects : Selects) (current : Bytes) (words : List Bytes) (x : Expr) → IsItem grammar s.argument x → AreArguments grammar (argument_left selects current words x)
+  argument_left_kept selects current words x i =
+      by_test (AreArguments grammar) (is_other_attribute x) (values_left selects current (first_text (parts_of x)) words (x ∷ [])) (x ∷ [])
+      (values_left_kept selects current (first_text (parts_of x)) words (x ∷ []) (i, tt)) (i, tt)
 
-  pub remove_everywhere_keeps : (current : Bytes) (words : List Bytes) → Keeps grammar (remove_everywhere current words)
-  remove_everywhere_keeps current words [] h = tt
-  remove_everywhere_keeps current words (x ∷ xs) h =
-      all_joined (IsItem grammar s.argument) (argument_left current words x) (flat_map (argument_left current words) xs)
-      (argument_left_kept current words x h.0) (remove_everywhere_keeps current words xs h.1)
+  pub remove_everywhere_keeps : (selects : Selects) (current : Bytes) (words : List Bytes) → Keeps grammar (remove_everywhere selects current words)
+  remove_everywhere_keeps selects current words [] h = tt
+  remove_everywhere_keeps selects current words (x ∷ xs) h =
+      all_joined (IsItem grammar s.argument) (argument_left selects current words x) (flat_map (argument_left selects current words) xs)
+      (argument_left_kept selects current words x h.0) (remove_everywhere_keeps selects current words xs h.1)
 
   pub remove_if_equal_keeps : (current name word : Bytes) → Keeps grammar (remove_if_equal current name word)
   remove_if_equal_keeps current name word xs h =
@@ -231,22 +212,22 @@ module _ (grammar : Grammar) where
 
   -- ---- replace and substitute
 
-  in_attributes_keeps : (attributes : Attributes) (change : Bytes → Expr → Expr) → ((name : Bytes) → Stays grammar (change name)) → Keeps grammar (λ xs. Ok (in_attributes attributes (λ name. in_value (change name)) xs))
-  in_attributes_keeps t.All change stays xs h =
-      all_changed (IsItem grammar s.argument) (λ x. if is_other_attribute x then on_value (in_value (change (first_text (parts_of x)))) x else x)
-      (λ x i. by_test (IsItem grammar s.argument) (is_other_attribute x) (on_value (in_value (change (first_text (parts_of x)))) x) x
-      (value_stays grammar (in_value (change (first_text (parts_of x)))) (changed_value (change (first_text (parts_of x))) (stays (first_text (parts_of x)))) x i) i)
+  in_attributes_keeps : (selects : Selects) (attributes : Attributes) (change : Bytes → Expr → Expr) → ((name : Bytes) → Stays grammar (change name)) → Keeps grammar (λ xs. Ok (in_attributes attributes (λ name. in_value selects (change name)) xs))
+  in_attributes_keeps selects t.All change stays xs h =
+      all_changed (IsItem grammar s.argument) (λ x. if is_other_attribute x then on_value (in_value selects (change (first_text (parts_of x)))) x else x)
+      (λ x i. by_test (IsItem grammar s.argument) (is_other_attribute x) (on_value (in_value selects (change (first_text (parts_of x)))) x) x
+      (value_stays grammar (in_value selects (change (first_text (parts_of x)))) (changed_value selects (change (first_text (parts_of x))) (stays (first_text (parts_of x)))) x i) i)
       xs h
-  in_attributes_keeps (t.Named name) change stays xs h =
-      first_that_kept (IsItem grammar s.argument) (is_attribute name) (on_value (in_value (change name))) (value_stays grammar (in_value (change name)) (changed_value (change name) (stays name))) xs h
+  in_attributes_keeps selects (t.Named name) change stays xs h =
+      first_that_kept (IsItem grammar s.argument) (is_attribute name) (on_value (in_value selects (change name))) (value_stays grammar (in_value selects (change name)) (changed_value selects (change name) (stays name))) xs h
 
-  pub replace_keeps : (current : Bytes) (attributes : Attributes) (old new : Bytes) → IsUtf8 new → Keeps grammar (replace current attributes old new)
-  replace_keeps current attributes old new u =
-      in_attributes_keeps attributes (λ name. replaced_item current name old new) (λ name. replaced_item_stays current name old new u)
+  pub replace_keeps : (selects : Selects) (current : Bytes) (attributes : Attributes) (old new : Bytes) → IsUtf8 new → Keeps grammar (replace selects current attributes old new)
+  replace_keeps selects current attributes old new u =
+      in_attributes_keeps selects attributes (λ name. replaced_item current name old new) (λ name. replaced_item_stays current name old new u)
 
-  pub substitute_keeps : (current : Bytes) (attributes : Attributes) (pattern template : Bytes) → KeepsText pattern template → Keeps grammar (substitute current attributes pattern template)
-  substitute_keeps current attributes pattern template keeps =
-      in_attributes_keeps attributes (λ name. substituted_item current name pattern template) (λ name. substituted_item_stays current name pattern template keeps)
+  pub substitute_keeps : (selects : Selects) (current : Bytes) (attributes : Attributes) (pattern template : Bytes) → KeepsText pattern template → Keeps grammar (substitute selects current attributes pattern template)
+  substitute_keeps selects current attributes pattern template keeps =
+      in_attributes_keeps selects attributes (λ name. substituted_item current name pattern template) (λ name. substituted_item_stays current name pattern template keeps)
 
   -- ---- move
 
@@ -258,15 +239,15 @@ module _ (grammar : Grammar) where
       let test : Expr → Bool = is_moved current from values in
       of_attribute grammar from xs (Err NoAttribute)
       (λ value.
-      if not (has_lists value) then Err NotAList
-      else (if list_any test (items_in value)
-      then items_moved current from to (filter test (items_in value)) (without_items from test value xs)
+      if not (has_lists Skipped value) then Err NotAList
+      else (if list_any test (items_in Skipped value)
+      then items_moved current from to (filter test (items_in Skipped value)) (without_items Skipped from test value xs)
       else Ok xs))
       h tt
       (λ value v.
-      by_test (Made grammar) (not (has_lists value)) (Err NotAList)
-      (if list_any test (items_in value) then items_moved current from to (filter test (items_in value)) (without_items from test value xs) else Ok xs)
+      by_test (Made grammar) (not (has_lists Skipped value)) (Err NotAList)
+      (if list_any test (items_in Skipped value) then items_moved current from to (filter test (items_in Skipped value)) (without_items Skipped from test value xs) else Ok xs)
       tt
-      (by_test (Made grammar) (list_any test (items_in value)) (items_moved current from to (filter test (items_in value)) (without_items from test value xs)) (Ok xs)
-      (moved_keeps current from to (filter test (items_in value)) a (all_kept (IsItem grammar s.test) test (items_in value) (value_items value v)) (without_items from test value xs)
-      (without_items_kept from test value xs v h)) h))
+      (by_test (Made grammar) (list_any test (items_in Skipped value)) (items_moved current from to (filter test (items_in Skipped value)) (without_items Skipped from test value xs)) (Ok xs)
+      (moved_keeps current from to (filter test (items_in Skipped value)) a (all_kept (IsItem grammar s.test) test (items_in Skipped value) (value_items value v)) (without_items Skipped from test value xs)
+      (without_items_kept Skipped from test value xs v h)) h))

@@ -1,19 +1,8 @@
 -- Whether arguments stay the same, by what is put into them and what is taken from them.
-use Rattle.std.proofs.Common.{◌≡◌, ◌∙◌, Bool, true, false, not, ◌||◌, ◌+◌, List, [], ◌∷◌, ◌++◌, Some, inl, inr, length, length-append, map, refl, sym, ap, arith, true≢false}
-use Rattle.std.specs.Prelude.{◌↔◌, IsTrue, is_some, if◌then◌else◌}
-use Rattle.std.specs.List.{filter, list_any}
-use Rattle.std.proofs.lemmas.Bool.{cases_Bool, not-true}
-use Rattle.std.proofs.Math.Bool.{or-false}
-use Rattle.bz_grammar.specs.declared.kind.Kind.TheVariants as k
-use Rattle.bz_list.specs.Words.{Expr, is_empty, Bytes, attribute, has_lists, is_empty_list, items_in, listed, with_more}
-use Rattle.bz_rule.specs.Values.{has_kind, parts_of, items_of, with_parts, with_items, on_row, on_items, on_lists}
-use Rattle.bz_rule.proofs.ProperChanges.{by_case, by_test}
-use Rattle.bz_attribute.specs.Attributes.{has_attribute, is_attribute, inserted, on_first_that, with_new, with_value, without}
-use Rattle.bz_attribute.specs.Made.{argument_of, list_of, node, operand, plus}
-use Rattle.bz_attribute.proofs.AttributesAgain.{attribute_changed, with_value_same}
-use Rattle.bz_attribute.proofs.FormsAgain.{attribute_first, if_false, if_true, items_changed, items_filled, items_kind, parts_filled, parts_kind, row_changed}
-use Rattle.bz_attribute.proofs.ListsThere.{any_alone, any_in_sum, lists_there, some_filtered, sum_no_list}
-use Rattle.bz_list.specs.Changes.{cleared, without_items}
+use Rattle.bz_list.proofs.Words.{[], ◌++◌, ◌+◌, ◌||◌, ◌↔◌, ◌∙◌, ◌∷◌, ◌≡◌, ap, argument_of, arith, attribute, attribute_changed, attribute_first, Bool, by_case, by_test, Bytes, cases_Bool, cleared, Expr, false, filter, has_attribute, has_kind, has_lists, if_false, if_true, if◌then◌else◌, inl, inr, is_attribute, is_empty, is_empty_list, is_some, IsTrue, items_changed, items_filled, items_in, items_of, Kind as k, length, length-append, List, list_any, list_of, lists_there, node, not, on_first_that, on_items, on_lists, on_row, operand, or-false, parts_filled, parts_of, plus, refl, row_changed, Selects, Some, some_filtered, sum_no_list, sym, true, true≢false, with_more, with_new, with_parts, with_value, with_value_same, without, without_items}
+use Rattle.bz_attribute.specs.Attributes.{inserted}
+use Rattle.bz_command_syntax.specs.declared.command.Selects.TheVariants.{Skipped}
+use Rattle.bz_list.proofs.EditedLists.{left, none_in_lists}
 use Rattle.bz_list.proofs.LawAdded.{following, more_none}
 
 -- what never holds
@@ -72,7 +61,7 @@ module _ (more : List Expr) where
       by true is any e rest = none_in_list x is (heads (longer x) x xs xs e)
       by false is any e rest = rest any (tails x x (on_first_that (has_kind k.List) longer xs) xs e)
 
-  none_in_value : (value : Expr) → has_lists value ≡ true → with_more more value ≡ value → more ≡ []
+  none_in_value : (value : Expr) → has_lists Skipped value ≡ true → with_more more value ≡ value → more ≡ []
   none_in_value value lists e =
       let change : List Expr → List Expr = on_first_that (has_kind k.List) longer in
       let any : Bool = list_any (has_kind k.List) (parts_of value) in
@@ -88,7 +77,7 @@ module _ (more : List Expr) where
       ]
 
   -- a value that has lists stays the same where there are none
-  pub same_more : (value : Expr) (none : Bool) → has_lists value ≡ true → IsTrue none ↔ (more ≡ []) → IsTrue none ↔ (with_more more value ≡ value)
+  pub same_more : (value : Expr) (none : Bool) → has_lists Skipped value ≡ true → IsTrue none ↔ (more ≡ []) → IsTrue none ↔ (with_more more value ≡ value)
   same_more value none lists is = (λ t. ap (λ xs. with_more xs value) (is.0 t) ∙ more_none value, λ e. is.1 (none_in_value value lists e))
 
 -- and a sum with a further list is another value
@@ -109,65 +98,30 @@ other_sum value items e =
 -- ---- items less
 
 module _ (test : Expr → Bool) where
-  abbrev left : Expr → Bool
-  left x = not (test x)
-
-  abbrev shorter : Expr → Expr
-  shorter = on_items k.List (filter left)
-
-  none_left : (xs : List Expr) → list_any test (filter left xs) ≡ false
-  none_left [] = refl
-  none_left (x ∷ xs) =
-      by_case (λ (ys : List Expr). list_any test ys ≡ false) (left x) (x ∷ filter left xs) (filter left xs) (λ h. rw (not-true (test x) h) (none_left xs)) (λ h. none_left xs)
-
-  none_listed : (x : Expr) → list_any test (listed (shorter x)) ≡ false
-  none_listed x =
-      let ys : List Expr = filter left (items_of x) in
-      by_case (λ (y : Expr). list_any test (listed y) ≡ false) (has_kind k.List x) (with_items ys x) x
-      (λ h. ap (list_any test) (if_true (has_kind k.List (with_items ys x)) (items_of (with_items ys x)) [] (items_kind k.List ys x ∙ h) ∙ items_filled k.List ys x h) ∙ none_left (items_of x))
-      (λ h. ap (list_any test) (if_false (has_kind k.List x) (items_of x) [] h))
-
-  none_of_each : (xs : List Expr) → list_any (λ x. list_any test (listed x)) (map shorter xs) ≡ false
-  none_of_each [] = refl
-  none_of_each (x ∷ xs) = rw (none_listed x) (none_of_each xs)
-
-  none_in_lists : (value : Expr) → list_any test (items_in (on_lists (filter left) value)) ≡ false
-  none_in_lists value =
-      let ps : List Expr = map shorter (parts_of value) in
-      by_case (λ (y : Expr). list_any test (items_in y) ≡ false) (has_kind k.Sum value) (on_row k.Sum (map shorter) value) (shorter value)
-      (λ h.
-      ap (λ y. list_any test (items_in y)) (row_changed k.Sum (map shorter) value h)
-      ∙ (any_in_sum test (with_parts ps value) (parts_kind k.Sum ps value ∙ h)
-      ∙ (ap (list_any (λ x. list_any test (listed x))) (parts_filled k.Sum ps value h) ∙ none_of_each (parts_of value))))
-      (λ h. any_alone test (shorter value) (no_sum value h) ∙ none_listed value)
-    where
-      no_sum : (x : Expr) → has_kind k.Sum x ≡ false → has_kind k.Sum (shorter x) ≡ false
-      no_sum x h = by_test (λ (y : Expr). has_kind k.Sum y ≡ false) (has_kind k.List x) (with_items (filter left (items_of x)) x) x (items_kind k.Sum (filter left (items_of x)) x ∙ h) h
-
   without_length : (name : Bytes) (xs : List Expr) → has_attribute name xs ≡ true → length (without name xs) + 1 ≡ length xs
   without_length name [] h = absurd (true≢false (sym h))
   without_length name (x ∷ xs) h =
       by_case (λ (ys : List Expr). length ys + 1 ≡ length (x ∷ xs)) (is_attribute name x) xs (x ∷ without name xs) (λ is. omega arith)
       (λ n. let less = without_length name xs (rw n at (sym (attribute_first name x xs) ∙ h)) in omega (arith, less))
 
-  other_cleared : (name : Bytes) (value : Expr) (xs : List Expr) → attribute name xs ≡ Some value → list_any test (items_in value) ≡ true → cleared name (on_lists (filter left) value) xs ≡ xs → ⊥
-  other_cleared name value xs own any =
-      let new : Expr = on_lists (filter left) value in
-      let fewer : new ≡ value → ⊥ = λ e. true≢false (sym any ∙ (ap (λ v. list_any test (items_in v)) (sym e) ∙ none_in_lists value)) in
+  other_cleared : (selects : Selects) (name : Bytes) (value : Expr) (xs : List Expr) → attribute name xs ≡ Some value → list_any test (items_in selects value) ≡ true → cleared name (on_lists selects (filter (left test)) value) xs ≡ xs → ⊥
+  other_cleared selects name value xs own any =
+      let new : Expr = on_lists selects (filter (left test)) value in
+      let fewer : new ≡ value → ⊥ = λ e. true≢false (sym any ∙ (ap (λ v. list_any test (items_in selects v)) (sym e) ∙ none_in_lists test selects value)) in
       by_test (λ (ys : List Expr). ys ≡ xs → ⊥) (is_empty_list new) (without name xs) (with_value name new xs)
       (λ e. let less = without_length name xs (ap (λ found. is_some found) own) in let equal = ap length e in omega (arith, less, equal))
       (λ e. true≢false (sym ((put_same name value new xs false own (never fewer)).1 e)))
 
   -- what is left of the arguments are all of them where nothing was taken
-  pub same_left : (name : Bytes) (value : Expr) (xs taken : List Expr) (none : Bool) → attribute name xs ≡ Some value → taken ≡ filter test (items_in value) → IsTrue none ↔ (taken ≡ [])
-      → IsTrue none ↔ (without_items name test value xs ≡ xs)
-  same_left name value xs taken none own took is =
-      by_case (λ (ys : List Expr). IsTrue none ↔ (ys ≡ xs)) (list_any test (items_in value)) (cleared name (on_lists (filter left) value) xs) xs
-      (λ any. (λ t. absurd (some_taken any (is.0 t)), λ e. absurd (other_cleared name value xs own any e)))
-      (λ no. (λ t. refl, λ e. is.1 (took ∙ none_taken (filter test (items_in value)) (some_filtered test (items_in value) ∙ no))))
+  pub same_left : (selects : Selects) (name : Bytes) (value : Expr) (xs taken : List Expr) (none : Bool) → attribute name xs ≡ Some value → taken ≡ filter test (items_in selects value) → IsTrue none ↔ (taken ≡ [])
+      → IsTrue none ↔ (without_items selects name test value xs ≡ xs)
+  same_left selects name value xs taken none own took is =
+      by_case (λ (ys : List Expr). IsTrue none ↔ (ys ≡ xs)) (list_any test (items_in selects value)) (cleared name (on_lists selects (filter (left test)) value) xs) xs
+      (λ any. (λ t. absurd (some_taken any (is.0 t)), λ e. absurd (other_cleared selects name value xs own any e)))
+      (λ no. (λ t. refl, λ e. is.1 (took ∙ none_taken (filter test (items_in selects value)) (some_filtered test (items_in selects value) ∙ no))))
     where
-      some_taken : list_any test (items_in value) ≡ true → taken ≡ [] → ⊥
-      some_taken any e = true≢false (sym any ∙ (sym (some_filtered test (items_in value)) ∙ ap (λ ys. not (is_empty ys)) (sym took ∙ e)))
+      some_taken : list_any test (items_in selects value) ≡ true → taken ≡ [] → ⊥
+      some_taken any e = true≢false (sym any ∙ (sym (some_filtered test (items_in selects value)) ∙ ap (λ ys. not (is_empty ys)) (sym took ∙ e)))
 
       none_taken : (ys : List Expr) → not (is_empty ys) ≡ false → ys ≡ []
       none_taken [] h = refl

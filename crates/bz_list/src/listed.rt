@@ -2,14 +2,16 @@
 ghost use Rattle.std.specs.Prelude.{◌≡◌, ◌⊎◌, ◌↔◌, IsTrue, ◌++◌, ◌∷◌, [], ℕ, List, Ok, Err, IfOk, OnOk, IfErr, map, not, false};
 ghost use Rattle.std.specs.List.{filter, flat_map, list_any};
 ghost use Rattle.std.specs.Option.{option_map_or};
+ghost use Rattle.bz_command_syntax.specs.declared.command.Selects.TheVariants as choices;
 ghost use Rattle.bz_grammar.specs.declared.kind.Kind.TheVariants as kinds;
 ghost use Rattle.bz_list.specs.Words.{is_empty, attribute as value_there, has_kind as is_of, on_items, on_lists, on_first_that, fresh, is_item as is_item_of, items_in, list_of as list_made, listed as as_listed, with_more, string_of as string_made};
 ghost use Rattle.bz_list.specs.Changes.{argument_left, is_spelled, equals_word, move, remove_everywhere, remove_if_equal, remove_values, strings_added, tells_change, values_changed, with_items_added, with_strings};
 ghost use Rattle.bz_list.specs.private.KnownValues.{knows_word};
 ghost use Rattle.bz_list.specs.private.Listing.{added_by, added_to, chooses, chosen_in, is_item_ending, is_left, new_items, new_strings, put_back, value_with, without_chosen};
 
+use crate::editing::{Done, Edit};
 use crate::known::{
-    Chosen, Known, insert, is_chosen, items_known, listed, meaning, values_chosen, words_chosen,
+    Chosen, Known, insert, items_known, listed, meaning, values_chosen, words_chosen,
 };
 use crate::replacing::Change;
 use bz_attribute::{
@@ -17,16 +19,13 @@ use bz_attribute::{
     is_empty_list, is_item, is_no_list, is_other_attribute, list_of, operands_of, parts_of, plus,
     remove_first, set_value, string_of, take_value,
 };
-use bz_command_syntax::{Attributes, ValueOperation, Values};
+use bz_command_syntax::{Attributes, Selects, ValueOperation, Values};
 use bz_grammar::{Class, Kind};
 use bz_items::{Items, Memory, Text};
 use bz_rule::{attribute, inside, text_of};
 use bz_value::{Expr, Refusal};
 use std::alloc::Global;
 use std::mem;
-
-/// Whether memory was given for a step.
-type Done = Result<(), Memory>;
 
 /// What is added to an attribute.
 #[derive(Drop)]
@@ -160,10 +159,10 @@ fn append_to_value(more: &mut Vec<Expr>, value: &mut Expr) -> Done
 /// A value with items at the end of its first list, and whether it is the same; one that is no list becomes a sum with a new one.
 #[tactic(auto, using(crate::proofs::ListedForms::no_items))]
 fn grown(slot: Slot<'_>, more: Items<Expr>, mut value: Expr) -> Result<(Expr, bool), Memory>
-    ensures value { (added : List Expr → List Expr) → more ≡ added (items_in value) → IfOk result (λ made. made.0 ≡ value_with added value) }
+    ensures value { (added : List Expr → List Expr) → more ≡ added (items_in choices.Skipped value) → IfOk result (λ made. made.0 ≡ value_with added value) }
     ensures same { IfOk result (λ made. IsTrue made.1 ↔ (made.0 ≡ value)) }
 {
-    if has_lists(&value) {
+    if has_lists(Selects::Skipped, &value) {
         let same = more.is_empty();
         append_to_value(&mut more.into_vec(), &mut value)?;
         return Ok((value, same));
@@ -193,56 +192,6 @@ fn add_items(slot: Slot<'_>, added: Added<'_>, arguments: &mut Items<Expr>) -> R
     Ok(same)
 }
 
-/// Takes the items that the command is meant for.
-fn take_in(
-    slot: Slot<'_>,
-    chosen: &Chosen,
-    items: &mut Items<Expr>,
-    taken: &mut Items<Expr>,
-) -> Done
-    ensures left { OnOk result (items.new ≡ filter (is_left slot.entry.current.now slot.entry.attribute.now chosen.now) items.old) }
-    ensures taken { OnOk result (taken.new ≡ taken.old ++ filter (chooses slot.entry.current.now slot.entry.attribute.now chosen.now) items.old) }
-{
-    for x in mem::replace(items, Items::new(slot.alloc)).into_vec() {
-        if is_chosen(slot, chosen, &x)? {
-            taken.push(x)?;
-        } else {
-            items.push(x)?;
-        }
-    }
-    Ok(())
-}
-
-/// The same of a list; any other expression stays.
-fn take_from_list(slot: Slot<'_>, chosen: &Chosen, x: &mut Expr, taken: &mut Items<Expr>) -> Done
-    ensures left { OnOk result (x.new ≡ on_items kinds.List (filter (is_left slot.entry.current.now slot.entry.attribute.now chosen.now)) x.old) }
-    ensures taken { OnOk result (taken.new ≡ taken.old ++ filter (chooses slot.entry.current.now slot.entry.attribute.now chosen.now) (as_listed x.old)) }
-{
-    match x {
-        Expr::Form(form) if form.kind == Kind::List => {
-            take_in(slot, chosen, &mut form.seq.items, taken)
-        }
-        _ => Ok(()),
-    }
-}
-
-/// The same of the lists of a value.
-#[tactic(auto, using(crate::proofs::ListedForms::sum_taken, crate::proofs::ListedForms::own_items_in))]
-fn take_from_lists(slot: Slot<'_>, chosen: &Chosen, x: &mut Expr, taken: &mut Items<Expr>) -> Done
-    ensures left { OnOk result (x.new ≡ on_lists (filter (is_left slot.entry.current.now slot.entry.attribute.now chosen.now)) x.old) }
-    ensures taken { OnOk result (taken.new ≡ taken.old ++ filter (chooses slot.entry.current.now slot.entry.attribute.now chosen.now) (items_in x.old)) }
-{
-    if !has_kind(Kind::Sum, x) {
-        return take_from_list(slot, chosen, x, taken);
-    }
-    if let Expr::Form(form) = x {
-        for operand in form.parts.as_mut_slice().iter_mut() {
-            take_from_list(slot, chosen, operand, taken)?;
-        }
-    }
-    Ok(())
-}
-
 /// Puts what is left of a value back; where items were taken and it is an empty list, the attribute goes.
 fn put_back(name: &[u8], taken: &[Expr], value: Expr, arguments: &mut Items<Expr>)
     ensures { arguments.new ≡ put_back name.now (not (is_empty taken.now)) value arguments.old }
@@ -257,17 +206,18 @@ fn put_back(name: &[u8], taken: &[Expr], value: Expr, arguments: &mut Items<Expr
 /// Takes the items that the command is meant for from the attribute's lists, and the attribute where its value is empty then.
 fn take_items(
     slot: Slot<'_>,
+    selects: Selects,
     chosen: &Chosen,
     arguments: &mut Items<Expr>,
 ) -> Result<Items<Expr>, Memory>
-    ensures left { OnOk result (arguments.new ≡ without_chosen slot.entry.attribute.now (chooses slot.entry.current.now slot.entry.attribute.now chosen.now) (value_there slot.entry.attribute.now arguments.old) arguments.old) }
-    ensures taken { IfOk result (λ taken. taken ≡ chosen_in (chooses slot.entry.current.now slot.entry.attribute.now chosen.now) (value_there slot.entry.attribute.now arguments.old)) }
+    ensures left { OnOk result (arguments.new ≡ without_chosen selects slot.entry.attribute.now (chooses slot.entry.current.now slot.entry.attribute.now chosen.now) (value_there slot.entry.attribute.now arguments.old) arguments.old) }
+    ensures taken { IfOk result (λ taken. taken ≡ chosen_in selects (chooses slot.entry.current.now slot.entry.attribute.now chosen.now) (value_there slot.entry.attribute.now arguments.old)) }
 {
     let mut taken = Items::new(slot.alloc);
     let Some(mut value) = take_value(slot.alloc, slot.attribute, arguments) else {
         return Ok(taken);
     };
-    take_from_lists(slot, chosen, &mut value, &mut taken)?;
+    Edit::Take(chosen).on_lists(slot, selects, &mut value, &mut taken)?;
     put_back(slot.attribute, taken.as_slice(), value, arguments);
     Ok(taken)
 }
@@ -276,12 +226,13 @@ fn take_items(
 /// stay the same.
 fn remove_values(
     slot: Slot<'_>,
+    selects: Selects,
     words: &[Text],
     arguments: &mut Items<Expr>,
 ) -> Result<bool, Refusal>
-    ensures ok { OnOk result (remove_values slot.entry.current.now slot.entry.attribute.now words.now arguments.old ≡ Ok arguments.new) }
+    ensures ok { OnOk result (remove_values selects slot.entry.current.now slot.entry.attribute.now words.now arguments.old ≡ Ok arguments.new) }
     ensures same { IfOk result (λ same. IsTrue same ↔ (arguments.new ≡ arguments.old)) }
-    ensures err { IfErr result (λ refusal. (remove_values slot.entry.current.now slot.entry.attribute.now words.now arguments.old ≡ Err refusal) ⊎ (refusal ≡ Refusal.Memory)) }
+    ensures err { IfErr result (λ refusal. (remove_values selects slot.entry.current.now slot.entry.attribute.now words.now arguments.old ≡ Err refusal) ⊎ (refusal ≡ Refusal.Memory)) }
 {
     let Some(value) = attribute(slot.attribute, arguments.as_slice()) else {
         return Ok(true);
@@ -290,7 +241,7 @@ fn remove_values(
         return Err(Refusal::NotAList);
     }
     let chosen = words_chosen(slot, words)?;
-    let taken = take_items(slot, &chosen, arguments)?;
+    let taken = take_items(slot, selects, &chosen, arguments)?;
     Ok(taken.is_empty())
 }
 
@@ -298,10 +249,11 @@ fn remove_values(
 fn argument_left(
     alloc: Global,
     current: &[u8],
+    selects: Selects,
     words: &[Text],
     x: Expr,
 ) -> Result<Items<Expr>, Memory>
-    ensures { IfOk result (λ left. left ≡ argument_left current.now words.now x) }
+    ensures { IfOk result (λ left. left ≡ argument_left selects current.now words.now x) }
 {
     let mut left = Items::new(alloc);
     if !is_other_attribute(&x) {
@@ -312,7 +264,7 @@ fn argument_left(
     left.push(x)?;
     let slot = Slot::new(alloc, current, name.as_slice());
     let chosen = words_chosen(slot, words)?;
-    take_items(slot, &chosen, &mut left)?;
+    take_items(slot, selects, &chosen, &mut left)?;
     Ok(left)
 }
 
@@ -320,14 +272,15 @@ fn argument_left(
 fn remove_everywhere(
     alloc: Global,
     current: &[u8],
+    selects: Selects,
     words: &[Text],
     arguments: &mut Items<Expr>,
 ) -> Done
-    ensures { OnOk result (remove_everywhere current.now words.now arguments.old ≡ Ok arguments.new) }
+    ensures { OnOk result (remove_everywhere selects current.now words.now arguments.old ≡ Ok arguments.new) }
 {
     let mut all = Vec::new(alloc);
     for x in mem::replace(arguments, Items::new(alloc)).into_vec() {
-        let mut left = argument_left(alloc, current, words, x)?.into_vec();
+        let mut left = argument_left(alloc, current, selects, words, x)?.into_vec();
         all.append(&mut left)?;
     }
     *arguments = Items::from_vec(all);
@@ -402,11 +355,11 @@ fn move_values(
     let Some(value) = attribute(from.attribute, arguments.as_slice()) else {
         return Err(Refusal::NoAttribute);
     };
-    if !has_lists(value) {
+    if !has_lists(Selects::Skipped, value) {
         return Err(Refusal::NotAList);
     }
     let chosen = values_chosen(from, values)?;
-    let taken = take_items(from, &chosen, arguments)?;
+    let taken = take_items(from, Selects::Skipped, &chosen, arguments)?;
     if taken.is_empty() {
         return Ok(());
     }
@@ -453,33 +406,37 @@ pub fn change_values(
         ValueOperation::Remove {
             attributes: Attributes::Named(attribute),
             values,
+            selects,
         } => {
             let slot = Slot::new(alloc, current, attribute.as_slice());
-            remove_values(slot, values.as_slice(), arguments)
+            remove_values(slot, *selects, values.as_slice(), arguments)
         }
         ValueOperation::Remove {
             attributes: Attributes::All,
             values,
+            selects,
         } => {
-            remove_everywhere(alloc, current, values.as_slice(), arguments)?;
+            remove_everywhere(alloc, current, *selects, values.as_slice(), arguments)?;
             Ok(false)
         }
         ValueOperation::Replace {
             attributes,
             old,
             new,
+            selects,
         } => {
             let change = Change::Replace { old, new };
-            change.on_attributes(alloc, current, attributes, arguments)?;
+            change.on_attributes(alloc, current, attributes, *selects, arguments)?;
             Ok(false)
         }
         ValueOperation::Substitute {
             attributes,
             pattern,
             template,
+            selects,
         } => {
             let change = Change::Substitute { pattern, template };
-            change.on_attributes(alloc, current, attributes, arguments)?;
+            change.on_attributes(alloc, current, attributes, *selects, arguments)?;
             Ok(false)
         }
         ValueOperation::Move { from, to, values } => {

@@ -1,16 +1,16 @@
 //! Commands on the bodies of strings: in the items of lists, or in a value itself.
 ghost use Rattle.std.specs.Prelude.{◌≡◌, IfOk, OnOk, map};
 ghost use Rattle.std.specs.Option.{option_map_or};
-ghost use Rattle.bz_grammar.specs.declared.kind.Kind.TheVariants as kinds;
-ghost use Rattle.bz_list.specs.Words.{on_items, on_lists, with_text, on_value};
+ghost use Rattle.bz_list.specs.Words.{with_text, on_value};
 ghost use Rattle.bz_list.specs.Changes.{in_attributes};
 ghost use Rattle.bz_list.specs.private.Listing.{item_changed_by, value_changed_by, other_changed_by};
 
+use crate::editing::Edit;
 use bz_attribute::{
     Slot, body_of, first_text, has_kind, is_item, is_other_attribute, parts_of, place_of, set_text,
     string_text,
 };
-use bz_command_syntax::{Attributes, Pattern, quoted};
+use bz_command_syntax::{Attributes, Pattern, Selects, quoted};
 use bz_grammar::Kind;
 use bz_items::{Items, Memory, Text};
 use bz_label::bytes::{is_label_attribute, shortened};
@@ -78,61 +78,56 @@ impl Change<'_> {
         Ok(())
     }
 
-    /// Changes the items of a list; any other expression stays.
-    fn on_list(self, slot: Slot<'_>, x: &mut Expr) -> Result<(), Memory>
-        ensures { OnOk result (x.new ≡ on_items kinds.List (map (item_changed_by self.entry slot.entry.current.now slot.entry.attribute.now)) x.old) }
+    /// Changes each item.
+    pub(crate) fn on_items(self, slot: Slot<'_>, items: &mut Items<Expr>) -> Result<(), Memory>
+        ensures { OnOk result (items.new ≡ map (item_changed_by self.entry slot.entry.current.now slot.entry.attribute.now) items.old) }
     {
-        if !has_kind(Kind::List, x) {
-            return Ok(());
-        }
-        if let Expr::Form(form) = x {
-            for item in form.seq.items.as_mut_slice().iter_mut() {
-                self.on_item(slot, item)?;
-            }
+        for x in items.as_mut_slice().iter_mut() {
+            self.on_item(slot, x)?;
         }
         Ok(())
     }
 
-    /// Changes the items of the lists of a value.
-    fn on_lists(self, slot: Slot<'_>, value: &mut Expr) -> Result<(), Memory>
-        ensures { OnOk result (value.new ≡ on_lists (map (item_changed_by self.entry slot.entry.current.now slot.entry.attribute.now)) value.old) }
+    /// Changes a value, and the items of its lists.
+    fn on_value(self, slot: Slot<'_>, selects: Selects, value: &mut Expr) -> Result<(), Memory>
+        ensures { OnOk result (value.new ≡ value_changed_by selects self.entry slot.entry.current.now slot.entry.attribute.now value.old) }
     {
-        if !has_kind(Kind::Sum, value) {
-            return self.on_list(slot, value);
-        }
-        if let Expr::Form(form) = value {
-            for x in form.parts.as_mut_slice().iter_mut() {
-                self.on_list(slot, x)?;
-            }
-        }
+        self.on_item(slot, value)?;
+        let mut none = Items::new(slot.alloc);
+        Edit::Change(self).on_lists(slot, selects, value, &mut none)?;
         Ok(())
     }
 
     /// Changes the value of a named argument, and the items of its lists; any other argument stays.
-    fn on_argument(self, slot: Slot<'_>, x: &mut Expr) -> Result<(), Memory>
-        ensures { OnOk result (x.new ≡ on_value (value_changed_by self.entry slot.entry.current.now slot.entry.attribute.now) x.old) }
+    fn on_argument(self, slot: Slot<'_>, selects: Selects, x: &mut Expr) -> Result<(), Memory>
+        ensures { OnOk result (x.new ≡ on_value (value_changed_by selects self.entry slot.entry.current.now slot.entry.attribute.now) x.old) }
     {
         if !has_kind(Kind::Named, x) {
             return Ok(());
         }
         if let Expr::Form(form) = x {
             if let [_, _, value, ..] = form.parts.as_mut_slice() {
-                self.on_item(slot, value)?;
-                self.on_lists(slot, value)?;
+                self.on_value(slot, selects, value)?;
             }
         }
         Ok(())
     }
 
     /// Changes an attribute that `*` means; any other argument stays.
-    fn on_other(self, alloc: Global, current: &[u8], x: &mut Expr) -> Result<(), Memory>
-        ensures { OnOk result (x.new ≡ other_changed_by self.entry current.now x.old) }
+    fn on_other(
+        self,
+        alloc: Global,
+        current: &[u8],
+        selects: Selects,
+        x: &mut Expr,
+    ) -> Result<(), Memory>
+        ensures { OnOk result (x.new ≡ other_changed_by selects self.entry current.now x.old) }
     {
         if !is_other_attribute(x) {
             return Ok(());
         }
         let name = Text::from_slice(alloc, first_text(parts_of(x)))?;
-        self.on_argument(Slot::new(alloc, current, name.as_slice()), x)?;
+        self.on_argument(Slot::new(alloc, current, name.as_slice()), selects, x)?;
         Ok(())
     }
 
@@ -143,13 +138,14 @@ impl Change<'_> {
         alloc: Global,
         current: &[u8],
         attributes: &Attributes,
+        selects: Selects,
         arguments: &mut Items<Expr>,
     ) -> Result<(), Memory>
-        ensures { OnOk result (arguments.new ≡ in_attributes attributes.now (value_changed_by self.entry current.now) arguments.old) }
+        ensures { OnOk result (arguments.new ≡ in_attributes attributes.now (value_changed_by selects self.entry current.now) arguments.old) }
     {
         let Attributes::Named(name) = attributes else {
             for x in arguments.as_mut_slice().iter_mut() {
-                self.on_other(alloc, current, x)?;
+                self.on_other(alloc, current, selects, x)?;
             }
             return Ok(());
         };
@@ -157,7 +153,7 @@ impl Change<'_> {
             return Ok(());
         };
         let slot = Slot::new(alloc, current, name.as_slice());
-        self.on_argument(slot, arguments.at_mut(at))?;
+        self.on_argument(slot, selects, arguments.at_mut(at))?;
         Ok(())
     }
 }

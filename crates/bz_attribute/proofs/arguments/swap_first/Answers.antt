@@ -1,6 +1,4 @@
-use Rattle.std.proofs.Common.{◌≡◌, get_or, length, sym, ap, ◌∙◌, arith}
-use Rattle.bz_value.specs.declared.value.Expr.{Expr}
-use Rattle.bz_attribute.specs.Attributes.{is_attribute, on_value}
+use Rattle.bz_attribute.proofs.Words.{◌∙◌, ◌≡◌, ap, arith, Expr, get_or, is_attribute, length, on_value, sym}
 use Rattle.bz_attribute.proofs.ArgumentPlaces.{first_written}
 use Rattle.bz_attribute.proofs.arguments.swap_first.Goals as goal
 

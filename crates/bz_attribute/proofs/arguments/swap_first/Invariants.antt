@@ -1,6 +1,4 @@
-use Rattle.std.proofs.Common.{◌≡◌, ◌++◌, take, drop}
-use Rattle.bz_rule.specs.Rules.{attribute}
-use Rattle.bz_attribute.specs.Attributes.{with_value}
+use Rattle.bz_attribute.proofs.Words.{◌++◌, ◌≡◌, attribute, drop, take, with_value}
 use Rattle.bz_attribute.proofs.arguments.swap_first.Given as goal
 
 abbrev pub invariant-loop-x : goal.invariant-loop-x

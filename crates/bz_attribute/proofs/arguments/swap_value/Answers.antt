@@ -1,11 +1,4 @@
-use Rattle.std.proofs.Common.{◌≡◌, false, List, true≢false, refl, sym, ap, ◌∙◌}
-use Rattle.std.specs.Prelude.{Some}
-use Rattle.std.specs.List.{slice_index_or}
-use Rattle.bz_attribute.specs.Words.{Kind, Bytes, Expr, Form', has_kind}
-use Rattle.bz_grammar.specs.declared.kind.Kind.TheVariants as k
-use Rattle.bz_value.specs.declared.value.Form.{Form}
-use Rattle.bz_value.specs.declared.value.Expr.TheVariants as e
-use Rattle.bz_attribute.specs.Attributes.{is_attribute}
+use Rattle.bz_attribute.proofs.Words.{◌∙◌, ◌≡◌, ap, Bytes, Expr, Expr as e, false, Form, Form', has_kind, is_attribute, Kind, Kind as k, List, refl, slice_index_or, Some, sym, true≢false}
 use Rattle.bz_attribute.proofs.ArgumentForms.{value_taken}
 use Rattle.bz_attribute.proofs.arguments.swap_value.Goals as goal
 

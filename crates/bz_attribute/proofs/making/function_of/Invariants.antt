@@ -1,8 +1,4 @@
-use Rattle.std.proofs.Common.{◌≡◌, [], nat_eq, length, ◌+◌}
-use Rattle.std.specs.List.{slice_split}
-use Rattle.std.specs.Option.{option_map_or}
-use Rattle.bz_items.specs.Characters.{full_stop}
-use Rattle.bz_attribute.specs.Made.{dotted_after, function_of}
+use Rattle.bz_attribute.proofs.Words.{[], ◌+◌, ◌≡◌, dotted_after, full_stop, function_of, length, nat_eq, option_map_or, slice_split}
 use Rattle.bz_attribute.proofs.making.function_of.Given as goal
 
 -- the names so far, and those to come after them, are those of the kind

@@ -1,7 +1,4 @@
-use Rattle.std.proofs.Common.{◌≡◌, true, false, true≢false, sym, rules, ◌∙◌, arith, subst}
-use Rattle.std.specs.Prelude.{Some, None, is_some, bytes_eq}
-use Rattle.std.proofs.lemmas.List.{take_all}
-use Rattle.bz_change.specs.private.Outcomes.{place_at, AreIndexed}
+use Rattle.bz_change.proofs.Words.{◌∙◌, ◌≡◌, AreIndexed, arith, bytes_eq, false, is_some, None, place_at, rules, Some, subst, sym, take_all, true, true≢false}
 use Rattle.bz_change.proofs.KeyPlaces.{pushed, known, fresh, same_found, key_placed}
 use Rattle.bz_change.proofs.dicts.index.Goals as goal
 

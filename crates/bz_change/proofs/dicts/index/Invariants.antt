@@ -1,5 +1,4 @@
-use Rattle.std.proofs.Common.{take}
-use Rattle.bz_change.specs.private.Outcomes.{AreIndexed}
+use Rattle.bz_change.proofs.Words.{AreIndexed, take}
 use Rattle.bz_change.proofs.dicts.index.Given as goal
 
 abbrev pub invariant-loop-at : goal.invariant-loop-at

@@ -1,6 +1,4 @@
-use Rattle.std.proofs.Common.{◌≡◌, drop}
-use Rattle.bz_change.specs.Dicts.{entries_put}
-use Rattle.bz_change.specs.private.Outcomes.{AreIndexed}
+use Rattle.bz_change.proofs.Words.{◌≡◌, AreIndexed, drop, entries_put}
 use Rattle.bz_change.proofs.dicts.put_indexed.Given as goal
 
 abbrev pub invariant-loop-entry : goal.invariant-loop-entry

@@ -1,8 +1,5 @@
-use Rattle.std.proofs.Common.{◌∙◌, rules, arith, not, Bool, List}
-use Rattle.std.specs.List.{filter}
+use Rattle.bz_change.proofs.Words.{◌∙◌, arith, Bool, both, Expr, filter, List, not, rules}
 use Rattle.std.proofs.lemmas.Fn.{filter_same}
-use Rattle.bz_value.specs.declared.value.Expr.{Expr}
-use Rattle.bz_attribute.proofs.FormsAgain.{both}
 use Rattle.bz_change.proofs.KeyPlaces.{is_chosen, chosen_keys}
 use Rattle.bz_change.proofs.dicts.remove_entries.Goals as goal
 

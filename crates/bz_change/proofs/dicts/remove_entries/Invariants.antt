@@ -1,8 +1,4 @@
-use Rattle.std.proofs.Common.{◌≡◌, ◌||◌, drop}
-use Rattle.std.specs.Prelude.{bytes_eq}
-use Rattle.std.specs.List.{list_any}
-use Rattle.bz_items.specs.Characters.{Bytes}
-use Rattle.bz_attribute.specs.Sets.{texts_of}
+use Rattle.bz_change.proofs.Words.{◌||◌, ◌≡◌, Bytes, bytes_eq, drop, list_any, texts_of}
 use Rattle.bz_change.proofs.dicts.remove_entries.Given as goal
 
 abbrev pub invariant-loop-key : goal.invariant-loop-key

@@ -1,5 +1,4 @@
-use Rattle.std.proofs.Common.{◌≡◌, drop}
-use Rattle.bz_change.specs.Dicts.{takes_no_items}
+use Rattle.bz_change.proofs.Words.{◌≡◌, drop, takes_no_items}
 use Rattle.bz_change.proofs.dicts.takes_no_items.Given as goal
 
 -- the entries so far have other keys

@@ -1,9 +1,4 @@
-use Rattle.std.proofs.Common.{◌∙◌, ap, rules, sym}
-use Rattle.std.specs.Prelude.{not, Ok}
-use Rattle.std.specs.List.{filter}
-use Rattle.std.proofs.lemmas.List.Elements.{filter_from_retain}
-use Rattle.bz_change.specs.Words.{Attributes, is_other_attribute}
-use Rattle.bz_change.specs.Changes.{remove}
+use Rattle.bz_change.proofs.Words.{◌∙◌, ap, Attributes, filter, filter_from_retain, is_other_attribute, not, Ok, remove, rules, sym}
 use Rattle.bz_change.proofs.whole.remove.Goals as goal
 
 pub returns-in-All : goal.returns-in-All

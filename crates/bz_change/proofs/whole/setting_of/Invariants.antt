@@ -1,5 +1,4 @@
-use Rattle.std.proofs.Common.{◌≡◌, ◌++◌, drop, map}
-use Rattle.bz_attribute.specs.Made.{string_of}
+use Rattle.bz_change.proofs.Words.{◌++◌, ◌≡◌, drop, map, string_of}
 use Rattle.bz_change.proofs.whole.setting_of.Given as goal
 
 -- the strings so far, and those of the words that are left, are those of all words

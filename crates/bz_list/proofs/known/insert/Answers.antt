@@ -1,8 +1,4 @@
-use Rattle.std.proofs.Common.{◌≡◌, Option, sym, ap, ◌∙◌, rules}
-use Rattle.std.specs.Prelude.{Some}
-use Rattle.std.specs.Option.{option_copied}
-use Rattle.bz_items.specs.Characters.{Bytes}
-use Rattle.bz_list.specs.private.KnownValues.{knows_word, with_known}
+use Rattle.bz_list.proofs.Words.{◌∙◌, ◌≡◌, ap, Bytes, knows_word, Option, option_copied, rules, Some, sym, with_known}
 use Rattle.bz_list.proofs.KnownSteps.{key_inserted}
 use Rattle.bz_list.proofs.known.insert.Goals as goal
 

@@ -1,7 +1,4 @@
-use Rattle.std.proofs.Common.{◌≡◌, ◌++◌, ◌+◌, drop, false}
-use Rattle.std.specs.List.{flat_map}
-use Rattle.bz_attribute.specs.Lists.{body_of, listed}
-use Rattle.bz_list.specs.private.KnownValues.{knows_word, with_all}
+use Rattle.bz_list.proofs.Words.{◌++◌, ◌+◌, ◌≡◌, body_of, drop, false, flat_map, knows_word, listed, with_all}
 use Rattle.bz_list.proofs.known.items_known.Given as goal
 
 abbrev pub invariant-loop-x : goal.invariant-loop-x

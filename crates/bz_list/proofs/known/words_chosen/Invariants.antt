@@ -1,6 +1,4 @@
-use Rattle.std.proofs.Common.{◌≡◌, drop, false}
-use Rattle.std.specs.Prelude.{Some}
-use Rattle.bz_list.specs.private.KnownValues.{knows_word, with_all}
+use Rattle.bz_list.proofs.Words.{◌≡◌, drop, false, knows_word, Some, with_all}
 use Rattle.bz_list.proofs.known.words_chosen.Given as goal
 
 abbrev pub invariant-loop-word : goal.invariant-loop-word

@@ -1,11 +1,5 @@
-use Rattle.std.proofs.Common.{◌≡◌, ◌∙◌, false, List, ap, refl, rules, subst, sym}
-use Rattle.std.specs.Prelude.{◌↔◌, IsTrue, Some, Ok, Err}
-use Rattle.bz_list.specs.Words.{Expr, attribute, with_new, with_value}
-use Rattle.bz_value.specs.declared.refusal.Refusal.TheVariants.{NotAList}
-use Rattle.bz_attribute.proofs.FormsAgain.{if_false}
-use Rattle.bz_list.specs.private.Listing.{added_by}
-use Rattle.bz_list.proofs.ListedForms.{added_found}
-use Rattle.bz_list.proofs.StayedSame.{never, other_new, put_same}
+use Rattle.bz_list.proofs.Words.{◌↔◌, ◌∙◌, ◌≡◌, added_by, ap, attribute, Err, Expr, false, if_false, IsTrue, List, NotAList, Ok, refl, rules, Some, subst, sym, with_new, with_value}
+use Rattle.bz_list.proofs.{EditedLists.read_items, ListedForms.added_found, StayedSame.never, StayedSame.other_new, StayedSame.put_same}
 use Rattle.bz_list.proofs.listed.add_items.Goals as goal
 
 pub returns-clause-ok : goal.returns-clause-ok
@@ -17,7 +11,7 @@ returns-clause-ok c =
     added_found name added c.args.arguments.now value own
     ∙ (if_false _ (Err NotAList) _ (sym c.if-is_no_list.ensures)
     ∙ ap Ok (sym (c.set_value.ensures
-    ∙ (ap (λ (x : Expr). with_value name x c.take_value.new.arguments) (c.in_ok-value.ensures.value added (c.in_ok-more.ensures ∙ ap added c.operands_of.ensures)) ∙ c.in-Some.ensures.place _))))
+    ∙ (ap (λ (x : Expr). with_value name x c.take_value.new.arguments) (c.in_ok-value.ensures.value added (c.in_ok-more.ensures ∙ ap added (read_items c.operands_of.result.now value c.operands_of.ensures))) ∙ c.in-Some.ensures.place _))))
 
 pub returns-in_default-clause-same : goal.returns-in_default-clause-same
 returns-in_default-clause-same c =

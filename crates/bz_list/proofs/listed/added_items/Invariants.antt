@@ -1,7 +1,4 @@
-use Rattle.std.proofs.Common.{◌≡◌, ◌++◌, drop}
-use Rattle.std.specs.Vec.Iter.{into_iter_items}
-use Rattle.bz_list.specs.private.KnownValues.{knows_word}
-use Rattle.bz_list.specs.private.Listing.{added_to, new_items, new_strings}
+use Rattle.bz_list.proofs.Words.{◌++◌, ◌≡◌, added_to, drop, into_iter_items, knows_word, new_items, new_strings}
 use Rattle.bz_list.proofs.listed.added_items.Given as goal
 
 abbrev pub invariant-loop-word : goal.invariant-loop-word

@@ -1,7 +1,4 @@
-use Rattle.std.proofs.Common.{◌≡◌, List, sym, ap, ◌∙◌, subst}
-use Rattle.std.specs.Prelude.{Ok, OnOk}
-use Rattle.bz_list.specs.Words.{Bytes, ValueOperation, Arguments}
-use Rattle.bz_list.specs.Changes.{add, values_changed}
+use Rattle.bz_list.proofs.Words.{◌∙◌, ◌≡◌, add, ap, Arguments, Bytes, List, Ok, OnOk, subst, sym, ValueOperation, values_changed}
 use Rattle.bz_list.proofs.listed.change_values.Goals as goal
 
 pub returns-in-Add-clause-ok : goal.returns-in-Add-clause-ok

@@ -1,9 +1,5 @@
-use Rattle.std.proofs.Common.{◌≡◌, ◌∙◌, Bool, false, List, ap, rules, subst, sym}
-use Rattle.std.specs.Prelude.{◌↔◌, IsTrue, Option, Some}
-use Rattle.bz_list.specs.Words.{Expr, attribute, is_no_list}
-use Rattle.bz_list.specs.private.Listing.{chooses, chosen_in, without_chosen}
-use Rattle.bz_list.proofs.ListedForms.{removed}
-use Rattle.bz_list.proofs.StayedSame.{same_left}
+use Rattle.bz_list.proofs.Words.{◌↔◌, ◌∙◌, ◌≡◌, ap, attribute, Bool, chooses, chosen_in, Expr, false, is_no_list, IsTrue, List, Option, rules, Some, subst, sym, without_chosen}
+use Rattle.bz_list.proofs.{ListedForms.removed, StayedSame.same_left}
 use Rattle.bz_list.proofs.listed.remove_values.Goals as goal
 
 pub returns-clause-ok : goal.returns-clause-ok
@@ -13,7 +9,7 @@ returns-clause-ok c =
     let value = c.in-Some.value.now in
     let own : attribute name c.args.arguments.now ≡ Some value = search rules in
     let listable : is_no_list value ≡ false = search rules in
-    removed current name c.args.words.now c.args.arguments.now c.take_items.new.arguments (chooses current name c.in_ok-chosen.chosen) value c.in_ok-chosen.ensures own listable c.in_ok-taken.ensures.left
+    removed c.args.selects current name c.args.words.now c.args.arguments.now c.take_items.new.arguments (chooses current name c.in_ok-chosen.chosen) value c.in_ok-chosen.ensures own listable c.in_ok-taken.ensures.left
 
 pub returns-clause-same : goal.returns-clause-same
 returns-clause-same c =
@@ -23,5 +19,5 @@ returns-clause-same c =
     let test : Expr → Bool = chooses c.args.slot.current.now name c.in_ok-chosen.chosen in
     let none = c.is_empty.result in
     let own : attribute name xs ≡ Some value = search rules in
-    subst (λ (ys : List Expr). IsTrue none ↔ (ys ≡ xs)) (sym (c.in_ok-taken.ensures.left ∙ ap (λ (found : Option Expr). without_chosen name test found xs) own))
-    (same_left test name value xs c.in_ok-taken.taken none own (c.in_ok-taken.ensures.taken ∙ ap (chosen_in test) own) c.is_empty.ensures)
+    subst (λ (ys : List Expr). IsTrue none ↔ (ys ≡ xs)) (sym (c.in_ok-taken.ensures.left ∙ ap (λ (found : Option Expr). without_chosen c.args.selects name test found xs) own))
+    (same_left test c.args.selects name value xs c.in_ok-taken.taken none own (c.in_ok-taken.ensures.taken ∙ ap (chosen_in c.args.selects test) own) c.is_empty.ensures)

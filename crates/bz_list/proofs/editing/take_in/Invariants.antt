@@ -1,8 +1,5 @@
-use Rattle.std.proofs.Common.{◌≡◌, ◌++◌}
-use Rattle.std.specs.List.{filter}
-use Rattle.std.specs.Vec.Iter.{into_iter_items}
-use Rattle.bz_list.specs.private.Listing.{chooses, is_left}
-use Rattle.bz_list.proofs.listed.take_in.Given as goal
+use Rattle.bz_list.proofs.Words.{◌++◌, ◌≡◌, chooses, filter, into_iter_items, is_left}
+use Rattle.bz_list.proofs.editing.take_in.Given as goal
 
 abbrev pub invariant-loop-x : goal.invariant-loop-x
 invariant-loop-x l = record {
