@@ -1,21 +1,9 @@
 -- Whether an item is found, and whether a host is refused.
-use Rattle.std.proofs.Common.{◌≡◌, Bool, true, false, not, List, [], ◌∷◌, refl, sym, ap, ◌∙◌, subst, Option, Some, None, inl, inr, ℕ, ◌+◌, ◌<◌, length, drop, get_or}
-use Rattle.std.specs.Prelude.{Ok, Err, Result, is_some, if◌then◌else◌, IfSome, slice_get, slice_set}
-use Rattle.std.specs.List.{find, list_any, flat_map, position}
-use Rattle.bz_value.specs.declared.value.Expr.{Expr, Token, Form'}
-use Rattle.bz_comment.specs.Words.{Refusal, has_lists, items_in, is_item, listed, Host, with_comments, comments_of, is_attribute, on_first_that, with_value, Arguments, HostComments, no_comments, Bytes}
-use Rattle.bz_value.specs.declared.refusal.Refusal.TheVariants.{NoAttribute, NotAList}
-use Rattle.bz_comment.specs.Changes.{changed_by, changed_comments, comments_made, is_host}
-use Rattle.bz_comment.specs.Hosts.{print_comment, found_comments, item_comments, put_value, on_named_item, on_first_item, on_host}
-use Rattle.bz_command_syntax.specs.declared.command.Host.TheVariants as h
+use Rattle.bz_comment.proofs.Words.{[], ◌+◌, ◌<◌, ◌∙◌, ◌∷◌, ◌≡◌, ◌≤◌, ap, Arguments, attribute, attribute_any, Bool, branch_items, Bytes, cases_Bool, changed_by, changed_comments, comments_made, comments_of, drop, Entered, entries_of, Err, Expr, false, find, find-append, flat_map, Form', found_comments, get_or, has_lists, Host, Host as h, HostComments, IfSome, if◌then◌else◌, inl, inr, is_attribute, is_host, is_item, is_some, item_comments, items_at, items_in, length, List, list_any, listed, no_comments, NoAttribute, None, not, NotAList, Ok, on_first_item, on_first_that, on_host, on_named_item, Option, option_copied, option_or, position, print_comment, put_value, refl, Refusal, Result, Selects, selects_of, slice_get, slice_set, Some, subst, sym, Token, true, value_answered, value_named, with_comments, with_value, ℕ}
 use Rattle.bz_comment.specs.declared.changing.Change.{Change}
 use Rattle.bz_comment.specs.declared.changing.Change.TheVariants.{Add, Remove}
-use Rattle.std.specs.Option.{option_or}
-use Rattle.std.proofs.lemmas.Bool.{cases_Bool}
-use Rattle.bz_rule.specs.Rules.{value_named, attribute}
-use Rattle.bz_attribute.proofs.FormsAgain.{value_answered, attribute_any}
-use Rattle.std.proofs.lemmas.List.{drop_more}
-use Rattle.std.proofs.lemmas.List.Folds.{find-append}
+use denote.Ref.{Bor}
+use Rattle.std.proofs.lemmas.List.{at_drop_all, drop_more}
 use Rattle.bz_attribute.proofs.ArgumentPlaces as places
 
 pub found_any : {X : Type 0} (test : X → Bool) (xs : List X) → is_some (find test xs) ≡ list_any test xs
@@ -51,21 +39,22 @@ value_answers name true None x xs = refl
 value_answers name true (Some y) x xs = refl
 
 -- what a change makes of the arguments, where the host is found
-abbrev item_new : Bytes → (Expr → Bool) → (Expr → Expr) → Option Expr → List Expr → List Expr
-item_new name test change None xs = xs
-item_new name test change (Some value) xs = with_value name (on_first_item test change value) xs
+abbrev item_new : Selects → Bytes → (Expr → Bool) → (Expr → Expr) → Option Expr → List Expr → List Expr
+item_new selects name test change None xs = xs
+item_new selects name test change (Some value) xs = with_value name (on_first_item selects test change value) xs
 
 abbrev host_new : Bytes → Host → (Expr → Expr) → List Expr → List Expr
 host_new current h.Rule change xs = xs
 host_new current (h.Attribute name) change xs = on_first_that (is_attribute name) change xs
-host_new current (h.Item name word) change xs = item_new name (is_item current name word) change (attribute name xs) xs
+host_new current (h.Item name word selects) change xs = item_new selects name (is_item current name word) change (attribute name xs) xs
 
-item_answers : (name : Bytes) (test : Expr → Bool) (change : Expr → Expr) (found : Option Expr) (xs : List Expr) → Answers (item_comments test found) (on_named_item name test change found xs) (item_new name test change found xs)
-item_answers name test change None xs = refl
-item_answers name test change (Some value) xs =
-    let new : Expr = on_first_item test change value in
-    subst (λ there. Answers (item_comments test (Some value)) (put_value name (made_by (has_lists value) there new) xs) (with_value name new xs)) (found_any test (items_in value))
-    (value_answers name (has_lists value) (find test (items_in value)) new xs)
+item_answers : (selects : Selects) (name : Bytes) (test : Expr → Bool) (change : Expr → Expr) (found : Option Expr) (xs : List Expr)
+    → Answers (item_comments selects test found) (on_named_item selects name test change found xs) (item_new selects name test change found xs)
+item_answers selects name test change None xs = refl
+item_answers selects name test change (Some value) xs =
+    let new : Expr = on_first_item selects test change value in
+    subst (λ there. Answers (item_comments selects test (Some value)) (put_value name (made_by (has_lists selects value) there new) xs) (with_value name new xs)) (found_any test (items_in selects value))
+    (value_answers name (has_lists selects value) (find test (items_in selects value)) new xs)
 
 module _ (current : Bytes) where
   host_answers : (host : Host) (own : HostComments) (change : Expr → Expr) (xs : List Expr) → Answers (print_comment current host own xs) (on_host current host change xs) (host_new current host change xs)
@@ -74,7 +63,7 @@ module _ (current : Bytes) where
       let found : Option Expr = find (is_attribute name) xs in
       let new : List Expr = on_first_that (is_attribute name) change xs in
       subst (λ b. Answers (found_comments found) (if b then Ok new else Err NoAttribute) new) (found_any (is_attribute name) xs ∙ sym (attribute_any name xs)) (found_answers found new)
-  host_answers (h.Item name word) own change xs = item_answers name (is_item current name word) change (attribute name xs) xs
+  host_answers (h.Item name word selects) own change xs = item_answers selects name (is_item current name word) change (attribute name xs) xs
 
   by_change : (change : Change) (host : Host) (xs : List Expr) → changed_comments change current host xs ≡ on_host current host (changed_by change) xs
   by_change (Add text) host xs = refl
@@ -94,11 +83,11 @@ module _ (current : Bytes) where
     pub attribute_changed : (change : Expr → Expr) (name : Bytes) → host ≡ h.Attribute name → on_first_that (is_host current host) change xs ≡ host_new current host change xs
     attribute_changed change name is = subst (λ (other : Host). on_first_that (is_host current other) change xs ≡ host_new current other change xs) (sym is) refl
 
-    pub item_changed : (change : Expr → Expr) (name word : Bytes) (value : Expr) → host ≡ h.Item name word → Some value ≡ attribute name xs
-        → with_value name (on_first_item (is_host current host) change value) xs ≡ host_new current host change xs
-    item_changed change name word value is found =
-        subst (λ (other : Host). with_value name (on_first_item (is_host current other) change value) xs ≡ host_new current other change xs) (sym is)
-        (ap (λ (o : Option Expr). item_new name (is_item current name word) change o xs) found)
+    pub item_changed : (change : Expr → Expr) (name word : Bytes) (selects : Selects) (value : Expr) → host ≡ h.Item name word selects → Some value ≡ attribute name xs
+        → with_value name (on_first_item (selects_of host) (is_host current host) change value) xs ≡ host_new current host change xs
+    item_changed change name word selects value is found =
+        subst (λ (other : Host). with_value name (on_first_item (selects_of other) (is_host current other) change value) xs ≡ host_new current other change xs) (sym is)
+        (ap (λ (o : Option Expr). item_new selects name (is_item current name word) change o xs) found)
 
 -- ---- what a change makes of an expression is what it makes of its comments
 
@@ -137,19 +126,44 @@ same_value name cs (Token t) = refl
 same_value name cs (Form' own s parts s' items end split open_break comments) =
     value_answered name (Form' own s parts s' items end split open_break cs) ∙ sym (value_answered name (Form' own s parts s' items end split open_break comments))
 
--- ---- what is found in the lists from an index on
+-- ---- what is found in lists from an index on
 
-found_next : (test : Expr → Bool) (xs : List Expr) (i : ℕ) (d : Expr) (found : Option Expr) → i < length xs → find test (listed (get_or xs i d)) ≡ found
-    → find test (flat_map listed (drop i xs)) ≡ option_or found (find test (flat_map listed (drop (i + 1) xs)))
-found_next test xs i d found h e =
-    ap (λ ys. find test (flat_map listed ys)) (drop_more xs i d h)
-    ∙ (find-append test (listed (get_or xs i d)) (flat_map listed (drop (i + 1) xs)) ∙ ap (λ (o : Option Expr). option_or o (find test (flat_map listed (drop (i + 1) xs)))) e)
+module _ (test : Expr → Bool) (items : Expr → List Expr) (xs : List Expr) (i : ℕ) (item : Expr) where
+  abbrev pub from : ℕ → Option Expr
+  from i = find test (flat_map items (drop i xs))
 
-pub sought_here : (test : Expr → Bool) (xs : List Expr) (i : ℕ) (d y : Expr) → i < length xs → find test (listed (get_or xs i d)) ≡ Some y → find test (flat_map listed (drop i xs)) ≡ Some y
-sought_here test xs i d y h e = found_next test xs i d (Some y) h e
+  found_next : i < length xs → item ≡ get_or xs i item → from i ≡ option_or (find test (items item)) (from (i + 1))
+  found_next within is =
+      ap (λ ys. find test (flat_map items ys)) (drop_more xs i item within ∙ ap (λ x. x ∷ drop (i + 1) xs) (sym is)) ∙ find-append test (items item) (flat_map items (drop (i + 1) xs))
 
-pub sought_later : (test : Expr → Bool) (xs : List Expr) (i : ℕ) (d : Expr) → i < length xs → find test (listed (get_or xs i d)) ≡ None → find test (flat_map listed (drop i xs)) ≡ find test (flat_map listed (drop (i + 1) xs))
-sought_later test xs i d h e = found_next test xs i d None h e
+  -- an item is found there, or none
+  pub sought_here : (found : Expr) → find test (flat_map items xs) ≡ from i → i < length xs → item ≡ get_or xs i item → Some found ≡ find test (items item) → Some found ≡ find test (flat_map items xs)
+  sought_here found all within is here = sym (all ∙ (found_next within is ∙ ap (λ (o : Option Expr). option_or o (from (i + 1))) (sym here)))
+
+  pub sought_later : find test (flat_map items xs) ≡ from i → i < length xs → item ≡ get_or xs i item → None ≡ find test (items item) → find test (flat_map items xs) ≡ from (i + 1)
+  sought_later all within is none = all ∙ (found_next within is ∙ ap (λ (o : Option Expr). option_or o (from (i + 1))) (sym none))
+
+-- and among none that are left
+pub sought_nowhere : (test : Expr → Bool) (items : Expr → List Expr) (xs : List Expr) (i : ℕ) → find test (flat_map items xs) ≡ find test (flat_map items (drop i xs)) → length xs ≤ i
+    → None ≡ find test (flat_map items xs)
+sought_nowhere test items xs i all past = sym (all ∙ at_drop_all (λ ys. find test (flat_map items ys)) xs i past)
+
+pub seen_any : (test : Expr → Bool) (xs : List Expr) (found : Option (Bor Expr)) → option_copied found ≡ find test xs → is_some found ≡ list_any test xs
+seen_any test xs None e = ap (λ (o : Option Expr). is_some o) e ∙ found_any test xs
+seen_any test xs (Some x) e = ap (λ (o : Option Expr). is_some o) e ∙ found_any test xs
+
+module _ (test : Expr → Bool) (x : Expr) where
+  abbrev in_branches : Option Expr
+  in_branches = find test (flat_map branch_items (entries_of x))
+
+  either_found : (found : Option Expr) → find test (listed x) ≡ found → find test (items_at Entered x) ≡ option_or found in_branches
+  either_found found e = find-append test (listed x) (flat_map branch_items (entries_of x)) ∙ ap (λ (o : Option Expr). option_or o in_branches) e
+
+  pub sought_listed : (y : Expr) → find test (listed x) ≡ Some y → find test (items_at Entered x) ≡ Some y
+  sought_listed y e = either_found (Some y) e
+
+  pub sought_in_branches : find test (listed x) ≡ None → find test (items_at Entered x) ≡ in_branches
+  sought_in_branches e = either_found None e
 
 -- ---- the first element that passes, changed in its place; and where none passes
 

@@ -1,32 +1,18 @@
 -- What the commands on comments make of the arguments of a rule is arguments, and of a statement a statement.
-use Rattle.std.proofs.Common.{◌≡◌, zero, suc, Bool, true, false, List, [], ◌∷◌, ◌++◌, length, refl, subst, arith, IsUtf8}
-use Rattle.std.specs.Prelude.{◌==◌, Option, Some, None, Ok, Err, IfSome}
-use Rattle.std.specs.List.{list_any}
-use Rattle.std.proofs.lemmas.Bool.{eqb-false, not-true, or_parts}
+use Rattle.bz_comment.proofs.Words.{[], ◌++◌, ◌==◌, ◌∷◌, ◌≡◌, arith, attribute, Bool, by_test, Bytes, comment, comment_made, comments_of, Entered, eqb-false, Err, Expr, false, Form', has_attribute, has_branch_item, has_item, has_kind, has_lists, Host, HostComments, IfSome, is_attribute, is_item, is_select, IsUtf8, items_in, Kind as k, length, line_feed, List, list_any, no_comments, NoAttribute, None, not-true, number_sign, Ok, on_branch, on_first, on_first_at, on_first_branch, on_first_item, on_first_listed, on_first_operand, on_first_that, on_host, on_items, on_named_item, on_row, on_third, Option, or_parts, refl, remove_comment, row_stays, Selects, Skipped, Some, space, Stays, subst, suc, Token, trimmed, true, with_comment, with_comments, without_comments, zero}
 use Rattle.std.proofs.lemmas.List.Elements.{All-append, All-cons, All-nil}
 use Rattle.std.proofs.lemmas.Str.{IsUtf8-append}
-use Rattle.bz_grammar.specs.declared.kind.Kind.TheVariants as k
 use Rattle.bz_grammar.specs.Shapes as s
 use Rattle.bz_grammar.specs.Shapes.{Nonterminal}
-use Rattle.bz_value.specs.declared.value.Expr.{Expr, Token, Form'}
 use Rattle.bz_value.specs.declared.value.Item.TheVariants as i
-use Rattle.bz_comment.specs.Words.{Bytes, line_feed, number_sign, space, HostComments, no_comments, with_comments, trimmed, Host, attribute, has_kind, on_row, on_items, is_attribute, has_attribute, on_first_that, has_lists, items_in, is_item}
-use Rattle.bz_value.specs.Proper.{IsComment, AreComments, comments_of, IsProperItemIn}
-use Rattle.bz_value.specs.LineShapes.{Grammar}
-use Rattle.bz_value.proofs.GapComments.{suffix_fine}
-use Rattle.bz_value.proofs.Lines.{NoneBefore, line_stops}
-use Rattle.bz_command_syntax.specs.Commands.{is_one_line}
-use Rattle.bz_command_syntax.specs.Proper.{IsHost}
+use Rattle.bz_value.specs.{Proper.IsComment, Proper.AreComments, Proper.IsProperItemIn, LineShapes.Grammar}
+use Rattle.bz_value.proofs.{GapComments.suffix_fine, Lines.NoneBefore, Lines.line_stops}
+use Rattle.bz_command_syntax.specs.{Commands.is_one_line, Proper.IsHost}
 use Rattle.bz_command_syntax.specs.declared.command.Host.TheVariants as h
-use Rattle.bz_rule.proofs.ProperArguments.{attribute_value}
-use Rattle.bz_rule.proofs.ProperChanges.{by_test, Stays, row_stays}
-use Rattle.bz_rule.proofs.ProperForms.{InPlace}
-use Rattle.bz_rule.proofs.ProperItems.{IsValue, value_in_place}
-use Rattle.bz_rule.proofs.ProperSequences.{IsItem, list_in_place}
-use Rattle.bz_value.specs.declared.refusal.Refusal.TheVariants.{NoAttribute}
+use Rattle.bz_rule.proofs.ProperChanges.{first_stays, items_stay, third_stays}
+use Rattle.bz_rule.proofs.{ProperArguments.attribute_value, ProperForms.InPlace, ProperItems.IsValue, ProperItems.value_in_place, ProperSequences.IsItem, ProperSequences.list_in_place}
 use Rattle.bz_attribute.proofs.ProperAttributes.{AreArguments, Made, Keeps, with_value_kept, first_that_kept, first_that_stays}
 use Rattle.bz_attribute.proofs.ProperTexts.{one_ascii}
-use Rattle.bz_comment.specs.Hosts.{comment_made, with_comment, without_comments, has_item, on_first_item, on_named_item, on_host, comment, remove_comment}
 use Rattle.bz_comment.proofs.HostForms.{by_made}
 
 -- ---- the comment that a text becomes
@@ -82,26 +68,47 @@ module _ (grammar : Grammar) where
   -- ---- hosts among arguments
 
   module _ (change : Expr → Expr) (keeps : KeepsItems change) where
-    value_keeps : (test : Expr → Bool) (x : Expr) → IsValue grammar x → IsValue grammar (on_first_item test change x)
-    value_keeps test x v =
-        let within : List Expr → List Expr = on_first_that test change in
-        let stays : Stays grammar (on_items k.List within) = list_in_place grammar within (λ xs a. first_that_kept (IsItem grammar s.test) test change (keeps s.test) xs a) in
-        let operands : List Expr → List Expr = on_first_that (has_item test) (on_items k.List within) in
-        value_in_place grammar x (on_first_item test change x)
-        (by_test (InPlace grammar x) (has_kind k.Sum x) (on_row k.Sum operands x) (on_items k.List within x)
-        (row_stays grammar k.Sum refl operands (first_that_stays grammar (has_item test) (on_items k.List within) stays) x) (stays x)) v
+    module _ (test : Expr → Bool) where
+      list_stays : Stays grammar (on_first_listed test change)
+      list_stays = list_in_place grammar (on_first_that test change) (λ xs a. first_that_kept (IsItem grammar s.test) test change (keeps s.test) xs a)
 
-    item_keeps : (name : Bytes) (test : Expr → Bool) (found : Option Expr) (xs : List Expr) → IfSome found (IsValue grammar) → AreArguments grammar xs → Made grammar (on_named_item name test change found xs)
-    item_keeps name test None xs v h = tt
-    item_keeps name test (Some value) xs v h =
-        by_made (Made grammar) name (has_lists value) (list_any test (items_in value)) (on_first_item test change value) xs (λ is. with_value_kept grammar name (on_first_item test change value) xs (value_keeps test value v) h) (λ refusal. tt)
+      operand_stays : (has : Expr → Bool) (to : Expr → Expr) → Stays grammar to → Stays grammar (on_first_operand has to)
+      operand_stays has to stays x =
+          by_test (InPlace grammar x) (has_kind k.Sum x) (on_row k.Sum (on_first_that has to) x) (to x)
+          (row_stays grammar k.Sum refl (on_first_that has to) (first_that_stays grammar has to stays) x) (stays x)
+
+      branch_stays : Stays grammar (on_branch test change)
+      branch_stays =
+          let to : Expr → Expr = on_first_operand (has_item Skipped test) (on_first_listed test change) in
+          row_stays grammar k.Entry refl (on_third to) (third_stays grammar to (operand_stays (has_item Skipped test) (on_first_listed test change) list_stays))
+
+      select_stays : Stays grammar (on_first_branch test change)
+      select_stays =
+          let entries : List Expr → List Expr = on_first_that (has_branch_item test) (on_branch test change) in
+          items_stay grammar k.Call refl (on_first (on_items k.Dict entries))
+          (first_stays grammar (on_items k.Dict entries) (items_stay grammar k.Dict refl entries (first_that_stays grammar (has_branch_item test) (on_branch test change) branch_stays)))
+
+      at_stays : (selects : Selects) → Stays grammar (on_first_at selects test change)
+      at_stays Skipped = list_stays
+      at_stays Entered = λ x. by_test (InPlace grammar x) (is_select x) (on_first_branch test change x) (on_first_listed test change x) (select_stays x) (list_stays x)
+
+      value_keeps : (selects : Selects) (x : Expr) → IsValue grammar x → IsValue grammar (on_first_item selects test change x)
+      value_keeps selects x v =
+          value_in_place grammar x (on_first_item selects test change x) (operand_stays (has_item selects test) (on_first_at selects test change) (at_stays selects) x) v
+
+    item_keeps : (selects : Selects) (name : Bytes) (test : Expr → Bool) (found : Option Expr) (xs : List Expr) → IfSome found (IsValue grammar) → AreArguments grammar xs
+        → Made grammar (on_named_item selects name test change found xs)
+    item_keeps selects name test None xs v h = tt
+    item_keeps selects name test (Some value) xs v h =
+        by_made (Made grammar) name (has_lists selects value) (list_any test (items_in selects value)) (on_first_item selects test change value) xs
+        (λ is. with_value_kept grammar name (on_first_item selects test change value) xs (value_keeps test selects value v) h) (λ refusal. tt)
 
     host_keeps : (current : Bytes) (host : Host) → Keeps grammar (on_host current host change)
     host_keeps current h.Rule xs h = h
     host_keeps current (h.Attribute name) xs h =
         by_test (Made grammar) (has_attribute name xs) (Ok (on_first_that (is_attribute name) change xs)) (Err NoAttribute)
         (first_that_kept (IsItem grammar s.argument) (is_attribute name) change (keeps s.argument) xs h) tt
-    host_keeps current (h.Item name word) xs h = item_keeps name (is_item current name word) (attribute name xs) xs (attribute_value grammar name xs h) h
+    host_keeps current (h.Item name word selects) xs h = item_keeps selects name (is_item current name word) (attribute name xs) xs (attribute_value grammar name xs h) h
 
   -- ---- the commands
 

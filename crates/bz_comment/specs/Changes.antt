@@ -1,7 +1,8 @@
 -- What is done to comments, in the steps in which it is.
 use denote.Ref.{Bor}
 use Rattle.std.specs.Prelude.{Bool, false, List, [], ◌∷◌, ◌++◌, Result, Ok, Err}
-use Rattle.bz_comment.specs.Words.{Expr, HostComments, no_comments, Bytes, Host, Refusal, Arguments, is_attribute, is_item}
+use Rattle.bz_comment.specs.Words.{Expr, HostComments, no_comments, Bytes, Host, Selects, Refusal, Arguments, is_attribute, is_item}
+use Rattle.bz_command_syntax.specs.declared.command.Selects.TheVariants.{Skipped}
 use Rattle.bz_command_syntax.specs.declared.command.Host.TheVariants as h
 use Rattle.bz_comment.specs.declared.changing.Change.{Change}
 use Rattle.bz_comment.specs.declared.changing.Change.TheVariants.{Add, Remove}
@@ -29,7 +30,12 @@ changed_comments Remove current host arguments = remove_comment current host arg
 abbrev pub is_host : Bytes → Host → Expr → Bool
 is_host current h.Rule = λ x. false
 is_host current (h.Attribute name) = is_attribute name
-is_host current (h.Item name word) = is_item current name word
+is_host current (h.Item name word selects) = is_item current name word
+
+-- whether the branches of a `select` are looked at for it
+abbrev pub selects_of : Host → Selects
+selects_of (h.Item name word selects) = selects
+selects_of _ = Skipped
 
 abbrev pub is_sought : Sought → Expr → Bool
 is_sought sought = is_host sought.current.now sought.host.now

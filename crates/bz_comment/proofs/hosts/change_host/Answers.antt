@@ -1,8 +1,5 @@
-use Rattle.std.proofs.Common.{◌∙◌, ap, inl, sym}
+use Rattle.bz_comment.proofs.Words.{◌∙◌, ap, changed_by, Host as h, inl, sym, with_value}
 use Rattle.std.proofs.lemmas.Result.{err_from_is_err_and}
-use Rattle.bz_command_syntax.specs.declared.command.Host.TheVariants as h
-use Rattle.bz_attribute.specs.Attributes.{with_value}
-use Rattle.bz_comment.specs.Changes.{changed_by}
 use Rattle.bz_comment.proofs.HostForms.{attribute_changed, host_changed, host_refused, item_changed}
 use Rattle.bz_comment.proofs.hosts.change_host.Goals as goal
 
@@ -20,4 +17,4 @@ pub returns-in_default-on_value-clause-ok : goal.returns-in_default-on_value-cla
 returns-in_default-on_value-clause-ok c =
     host_changed c.args.sought.current.now c.args.sought.host.now c.args.own.now c.args.arguments.now c.args.change _ _ _ c.as_slice.ensures c.in_ok-comments_at.ensures
     (c.set_value.ensures ∙ (c.in-Some.ensures.place c.on_value.new.value ∙ (ap (λ value. with_value c.as_slice-name.result.now value c.args.arguments.now) c.in_default-on_value.ensures
-    ∙ item_changed c.args.sought.current.now c.args.sought.host.now c.args.own.now c.args.arguments.now (changed_by c.args.change) _ c.in-Item.value _ (c.in-Item.is ∙ ap (λ name. h.Item name c.in-Item.value) (sym c.as_slice-name.ensures)) c.in-Some.ensures.value)))
+    ∙ item_changed c.args.sought.current.now c.args.sought.host.now c.args.own.now c.args.arguments.now (changed_by c.args.change) _ c.in-Item.value c.in-Item.selects _ (c.in-Item.is ∙ ap (λ name. h.Item name c.in-Item.value c.in-Item.selects) (sym c.as_slice-name.ensures)) c.in-Some.ensures.value)))

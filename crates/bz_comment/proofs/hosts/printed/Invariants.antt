@@ -1,6 +1,4 @@
-use Rattle.std.proofs.Common.{◌≡◌, ◌++◌, drop}
-use Rattle.std.specs.List.{flat_map}
-use Rattle.bz_comment.specs.Hosts.{comment_line}
+use Rattle.bz_comment.proofs.Words.{◌++◌, ◌≡◌, comment_line, drop, flat_map}
 use Rattle.bz_comment.proofs.hosts.printed.Given as goal
 
 -- the lines so far and those of the comments that are left are all lines above
