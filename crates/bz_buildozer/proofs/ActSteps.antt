@@ -1,22 +1,7 @@
 -- What an action leaves, and what a step does in the open file of its package, without journals and with them.
-use Rattle.std.proofs.Common.{◌≡◌, ◌≢◌, ◌⊎◌, ◌∙◌, ◌+◌, ◌-◌, arith, ℕ, Bool, true, false, true≢false, eq-eqb, refl, sym, ap, inl, inr, Option, Ok, Err, nat_lt, if◌then◌else◌, zero, suc, List, [], ◌∷◌, Some, None, subst, ◌||◌, not, ◌++◌, ◌&&◌}
-use Rattle.std.specs.Prelude.{◌==◌, bytes_eq, length, is_some, unwrap_or, IsSome}
-use Rattle.bz_buildozer.specs.Words.{Bytes, Reads, Node, Target, Refusal, PairFault, Folder, Verb, Cut}
-use Rattle.bz_value.specs.declared.refusal.Refusal.TheVariants.{TooFar, Full, NoteTooLong, Memory}
-use Rattle.bz_buildozer.specs.Sessions.{Action, Do, Format, Undo, Redo, Reply, Changed, Moved, Meaning, gives, History, Answer, Acts, Makes, after_meaning, changed, present, Leads, Means, Printed, listing}
-use Rattle.bz_journal.specs.Meaning.{refuses}
+use Rattle.bz_buildozer.proofs.Words.{[], ◌&&◌, ◌++◌, ◌+◌, ◌-◌, ◌==◌, ◌||◌, ◌∙◌, ◌∷◌, ◌≡◌, ◌≢◌, ◌⊎◌, Action, action_of, Acts, after_meaning, Answer, Answers, AnswersIn, ap, append-nil, AreHints, arith, Bool, Bytes, bytes_eq, Changed, changed, Cut, Cut as c, Do, eq-eqb, Err, FailsAt, false, file_after, file_at, Folder, FolderAfter, Format, Full, gives, History, if◌then◌else◌, inl, inr, is_left_at, is_some, IsSome, Leads, LeadsBy, left_out, length, List, listing, Makes, Meaning, Means, Memory, Moved, nat_lt, Node, None, not, NoteTooLong, Ok, Opened, Operation, Option, or-false, or-true, PairFault, present, Printed, printed_in, Progress, Reads, Redo, refl, Refusal, refusal_line, refuses, RefusesBy, Reply, reply_notes, reported_of, ReportsLine, ReportsLines, RunStep, Some, state_after, StillIsSame, subst, suc, sym, Target, TooFar, true, true≢false, Undo, unkept_line, unwrap_or, Used, Verb, with_opened, zero, ℕ}
 use Rattle.bz_journal.specs.History.{most_steps, moved, unchanged}
-use Rattle.bz_buildozer.specs.Keeps.{StillIsSame, FolderAfter, file_after, is_left_at, left_out}
-use Rattle.bz_command_syntax.specs.declared.command.Operation.{Operation}
 use Rattle.bz_streams.specs.declared.sink.Sink.{Ghosts as SinkOf}
-use Rattle.bz_buildozer.specs.Calls.{ReportsLine, ReportsLines}
-use Rattle.bz_buildozer.specs.Found.{Opened, Used, file_at, with_opened}
-use Rattle.bz_buildozer.specs.Run.{reported_of, Answers, AnswersIn, AreHints, FailsAt, LeadsBy, Progress, RefusesBy, reply_notes, printed_in, state_after}
-use Rattle.bz_buildozer.specs.Reported.{refusal_line, unkept_line}
-use Rattle.std.proofs.Math.Bool.{or-false, or-true}
-use Rattle.std.proofs.lemmas.List.{append-nil}
-use Rattle.bz_streams.specs.declared.exit.Cut.TheVariants as c
-use Rattle.bz_buildozer.specs.Steps.{RunStep, action_of}
 
 -- ---- what an action leaves of a history
 

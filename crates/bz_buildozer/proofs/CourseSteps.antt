@@ -1,11 +1,5 @@
 -- A course stays one, but where its action is said to be the last one.
-use Rattle.std.proofs.Common.{◌≡◌, ◌∙◌, Bool, true, false, true≢false, Result, sym}
-use Rattle.bz_journal.specs.Forms.{ActsIn, KeepsIn}
-use Rattle.bz_journal.specs.declared.past.Form.TheVariants as f
-use Rattle.bz_buildozer.specs.Words.{Bytes, Form, Ghosts as FilesOf}
-use Rattle.bz_buildozer.specs.Sessions.{Action, Answer, KeepFault, Reply}
-use Rattle.bz_buildozer.specs.declared.step.OneStep.{OneStep}
-use Rattle.bz_buildozer.specs.private.ShownFiles.{IsCourse}
+use Rattle.bz_buildozer.proofs.Words.{◌∙◌, ◌≡◌, Action, ActsIn, Answer, Bool, Bytes, false, Form, Form as f, Ghosts as FilesOf, IsCourse, KeepFault, KeepsIn, OneStep, Reply, Result, sym, true, true≢false}
 
 pub stays_course : (action : Action) (note : Bytes) (last : Bool) (old new : Form) (answer : Answer) (once : OneStep) → last ≡ once.holds → ActsIn last action note old answer new
     → once.holds ≡ false → IsCourse old → IsCourse new

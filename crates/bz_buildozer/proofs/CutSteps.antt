@@ -1,9 +1,5 @@
 -- Why several parts of a run are cut, one after the other.
-use Rattle.std.proofs.Common.{◌≡◌, ◌≢◌, ◌⊎◌, ◌∙◌, inl, inr, ℕ, List, Bool, false, refl, subst, sym, arith}
-use Rattle.bz_buildozer.specs.Words.{Counts, Cut, first_cut}
-use Rattle.bz_streams.specs.declared.exit.Cut.TheVariants as c
-use Rattle.bz_streams.proofs.Outputs.{rises_more}
-use Rattle.bz_buildozer.specs.Calls.{AreCutBy, CutsFiles}
+use Rattle.bz_buildozer.proofs.Words.{◌∙◌, ◌≡◌, ◌≢◌, ◌⊎◌, AreCutBy, arith, Bool, Counts, Cut, Cut as c, CutsFiles, false, first_cut, inl, inr, List, refl, rises_more, subst, sym, ℕ}
 
 pub cut_more : (cut later : Cut) (r s t f g h : ℕ) → AreCutBy cut r s f g → AreCutBy later s t g h → Counts r s → Counts s t → Counts f g → Counts g h
     → AreCutBy (first_cut cut later) r t f h

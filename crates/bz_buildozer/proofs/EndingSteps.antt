@@ -1,23 +1,8 @@
 -- The files that a run tries at its end, one after the other, and what standard output is given.
-use Rattle.std.proofs.Common.{◌≡◌, ◌≢◌, ◌⊎◌, ◌∙◌, ◌++◌, ◌∷◌, ◌<◌, inl, inr, ℕ, List, [], length, get_or, map, Option, None, Some, Bool, true, false, refl, sym, ap, subst, codes, append_assoc}
-use Rattle.std.specs.Prelude.{if◌then◌else◌}
-use Rattle.std.specs.FinMap.{get}
-use Rattle.std.specs.List.{All}
-use Rattle.std.proofs.Math.Seq.{take-nil}
-use Rattle.std.proofs.lemmas.List.{append-nil, get_or-map, length-map}
-use Rattle.bz_buildozer.specs.Words.{Bytes, Folder, IsReplacing, Ghosts as FilesOf, Options, first_cut, Rises, named_line, Cut}
-use Rattle.bz_streams.specs.declared.exit.Cut.TheVariants as c
-use Rattle.bz_streams.proofs.Outputs.{appends_nothing}
+use Rattle.bz_buildozer.proofs.Words.{[], ◌++◌, ◌<◌, ◌∙◌, ◌∷◌, ◌≡◌, ◌≢◌, ◌⊎◌, All, ap, append-nil, append_assoc, appends_nothing, Bool, Bytes, codes, Cut, Cut as c, differs, false, first_cut, fixed_lines, Folder, get, get_or, get_or-map, Ghosts as FilesOf, if◌then◌else◌, inl, input_package, inr, is_input, IsReplacing, LeavesUnwritten, length, length-map, List, map, name_fixed, named_line, None, Opened, Option, Options, present, PrintsAll, PrintsSome, PrintsUntil, refl, ReportsLine, ReportsLines, Rises, Some, subst, sym, take-nil, TriesFile, TriesFiles, true, Used, used_in, WorksOn, WritesFile, Writing, writing_of, ℕ}
 use Rattle.bz_streams.specs.declared.sink.Sink.{Ghosts as SinkOf}
-use Rattle.bz_buildozer.specs.Calls.{PrintsAll, PrintsSome, PrintsUntil, ReportsLine, ReportsLines, WorksOn}
-use Rattle.bz_buildozer.specs.Ending.{LeavesUnwritten, TriesFile, TriesFiles, Writing, WritesFile, differs, fixed_lines, is_input, name_fixed, writing_of}
-use Rattle.bz_buildozer.specs.Found.{Opened, Used}
-use Rattle.bz_buildozer.specs.Sessions.{present}
-use Rattle.bz_buildozer.specs.Steps.{input_package}
 use Rattle.bz_buildozer.specs.declared.used.Used as d
-use Rattle.bz_buildozer.specs.private.ShownFiles.{used_in}
-use Rattle.bz_buildozer.proofs.FailSteps.{cut_alone, cuts_assoc, one_line}
-use Rattle.bz_buildozer.proofs.StandSteps.{not_input}
+use Rattle.bz_buildozer.proofs.{FailSteps.cut_alone, FailSteps.cuts_assoc, FailSteps.one_line, StandSteps.not_input}
 
 -- ---- one file
 

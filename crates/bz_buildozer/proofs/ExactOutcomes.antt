@@ -1,31 +1,11 @@
 -- Words, standard input and a folder have at most one outcome.
-use Rattle.std.proofs.Common.{◌≡◌, ◌⊎◌, ◌+◌, inl, inr, ℕ, List, [], ◌∷◌, ◌++◌, length, Bool, true, if◌then◌else◌, Option, None, Result, Ok, Err, suc, arith, refl, sym, ap, ◌∙◌, cond, Some, false, ◌||◌, subst, map, ◌≢◌, ◌&&◌, bytes_eq, true≢false}
-use Rattle.bz_buildozer.specs.Words.{Bytes, IsPatternFault, IsFirstRefused, IsFirstFault, IsGroupFault, IsScriptFault, Folder, SameBut, Target, journal_name, Options, first_cut, Cut, ReadFault, fault_line}
-use Rattle.bz_command_line.specs.Requested.{Requested, Refused, Usage, of_operand, no_command, no_target, no_line, nul, in_line, joined_operands, accepted, requested_by, requested_of, operand_group, Request}
-use Rattle.bz_command_line.specs.Script.{line_with_nul, script_lines, is_read, operands_in, in_front, group_in_line, line_group, operand_groups, some_groups, without_nul, script_of}
-use Rattle.std.specs.FinMap.{get, get-insert}
-use Rattle.std.specs.List.{flat_map, list_any}
-use Rattle.std.specs.Ordering.{nat_cmp, eq_by_cmp}
-use Rattle.std.specs.Cmp.Lexicographic.{slice_cmp}
-use Rattle.std.proofs.lemmas.Bool.{or_parts, cases_lt}
+use Rattle.bz_buildozer.proofs.Words.{[], ◌&&◌, ◌++◌, ◌+◌, ◌||◌, ◌∙◌, ◌∷◌, ◌≡◌, ◌≢◌, ◌⊎◌, accepted, all_steps, ap, append-nil, arith, Bool, Bytes, bytes_eq, cases_lt, command_line_of, CommandLine, cond, Cut, Cut as c, Ended, Err, false, fault_line, first_cut, flat_map, Folder, get, get-insert, Given, GivenOutcome, GivenReportsPattern, if◌then◌else◌, in_line, inl, input_package, inr, is_of_input, IsFirstFault, IsFirstRefused, IsGroupFault, IsLeftOpen, IsPatternFault, IsScript, IsScriptFault, IsText, IsTextFault, IsUtf8, joined_operands, journal_name, length, LineOutcome, LinesEnd, LinesOutcome, LineUsage, List, list_any, list_any-append, map, names_file, names_input, nat_cmp, no_command, no_line, no_target, None, nothing_done, NotUtf8, nul, of_clap, of_operand, Ok, OneReading, operand_group, operands, OperandsOutcome, Option, Options, or_parts, OutcomesAreExact, output_lines, Performs, Progress, ReadFault, refl, reported_name, ReportsPattern, Request, Requested, requested_by, requested_of, Result, root_above, root_note, RunsSteps, SameBut, SameLeft, script, script_lines, script_of, ScriptOutcome, shows_input, slice_cmp, Some, status_of, step_of, steps_requested, subst, suc, sym, take-length, Target, TextOutcome, texts_out, TriesFile, TriesFiles, true, true≢false, unread, unused, Usage, usage_line, Used, WordsOutcome, World, WritesFile, Writing, writing_of, ℕ}
+use Rattle.bz_command_syntax.specs.declared.profile.Profile.{Profile}
+use Rattle.bz_command_line.specs.{Requested.Refused, Script.line_with_nul, Script.is_read, Script.operands_in, Script.in_front, Script.group_in_line, Script.line_group, Script.operand_groups, Script.some_groups, Script.without_nul, Line.beside_script, Line.beside_stdout, Line.no_profile}
+use Rattle.std.specs.{Ordering.eq_by_cmp, Str.IsValidUpTo}
 use Rattle.std.proofs.lemmas.Cmp.{nat_list_cmp_total}
-use Rattle.std.proofs.lemmas.List.{append-nil}
-use Rattle.std.proofs.lemmas.List.Folds.{list_any-append}
-use Rattle.bz_grammar.specs.Laws.{OneReading}
-use Rattle.bz_streams.specs.declared.exit.Cut.TheVariants as c
-use Rattle.bz_buildozer.specs.Found.{Used, root_above}
-use Rattle.bz_buildozer.specs.Ending.{Ended, Performs, TriesFile, TriesFiles, WritesFile, Writing, status_of, texts_out, writing_of}
-use Rattle.bz_buildozer.specs.Exact.{IsLeftOpen, SameLeft, ReportsPattern, GivenReportsPattern, OutcomesAreExact}
-use Rattle.bz_buildozer.specs.Reported.{output_lines, root_note, usage_line}
-use Rattle.bz_buildozer.specs.Run.{World, Progress, RunsSteps, nothing_done}
-use Rattle.bz_buildozer.specs.Steps.{step_of, steps_requested, all_steps, is_of_input, names_file, names_input, shows_input, input_package}
 use Rattle.bz_buildozer.proofs.CutSteps.{both_whole}
 use Rattle.bz_buildozer.proofs.ExactSteps.{same_append, same_lines, same_parts, AreSeen, Stays, reads_input, same_folder, same_run, stays_run, one_input}
-use Rattle.std.specs.Str.{IsUtf8, IsValidUpTo}
-use Rattle.std.proofs.Math.Seq.{take-length}
-use Rattle.bz_lex.specs.declared.fault.ReadFault.TheVariants.{NotUtf8}
-use Rattle.bz_command_line.specs.Line.{Given, operands, script, LineUsage, of_clap, beside_script, beside_stdout, CommandLine, command_line_of}
-use Rattle.bz_buildozer.specs.Outcome.{unused, unread, LinesEnd, IsScript, IsText, IsTextFault, reported_name, OperandsOutcome, LinesOutcome, TextOutcome, ScriptOutcome, GivenOutcome, LineOutcome, WordsOutcome}
 
 -- ---- why operands and lines are refused, as their functions say it, but for patterns
 
@@ -35,86 +15,87 @@ both_joined (Ok a) (Ok b) requested is = (a, b, refl, refl)
 both_joined (Ok a) (Err refused) requested is = absurd (cc is)
 both_joined (Err refused) more requested is = absurd (cc is)
 
--- The first operand that is refused is reported.
-first_refused : (front rest : List Bytes) (operand : Bytes) (refused : Refused) (requested : Requested) → requested_of front ≡ Ok requested
-    → requested_by operand ≡ Err refused → requested_of (front ++ operand ∷ rest) ≡ Err refused
-first_refused [] rest operand refused requested before is = ap (λ (it : Result Requested Refused). joined_operands it (requested_of rest)) is
-first_refused (first ∷ front) rest operand refused requested before is =
-    let parts = both_joined (requested_by first) (requested_of front) requested before in
-    ap (λ (it : Result Requested Refused). joined_operands it (requested_of (front ++ operand ∷ rest))) parts.2
-    ∙ ap (λ (it : Result Requested Refused). joined_operands (Ok parts.0) it) (first_refused front rest operand refused parts.1 parts.3 is)
+module _ (profile : Profile) where
+  -- The first operand that is refused is reported.
+  first_refused : (front rest : List Bytes) (operand : Bytes) (refused : Refused) (requested : Requested) → requested_of profile front ≡ Ok requested
+      → requested_by profile operand ≡ Err refused → requested_of profile (front ++ operand ∷ rest) ≡ Err refused
+  first_refused [] rest operand refused requested before is = ap (λ (it : Result Requested Refused). joined_operands it (requested_of profile rest)) is
+  first_refused (first ∷ front) rest operand refused requested before is =
+      let parts = both_joined (requested_by profile first) (requested_of profile front) requested before in
+      ap (λ (it : Result Requested Refused). joined_operands it (requested_of profile (front ++ operand ∷ rest))) parts.2
+      ∙ ap (λ (it : Result Requested Refused). joined_operands (Ok parts.0) it) (first_refused front rest operand refused parts.1 parts.3 is)
 
--- a usage that reports a pattern of these operands
-abbrev pub ReportsOperand : List Bytes → Usage → Type 0
-ReportsOperand texts usage = (refused : Refused) × (usage ≡ of_operand refused) × IsFirstRefused texts refused × IsPatternFault refused.operand refused.fault
+  -- a usage that reports a pattern of these operands
+  abbrev pub ReportsOperand : List Bytes → Usage → Type 0
+  ReportsOperand texts usage = (refused : Refused) × (usage ≡ of_operand refused) × IsFirstRefused profile texts refused × IsPatternFault profile refused.operand refused.fault
 
-by_operand : (texts : List Bytes) (refused : Refused) → IsFirstRefused texts refused → (operand_group texts ≡ Err (of_operand refused)) ⊎ ReportsOperand texts (of_operand refused)
-by_operand texts refused first = elim first.fault [
-  | inl requested ↦ inl (ap operand_group first.split ∙ ap accepted (first_refused first.front first.rest refused.operand refused first.requested first.before requested))
-  | inr pattern ↦ inr (refused, refl, first, pattern)
-]
+  by_operand : (texts : List Bytes) (refused : Refused) → IsFirstRefused profile texts refused → (operand_group profile texts ≡ Err (of_operand refused)) ⊎ ReportsOperand texts (of_operand refused)
+  by_operand texts refused first = elim first.fault [
+    | inl requested ↦ inl (ap (operand_group profile) first.split ∙ ap accepted (first_refused first.front first.rest refused.operand refused first.requested first.before requested))
+    | inr pattern ↦ inr (refused, refl, first, pattern)
+  ]
 
-pub group_fault : (texts : List Bytes) (usage : Usage) → IsGroupFault texts usage → (operand_group texts ≡ Err usage) ⊎ ReportsOperand texts usage
-group_fault texts (of_operand refused) fault = by_operand texts refused fault
-group_fault texts no_command fault = inl fault
-group_fault texts no_target fault = inl fault
-group_fault texts _ fault = absurd fault
+  pub group_fault : (texts : List Bytes) (usage : Usage) → IsGroupFault profile texts usage → (operand_group profile texts ≡ Err usage) ⊎ ReportsOperand texts usage
+  group_fault texts (of_operand refused) fault = by_operand texts refused fault
+  group_fault texts no_command fault = inl fault
+  group_fault texts no_target fault = inl fault
+  group_fault texts _ fault = absurd fault
 
--- ---- lines
+  -- ---- lines
 
-both_in_front : (first more : Result (List Requested) Usage) (groups : List Requested) → in_front first more ≡ Ok groups
-    → (a : List Requested) × (b : List Requested) × (first ≡ Ok a) × (more ≡ Ok b)
-both_in_front (Ok a) (Ok b) groups is = (a, b, refl, refl)
-both_in_front (Ok a) (Err usage) groups is = absurd (cc is)
-both_in_front (Err usage) more groups is = absurd (cc is)
+  both_in_front : (first more : Result (List Requested) Usage) (groups : List Requested) → in_front first more ≡ Ok groups
+      → (a : List Requested) × (b : List Requested) × (first ≡ Ok a) × (more ≡ Ok b)
+  both_in_front (Ok a) (Ok b) groups is = (a, b, refl, refl)
+  both_in_front (Ok a) (Err usage) groups is = absurd (cc is)
+  both_in_front (Err usage) more groups is = absurd (cc is)
 
--- The line that is refused, after this many others.
-refused_group : (number : ℕ) (line : Bytes) (usage : Usage) → is_read line ≡ true → operand_group (operands_in line) ≡ Err usage
-    → line_group number line ≡ Err (in_line number usage)
-refused_group number line usage read is =
-    ap (λ (test : Bool). if test then group_in_line number (operand_group (operands_in line)) else Ok []) read ∙ ap (group_in_line number) is
+  -- The line that is refused, after this many others.
+  refused_group : (number : ℕ) (line : Bytes) (usage : Usage) → is_read line ≡ true → operand_group profile (operands_in line) ≡ Err usage
+      → line_group profile number line ≡ Err (in_line number usage)
+  refused_group number line usage read is =
+      ap (λ (test : Bool). if test then group_in_line number (operand_group profile (operands_in line)) else Ok []) read ∙ ap (group_in_line number) is
 
-first_fault : (number : ℕ) (front rest : List Bytes) (line : Bytes) (usage : Usage) (groups : List Requested) → operand_groups number front ≡ Ok groups
-    → is_read line ≡ true → operand_group (operands_in line) ≡ Err usage
-    → operand_groups number (front ++ line ∷ rest) ≡ Err (in_line (number + length front) usage)
-first_fault number [] rest line usage groups before read is =
-    let same : number ≡ number + 0 = omega arith in
-    ap (λ (it : Result (List Requested) Usage). in_front it (operand_groups (number + 1) rest)) (refused_group number line usage read is)
-    ∙ ap (λ (n : ℕ). Err (in_line n usage)) same
-first_fault number (first ∷ front) rest line usage groups before read is =
-    let parts = both_in_front (line_group number first) (operand_groups (number + 1) front) groups before in
-    let same : number + 1 + length front ≡ number + suc (length front) = omega arith in
-    ap (λ (it : Result (List Requested) Usage). in_front it (operand_groups (number + 1) (front ++ line ∷ rest))) parts.2
-    ∙ ap (λ (it : Result (List Requested) Usage). in_front (Ok parts.0) it) (first_fault (number + 1) front rest line usage parts.1 parts.3 read is)
-    ∙ ap (λ (n : ℕ). Err (in_line n usage)) same
+  first_fault : (number : ℕ) (front rest : List Bytes) (line : Bytes) (usage : Usage) (groups : List Requested) → operand_groups profile number front ≡ Ok groups
+      → is_read line ≡ true → operand_group profile (operands_in line) ≡ Err usage
+      → operand_groups profile number (front ++ line ∷ rest) ≡ Err (in_line (number + length front) usage)
+  first_fault number [] rest line usage groups before read is =
+      let same : number ≡ number + 0 = omega arith in
+      ap (λ (it : Result (List Requested) Usage). in_front it (operand_groups profile (number + 1) rest)) (refused_group number line usage read is)
+      ∙ ap (λ (n : ℕ). Err (in_line n usage)) same
+  first_fault number (first ∷ front) rest line usage groups before read is =
+      let parts = both_in_front (line_group profile number first) (operand_groups profile (number + 1) front) groups before in
+      let same : number + 1 + length front ≡ number + suc (length front) = omega arith in
+      ap (λ (it : Result (List Requested) Usage). in_front it (operand_groups profile (number + 1) (front ++ line ∷ rest))) parts.2
+      ∙ ap (λ (it : Result (List Requested) Usage). in_front (Ok parts.0) it) (first_fault (number + 1) front rest line usage parts.1 parts.3 read is)
+      ∙ ap (λ (n : ℕ). Err (in_line n usage)) same
 
--- a usage that reports a pattern of these lines
-abbrev pub ReportsLine : List Bytes → Usage → Type 0
-ReportsLine lines usage =
-    (refused : Refused) × (line : ℕ) × (usage ≡ in_line line (of_operand refused)) × IsFirstFault lines usage × IsPatternFault refused.operand refused.fault
+  -- a usage that reports a pattern of these lines
+  abbrev pub ReportsLine : List Bytes → Usage → Type 0
+  ReportsLine lines usage =
+      (refused : Refused) × (line : ℕ) × (usage ≡ in_line line (of_operand refused)) × IsFirstFault profile lines usage × IsPatternFault profile refused.operand refused.fault
 
-by_line : (text : Bytes) (usage : Usage) → line_with_nul (script_lines text) ≡ None → IsFirstFault (script_lines text) usage
-    → (script_of text ≡ Err usage) ⊎ ReportsLine (script_lines text) usage
-by_line text usage none first =
-    let read = first.fault.0 in
-    let why = first.fault.1 in
-    let named = first.fault.3 in
-    elim (group_fault (operands_in first.line) why first.fault.2) [
-      | inl is ↦
-          let same : 1 + length first.front ≡ length first.front + 1 = omega arith in
-          inl (
-          ap (λ (line : Option ℕ). without_nul line (script_lines text)) none
-          ∙ ap (λ (lines : List Bytes). some_groups (operand_groups 1 lines)) first.split
-          ∙ ap some_groups (first_fault 1 first.front first.rest first.line why first.groups first.before read is)
-          ∙ ap (λ (n : ℕ). Err (in_line n why)) same
-          ∙ ap Err (sym named)
-          )
-      | inr reports ↦ inr (reports.0, length first.front + 1, named ∙ ap (in_line (length first.front + 1)) reports.1, first, reports.3)
-    ]
+  by_line : (text : Bytes) (usage : Usage) → line_with_nul (script_lines text) ≡ None → IsFirstFault profile (script_lines text) usage
+      → (script_of profile text ≡ Err usage) ⊎ ReportsLine (script_lines text) usage
+  by_line text usage none first =
+      let read = first.fault.0 in
+      let why = first.fault.1 in
+      let named = first.fault.3 in
+      elim (group_fault (operands_in first.line) why first.fault.2) [
+        | inl is ↦
+            let same : 1 + length first.front ≡ length first.front + 1 = omega arith in
+            inl (
+            ap (λ (line : Option ℕ). without_nul profile line (script_lines text)) none
+            ∙ ap (λ (lines : List Bytes). some_groups (operand_groups profile 1 lines)) first.split
+            ∙ ap some_groups (first_fault 1 first.front first.rest first.line why first.groups first.before read is)
+            ∙ ap (λ (n : ℕ). Err (in_line n why)) same
+            ∙ ap Err (sym named)
+            )
+        | inr reports ↦ inr (reports.0, length first.front + 1, named ∙ ap (in_line (length first.front + 1)) reports.1, first, reports.3)
+      ]
 
-pub script_fault : (text : Bytes) (usage : Usage) → IsScriptFault text usage → (script_of text ≡ Err usage) ⊎ ReportsLine (script_lines text) usage
-script_fault text usage (inl is) = inl is
-script_fault text usage (inr (none, first)) = by_line text usage none first
+  pub script_fault : (text : Bytes) (usage : Usage) → IsScriptFault profile text usage → (script_of profile text ≡ Err usage) ⊎ ReportsLine (script_lines text) usage
+  script_fault text usage (inl is) = inl is
+  script_fault text usage (inr (none, first)) = by_line text usage none first
 
 -- ---- what is left after whole steps, and the folder after the files that are written
 
@@ -290,6 +271,8 @@ module _ (words : List Bytes) (world : World) where
   same_usage of_clap claps ended other whole whole' (line, told, is) (line', told', is') =
       subst (λ (e : Ended). SameLeft words world e.left other.left) (sym is) (subst (λ (e : Ended). SameLeft words world (unused world.folder line).left e.left) (sym is')
       (record { output = refl; status = refl; lines = (inr (inr claps), tt); folder = λ name left_open. refl }))
+  same_usage (no_profile name) claps ended other whole whole' (line, told, is) (line', told', is') =
+      same_ended ended other (is ∙ ap (unused world.folder) (told ∙ sym told') ∙ sym is')
   same_usage beside_script claps ended other whole whole' (line, told, is) (line', told', is') =
       same_ended ended other (is ∙ ap (unused world.folder) (told ∙ sym told') ∙ sym is')
   same_usage beside_stdout claps ended other whole whole' (line, told, is) (line', told', is') =
@@ -332,11 +315,11 @@ module _ (one : OneReading) (words : List Bytes) (bytes : Bytes) (options : Opti
   -- ---- operands
 
   abbrev OperandsExact : List Bytes → Ended → Type 0
-  OperandsExact texts ended = Decided words world [] (λ (requested : Requested). LinesEnd options (requested ∷ []) world) (operand_group texts) ended
+  OperandsExact texts ended = Decided words world [] (λ (requested : Requested). LinesEnd options (requested ∷ []) world) (operand_group options.profile texts) ended
 
   operands_exact : (texts : List Bytes) (ended : Ended) → OperandsOutcome options texts world ended
-      → GivenReportsPattern (operands texts) world ended ⊎ OperandsExact texts ended
-  operands_exact texts ended (inl (usage, fault, none)) = elim (group_fault texts usage fault) [
+      → GivenReportsPattern options.profile (operands texts) world ended ⊎ OperandsExact texts ended
+  operands_exact texts ended (inl (usage, fault, none)) = elim (group_fault options.profile texts usage fault) [
     | inl is ↦ inr (subst (λ (it : Result Requested Usage). Decided words world [] (λ (requested : Requested). LinesEnd options (requested ∷ []) world) it ended) (sym is) none)
     | inr reports ↦ inl (reports.0, reports.2, (reports.3, none ∙ ap (λ (it : Usage). unused world.folder (usage_line [] it)) reports.1))
   ]
@@ -351,30 +334,30 @@ module _ (one : OneReading) (words : List Bytes) (bytes : Bytes) (options : Opti
 
     abbrev TextExact : Bytes → Ended → Type 0
     TextExact text ended =
-        ((fault : ReadFault) × IsTextFault text fault × (ended ≡ unused world.folder (fault_line (reported_name name) fault))) ⊎ (IsText text × TextDecided (script_of text) ended)
+        ((fault : ReadFault) × IsTextFault text fault × (ended ≡ unused world.folder (fault_line (reported_name name) fault))) ⊎ (IsText text × TextDecided (script_of options.profile text) ended)
 
     abbrev ScriptExact : Ended → Type 0
     ScriptExact ended =
         ((text : Bytes) × IsScript world name (Some text) × TextExact text ended) ⊎ (IsScript world name None × (ended ≡ unread c.Whole name world.folder))
 
     text_exact : (text : Bytes) (ended : Ended) → IsScript world name (Some text) → TextOutcome options name text world ended
-        → GivenReportsPattern (script name) world ended ⊎ ScriptExact ended
+        → GivenReportsPattern options.profile (script name) world ended ⊎ ScriptExact ended
     text_exact text ended there (inl invalid) = inr (inl (text, there, inl invalid))
-    text_exact text ended there (inr (inl (whole, (usage, fault, none)))) = elim (script_fault text usage fault) [
+    text_exact text ended there (inr (inl (whole, (usage, fault, none)))) = elim (script_fault options.profile text usage fault) [
       | inl is ↦ inr (inl (text, there, inr (whole, subst (λ (it : Result (List Requested) Usage). TextDecided it ended) (sym is) none)))
       | inr reports ↦ inl (
         text,
         there,
         reports.0,
         reports.1,
-        subst (IsFirstFault (script_lines text)) reports.2 reports.3,
+        subst (IsFirstFault options.profile (script_lines text)) reports.2 reports.3,
         (reports.4, none ∙ ap (λ (it : Usage). unused world.folder (usage_line (reported_name name) it)) reports.2),
       )
     ]
     text_exact text ended there (inr (inr (whole, (lines, is, done)))) =
         inr (inl (text, there, inr (whole, subst (λ (it : Result (List Requested) Usage). TextDecided it ended) (sym is) done)))
 
-    script_exact : (ended : Ended) → ended.cut ≡ c.Whole → ScriptOutcome options name world ended → GivenReportsPattern (script name) world ended ⊎ ScriptExact ended
+    script_exact : (ended : Ended) → ended.cut ≡ c.Whole → ScriptOutcome options name world ended → GivenReportsPattern options.profile (script name) world ended ⊎ ScriptExact ended
     script_exact ended whole (inl (text, there, outcome)) = text_exact text ended there outcome
     script_exact ended whole (inr (is, write, absent)) = inr (inr (absent whole, is ∙ ap (λ why. unread why name world.folder) whole))
 
@@ -384,7 +367,7 @@ module _ (one : OneReading) (words : List Bytes) (bytes : Bytes) (options : Opti
     same_text text ended other whole whole' (inl (fault, invalid, is)) (inr (fits, decided)) = absurd (no_fault text fault fits invalid)
     same_text text ended other whole whole' (inr (fits, decided)) (inl (fault, invalid, is)) = absurd (no_fault text fault fits invalid)
     same_text text ended other whole whole' (inr (fits, decided)) (inr (fits', decided')) =
-        same_decided words world (reported_name name) (λ (lines : List Requested). LinesOutcome options (bytes_eq name input_package) lines world) (script_of text)
+        same_decided words world (reported_name name) (λ (lines : List Requested). LinesOutcome options (bytes_eq name input_package) lines world) (script_of options.profile text)
         (same_lines_done (bytes_eq name input_package)) ended other whole whole' decided decided'
 
     same_script : IsOne words world ScriptExact
@@ -401,14 +384,14 @@ module _ (one : OneReading) (words : List Bytes) (bytes : Bytes) (options : Opti
   -- ---- what is given
 
   exactly_given : (given : Given) (ended other : Ended) → ended.cut ≡ c.Whole → other.cut ≡ c.Whole → GivenOutcome options given world ended
-      → GivenOutcome options given world other → GivenReportsPattern given world ended ⊎ GivenReportsPattern given world other ⊎ SameLeft words world ended.left other.left
+      → GivenOutcome options given world other → GivenReportsPattern options.profile given world ended ⊎ GivenReportsPattern options.profile given world other ⊎ SameLeft words world ended.left other.left
   exactly_given (operands texts) ended other whole whole' outcome outcome' =
-      by_pattern words world (GivenReportsPattern (operands texts) world) (OperandsExact texts) ended other
-      (same_decided words world [] (λ (requested : Requested). LinesEnd options (requested ∷ []) world) (operand_group texts)
+      by_pattern words world (GivenReportsPattern options.profile (operands texts) world) (OperandsExact texts) ended other
+      (same_decided words world [] (λ (requested : Requested). LinesEnd options (requested ∷ []) world) (operand_group options.profile texts)
       (λ requested it that w w' done done'. same_ends (requested ∷ []) it that w w' (world.known, inl refl, done) (world.known, inl refl, done')))
       whole whole' (operands_exact texts ended outcome) (operands_exact texts other outcome')
   exactly_given (script name) ended other whole whole' outcome outcome' =
-      by_pattern words world (GivenReportsPattern (script name) world) (ScriptExact name) ended other (same_script name) whole whole'
+      by_pattern words world (GivenReportsPattern options.profile (script name) world) (ScriptExact name) ended other (same_script name) whole whole'
       (script_exact name ended whole outcome) (script_exact name other whole' outcome')
 
 -- ---- whole lines

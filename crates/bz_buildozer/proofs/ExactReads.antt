@@ -1,22 +1,6 @@
 -- Runs that standard input or standard output cuts: what is printed, and what a run leaves that nothing cuts.
-use Rattle.std.proofs.Common.{◌≡◌, inl, inr, ℕ, zero, suc, List, [], ◌∷◌, ◌++◌, map, Option, None, Bool, false, subst, sym, arith, ◌≢◌, ◌⊎◌, ◌∙◌, Result, Ok, Err, IfOk, refl, ap}
-use Rattle.std.specs.List.{All, flat_map}
-use Rattle.std.proofs.lemmas.List.Elements.{All-head, All-tail}
-use Rattle.bz_buildozer.specs.Words.{Bytes, Folder, Target, Requested, Request, Usage, Cut, Given, operands, script, CommandLine, LineUsage, command_line_of, Options, first_cut}
-use Rattle.bz_streams.specs.declared.exit.Cut.TheVariants as c
-use Rattle.bz_buildozer.specs.Found.{Opened, Used, with_opened, file_at, package_number, root_above}
-use Rattle.bz_buildozer.specs.Outcome.{AreOfInput, GivenOutcome, IsOfInput, LineOutcome, NamesNoFile, WordsOutcome}
-use Rattle.bz_buildozer.specs.Run.{Answers, Does, World, Progress, RunsSteps, Uses, nothing_done}
-use Rattle.bz_buildozer.specs.Reported.{root_note}
-use Rattle.bz_buildozer.specs.Steps.{RunStep, step_of, steps_requested, all_steps, input_package, names_file, shows_input}
-use Rattle.bz_buildozer.proofs.FailSteps.{answers_stay, stay_used}
-use Rattle.bz_buildozer.proofs.StandSteps.{key_input, key_of_input}
-use Rattle.std.specs.Option.{option_map}
-use Rattle.std.proofs.lemmas.List.{append-nil}
-use Rattle.bz_buildozer.specs.Ending.{Ended, Left, Performs, TriesFile, TriesFiles, ended_whole, opened_out, is_input, status_of, texts_out}
-use Rattle.bz_buildozer.specs.Exact.{OutputCutsNothingElse}
-use Rattle.bz_buildozer.proofs.CutSteps.{both_whole}
-use Rattle.bz_buildozer.proofs.PlaceSteps.{last_is_used}
+use Rattle.bz_buildozer.proofs.Words.{[], ◌++◌, ◌∙◌, ◌∷◌, ◌≡◌, ◌≢◌, ◌⊎◌, All, All-head, All-tail, all_steps, Answers, ap, append-nil, AreOfInput, arith, Bool, Bytes, command_line_of, CommandLine, Cut, Cut as c, Does, Ended, ended_whole, Err, false, file_at, first_cut, flat_map, Folder, Given, GivenOutcome, IfOk, inl, input_package, inr, is_input, IsOfInput, Left, LineOutcome, LineUsage, List, map, names_file, NamesNoFile, None, nothing_done, Ok, Opened, opened_out, operands, Option, option_map, Options, OutputCutsNothingElse, package_number, Performs, Progress, refl, Request, Requested, Result, root_above, root_note, RunsSteps, RunStep, script, shows_input, status_of, step_of, steps_requested, subst, suc, sym, Target, texts_out, TriesFile, TriesFiles, Usage, Used, Uses, with_opened, WordsOutcome, World, zero, ℕ}
+use Rattle.bz_buildozer.proofs.{FailSteps.answers_stay, FailSteps.stay_used, StandSteps.key_input, StandSteps.key_of_input, CutSteps.both_whole, PlaceSteps.last_is_used}
 
 -- ---- steps on rules of standard input use no other package, and so write no file
 
@@ -147,8 +131,8 @@ record Requests (Is : Ended → Type 0) (OfInput : Type 0) (world : World) (ende
   pub of_input : OfInput → AreOfInput lines
 
 module _ (world : World) (ended : Ended) (other : ended.cut ≢ c.Whole) where
-  given_requests : (options : Options) (given : Given) → (ended.cut ≡ c.Write) ⊎ IsOfInput given → GivenOutcome options given world ended
-      → Requests (GivenOutcome options given world) (IsOfInput given) world ended
+  given_requests : (options : Options) (given : Given) → (ended.cut ≡ c.Write) ⊎ IsOfInput options.profile given → GivenOutcome options given world ended
+      → Requests (GivenOutcome options given world) (IsOfInput options.profile given) world ended
   given_requests options (operands texts) why (inl (usage, fault, is)) = absurd (other (ap (λ (e : Ended). e.cut) is))
   given_requests options (operands texts) why (inr (requested, is, inl (named, same))) = absurd (other (ap (λ (e : Ended). e.cut) same))
   given_requests options (operands texts) why (inr (requested, is, inr (none, performs))) = record {
@@ -175,8 +159,8 @@ module _ (world : World) (ended : Ended) (other : ended.cut ≢ c.Whole) where
   given_requests options (script name) (inl write) (inr (is, unwritten, absent)) = absurd (unwritten write)
   given_requests options (script name) (inr none) (inr unread) = absurd none
 
-  line_requests : (words : List Bytes) (line : Result CommandLine LineUsage) → (ended.cut ≡ c.Write) ⊎ IfOk line (λ it. IsOfInput it.given)
-      → LineOutcome words line world ended → Requests (LineOutcome words line world) (IfOk line (λ it. IsOfInput it.given)) world ended
+  line_requests : (words : List Bytes) (line : Result CommandLine LineUsage) → (ended.cut ≡ c.Write) ⊎ IfOk line (λ it. IsOfInput it.options.profile it.given)
+      → LineOutcome words line world ended → Requests (LineOutcome words line world) (IfOk line (λ it. IsOfInput it.options.profile it.given)) world ended
   line_requests words (Err usage) why (line, told, is) = absurd (other (ap (λ (e : Ended). e.cut) is))
   line_requests words (Ok line) why outcome = given_requests line.options line.given why outcome
 

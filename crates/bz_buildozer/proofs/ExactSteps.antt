@@ -1,24 +1,5 @@
 -- Whole runs of steps do one thing, without journals and with them, and print the same lines but for what is left open.
-use Rattle.std.proofs.Common.{◌≡◌, inl, List, [], ◌∷◌, ◌++◌, refl, sym, subst, inr, Option, Some, None, Result, Ok, Err, ap, ◌∙◌, arith, ◌≢◌, ◌⊎◌, ℕ, Bool, true, false, true≢false, bytes_eq, codes}
-use Rattle.bz_buildozer.specs.Words.{Bytes, Refusal, lines_of, Node, view_of, refusal_hint, Folder, IsAside, journal_name, Holds, OthersStay, first_cut, fault_excerpt, IsInput, stdin, fault_line, named_line, Cut}
-use Rattle.bz_buildozer.specs.Exact.{SameLines}
-use Rattle.bz_buildozer.specs.Run.{World, LeadsBy, Answers, AnswersIn, AreHints, Does, Finds, Progress, RunsSteps, Uses, UsesWhole, reported_of, state_after}
-use Rattle.bz_grammar.specs.Laws.{OneReading}
-use Rattle.bz_value.specs.declared.value.Item.{Item}
-use Rattle.bz_buildozer.specs.Sessions.{Action, Do, Format, Undo, Redo, Meaning, EffectMeans, Formats, History, Answer, Makes, Leads, after_meaning, present}
-use Rattle.std.specs.Prelude.{◌||◌, IfSome, if◌then◌else◌, is_some, unwrap_or}
-use Rattle.std.specs.Option.{option_map, option_map_or}
-use Rattle.std.specs.FinMap.{get}
-use Rattle.std.specs.List.{list_any}
-use Rattle.std.proofs.lemmas.Bool.{or_parts}
-use Rattle.std.proofs.lemmas.Slice.Eq.{bytes_eq-Decides}
-use Rattle.bz_streams.specs.declared.exit.Cut.TheVariants as c
-use Rattle.bz_buildozer.specs.Found.{PackagesFound, IsNameOf, Settled, first_name, folder_of, found_at, found_of, key_in, key_of, as_file, as_package, as_unedited, package_of, second_name, settled, Opened, Used, file_at, package_number, with_opened}
-use Rattle.bz_buildozer.specs.Journals.{OpensAs, TakesBeside, file_of_journal, journal_beside, lines_of_journal}
-use Rattle.bz_buildozer.specs.Keeps.{FolderAfter, file_after, left_out}
-use Rattle.bz_buildozer.specs.Moments.{AllAre}
-use Rattle.bz_buildozer.specs.Opens.{Takes}
-use Rattle.bz_buildozer.specs.Steps.{RunStep, action_of, input_package, is_of_input}
+use Rattle.bz_buildozer.proofs.Words.{[], ◌++◌, ◌||◌, ◌∙◌, ◌∷◌, ◌≡◌, ◌≢◌, ◌⊎◌, Action, action_of, after_meaning, AllAre, Answer, Answers, AnswersIn, ap, AreHints, arith, as_file, as_package, as_unedited, Bool, Bytes, bytes_eq, bytes_eq-Decides, codes, Cut, Cut as c, Do, Does, EffectMeans, Err, false, fault_excerpt, fault_line, file_after, file_at, file_of_journal, Finds, first_cut, first_name, Folder, folder_of, FolderAfter, Format, Formats, found_at, found_of, get, History, Holds, IfSome, if◌then◌else◌, inl, input_package, inr, is_of_input, is_some, IsAside, IsInput, IsNameOf, Item, journal_beside, journal_name, key_in, key_of, Leads, LeadsBy, left_out, lines_of, lines_of_journal, List, list_any, Makes, Meaning, named_line, Node, None, Ok, OneReading, Opened, OpensAs, Option, option_map, option_map_or, or_parts, OthersStay, package_number, package_of, PackagesFound, present, Progress, Redo, refl, Refusal, refusal_hint, reported_of, Result, RunsSteps, RunStep, SameLines, second_name, Settled, settled, Some, state_after, stdin, subst, sym, Takes, TakesBeside, true, true≢false, Undo, unwrap_or, Used, Uses, UsesWhole, view_of, with_opened, World, ℕ}
 use Rattle.bz_buildozer.proofs.CutSteps.{both_whole}
 use Rattle.bz_buildozer.proofs.ReadSteps.{one_given}
 use Rattle.bz_buildozer.proofs.ActSteps.{Leaves, acts_leaves}

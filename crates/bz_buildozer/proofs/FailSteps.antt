@@ -1,27 +1,8 @@
 -- What a run opens and does that may be cut: openings, and steps one after the other.
-use Rattle.std.proofs.Common.{arith, ◌≡◌, ◌≢◌, true, ◌⊎◌, ◌∙◌, ◌<◌, ◌++◌, inl, inr, ℕ, Bool, List, [], ◌∷◌, length, Option, Some, None, Result, Ok, Err, refl, sym, ap, subst, ◌+◌, take, false, codes, append_assoc}
-use Rattle.std.specs.Prelude.{IfSome, IsSome, unwrap_or}
-use Rattle.std.specs.Option.{option_map}
-use Rattle.std.specs.FinMap.{get}
-use Rattle.std.proofs.lemmas.List.{length-append, append-nil}
-use Rattle.bz_buildozer.specs.Words.{Bytes, Folder, journal_name, Cut, limit, first_cut, stdin, named_line}
-use Rattle.bz_buildozer.specs.Sessions.{History, Pair}
-use Rattle.bz_streams.specs.declared.exit.Cut.TheVariants as c
+use Rattle.bz_buildozer.proofs.Words.{[], ◌++◌, ◌+◌, ◌<◌, ◌∙◌, ◌∷◌, ◌≡◌, ◌≢◌, ◌⊎◌, after_keeping, Answers, AnswersIn, ap, append-nil, append_assoc, arith, as_file, as_package, as_unedited, base_of, Bool, Brings, Bytes, codes, Cut, Cut as c, Does, ends_run, Err, false, file_after, file_at, file_of_journal, FileUntil, Finds, FindsUntil, first_cut, first_name, Folder, folder_of, found_at, found_in, found_of, found_second, get, History, IfSome, in_package, inl, input_package, InputUntil, inr, IsInFolder, IsLeft, IsNameOf, IsOpenedIn, IsSome, IsUnreadInRun, journal_beside, journal_name, JournalFault, key_in, key_of, LeavesUnkept, left_out, length, length-append, limit, lines_of_journal, List, MeansUntil, named_line, NamedUntil, None, Ok, Opened, opened_with, OpensAs, OpensBeside, OpensUntil, Option, option_map, package_number, PackagesFound, Pair, Progress, refl, reports_more, ReportsLine, ReportsLines, Result, RunActs, RunsSteps, RunStep, second_name, SecondUntil, Settled, settled, Some, stdin, subst, sym, take, Taken, taken_in, TakesBeside, TakesUntil, true, unread_status, unreadable, unwrap_or, Used, Uses, UsesWhole, wanting, wanting_name, with_opened, World, ℕ}
 use Rattle.bz_streams.specs.declared.sink.Sink.{Ghosts as SinkOf}
-use Rattle.bz_buildozer.specs.Found.{IsNameOf, PackagesFound, Settled, folder_of, found_at, found_in, found_of, found_second, key_in, key_of, as_file, as_package, as_unedited, second_name, settled, Opened, Used, file_at, opened_with, first_name, in_package, package_number, with_opened}
-use Rattle.bz_buildozer.specs.Journals.{IsOpenedIn, JournalFault, OpensAs, OpensBeside, TakesBeside, file_of_journal, journal_beside, lines_of_journal}
-use Rattle.bz_buildozer.specs.Keeps.{after_keeping, file_after, left_out}
-use Rattle.bz_buildozer.specs.Run.{FileUntil, FindsUntil, IsInFolder, MeansUntil, LeavesUnkept, OpensUntil, SecondUntil, Answers, AnswersIn, Does, Finds, Progress, RunsSteps, TakesUntil, Uses, UsesWhole, World, ends_run, unreadable, wanting, wanting_name}
 use Rattle.bz_buildozer.proofs.PlaceSteps.{last_place, left_after_input, left_after_use, place_stays}
 use Rattle.bz_buildozer.proofs.StandSteps.{found_holds, key_input, own_named, second_holds}
-use Rattle.bz_streams.proofs.Outputs.{reports_more}
-use Rattle.bz_buildozer.specs.Calls.{ReportsLine, ReportsLines, IsLeft}
-use Rattle.bz_buildozer.specs.Reported.{unread_status}
-use Rattle.bz_buildozer.specs.Steps.{RunStep, input_package}
-use Rattle.bz_buildozer.specs.Unread.{RunActs, IsUnreadInRun}
-use Rattle.bz_buildozer.specs.declared.reading.Taken.{Taken}
-use Rattle.bz_buildozer.specs.private.Taking.{Brings, InputUntil, NamedUntil, base_of}
-use Rattle.bz_buildozer.specs.private.ShownFiles.{taken_in}
 use Rattle.bz_buildozer.proofs.ReadSteps.{first_opens, front_beside, second_opens}
 
 -- ---- the file that an opening leaves, whatever comes

@@ -1,17 +1,7 @@
 -- The names of files: their folders, what they end in, and that those of different packages differ.
-use Rattle.std.proofs.Common.{arith, ◌≡◌, ◌≢◌, ◌⊎◌, inl, inr, ◌∙◌, ◌+◌, ◌-◌, ◌≤◌, ◌<◌, ◌++◌, ◌∷◌, ◌||◌, ◌&&◌, not, ℕ, [], codes, eqb, length, take, drop, get_or, take-append-drop, ne_eqb, refl, sym, ap, subst, append_assoc, Bool, true, false, true≢false}
-use Rattle.std.specs.Prelude.{bytes_eq, if◌then◌else◌, is_some, Option, Some, None, zero, suc}
-use Rattle.std.specs.FinMap.{get}
-use Rattle.std.specs.List.{ends_with}
+use Rattle.bz_buildozer.proofs.Words.{[], ◌&&◌, ◌++◌, ◌+◌, ◌-◌, ◌<◌, ◌||◌, ◌∙◌, ◌∷◌, ◌≡◌, ◌≢◌, ◌≤◌, ◌⊎◌, and_parts, ap, append_assoc, append_cancel_right, arith, as_file, as_package, as_unedited, Bool, Bytes, bytes_eq, bytes_eq-Decides, bzl, codes, Decides-eqb, drop, drop_at_char, ends_is, ends_with, eqb, false, false_from_ne_true, first_name, Folder, folder_of, get, get_or, has_package, if◌then◌else◌, in_package, inl, inr, is_file, is_first_name, is_kept_name, is_own_name, is_second_name, is_some, is_there, IsNameOf, journal_name, kept, length, may_be_file, ne_eqb, new_name, NoCharPasses-char, None, not, Option, or_from, or_left, or_parts, or_right, PackagesAreApart, refl, second_name, Settled, settled, settled_file, settled_second, Some, subst, suc, sym, take, take-append-drop, true, true≢false, zero, ℕ}
 use Rattle.std.specs.Str.Pattern.{RFindsChar}
-use Rattle.std.proofs.lemmas.Bool.{and_parts, false_from_ne_true, or_from, or_left, or_parts, or_right}
-use Rattle.std.proofs.lemmas.Str.Pattern.{NoCharPasses-char, drop_at_char}
-use Rattle.std.proofs.lemmas.Bool.Decides.{Decides-eqb}
-use Rattle.std.proofs.lemmas.List.{append_cancel_right}
-use Rattle.std.proofs.lemmas.Slice.Eq.{bytes_eq-Decides, ends_is}
 use Rattle.bz_label.specs.Pieces.{has_slash, is_slash}
-use Rattle.bz_buildozer.specs.Words.{Bytes, Folder, journal_name, new_name}
-use Rattle.bz_buildozer.specs.Found.{IsNameOf, PackagesAreApart, Settled, bzl, first_name, folder_of, has_package, in_package, is_file, is_first_name, is_kept_name, is_own_name, is_second_name, is_there, kept, may_be_file, as_file, as_package, as_unedited, second_name, settled, settled_file, settled_second}
 
 -- ---- the folder of a file
 

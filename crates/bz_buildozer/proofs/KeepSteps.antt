@@ -1,21 +1,5 @@
 -- What keeping a file and its journal leaves, and what it does to the count of faults.
-use Rattle.std.proofs.Common.{◌≡◌, ◌≢◌, ◌⊎◌, ◌&&◌, Bool, ◌∙◌, ◌++◌, ◌∷◌, ◌≤◌, inl, inr, ℕ, List, [], true, false, Option, Some, Result, Ok, Err, refl, sym, ap, subst}
-use Rattle.std.specs.Option.{option_map_or}
-use Rattle.std.specs.Prelude.{IsSome}
-use Rattle.std.proofs.lemmas.Bool.Decides.{eqb_tells}
-use Rattle.bz_buildozer.specs.Words.{Bytes, Target, Verb, Refusal, Holds, PairFault, Cut, Ghosts as FilesOf, first_cut}
-use Rattle.bz_buildozer.specs.Sessions.{KeepFault, Pair, Refused, KeepsFile, Action, Acts, Printed, Reply, History, Leads, present}
-use Rattle.bz_value.specs.declared.refusal.Refusal.TheVariants.{Memory}
-use Rattle.bz_buildozer.specs.Keeps.{KeepsAt, file_left, FolderAfter, is_left_at, left_out}
-use Rattle.bz_buildozer.specs.Found.{Opened, Used, file_at, with_opened}
-use Rattle.bz_resume.specs.declared.pair_fault.PairFault.TheVariants as f
-use Rattle.bz_streams.specs.declared.exit.Cut.TheVariants as c
-use Rattle.bz_streams.proofs.Outputs.{counts_more}
-use Rattle.bz_buildozer.specs.Calls.{WorksOn}
-use Rattle.bz_buildozer.specs.Moments.{AllAreSafe}
-use Rattle.bz_buildozer.specs.Reported.{refusal_line, unkept_line}
-use Rattle.bz_buildozer.specs.Run.{Answers, AreHints, CutsPair, LeavesUnkept, Progress, reply_notes, printed_in, reported_of}
-use Rattle.bz_buildozer.specs.Steps.{action_of}
+use Rattle.bz_buildozer.proofs.Words.{[], ◌&&◌, ◌++◌, ◌∙◌, ◌∷◌, ◌≡◌, ◌≢◌, ◌≤◌, ◌⊎◌, Action, action_of, Acts, AllAreSafe, Answers, ap, AreHints, Bool, Bytes, counts_more, Cut, Cut as c, CutsPair, eqb_tells, Err, false, file_at, file_left, first_cut, FolderAfter, Ghosts as FilesOf, History, Holds, inl, inr, is_left_at, IsSome, KeepFault, KeepsAt, KeepsFile, Leads, LeavesUnkept, left_out, List, Memory, Ok, Opened, Option, option_map_or, Pair, PairFault, PairFault as f, present, Printed, printed_in, Progress, refl, Refusal, refusal_line, Refused, Reply, reply_notes, reported_of, Result, Some, subst, sym, Target, true, unkept_line, Used, Verb, with_opened, WorksOn, ℕ}
 use Rattle.bz_buildozer.proofs.ActSteps.{file_still, led_on, led_to, still_open, free_file, hints_by, leads_by, memory_answers, printed_still, put_again, refused, refused_by, refused_still, replied, step_at, still_same}
 use Rattle.bz_buildozer.proofs.CutSteps.{files_cut}
 use Rattle.bz_buildozer.proofs.SafeSteps.{goes_on_there, safe_at, survived}

@@ -19,5 +19,6 @@ pub mod ShownPackages
 pub mod StandSteps
 pub mod StepLists
 pub mod UnreadSteps
+mod Words
 pub mod WorkedEnds
 pub mod WorkedText

@@ -1,13 +1,7 @@
 -- The line of a file that has no name yet.
-use Rattle.std.proofs.Common.{◌≡◌, ◌++◌, ◌∷◌, ◌∙◌, ◌&&◌, ℕ, [], Bool, true, false, Option, refl, ap, subst, sym, codes, append_assoc}
-use Rattle.std.specs.Prelude.{◌==◌, bytes_eq, if◌then◌else◌}
+use Rattle.bz_buildozer.proofs.Words.{[], ◌&&◌, ◌++◌, ◌==◌, ◌∙◌, ◌∷◌, ◌≡◌, ap, append_assoc, AppendsUnlessFailed, Bool, Bytes, bytes_eq, codes, escaped_text, false, if◌then◌else◌, input_package, named_line, Option, refl, Reports, second_name, slash_after, stdin, subst, sym, true, wanting_name, ℕ}
 use Rattle.std.specs.Char.{is_ascii_control}
 use Rattle.bz_streams.specs.Controls.{escape, is_control_pair}
-use Rattle.bz_buildozer.specs.Words.{AppendsUnlessFailed, Bytes, Reports, escaped_text, named_line, stdin}
-use Rattle.bz_buildozer.specs.Found.{second_name}
-use Rattle.bz_buildozer.specs.Run.{wanting_name}
-use Rattle.bz_buildozer.specs.Steps.{input_package}
-use Rattle.bz_buildozer.specs.private.Taking.{slash_after}
 
 -- ---- a slash after a text is no part of a control character
 

@@ -1,34 +1,10 @@
 -- What words and lines come to, by what was read of them.
-use Rattle.std.proofs.Common.{◌≡◌, ◌≢◌, inl, ℕ, List, Ok, IfOk, Result, arith, sym, subst, inr, [], ◌∷◌, Option, Some, Err, true, refl, append_assoc, ◌⊎◌, ◌&&◌, ◌++◌, Bool, false, ◌∙◌, ◌||◌, None, IfSome, IsSome, true≢false, ap, bytes_eq}
-use Rattle.bz_buildozer.specs.Words.{Bytes, Folder, Elapses, with_file, script, CommandLine, LineUsage, command_line_of, Given, operands, Ghosts as FilesOf, script_of, Options, first_cut, Cut, Exit, Target, IsScriptFault}
-use Rattle.bz_buildozer.specs.Outcome.{OfScript, IsScript, IsText, AreOfInput, LinesEnd, unused, IsUnused, IsScriptFront, out_of_memory, OrOutOfMemory, AreOfInputAndSome, IsOfInput, NamesNoFile, KeepsJournals, reported_name, OperandsOutcome, LinesOutcome, TextOutcome, ScriptOutcome, GivenOutcome, LineOutcome, WordsOutcome}
-use Rattle.bz_buildozer.specs.Steps.{input_package, all_steps, names_file, names_input, shows_input, is_of_input}
-use Rattle.bz_files.proofs.Elapsing.{each_since, elapsed_on, stays, weakened}
-use Rattle.bz_command_line.specs.Requested.{Requested, operand_group, Request, Refused, Usage, accepted, requested_of, complete}
-use Rattle.bz_buildozer.specs.Keeps.{KeepsFolder}
-use Rattle.bz_buildozer.specs.Calls.{acts_over, PassesBy, EndsIn, MayRun, PrintsUntil, ReportsLines, PrintsAll, ReportsLine}
-use Rattle.bz_buildozer.specs.Moments.{IsMeanwhile, IsMomentOfRun, IsMomentOfSteps, AllAreSafe}
-use Rattle.bz_buildozer.specs.Run.{World, Progress, RunsSteps, nothing_done}
-use Rattle.bz_buildozer.proofs.ReadSteps.{IsReadOf, whole_requests, script_read, whole_outcome}
-use Rattle.std.specs.List.{All, list_any}
-use Rattle.bz_streams.specs.declared.exit.Cut.TheVariants as c
+use Rattle.bz_buildozer.proofs.Words.{[], ◌&&◌, ◌++◌, ◌||◌, ◌∙◌, ◌∷◌, ◌≡◌, ◌≢◌, ◌⊎◌, accepted, acts_over, All, All-head, all_steps, AllAreSafe, ap, append_assoc, appends_nothing, AreOfInput, AreOfInputAndSome, arith, Bool, Bytes, bytes_eq, bytes_eq-Decides, command_line_of, CommandLine, complete, Cut, Cut as c, each_since, elapsed_on, Elapses, empty, Ended, EndsIn, Err, Exit, false, first_cut, Folder, get-empty, Ghosts as FilesOf, Given, GivenOutcome, IfOk, IfSome, inl, input_package, inr, is_of_input, IsLineUsageLine, IsMeanwhile, IsMomentOfRun, IsMomentOfSteps, IsOfInput, IsScript, IsScriptFault, IsScriptFront, IsSome, IsText, IsUnused, KeepsFolder, KeepsJournals, LineOutcome, LinesEnd, LinesOutcome, LineUsage, List, list_any, MayRun, memory_line, names_file, names_input, NamesNoFile, nat_cmp, no_journal_line, None, nothing_done, OfScript, Ok, OnErr, OnOk, operand_group, operands, OperandsOutcome, Option, Options, OrOutOfMemory, out_of_memory, output_lines, PassesBy, PrintsAll, PrintsUntil, Progress, refl, reported_name, ReportsLine, ReportsLines, Request, Requested, requested_of, Result, root_above, root_note, RunActs, RunsSteps, script, script_of, ScriptOutcome, shows_input, slice_cmp, Some, status_of, stays, subst, sym, Target, TextOutcome, texts_out, TriesFiles, true, true≢false, unread_line, unread_status, unused, Usage, usage_line, Used, weakened, with_file, WordsOutcome, World, ℕ}
+use Rattle.bz_command_syntax.specs.declared.profile.Profile.{Profile}
+use Rattle.bz_command_line.specs.Requested.{Refused}
+use Rattle.bz_buildozer.proofs.{ReadSteps.IsReadOf, ReadSteps.whole_requests, ReadSteps.script_read, ReadSteps.whole_outcome, FailSteps.more_lines, FailSteps.one_line, ExactReads.nothing_else_used, ExactReads.output_empty_where_input_fails, EndingSteps.prints_none, StandSteps.not_input}
 use Rattle.bz_streams.specs.declared.sink.Sink.{Ghosts as SinkOf}
-use Rattle.bz_buildozer.specs.Ending.{Ended, TriesFiles, status_of, texts_out}
-use Rattle.bz_buildozer.specs.Found.{Used, root_above}
-use Rattle.bz_buildozer.specs.Unread.{RunActs}
-use Rattle.bz_buildozer.specs.Reported.{output_lines, memory_line, no_journal_line, root_note, unread_line, unread_status, usage_line, IsLineUsageLine}
-use Rattle.bz_buildozer.proofs.FailSteps.{more_lines, one_line}
-use Rattle.bz_buildozer.proofs.ExactReads.{nothing_else_used, output_empty_where_input_fails}
-use Rattle.std.specs.Prelude.{OnErr, OnOk}
-use Rattle.std.specs.Cmp.Lexicographic.{slice_cmp}
-use Rattle.std.specs.FinMap.{empty, get-empty}
-use Rattle.std.specs.Ordering.{nat_cmp}
-use Rattle.std.proofs.lemmas.List.Elements.{All-head}
-use Rattle.std.proofs.lemmas.Slice.Eq.{bytes_eq-Decides}
 use Rattle.bz_files.proofs.Folders.{reads_back}
-use Rattle.bz_streams.proofs.Outputs.{appends_nothing}
-use Rattle.bz_buildozer.proofs.EndingSteps.{prints_none}
-use Rattle.bz_buildozer.proofs.StandSteps.{not_input}
 
 -- ---- what a run of status 1 leaves as it was
 
@@ -56,78 +32,80 @@ pub unused_yet : (folder : Folder) → IsMeanwhile folder [] [] folder
 unused_yet folder = record { files = λ place file then here there. absurd (let e = here in cc); there = λ place file at. absurd (let e = at in cc); others = λ name unlike aside. refl }
 
 -- a folder at a moment of what a text of lines requests, in a run that began with one
-abbrev pub IsMomentOfText : Folder → Bytes → Folder → Type 0
-IsMomentOfText folder text now = (lines : List Requested) × IsText text × (script_of text ≡ Ok lines) × IsMomentOfSteps folder (all_steps lines) [] now
+abbrev pub IsMomentOfText : Profile → Folder → Bytes → Folder → Type 0
+IsMomentOfText profile folder text now = (lines : List Requested) × IsText text × (script_of profile text ≡ Ok lines) × IsMomentOfSteps folder (all_steps lines) [] now
 
 module _ {F : Type 0} (files : FilesOf F) (old new : F) where
-  pub by_operands : (known : Option Bytes) (texts : List Bytes) (requested : Requested) (lines : List Requested) → operand_group texts ≡ Ok requested → lines ≡ requested ∷ []
+  pub by_operands : (profile : Profile) (known : Option Bytes) (texts : List Bytes) (requested : Requested) (lines : List Requested) → operand_group profile texts ≡ Ok requested
+      → lines ≡ requested ∷ []
       → PassesBy files (IsMomentOfSteps (files.folder old) (all_steps lines) []) old new
-      → PassesBy files (IsMomentOfRun (record { folder = files.folder old; known = known; acts = acts_over files old new }) (operands texts)) old new
-  by_operands known texts requested lines is same =
+      → PassesBy files (IsMomentOfRun profile (record { folder = files.folder old; known = known; acts = acts_over files old new }) (operands texts)) old new
+  by_operands profile known texts requested lines is same =
       weakened (files.moment old) (files.moment new) (files.since old) (files.since new) (IsMomentOfSteps (files.folder old) (all_steps lines) [])
-      (IsMomentOfRun (record { folder = files.folder old; known = known; acts = acts_over files old new }) (operands texts)) (λ now moment. inr (
+      (IsMomentOfRun profile (record { folder = files.folder old; known = known; acts = acts_over files old new }) (operands texts)) (λ now moment. inr (
         requested ∷ [],
         (requested, is, refl),
         subst (λ (these : List Requested). IsMomentOfSteps (files.folder old) (all_steps these) [] now) same moment,
       ))
 
-  pub by_text : (text text' : Bytes) (lines lines' : List Requested) → text' ≡ text → IsText text → script_of text' ≡ Ok lines → lines' ≡ lines
-      → PassesBy files (IsMomentOfSteps (files.folder old) (all_steps lines') []) old new → PassesBy files (IsMomentOfText (files.folder old) text) old new
-  by_text text text' lines lines' same valid is these =
+  pub by_text : (profile : Profile) (text text' : Bytes) (lines lines' : List Requested) → text' ≡ text → IsText text → script_of profile text' ≡ Ok lines → lines' ≡ lines
+      → PassesBy files (IsMomentOfSteps (files.folder old) (all_steps lines') []) old new → PassesBy files (IsMomentOfText profile (files.folder old) text) old new
+  by_text profile text text' lines lines' same valid is these =
       weakened (files.moment old) (files.moment new) (files.since old) (files.since new) (IsMomentOfSteps (files.folder old) (all_steps lines') [])
-      (IsMomentOfText (files.folder old) text) (λ now moment. (
+      (IsMomentOfText profile (files.folder old) text) (λ now moment. (
         lines,
         valid,
-        subst (λ (it : Bytes). script_of it ≡ Ok lines) same is,
+        subst (λ (it : Bytes). script_of profile it ≡ Ok lines) same is,
         subst (λ (it : List Requested). IsMomentOfSteps (files.folder old) (all_steps it) [] now) these moment,
       ))
 
   -- a file of lines that was not read
-  pub by_no_script : (known : Option Bytes) (name : Bytes) → KeepsFolder files old new
-      → PassesBy files (IsMomentOfRun (record { folder = files.folder old; known = known; acts = acts_over files old new }) (script name)) old new
-  by_no_script known name =
+  pub by_no_script : (profile : Profile) (known : Option Bytes) (name : Bytes) → KeepsFolder files old new
+      → PassesBy files (IsMomentOfRun profile (record { folder = files.folder old; known = known; acts = acts_over files old new }) (script name)) old new
+  by_no_script profile known name =
       weakened (files.moment old) (files.moment new) (files.since old) (files.since new) (λ (now : Folder). now ≡ files.folder old)
-      (IsMomentOfRun (record { folder = files.folder old; known = known; acts = acts_over files old new }) (script name)) (λ now is. inl is)
+      (IsMomentOfRun profile (record { folder = files.folder old; known = known; acts = acts_over files old new }) (script name)) (λ now is. inl is)
 
-  pub by_script : (known : Option Bytes) (name whole text text' : Bytes) (mid : F) → files.folder mid ≡ files.folder old → text' ≡ text
+  pub by_script : (profile : Profile) (known : Option Bytes) (name whole text text' : Bytes) (mid : F) → files.folder mid ≡ files.folder old → text' ≡ text
       → IsScript (record { folder = files.folder old; known = known; acts = acts_over files old new }) name (Some whole) → IsReadOf whole text → KeepsFolder files old mid
-      → PassesBy files (IsMomentOfText (files.folder mid) text') mid new
-      → PassesBy files (IsMomentOfRun (record { folder = files.folder old; known = known; acts = acts_over files old new }) (script name)) old new
-  by_script known name whole text text' mid still same is read first second =
+      → PassesBy files (IsMomentOfText profile (files.folder mid) text') mid new
+      → PassesBy files (IsMomentOfRun profile (record { folder = files.folder old; known = known; acts = acts_over files old new }) (script name)) old new
+  by_script profile known name whole text text' mid still same is read first second =
       let world : World = record { folder = files.folder old; known = known; acts = acts_over files old new } in
-      elapsed_on (files.moment old) (files.moment mid) (files.moment new) (files.since old) (files.since mid) (files.since new) (IsMomentOfRun world (script name))
-      (IsMomentOfText (files.folder mid) text') (λ now moment.
-      let requests = whole_requests whole text text' moment.0 same read moment.1 moment.2 in
+      elapsed_on (files.moment old) (files.moment mid) (files.moment new) (files.since old) (files.since mid) (files.since new) (IsMomentOfRun profile world (script name))
+      (IsMomentOfText profile (files.folder mid) text') (λ now moment.
+      let requests = whole_requests profile whole text text' moment.0 same read moment.1 moment.2 in
       inr (
         moment.0,
         (whole, is, requests.0, requests.1),
         subst (λ (f : Folder). IsMomentOfSteps f (all_steps moment.0) [] now) still moment.3,
       )) (weakened (files.moment old) (files.moment mid) (files.since old) (files.since mid) (λ (now : Folder). now ≡ files.folder old)
-      (IsMomentOfRun world (script name)) (λ now was. inl was) first) second
+      (IsMomentOfRun profile world (script name)) (λ now was. inl was) first) second
 
   -- each folder since the beginning is one of a moment of the run
-  abbrev pub Each : World → Given → Type 0
-  Each world given = (now : Folder) → files.since new (files.moment old) now → IsMomentOfRun world given now
+  abbrev pub Each : Profile → World → Given → Type 0
+  Each profile world given = (now : Folder) → files.since new (files.moment old) now → IsMomentOfRun profile world given now
 
-  pub each_of : (known : Option Bytes) (given : Given) → ((now : Folder) → files.since old (files.moment old) now → now ≡ files.folder old)
-      → PassesBy files (IsMomentOfRun (record { folder = files.folder old; known = known; acts = acts_over files old new }) given) old new
-      → Each (record { folder = files.folder old; known = known; acts = acts_over files old new }) given
-  each_of known given only time =
-      each_since (files.moment old) (files.moment new) (files.since old) (files.since new) (IsMomentOfRun (record { folder = files.folder old; known = known; acts = acts_over files old new }) given)
+  pub each_of : (profile : Profile) (known : Option Bytes) (given : Given) → ((now : Folder) → files.since old (files.moment old) now → now ≡ files.folder old)
+      → PassesBy files (IsMomentOfRun profile (record { folder = files.folder old; known = known; acts = acts_over files old new }) given) old new
+      → Each profile (record { folder = files.folder old; known = known; acts = acts_over files old new }) given
+  each_of profile known given only time =
+      each_since (files.moment old) (files.moment new) (files.since old) (files.since new) (IsMomentOfRun profile (record { folder = files.folder old; known = known; acts = acts_over files old new }) given)
       time (λ now stood. inl (only now stood))
 
   -- words that are no line
   pub no_words : (found : Result CommandLine LineUsage) (known : Option Bytes) → new ≡ old
       → ((now : Folder) → files.since old (files.moment old) now → now ≡ files.folder old)
-      → IfOk found (λ line. line.options.journal ≡ true → Each (record { folder = files.folder old; known = known; acts = acts_over files old new }) line.given)
+      → IfOk found (λ line. line.options.journal ≡ true → Each line.options.profile (record { folder = files.folder old; known = known; acts = acts_over files old new }) line.given)
   no_words (Ok line) known same only = λ kept now stood. inl (only now (subst (λ (held : F). files.since held (files.moment old) now) same stood))
   no_words (Err usage) known same only = tt
 
   pub by_words : (words : List Bytes) (line : CommandLine) (given : Given) (world : World) → command_line_of words ≡ Ok line → line.given ≡ given
-      → (line.options.journal ≡ true → Each world given) → IfOk (command_line_of words) (λ line. line.options.journal ≡ true → Each world line.given)
+      → (line.options.journal ≡ true → Each line.options.profile world given)
+      → IfOk (command_line_of words) (λ line. line.options.journal ≡ true → Each line.options.profile world line.given)
   by_words words line given world is same each =
-      subst (λ (found : Result CommandLine LineUsage). IfOk found (λ line. line.options.journal ≡ true → Each world line.given)) (sym is)
-      (λ kept. subst (Each world) (sym same) (each kept))
+      subst (λ (found : Result CommandLine LineUsage). IfOk found (λ line. line.options.journal ≡ true → Each line.options.profile world line.given)) (sym is)
+      (λ kept. subst (Each line.options.profile world) (sym same) (each kept))
 
 -- ---- what a run leaves where its steps and their ending are put together
 
@@ -255,7 +233,7 @@ module _ {W E F : Type 0} (sink : SinkOf W) (errors : SinkOf E) (files : FilesOf
 
 -- ---- operands
 
-pub operands_done : (options : Options) (texts : List Bytes) (world : World) (requested : Requested) (lines : List Requested) (ended : Ended) → operand_group texts ≡ Ok requested
+pub operands_done : (options : Options) (texts : List Bytes) (world : World) (requested : Requested) (lines : List Requested) (ended : Ended) → operand_group options.profile texts ≡ Ok requested
     → lines ≡ requested ∷ [] → OrOutOfMemory world (LinesEnd options lines world) ended → OrOutOfMemory world (OperandsOutcome options texts world) ended
 operands_done options texts world requested lines ended is same (inl memory) = inl memory
 operands_done options texts world requested lines ended is same (inr ends) =
@@ -283,23 +261,23 @@ named_first targets target more is all =
     (subst (All (λ (one : Target). one.«package» ≡ input_package)) is all) in
     ap (list_any is_of_input) is ∙ ap (λ (b : Bool). b || list_any is_of_input more) ((bytes_eq-Decides target.«package» input_package).1 first)
 
-group_named : (texts : List Bytes) (requested : Requested) → operand_group texts ≡ Ok requested → AreOfInput (requested ∷ []) → names_input (requested ∷ []) ≡ true
-group_named texts requested is are =
-    let some = group_target (requested_of texts) requested is in
+group_named : (profile : Profile) (texts : List Bytes) (requested : Requested) → operand_group profile texts ≡ Ok requested → AreOfInput (requested ∷ []) → names_input (requested ∷ []) ≡ true
+group_named profile texts requested is are =
+    let some = group_target (requested_of profile texts) requested is in
     ap (λ (b : Bool). b || false) (named_first requested.targets some.0 some.1 some.2
     (All-head (λ (line : Requested). All (λ (one : Target). one.«package» ≡ input_package) line.targets) requested [] are))
 
-pub operands_premise : (honest : Bool) (texts : List Bytes) (requested : Requested) (lines : List Requested) → operand_group texts ≡ Ok requested → lines ≡ requested ∷ []
-    → (honest ≡ true) ⊎ IfOk (operand_group texts) (λ requested. AreOfInput (requested ∷ [])) → (honest ≡ true) ⊎ AreOfInputAndSome lines
-operands_premise honest texts requested lines is same (inl is_honest) = inl is_honest
-operands_premise honest texts requested lines is same (inr are) =
+pub operands_premise : (honest : Bool) (profile : Profile) (texts : List Bytes) (requested : Requested) (lines : List Requested) → operand_group profile texts ≡ Ok requested
+    → lines ≡ requested ∷ [] → (honest ≡ true) ⊎ IfOk (operand_group profile texts) (λ requested. AreOfInput (requested ∷ [])) → (honest ≡ true) ⊎ AreOfInputAndSome lines
+operands_premise honest profile texts requested lines is same (inl is_honest) = inl is_honest
+operands_premise honest profile texts requested lines is same (inr are) =
     let all : AreOfInput (requested ∷ []) = subst (λ (it : Result Requested Usage). IfOk it (λ requested. AreOfInput (requested ∷ []))) is are in
-    inr (subst AreOfInput (sym same) all, ap names_input same ∙ group_named texts requested is all)
+    inr (subst AreOfInput (sym same) all, ap names_input same ∙ group_named profile texts requested is all)
 
 -- rules of standard input that operands name
-pub names_given : (texts : List Bytes) (requested : Requested) (lines : List Requested) → operand_group texts ≡ Ok requested → lines ≡ requested ∷ []
-    → (other : Requested) × (operand_group texts ≡ Ok other) × (names_input (other ∷ []) ≡ true) → names_input lines ≡ true
-names_given texts requested lines is same (other, found, named) =
+pub names_given : (profile : Profile) (texts : List Bytes) (requested : Requested) (lines : List Requested) → operand_group profile texts ≡ Ok requested
+    → lines ≡ requested ∷ [] → (other : Requested) × (operand_group profile texts ≡ Ok other) × (names_input (other ∷ []) ≡ true) → names_input lines ≡ true
+names_given profile texts requested lines is same (other, found, named) =
     let one : other ≡ requested = ok_same other requested (sym found ∙ is) in
     ap names_input (same ∙ ap (λ (a : Requested). a ∷ []) (sym one)) ∙ named
   where
@@ -326,25 +304,25 @@ no_journal options lines world kept named = inl (ap (λ (b : Bool). b && names_i
 
 -- it requests these lines
 pub text_lines : (options : Options) (name text text' : Bytes) (world : World) (lines lines' : List Requested) (ended : Ended) → text' ≡ text → IsText text
-    → script_of text' ≡ Ok lines → lines' ≡ lines → LinesOutcome options (bytes_eq name input_package) lines' world ended → TextOutcome options name text world ended
+    → script_of options.profile text' ≡ Ok lines → lines' ≡ lines → LinesOutcome options (bytes_eq name input_package) lines' world ended → TextOutcome options name text world ended
 text_lines options name text text' world lines lines' ended same valid is these outcome = inr (inr (
   valid,
   (
     lines,
-    ap script_of (sym same) ∙ is,
+    ap (script_of options.profile) (sym same) ∙ is,
     subst (λ (it : List Requested). LinesOutcome options (bytes_eq name input_package) it world ended) these outcome,
   ),
 ))
 
 -- a usage of it is reported
 pub text_unused : (options : Options) (name text text' reported line : Bytes) (world : World) (found : Option Usage) (usage : Usage) → text' ≡ text → IsText text
-    → IfSome found (IsScriptFault text') → found ≡ Some usage → reported ≡ reported_name name → line ≡ usage_line reported usage
+    → IfSome found (IsScriptFault options.profile text') → found ≡ Some usage → reported ≡ reported_name name → line ≡ usage_line reported usage
     → TextOutcome options name text world (unused world.folder line)
 text_unused options name text text' reported line world found usage same valid fault is called says = inr (inl (
   valid,
   (
     usage,
-    subst (λ (it : Bytes). IsScriptFault it usage) same (at_some (IsScriptFault text') found usage is fault),
+    subst (λ (it : Bytes). IsScriptFault options.profile it usage) same (at_some (IsScriptFault options.profile text') found usage is fault),
     ap (unused world.folder) (says ∙ ap (λ (it : Bytes). usage_line it usage) called),
   ),
 ))
@@ -418,17 +396,17 @@ words_done words line given world ended is same (inl memory) = inl memory
 words_done words line given world ended is same (inr outcome) = inr (words_given words line given world ended is same outcome)
 
 pub words_premise : (honest : Bool) (words : List Bytes) (line : CommandLine) (given : Given) → command_line_of words ≡ Ok line → line.given ≡ given
-    → (honest ≡ true) ⊎ NamesNoFile words → (honest ≡ true) ⊎ IsOfInput given
+    → (honest ≡ true) ⊎ NamesNoFile words → (honest ≡ true) ⊎ IsOfInput line.options.profile given
 words_premise honest words line given is same (inl is_honest) = inl is_honest
 words_premise honest words line given is same (inr none) =
-    inr (subst IsOfInput same (subst (λ (it : Result CommandLine LineUsage). IfOk it (λ line. IsOfInput line.given)) is none))
+    inr (subst (IsOfInput line.options.profile) same (subst (λ (it : Result CommandLine LineUsage). IfOk it (λ line. IsOfInput line.options.profile line.given)) is none))
 
 pub words_kept : (words : List Bytes) (line : CommandLine) → command_line_of words ≡ Ok line → KeepsJournals words → line.options.journal ≡ true
 words_kept words line is kept = subst (λ (it : Result CommandLine LineUsage). IfOk it (λ line. line.options.journal ≡ true)) is kept
 
-pub script_premise : (honest : Bool) (name : Bytes) → (honest ≡ true) ⊎ IsOfInput (script name) → honest ≡ true
-script_premise honest name (inl is_honest) = is_honest
-script_premise honest name (inr none) = absurd none
+pub script_premise : (honest : Bool) (profile : Profile) (name : Bytes) → (honest ≡ true) ⊎ IsOfInput profile (script name) → honest ≡ true
+script_premise honest profile name (inl is_honest) = is_honest
+script_premise honest profile name (inr none) = absurd none
 
 -- Where standard input can't be read, and nothing else is named, nothing is written to standard output.
 pub read_nothing : {W E F : Type 0} (sink : SinkOf W) (errors : SinkOf E) (files : FilesOf F) (words : List Bytes) (world : World) (exit : Exit) (out out' : W) (err err' : E)

@@ -1,23 +1,10 @@
 -- The packages of a run by their numbers, their files, and how a package is used.
-use Rattle.std.proofs.Common.{◌≡◌, ◌+◌, ℕ, Bool, true, false, ◌||◌, List, [], ◌∷◌, ◌++◌, Option, Some, None, refl, sym, ap, ◌∙◌, true≢false, arith, cond, ◌<◌, zero, suc, length, map, get_or, Result, Ok, subst, take}
-use Rattle.std.specs.Prelude.{Vec, bytes_eq, if◌then◌else◌, slice_get, slice_set, is_ok, is_some, IsSome, IfSome}
-use Rattle.std.specs.List.{list_any, position, position_from}
-use Rattle.std.specs.Option.{option_map}
-use Rattle.std.specs.declared.alloc.Global.{Global}
-use Rattle.std.proofs.lemmas.Bool.{or_from}
-use Rattle.std.proofs.lemmas.Slice.Eq.{bytes_eq-Decides}
+use Rattle.bz_buildozer.proofs.Words.{[], ◌++◌, ◌+◌, ◌<◌, ◌||◌, ◌∙◌, ◌∷◌, ◌≡◌, ap, arith, Bool, Bytes, bytes_eq, bytes_eq-Decides, cond, false, file_at, get_or, Global, IfSome, if◌then◌else◌, input_package, is_ok, is_some, IsInput, IsLeft, IsSome, length, length-map, limit, List, list_any, map, map-append, None, Ok, Opened, opened_in, Option, option_map, or_from, package_number, packages_of, position, position_from, refl, Result, slice_get, slice_set, Some, subst, suc, sym, take, Takes, texts_of_keys, true, true≢false, Used, used_in, Vec, with_opened, zero, ℕ}
 use Rattle.std.proofs.lemmas.Iterator.Adapters.{position_from-zero}
-use Rattle.std.proofs.lemmas.List.{map-append, length-map}
 use Rattle.indexmap.specs.IndexSet.{insert_key}
-use Rattle.bz_buildozer.specs.Words.{Bytes, limit, IsInput}
-use Rattle.bz_buildozer.specs.Found.{Used, package_number, Opened, file_at, with_opened}
-use Rattle.bz_buildozer.specs.private.ShownFiles.{texts_of_keys, packages_of, opened_in, used_in}
 use Rattle.bz_buildozer.specs.declared.used.Opened as o
 use Rattle.bz_buildozer.specs.declared.used.Used as d
-use Rattle.bz_buildozer.specs.Opens.{Takes}
 use Rattle.bz_buildozer.proofs.ReadSteps.{front_takes}
-use Rattle.bz_buildozer.specs.Calls.{IsLeft}
-use Rattle.bz_buildozer.specs.Steps.{input_package}
 
 -- ---- the number of a package, by its key
 

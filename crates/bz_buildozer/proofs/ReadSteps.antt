@@ -1,36 +1,11 @@
 -- What comes of the texts and the journals that are read.
-use Rattle.std.proofs.Common.{◌≡◌, ◌⊎◌, inl, inr, ℕ, List, Err, refl, ap, subst, [], ◌∷◌, ◌++◌, None, ◌↔◌, ◌≤◌, ◌<◌, ◌+◌, ◌∙◌, true, length, take, drop, Option, arith, sym, length-take, Some, IfSome, Ok, ◌≢◌, zero, suc, Bool, false, ◌-◌, ◌^◌, Result, ap₂, codes}
-use Rattle.bz_buildozer.specs.Words.{BeginsNoJournal, ReadFault, fault_excerpt, fault_line, named_line, is_of_leaves, limit, Accepted, Bytes, Requested, script_of, Options, IsInput, Edit, IsOtherVersion, ResumeFault, IsStale, Folder, journal_name}
-use Rattle.bz_lex.specs.declared.fault.ReadFault.TheVariants as rf
+use Rattle.bz_buildozer.proofs.Words.{[], ◌++◌, ◌+◌, ◌-◌, ◌<◌, ◌^◌, ◌↔◌, ◌∙◌, ◌∷◌, ◌≡◌, ◌≢◌, ◌≤◌, ◌⊎◌, Accepted, All, All-get_or, ap, append-nil, ap₂, arith, BeginsNoJournal, Bool, Bytes, bytes_eq, bytes_eq-Decides, cases_lt, codes, drop, Edit, Ended, Err, false, fault_excerpt, fault_line, file_of_journal, first_name, Folder, Form, found_at, found_in, found_second, FrontsAreReportedAlike, get, Global, HeldFilesGoOn, History, IfSome, if◌then◌else◌, inl, inr, is_of_leaves, IsEnoughOf, IsInput, IsOtherVersion, IsRecordedBy, IsRefusedFor, IsScript, IsScriptFront, IsStale, IsText, IsTextFault, Journal, journal_beside, journal_name, JournalFault, JournalGives, JournalGivesOne, length, length-take, limit, List, named_line, NoJournal, None, of_package, of_resuming, Ok, Opened, opened as begun_with, opened_fresh, opened_with, OpensBeside, OpensPast, OpensText, Option, Options, package_hint, PackagesFound, past_history, present, ReadFault, ReadFault as rf, refl, Requested, Result, ResumeFault, ResumeFault as f, script_of, second_name, session_history, SessionState, slice_index_or, Some, stands, StandsAt, subst, suc, sym, take, take-append-drop, take_all, Takes, TakesBeside, text_at, TextOutcome, true, unwrap_or, Vec, World, zero, ℕ}
+use Rattle.bz_command_syntax.specs.declared.profile.Profile.{Profile}
 use Rattle.bz_grammar.specs.Faults.{IsOfText}
-use Rattle.bz_journal.specs.Forms.{OpensPast, past_history}
-use Rattle.bz_journal.specs.declared.past.Form.{Form}
-use Rattle.bz_journal.specs.Shown.{OpensText, session_history}
-use Rattle.bz_buildozer.specs.Opens.{IsRefusedFor, Takes, FrontsAreReportedAlike, opened_fresh}
-use Rattle.std.proofs.lemmas.List.{append-nil, take-append-drop, take_all}
-use Rattle.std.proofs.lemmas.Bool.{cases_lt}
-use Rattle.bz_buildozer.specs.Found.{Opened, opened_with, PackagesFound, first_name, found_at, found_in, found_second, second_name}
-use Rattle.bz_buildozer.specs.Ending.{Ended}
-use Rattle.bz_buildozer.specs.Outcome.{IsScript, IsScriptFront, IsText, IsTextFault, TextOutcome}
-use Rattle.bz_buildozer.specs.Run.{World}
-use Rattle.std.specs.Prelude.{Vec, slice_index_or, bytes_eq, if◌then◌else◌, unwrap_or}
-use Rattle.std.specs.declared.alloc.Global.{Global}
-use Rattle.std.specs.FinMap.{get}
-use Rattle.std.specs.List.{All}
-use Rattle.std.proofs.lemmas.List.Elements.{All-get_or}
-use Rattle.std.proofs.lemmas.Slice.Eq.{bytes_eq-Decides}
 use Rattle.bz_edit.specs.Trails.{trail_at}
 use Rattle.bz_edit.proofs.Keeps.{trail_kept}
-use Rattle.bz_resume.specs.declared.fault.ResumeFault.TheVariants as f
-use Rattle.bz_resume.specs.Journals.{Journal, NoJournal, stands, text_at}
 use Rattle.bz_resume.proofs.Outcomes.{not_other, one_journal}
-use Rattle.bz_buildozer.specs.Sessions.{History, opened as begun_with, present}
 use Rattle.bz_journal.specs.Lasting.{IsResumedSession}
-use Rattle.bz_journal.specs.State.{SessionState}
-use Rattle.bz_buildozer.specs.Journals.{JournalFault, JournalGives, JournalGivesOne, StandsAt, TakesBeside, file_of_journal, journal_beside, of_package, of_resuming, OpensBeside, HeldFilesGoOn}
-use Rattle.bz_buildozer.specs.Reported.{package_hint}
-use Rattle.bz_buildozer.specs.private.Taking.{IsEnoughOf}
-use Rattle.bz_resume.specs.Resuming.{IsRecordedBy}
 
 -- ---- the fault that is reported where a text is not opened
 
@@ -152,11 +127,11 @@ whole_outcome options name whole bytes world ended read (inr (inl (is, refused))
 whole_outcome options name whole bytes world ended read (inr (inr (is, done))) =
     subst (λ (it : Bytes). TextOutcome options name it world ended) (whole_read whole bytes read is) (inr (inr (is, done)))
 
-pub whole_requests : (whole bytes bytes' : Bytes) (lines : List Requested) → bytes' ≡ bytes → IsReadOf whole bytes → IsText bytes' → script_of bytes' ≡ Ok lines
-    → IsText whole × (script_of whole ≡ Ok lines)
-whole_requests whole bytes bytes' lines same read is requests =
+pub whole_requests : (profile : Profile) (whole bytes bytes' : Bytes) (lines : List Requested) → bytes' ≡ bytes → IsReadOf whole bytes → IsText bytes'
+    → script_of profile bytes' ≡ Ok lines → IsText whole × (script_of profile whole ≡ Ok lines)
+whole_requests profile whole bytes bytes' lines same read is requests =
     let all : bytes' ≡ whole = same ∙ whole_read whole bytes read (subst IsText same is) in
-    (subst IsText all is, subst (λ (it : Bytes). script_of it ≡ Ok lines) all requests)
+    (subst IsText all is, subst (λ (it : Bytes). script_of profile it ≡ Ok lines) all requests)
 
 -- ---- what comes of a journal, by what its session says
 

@@ -1,12 +1,6 @@
 -- How a root is sought, from one folder to the one above it; and what is noted of it.
-use Rattle.std.proofs.Common.{arith, ◌≡◌, ◌⊎◌, ◌∙◌, ◌≤◌, ◌<◌, ◌-◌, ◌+◌, ◌++◌, inl, inr, ℕ, List, suc, Bool, true, false, true≢false, Option, Some, None, codes, refl, subst, sym}
+use Rattle.bz_buildozer.proofs.Words.{◌++◌, ◌+◌, ◌-◌, ◌<◌, ◌∙◌, ◌≡◌, ◌≤◌, ◌⊎◌, AreOfInputAndSome, arith, Bool, Bytes, codes, false, Folder, inl, inr, is_root, List, names_file, None, Option, refl, ReportsLines, Requested, root_above, root_from, root_note, Some, subst, suc, sym, true, true≢false, ℕ}
 use Rattle.bz_streams.specs.declared.sink.Sink.{Ghosts as SinkOf}
-use Rattle.bz_buildozer.specs.Words.{Bytes, Folder, Requested}
-use Rattle.bz_buildozer.specs.Calls.{ReportsLines}
-use Rattle.bz_buildozer.specs.Found.{is_root, root_above, root_from}
-use Rattle.bz_buildozer.specs.Outcome.{AreOfInputAndSome}
-use Rattle.bz_buildozer.specs.Reported.{root_note}
-use Rattle.bz_buildozer.specs.Steps.{names_file}
 use Rattle.bz_buildozer.proofs.StepLists.{none_filed}
 
 module _ (folder : Folder) (count at : ℕ) (path : Bytes) where

@@ -1,25 +1,8 @@
 -- What several parts of a run do, one after the other.
-use Rattle.std.proofs.Common.{◌≡◌, ◌∙◌, ◌++◌, ◌∷◌, ◌+◌, ◌<◌, ◌≤◌, inl, inr, ℕ, List, [], length, get_or, take, drop, map, Option, Bool, true, true≢false, refl, sym, ap, subst, arith, append_assoc}
-use Rattle.std.specs.List.{All, flat_map}
+use Rattle.bz_buildozer.proofs.Words.{[], ◌++◌, ◌+◌, ◌<◌, ◌∙◌, ◌∷◌, ◌≡◌, ◌≤◌, All, All-get_or, all_steps, ap, append-nil, append_assoc, arith, Bool, Counts, counts_more, Cut, Cut as c, drop, elapsed_on, ends_run, first_cut, flat_map, Folder, get_or, inl, inr, IsMeanwhile, IsMomentOfSteps, length, List, map, map-append, MayRun, Option, Proceeds, refl, reports_more, request_in, requested_in, RunActs, RunSpot, RunsSteps, RunStep, stays, step_of, steps_requested, subst, sym, take, take-append-drop, take_all, take_more, Target, true, true≢false, Used, weakened, World, ℕ}
 use Rattle.std.proofs.lemmas.Grind.{flat_map-append}
-use Rattle.std.proofs.lemmas.List.{append-nil, map-append, take_all, take_more, take-append-drop}
-use Rattle.std.proofs.lemmas.List.Elements.{All-get_or}
-use Rattle.bz_buildozer.specs.Words.{Folder, Counts, Cut, first_cut, Target, requested_in, request_in}
-use Rattle.bz_files.proofs.Elapsing.{elapsed_on, stays, weakened}
-use Rattle.bz_streams.specs.declared.exit.Cut.TheVariants as c
-use Rattle.bz_streams.proofs.Outputs.{counts_more, reports_more}
-use Rattle.bz_buildozer.specs.Calls.{RunSpot, MayRun, Proceeds}
-use Rattle.bz_buildozer.proofs.CutSteps.{cut_more, neither_read}
-use Rattle.bz_buildozer.proofs.FailSteps.{cut_alone, ended_runs, runs_more}
-use Rattle.bz_buildozer.proofs.SafeSteps.{began_safely}
-use Rattle.bz_buildozer.specs.Moments.{IsMeanwhile, IsMomentOfSteps}
-use Rattle.bz_buildozer.specs.Run.{World, RunsSteps, ends_run}
-use Rattle.bz_command_line.specs.declared.requested.Request.{Request}
-use Rattle.bz_command_line.specs.declared.requested.Requested.{Requested}
-use Rattle.bz_buildozer.specs.Steps.{RunStep, all_steps, step_of, steps_requested}
-use Rattle.bz_buildozer.specs.Found.{Used}
-use Rattle.bz_buildozer.specs.Unread.{RunActs}
-use Rattle.bz_buildozer.proofs.UnreadSteps.{among_first, among_second, grows_none, grows_on}
+use Rattle.bz_buildozer.proofs.{CutSteps.cut_more, CutSteps.neither_read, FailSteps.cut_alone, FailSteps.ended_runs, FailSteps.runs_more, SafeSteps.began_safely, UnreadSteps.among_first, UnreadSteps.among_second, UnreadSteps.grows_none, UnreadSteps.grows_on}
+use Rattle.bz_command_line.specs.{declared.requested.Request.Request, declared.requested.Requested.Requested}
 
 -- ---- moments
 

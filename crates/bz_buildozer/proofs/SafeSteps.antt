@@ -1,21 +1,6 @@
 -- One step of a run with journals: each open file is safe at each moment.
-use Rattle.std.proofs.Common.{arith, ◌≡◌, ◌≢◌, ◌⊎◌, inl, inr, ◌∙◌, ◌++◌, ◌+◌, ◌≤◌, ℕ, suc, List, [], ◌∷◌, length, Option, Some, None, Bool, true, false, true≢false, Result, Ok, Err, refl, sym, ap, subst}
-use Rattle.std.specs.Prelude.{IfSome, if◌then◌else◌, is_some, unwrap_or}
-use Rattle.std.specs.FinMap.{get}
-use Rattle.std.specs.Option.{option_map, option_map_or}
-use Rattle.std.proofs.lemmas.Bool.Decides.{eqb_tells}
-use Rattle.std.proofs.lemmas.Slice.Eq.{bytes_eq-Decides}
-use Rattle.bz_buildozer.specs.Words.{Bytes, Elapses, Folder, IsAside, Ghosts as FilesOf, journal_name}
-use Rattle.bz_files.proofs.Elapsing.{elapsed_on, stays, weakened}
-use Rattle.bz_buildozer.specs.Sessions.{KeepFault, Refused, Pair, Keeps, KeepsFile, Action, History, Reply, present}
-use Rattle.bz_resume.specs.Resuming.{Holds, OthersStay, Resumes, Survives}
-use Rattle.bz_buildozer.specs.Found.{IsNameOf, Opened, Used, file_at, folder_of, key_in, package_number, with_opened}
-use Rattle.bz_buildozer.specs.Journals.{Adds, IsOpenedIn, TakesBeside}
-use Rattle.bz_buildozer.specs.Keeps.{KeepsAt, KeepsFolder, after_keeping, file_left}
+use Rattle.bz_buildozer.proofs.Words.{[], ◌++◌, ◌+◌, ◌∙◌, ◌∷◌, ◌≡◌, ◌≢◌, ◌≤◌, ◌⊎◌, Action, Adds, after_keeping, AllAreSafe, ap, arith, Bool, Bytes, bytes_eq-Decides, elapsed_on, Elapses, eqb_tells, Err, false, file_at, file_left, Folder, folder_of, get, Ghosts as FilesOf, History, Holds, IfSome, if◌then◌else◌, inl, inr, is_some, IsApart, IsAside, IsBetween, IsMeanwhile, IsMomentOfSteps, IsNameOf, IsOpenedIn, IsSafe, Joins, journal_name, KeepFault, Keeps, KeepsAt, KeepsFile, KeepsFolder, KeepsStep, key_in, length, List, MayAct, None, Ok, Opened, Option, option_map, option_map_or, OthersStay, package_number, Pair, present, refl, Refused, Reply, Result, Resumes, RunStep, Some, stays, subst, suc, Survives, sym, TakesBeside, true, true≢false, unwrap_or, Used, UsesSome, weakened, with_opened, ℕ}
 use Rattle.bz_buildozer.proofs.ActSteps.{acts_leaves, file_put}
-use Rattle.bz_buildozer.specs.Calls.{KeepsStep, UsesSome}
-use Rattle.bz_buildozer.specs.Moments.{AllAreSafe, IsApart, IsBetween, IsMeanwhile, IsMomentOfSteps, IsSafe, Joins, MayAct}
-use Rattle.bz_buildozer.specs.Steps.{RunStep}
 use Rattle.bz_buildozer.proofs.PlaceSteps.{none_here}
 use Rattle.bz_buildozer.proofs.StandSteps.{IsUnlike, OthersAre, WereThere, all_after, all_at, all_last, apart_from, as_begun, file_in_front, holds_still, key_begun, more_were, names_stay, one_file, other_at, put_were, takes_stand, two_apart, unlike_put}
 

@@ -1,12 +1,6 @@
 -- A long text is cut before a character.
-use Rattle.std.proofs.Common.{◌≡◌, ◌<◌, ◌≤◌, ◌∙◌, ℕ, zero, suc, true, false, cond, length, take, arith, ap, refl, subst, sym}
-use Rattle.std.proofs.Math.Logic.{⊎_elim}
-use Rattle.std.proofs.lemmas.Bool.{cases_lt, le-leb, le-ltb, lt-leb, lt-ltb}
-use Rattle.std.specs.Fmt.{is_char_start}
-use Rattle.std.specs.Fmt.Cut.{floor_char_boundary}
-use Rattle.std.specs.Str.{IsCharBoundary}
-use Rattle.bz_items.specs.Characters.{Bytes}
-use Rattle.bz_buildozer.specs.Journals.{shown_package}
+use Rattle.bz_buildozer.proofs.Words.{⊎_elim, ◌<◌, ◌∙◌, ◌≡◌, ◌≤◌, ap, arith, Bytes, cases_lt, cond, false, IsCharBoundary, le-leb, le-ltb, length, lt-leb, lt-ltb, refl, shown_package, subst, suc, sym, take, true, zero, ℕ}
+use Rattle.std.specs.{Fmt.is_char_start, Fmt.Cut.floor_char_boundary}
 
 starts : (b : ℕ) → (128 ≤ b → 192 ≤ b) → is_char_start b ≡ true
 starts b h = ⊎_elim (λ low. rw (lt-ltb b 128 low) refl) (λ high. rw (le-ltb b 128 high, le-leb 192 b (h high)) refl) (cases_lt b 128)

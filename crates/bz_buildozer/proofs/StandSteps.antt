@@ -1,24 +1,6 @@
 -- What is held under the names of the files of different packages, and what stays as it was when the run began.
-use Rattle.std.proofs.Common.{◌≡◌, ◌≢◌, ◌⊎◌, inl, inr, ◌∙◌, ◌++◌, ◌∷◌, ℕ, [], refl, sym, ap, subst, zero, suc, List, Option, Some, None, Bool, true, false, true≢false, Result, Ok, Err, bytes_eq, ◌||◌, is_some}
-use Rattle.bz_buildozer.specs.Words.{Bytes, new_name, Folder, IsAside, journal_name}
-use Rattle.bz_buildozer.specs.Found.{is_own_name, first_name, second_name, folder_of, is_kept_name, IsNameOf, PackagesFound, IsApartFrom, Settled, found_at, found_in, found_of, found_second, key_in, key_of, as_file, as_package, as_unedited, settled, Opened, Used, file_at, package_number, with_opened}
-use Rattle.std.specs.Prelude.{IfSome, if◌then◌else◌, unwrap_or}
-use Rattle.std.specs.FinMap.{get}
-use Rattle.std.specs.Option.{option_map_or}
-use Rattle.std.specs.List.{list_any}
-use Rattle.std.proofs.lemmas.Bool.{or_parts}
-use Rattle.std.proofs.lemmas.Bool.Decides.{eqb_tells}
-use Rattle.std.proofs.lemmas.Slice.Eq.{bytes_eq-Decides}
-use Rattle.bz_resume.specs.Resuming.{Holds, IsRecordedBy, OthersStay}
-use Rattle.bz_resume.specs.Journals.{stands, text_at}
-use Rattle.bz_buildozer.specs.Journals.{JournalFault, JournalGives, OpensAs, TakesBeside, file_of_journal}
-use Rattle.bz_buildozer.specs.Moments.{AllAre, IsApart}
-use Rattle.bz_buildozer.specs.Sessions.{History, present}
-use Rattle.bz_buildozer.specs.Steps.{input_package}
-use Rattle.bz_buildozer.proofs.ActSteps.{file_put}
-use Rattle.bz_buildozer.proofs.FileNames.{file_there, folder_first, folder_second, journal_is, journal_not_new, named_plain, new_is, not_kept, packages_apart, settled_stays}
-use Rattle.bz_buildozer.proofs.ReadSteps.{stands_text}
-use Rattle.bz_buildozer.proofs.PlaceSteps.{none_here}
+use Rattle.bz_buildozer.proofs.Words.{[], ◌++◌, ◌||◌, ◌∙◌, ◌∷◌, ◌≡◌, ◌≢◌, ◌⊎◌, AllAre, ap, as_file, as_package, as_unedited, Bool, Bytes, bytes_eq, bytes_eq-Decides, eqb_tells, Err, false, file_at, file_of_journal, first_name, Folder, folder_of, found_at, found_in, found_of, found_second, get, History, Holds, IfSome, if◌then◌else◌, inl, input_package, inr, is_kept_name, is_own_name, is_some, IsApart, IsApartFrom, IsAside, IsNameOf, IsRecordedBy, journal_name, JournalFault, JournalGives, key_in, key_of, List, list_any, new_name, None, Ok, Opened, OpensAs, Option, option_map_or, or_parts, OthersStay, package_number, PackagesFound, present, refl, Result, second_name, Settled, settled, Some, stands, subst, suc, sym, TakesBeside, text_at, true, true≢false, unwrap_or, Used, with_opened, zero, ℕ}
+use Rattle.bz_buildozer.proofs.{ActSteps.file_put, FileNames.file_there, FileNames.folder_first, FileNames.folder_second, FileNames.journal_is, FileNames.journal_not_new, FileNames.named_plain, FileNames.new_is, FileNames.not_kept, FileNames.packages_apart, FileNames.settled_stays, ReadSteps.stands_text, PlaceSteps.none_here}
 
 -- ---- packages
 

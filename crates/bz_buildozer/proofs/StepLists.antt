@@ -1,16 +1,6 @@
 -- Tests over lists of commands, targets and lines.
-use Rattle.std.proofs.Common.{arith, ap, ◌∙◌, ◌≡◌, ◌≤◌, length, refl, List, [], ◌∷◌, map, Bool, true, false, ◌||◌, ◌&&◌, not}
-use Rattle.std.specs.List.{All, flat_map, list_any}
-use Rattle.std.proofs.Math.Bool.{and-false}
-use Rattle.std.proofs.lemmas.List.{length-map}
-use Rattle.std.proofs.lemmas.List.Elements.{All-head, All-tail}
-use Rattle.std.proofs.lemmas.List.Folds.{list_any-append}
-use Rattle.std.proofs.lemmas.Slice.Eq.{bytes_eq-Decides}
-use Rattle.bz_buildozer.specs.Words.{Requested, Request, Target, prints, requested_in, request_in}
+use Rattle.bz_buildozer.proofs.Words.{[], ◌&&◌, ◌||◌, ◌∙◌, ◌∷◌, ◌≡◌, ◌≤◌, All, All-head, All-tail, all_steps, and-false, ap, AreOfInput, arith, Bool, bytes_eq-Decides, false, flat_map, input_package, is_of_input, is_shown_by, length, length-map, List, list_any, list_any-append, map, names_file, names_input, not, prints, refl, Request, request_in, Requested, requested_in, shown_in, shows_input, step_of, steps_requested, Target, targets_file_in, targets_input_in, true}
 use Rattle.bz_command_line.specs.declared.requested.Requested.{Requested as Held}
-use Rattle.bz_buildozer.specs.Outcome.{AreOfInput}
-use Rattle.bz_buildozer.specs.private.Shown.{targets_file_in, targets_input_in, shown_in}
-use Rattle.bz_buildozer.specs.Steps.{step_of, steps_requested, all_steps, is_of_input, is_shown_by, shows_input, input_package, names_file, names_input}
 
 any_map : {X Y : Type 0} (p : X → Bool) (f : Y → X) (ys : List Y) → list_any p (map f ys) ≡ list_any (λ y. p (f y)) ys
 any_map p f [] = refl

@@ -1,22 +1,13 @@
 -- Acts that grow, and reads that failed among them.
-use Rattle.std.proofs.Common.{◌≡◌, ◌∙◌, ◌++◌, ◌∷◌, [], List, Option, Err, refl, ap}
-use Rattle.std.proofs.lemmas.List.{append_assoc}
-use Rattle.bz_files.proofs.Orders.{joined}
-use Rattle.bz_files.specs.Orders.{Act, Read, ReadsRegular, with_act, with_acts}
+use Rattle.bz_buildozer.proofs.Words.{[], ◌++◌, ◌∙◌, ◌∷◌, ◌≡◌, Act, ActsAreAmong, ActsGrow, ap, append_assoc, Bytes, Err, FileKind, IsUnreadInRun, joined, List, Option, Read, ReadsRegular, refl, RunActs, with_act, with_acts}
 use Rattle.bz_files.specs.declared.files.FileFault.{FileFault}
 use Rattle.bz_files.specs.declared.files.FileFault.TheVariants as q
-use Rattle.bz_files.specs.declared.files.FileKind.{FileKind}
-use Rattle.bz_buildozer.specs.Unread.{RunActs, ActsAreAmong, ActsGrow, IsUnreadInRun}
-use Rattle.bz_buildozer.specs.Words.{Bytes}
 
 abbrev pub Acts : Type 0
 Acts = Option (List Act)
 
 pub grows_none : (a : Acts) → ActsGrow a a
 grows_none a = ([], refl)
-
-pub grows_same : (a b : Acts) → b ≡ a → ActsGrow a b
-grows_same a b same = ([], same)
 
 pub grows_one : (a b : Acts) (act : Act) → b ≡ with_act a act → ActsGrow a b
 grows_one a b act is = (act ∷ [], is)

@@ -1,40 +1,15 @@
 -- How runs end, for the worked rows.
-use Rattle.std.specs.Str.{is_utf8, chars}
-use lib.Utf8.{encode}
-use Rattle.std.proofs.Common.{◌≡◌, ◌∙◌, inl, inr, ℕ, ◌≤◌, List, [], ◌∷◌, ◌++◌, ◌&&◌, ◌||◌, not, is_some, if◌then◌else◌, length, map, codes, leb, leb-true, Bool, true, false, Option, Some, None, Result, Ok, Err, refl, sym, ap, subst}
-use Rattle.std.proofs.lemmas.List.{append-nil}
-use Rattle.std.proofs.lemmas.Str.{IsUtf8-from_is_utf8}
-use Rattle.std.specs.FinMap.{get}
-use Rattle.std.specs.Fmt.{digits}
-use Rattle.std.specs.Option.{option_map}
+use Rattle.bz_buildozer.proofs.Words.{[], ◌&&◌, ◌++◌, ◌||◌, ◌∙◌, ◌∷◌, ◌≡◌, ◌≤◌, action_of, all_steps, Answer, Answers, AnswersIn, ap, append-nil, AreHints, as_package, BelowRoot, BesideNone, Bool, Bytes, Changed, changed, chars, codes, command_line_of, CommandLine, Cut, Cut as c, digits, Does, encode, Ended, ends_run, Err, false, file_at, Finds, fixed_lines, Folder, FolderAfter, found_in, found_of, get, gives, has_package, HasBuild, History, if◌then◌else◌, in_line, inl, inr, is_kept_name, is_some, is_utf8, IsGroupFault, IsText, IsUtf8-from_is_utf8, key_in, key_of, LeadsBy, leb, leb-true, length, limit, LineOutcome, LineUsage, List, map, may_be_file, Moved, names_file, no_acts, no_command, no_line, no_target, None, not, note_limit, nothing_done, nothing_requested, of_operand, Ok, Opened, opened, opened_fresh, opened_with, OpensAs, operand_group, operands, Operation as w, Option, option_map, Options, output_lines, OverBuild, OverInput, package_hint, package_number, Progress, refl, reported_of, Request, Requested, Result, root_above, root_note, RunsSteps, RunStep, script, ScriptOutcome, second_name, Settled, settled, settled_file, Settles, shows_input, Some, state_after, status_of, stdin, subst, sym, Target, text_made, text_read, texts_out, TooFar, TooLarge, TriesFile, TriesFiles, true, Undo, undone, unread, unused, Usage, usage_line, Used, UsesWhole, with_file, WordsOutcome, WorkedUsage, WorkedWholeRuns, World, ℕ}
 use Rattle.clap.proofs.OnLiterals.{clap_on_literals}
-use Rattle.bz_lex.specs.declared.fault.ReadFault.TheVariants.{TooLarge}
-use Rattle.bz_buildozer.specs.Words.{limit, Folder, with_file, Target, CommandLine, LineUsage, operands, script, command_line_of, IsGroupFault, Options, stdin, Cut, Bytes}
-use Rattle.bz_value.specs.declared.refusal.Refusal.TheVariants.{TooFar}
-use Rattle.bz_buildozer.specs.Sessions.{History, Answer, Undo, changed, undone, opened, note_limit, gives, Changed, Moved}
 use Rattle.bz_label.specs.declared.target.Which.TheVariants.{Name}
-use Rattle.bz_command_line.specs.Requested.{Requested, Request, Usage, nothing_requested, operand_group, no_command, no_target, no_line, in_line, of_operand}
+use Rattle.bz_command_syntax.specs.declared.profile.Profile.TheVariants.{Own}
 use Rattle.bz_command_line.specs.declared.verb.OperandFault.{OperandFault}
 use Rattle.bz_command_line.specs.declared.verb.OperandFault.TheVariants.{BadTarget, Command}
 use Rattle.bz_command_line.specs.declared.verb.Verb.TheVariants.{Do, Undo, Redo}
 use Rattle.bz_streams.specs.Options.{option_line}
-use Rattle.bz_streams.specs.declared.exit.Cut.TheVariants as c
 use Rattle.bz_command_syntax.specs.declared.command.AttributeOperation.TheVariants as wa
-use Rattle.bz_command_syntax.specs.declared.command.Operation.TheVariants as w
 use Rattle.bz_command_syntax.specs.declared.command.RuleOperation.TheVariants as wr
 use Rattle.bz_command_syntax.specs.declared.fault.CommandFault.TheVariants.{Unknown, Arguments}
-use Rattle.bz_buildozer.specs.Found.{Settled, found_in, found_of, has_package, is_kept_name, key_in, key_of, may_be_file, as_package, root_above, second_name, settled, settled_file, opened_with, Opened, Used, package_number, file_at}
-use Rattle.bz_buildozer.specs.Journals.{OpensAs}
-use Rattle.bz_buildozer.specs.Opens.{opened_fresh}
-use Rattle.bz_buildozer.specs.Ending.{Ended, TriesFile, TriesFiles, fixed_lines, status_of, texts_out}
-use Rattle.bz_buildozer.specs.Outcome.{WordsOutcome, IsText, LineOutcome, ScriptOutcome, unread, unused}
-use Rattle.bz_buildozer.specs.Keeps.{FolderAfter}
-use Rattle.bz_buildozer.specs.Run.{World, Progress, Answers, AnswersIn, AreHints, Does, Finds, LeadsBy, RunsSteps, UsesWhole, nothing_done, reported_of, state_after, ends_run}
-use Rattle.bz_buildozer.specs.Steps.{RunStep, action_of, all_steps, names_file, shows_input}
-use Rattle.bz_buildozer.specs.Unread.{no_acts}
-use Rattle.bz_buildozer.specs.Reported.{output_lines, package_hint, root_note, usage_line}
-use Rattle.bz_buildozer.specs.WorkedParts.{Settles, text_read, text_made}
-use Rattle.bz_buildozer.specs.WorkedRuns.{WorkedUsage, WorkedWholeRuns, HasBuild, BelowRoot, OverBuild, BesideNone, OverInput}
 use Rattle.bz_buildozer.proofs.StandSteps.{found_by, key_known, key_unknown, not_input}
 use Rattle.bz_buildozer.proofs.WorkedText.{accepted, is_made}
 
@@ -74,7 +49,7 @@ settles = (
 
 -- words without an option, and with these
 abbrev options_of : Bool → Bool → Bool → Options
-options_of keep_going to_stdout quiet = record { keep_going = keep_going; to_stdout = to_stdout; quiet = quiet; journal = false }
+options_of keep_going to_stdout quiet = record { keep_going = keep_going; to_stdout = to_stdout; quiet = quiet; journal = false; profile = Own }
 
 abbrev plain : Options
 plain = options_of false false false
@@ -84,7 +59,7 @@ by_line : (words : List Bytes) (line : CommandLine) (world : World) (ended : End
 by_line words line world ended is outcome = inr (subst (λ (whole : Result CommandLine LineUsage). LineOutcome words whole world ended) (sym is) outcome)
 
 usage_of : (words : List Bytes) (usage : Usage) (world : World) → command_line_of words ≡ Ok (record { options = plain; given = operands words })
-    → IsGroupFault words usage → WordsOutcome words world (unused world.folder (usage_line [] usage))
+    → IsGroupFault Own words usage → WordsOutcome words world (unused world.folder (usage_line [] usage))
 usage_of words usage world is fault = by_line words (record { options = plain; given = operands words }) world (unused world.folder (usage_line [] usage)) is (inl (usage, fault, refl))
 
 -- -f with a name
@@ -93,7 +68,7 @@ by_script : (name : Bytes) (world : World) (ended : Ended) → command_line_of (
 by_script name world ended is outcome = by_line (codes "-f" ∷ name ∷ []) (record { options = plain; given = script name }) world ended is outcome
 
 abbrev refused : Bytes → OperandFault → Usage
-refused operand fault = of_operand (record { operand = operand; fault = fault; pattern = None })
+refused operand fault = of_operand (record { profile = Own; operand = operand; fault = fault; pattern = None })
 
 abbrev rule_x : Bytes → Target
 rule_x current = record { «package» = current; which = Name (codes "x") }
@@ -329,7 +304,7 @@ left_after to_stdout requested note printed lines state told folder = record {
 }
 
 run_of : (words texts : List Bytes) (keep_going to_stdout quiet : Bool) (requested : Requested) (world : World) (note : List Bytes) (printed : Cut) (lines told : List Bytes) (state : Progress) (folder : Folder)
-    → command_line_of words ≡ Ok (record { options = options_of keep_going to_stdout quiet; given = operands texts }) → operand_group texts ≡ Ok requested
+    → command_line_of words ≡ Ok (record { options = options_of keep_going to_stdout quiet; given = operands texts }) → operand_group Own texts ≡ Ok requested
     → root_note (names_file (requested ∷ [])) (root_above world.folder) ≡ note
     → RunsHere world keep_going (all_steps (requested ∷ [])) nothing_done lines state
     → TriesFiles c.Whole (options_of keep_going to_stdout quiet) state.used world.folder told folder

@@ -1,8 +1,5 @@
 -- The worked text is accepted, and `set size small` means the other text of it, by computation.
-use Rattle.std.specs.Str.{is_utf8, chars}
-use lib.Utf8.{encode}
-use Rattle.std.proofs.Common.{◌≡◌, ◌<◌, leb, suc, inl, inr, ℕ, List, [], ◌∷◌, length, take, drop, codes, bytes_eq, leb-true, Bool, true, false, IsUtf8, Some, None, refl, ap, true≢false}
-use Rattle.std.proofs.lemmas.Str.{IsUtf8-from_is_utf8}
+use Rattle.bz_buildozer.proofs.Words.{[], ◌<◌, ◌∷◌, ◌≡◌, Accepted, ap, Bool, Bytes, bytes_eq, chars, codes, drop, encode, false, gives, inl, inr, is_utf8, IsMade, IsUtf8, IsUtf8-from_is_utf8, Item, leb, leb-true, length, limit, List, Meaning, Node, None, Reads, refl, refuses, Some, suc, take, text_made, text_read, true, true≢false, written, ℕ}
 use Rattle.bz_token.specs.declared.class.Class.{Class}
 use Rattle.bz_token.specs.declared.class.Class.TheVariants as c
 use Rattle.bz_token.specs.declared.state.State.{State}
@@ -10,21 +7,10 @@ use Rattle.bz_token.specs.declared.state.State.TheVariants.{Word, Ended, Operato
 use Rattle.bz_token.specs.private.Scanner.{keyword_or_name, ends, before_third, longest_front}
 use Rattle.bz_token.specs.Tokens.{IsToken}
 use Rattle.bz_token.proofs.Tokens.{some_token}
-use Rattle.bz_lex.specs.Leaves.{AreCoded}
-use Rattle.bz_lex.specs.Gaps.{nothing}
-use Rattle.bz_grammar.specs.declared.kind.Kind.{Kind}
+use Rattle.bz_lex.specs.{Leaves.AreCoded, Gaps.nothing}
+use Rattle.bz_grammar.specs.{declared.kind.Kind.Kind, Kinds.kind_number, declared.tree.Part.Part, Legal.LegalPart, Legal.LegalShapes, Spell.leaves_of, Spell.depth_of, Spell.depth_limit, Spots.Begins, Spots.Within, Spots.AtLeaves, Spots.AtParts, Spots.Stands, Spots.AreTokens}
 use Rattle.bz_grammar.specs.declared.kind.Kind.TheVariants as k
-use Rattle.bz_grammar.specs.Kinds.{kind_number}
-use Rattle.bz_buildozer.specs.Words.{Node, Bytes}
-use Rattle.bz_grammar.specs.declared.tree.Part.{Part}
 use Rattle.bz_grammar.specs.declared.tree.Part.TheVariants as p
-use Rattle.bz_grammar.specs.Legal.{Accepted, LegalPart, LegalShapes, Reads}
-use Rattle.bz_grammar.specs.Spell.{leaves_of, depth_of, depth_limit, limit}
-use Rattle.bz_grammar.specs.Spots.{Begins, Within, AtLeaves, AtParts, Stands, AreTokens}
-use Rattle.bz_value.specs.declared.value.Item.{Item}
-use Rattle.bz_journal.specs.Meaning.{Meaning, gives, refuses, written}
-use Rattle.bz_buildozer.specs.WorkedParts.{text_read, text_made}
-use Rattle.bz_buildozer.specs.WorkedRuns.{IsMade}
 
 -- ---- the text reads as the tree of f(name="x")
 

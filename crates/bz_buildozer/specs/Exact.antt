@@ -1,7 +1,7 @@
 -- Words, standard input and a folder have at most one outcome, but for what is left open: clap's text, which fault of a text that
 -- can't be read is reported, names that end in `.bznew`, the bytes of journals, and whether `regex` takes a pattern.
 use Rattle.std.specs.Prelude.{◌≡◌, ◌⊎◌, ℕ, Bool, true, List, [], ◌∷◌, ◌++◌, Some, Ok, Err}
-use Rattle.bz_buildozer.specs.Words.{ReadFault, Bytes, IsAside, SameBut, journal_name, Refused, Usage, of_operand, in_line, Given, operands, script, CommandLine, of_clap, command_line_of, IsPatternFault, IsFirstRefused, IsFirstFault, script_lines, fault_excerpt, fault_line}
+use Rattle.bz_buildozer.specs.Words.{ReadFault, Bytes, IsAside, SameBut, journal_name, Refused, Usage, of_operand, in_line, Given, operands, script, CommandLine, of_clap, command_line_of, IsPatternFault, IsFirstRefused, IsFirstFault, script_lines, fault_excerpt, fault_line, Profile}
 use Rattle.bz_streams.specs.declared.exit.Cut.TheVariants as c
 use Rattle.bz_buildozer.specs.Ending.{Left, Ended, ended_whole}
 use Rattle.bz_buildozer.specs.Opens.{IsRefusedFor}
@@ -48,20 +48,21 @@ pub record SameLeft (words : List Bytes) (world : World) (left other : Left) : T
   pub folder : SameBut (IsLeftOpen words) left.folder other.folder
 
 -- Nothing is done, and the pattern of this operand is reported as one that `regex` refuses. (The name of the file of lines, and the usage.)
-abbrev pub IsReportedPattern : Refused → Bytes → Usage → World → Ended → Type 0
-IsReportedPattern refused file usage world ended =
-    IsPatternFault refused.operand refused.fault × (ended ≡ unused world.folder (usage_line file usage))
+abbrev pub IsReportedPattern : Profile → Refused → Bytes → Usage → World → Ended → Type 0
+IsReportedPattern profile refused file usage world ended =
+    IsPatternFault profile refused.operand refused.fault × (ended ≡ unused world.folder (usage_line file usage))
 
 -- The operand is among the words, or in the file of lines.
-abbrev pub GivenReportsPattern : Given → World → Ended → Type 0
-GivenReportsPattern (operands texts) world ended = (refused : Refused) × IsFirstRefused texts refused × IsReportedPattern refused [] (of_operand refused) world ended
-GivenReportsPattern (script name) world ended =
+abbrev pub GivenReportsPattern : Profile → Given → World → Ended → Type 0
+GivenReportsPattern profile (operands texts) world ended =
+    (refused : Refused) × IsFirstRefused profile texts refused × IsReportedPattern profile refused [] (of_operand refused) world ended
+GivenReportsPattern profile (script name) world ended =
     (text : Bytes) × IsScript world name (Some text) × (refused : Refused) × (line : ℕ)
-    × IsFirstFault (script_lines text) (in_line line (of_operand refused))
-    × IsReportedPattern refused (reported_name name) (in_line line (of_operand refused)) world ended
+    × IsFirstFault profile (script_lines text) (in_line line (of_operand refused))
+    × IsReportedPattern profile refused (reported_name name) (in_line line (of_operand refused)) world ended
 
 abbrev pub ReportsPattern : List Bytes → World → Ended → Type 0
-ReportsPattern words world ended = (line : CommandLine) × (command_line_of words ≡ Ok line) × GivenReportsPattern line.given world ended
+ReportsPattern words world ended = (line : CommandLine) × (command_line_of words ≡ Ok line) × GivenReportsPattern line.options.profile line.given world ended
 
 -- Two outcomes of words that nothing cuts are the same, unless one of them is that a pattern is refused.
 abbrev pub OutcomesAreExact : Type 0

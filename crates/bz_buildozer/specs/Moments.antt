@@ -1,7 +1,7 @@
 -- The folder at each moment of a run with journals, whatever cuts the run or stops it.
 use Rattle.std.specs.Prelude.{◌≡◌, ◌≢◌, ◌⊎◌, is_some, true, false, ℕ, List, [], ◌∷◌, ◌++◌, Option, Some, None, Result, Ok, Err, IfSome}
 use Rattle.std.specs.FinMap.{get}
-use Rattle.bz_buildozer.specs.Words.{Bytes, Folder, IsAside, PairFault, journal_name, Holds, Requested, operand_group, Given, operands, script, script_of}
+use Rattle.bz_buildozer.specs.Words.{Bytes, Folder, IsAside, PairFault, journal_name, Holds, Requested, operand_group, Given, operands, script, script_of, Profile}
 use Rattle.bz_buildozer.specs.Sessions.{KeepFault, Pair, Keeps, Action, History, Reply, present}
 use Rattle.bz_buildozer.specs.Found.{IsNameOf, Opened, Used, key_in, package_number, file_at, with_opened}
 use Rattle.bz_buildozer.specs.Journals.{IsOpenedIn}
@@ -74,12 +74,12 @@ IsMomentOfSteps began (step ∷ steps) used now =
 
 -- ---- runs
 
--- what is requested by operands, or by the lines of a file
-abbrev pub RequestsFor : World → Given → List Requested → Type 0
-RequestsFor world (operands texts) lines = (requested : Requested) × (operand_group texts ≡ Ok requested) × (lines ≡ requested ∷ [])
-RequestsFor world (script name) lines = (text : Bytes) × IsScript world name (Some text) × IsText text × (script_of text ≡ Ok lines)
+-- what is requested by operands, or by the lines of a file, as they are read in a profile
+abbrev pub RequestsFor : Profile → World → Given → List Requested → Type 0
+RequestsFor profile world (operands texts) lines = (requested : Requested) × (operand_group profile texts ≡ Ok requested) × (lines ≡ requested ∷ [])
+RequestsFor profile world (script name) lines = (text : Bytes) × IsScript world name (Some text) × IsText text × (script_of profile text ≡ Ok lines)
 
 -- a folder at a moment of a run: it is as it was, or at a moment of the steps that are requested
-abbrev pub IsMomentOfRun : World → Given → Folder → Type 0
-IsMomentOfRun world given now = (now ≡ world.folder)
-    ⊎ ((lines : List Requested) × RequestsFor world given lines × IsMomentOfSteps world.folder (all_steps lines) [] now)
+abbrev pub IsMomentOfRun : Profile → World → Given → Folder → Type 0
+IsMomentOfRun profile world given now = (now ≡ world.folder)
+    ⊎ ((lines : List Requested) × RequestsFor profile world given lines × IsMomentOfSteps world.folder (all_steps lines) [] now)

@@ -3,7 +3,7 @@ use Rattle.std.specs.Prelude.{◌≡◌, ◌≢◌, ◌⊎◌, ◌&&◌, ◌≤�
 use Rattle.std.specs.List.{All}
 use Rattle.std.specs.FinMap.{get}
 use Rattle.std.specs.Str.{IsUtf8, IsValidUpTo}
-use Rattle.bz_buildozer.specs.Words.{ReadFault, limit, Bytes, Folder, Requested, Usage, operand_group, Given, operands, script, LineUsage, CommandLine, command_line_of, IsGroupFault, IsScriptFault, script_of, Options, stdin, fault_line, Cut, IsInput}
+use Rattle.bz_buildozer.specs.Words.{ReadFault, limit, Bytes, Folder, Requested, Usage, operand_group, Given, operands, script, LineUsage, CommandLine, command_line_of, IsGroupFault, IsScriptFault, script_of, Options, stdin, fault_line, Cut, IsInput, Profile}
 use Rattle.bz_lex.specs.declared.fault.ReadFault.TheVariants.{NotUtf8, TooLarge}
 use Rattle.bz_streams.specs.declared.exit.Cut.TheVariants as c
 use Rattle.bz_buildozer.specs.Ending.{Ended, Performs, ended_whole}
@@ -36,8 +36,8 @@ IsUnused honest world IsOutcome line = (now : World) × (honest ≡ true → now
 
 abbrev pub OperandsOutcome : Options → List Bytes → World → Ended → Type 0
 OperandsOutcome options texts world ended =
-    ((usage : Usage) × IsGroupFault texts usage × (ended ≡ unused world.folder (usage_line [] usage)))
-    ⊎ ((requested : Requested) × (operand_group texts ≡ Ok requested) × LinesEnd options (requested ∷ []) world ended)
+    ((usage : Usage) × IsGroupFault options.profile texts usage × (ended ≡ unused world.folder (usage_line [] usage)))
+    ⊎ ((requested : Requested) × (operand_group options.profile texts ≡ Ok requested) × LinesEnd options (requested ∷ []) world ended)
 
 -- ---- operands in a file of lines
 
@@ -76,8 +76,8 @@ LinesOutcome options of_input lines world ended =
 abbrev pub TextOutcome : Options → Bytes → Bytes → World → Ended → Type 0
 TextOutcome options name text world ended =
     ((fault : ReadFault) × IsTextFault text fault × (ended ≡ unused world.folder (fault_line (reported_name name) fault)))
-    ⊎ (IsText text × ((usage : Usage) × IsScriptFault text usage × (ended ≡ unused world.folder (usage_line (reported_name name) usage))))
-    ⊎ (IsText text × ((lines : List Requested) × (script_of text ≡ Ok lines) × LinesOutcome options (bytes_eq name input_package) lines world ended))
+    ⊎ (IsText text × ((usage : Usage) × IsScriptFault options.profile text usage × (ended ≡ unused world.folder (usage_line (reported_name name) usage))))
+    ⊎ (IsText text × ((lines : List Requested) × (script_of options.profile text ≡ Ok lines) × LinesOutcome options (bytes_eq name input_package) lines world ended))
 
 -- A file of lines is not there, which is no failure, or can't be read: that is reported, and nothing is done. (Why it can't be.)
 abbrev pub unread : Cut → Bytes → Folder → Ended
@@ -124,20 +124,20 @@ AreOfInput lines = All (λ requested. All (λ target. target.«package» ≡ inp
 abbrev pub AreOfInputAndSome : List Requested → Type 0
 AreOfInputAndSome lines = AreOfInput lines × (names_input lines ≡ true)
 
-abbrev pub IsOfInput : Given → Type 0
-IsOfInput (operands texts) = IfOk (operand_group texts) (λ requested. AreOfInput (requested ∷ []))
-IsOfInput (script name) = ⊥
+abbrev pub IsOfInput : Profile → Given → Type 0
+IsOfInput profile (operands texts) = IfOk (operand_group profile texts) (λ requested. AreOfInput (requested ∷ []))
+IsOfInput profile (script name) = ⊥
 
 -- The words name no file, and no package but standard input.
 abbrev pub NamesNoFile : List Bytes → Type 0
-NamesNoFile words = IfOk (command_line_of words) (λ line. IsOfInput line.given)
+NamesNoFile words = IfOk (command_line_of words) (λ line. IsOfInput line.options.profile line.given)
 
 -- ---- words that request nothing
 
 -- operands that are refused, or lack a command or a target, or mean rules of standard input where journals are kept
 abbrev pub GivesNothing : Options → Given → Type 0
-GivesNothing options (operands texts) = IsErr (operand_group texts)
-    ⊎ ((options.journal ≡ true) × ((requested : Requested) × (operand_group texts ≡ Ok requested) × (names_input (requested ∷ []) ≡ true)))
+GivesNothing options (operands texts) = IsErr (operand_group options.profile texts)
+    ⊎ ((options.journal ≡ true) × ((requested : Requested) × (operand_group options.profile texts ≡ Ok requested) × (names_input (requested ∷ []) ≡ true)))
 GivesNothing options (script name) = ⊥
 
 -- This is so of the name of the file of lines, if there is one.

@@ -7,6 +7,7 @@ pub use Rattle.bz_command_line.specs.Script.{script_lines, script_of}
 pub use Rattle.bz_command_line.specs.Shown.{request_in, requested_in}
 pub use Rattle.bz_command_line.specs.Verbs.{prints}
 pub use Rattle.bz_command_line.specs.declared.line.Options.{Options}
+pub use Rattle.bz_command_syntax.specs.declared.profile.Profile.{Profile}
 pub use Rattle.bz_command_line.specs.declared.verb.Verb.{Verb}
 pub use Rattle.bz_edit.specs.declared.edit.Edit.{Edit}
 pub use Rattle.bz_files.specs.Folder.{Elapses, Folder, IsAside, IsReplacing, new_name, SameBut, with_file}

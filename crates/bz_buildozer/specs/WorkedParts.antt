@@ -14,6 +14,7 @@ use Rattle.bz_buildozer.specs.Run.{Finds, reported_of, printed_by, state_after, 
 use Rattle.bz_buildozer.specs.Steps.{RunStep, all_steps, shows_input}
 use Rattle.bz_buildozer.specs.Unread.{no_acts}
 use Rattle.bz_lex.specs.declared.fault.ReadFault.TheVariants.{NotUtf8, Unexpected}
+use Rattle.bz_command_syntax.specs.declared.profile.Profile.TheVariants.{Own}
 use Rattle.bz_command_line.specs.declared.verb.OperandFault.TheVariants.{BadTarget}
 use Rattle.bz_resume.specs.declared.fault.ResumeFault.TheVariants.{Damaged, Version}
 
@@ -96,7 +97,7 @@ steps_in (Ok requested) = all_steps (requested ∷ [])
 steps_in (Err usage) = []
 
 abbrev typed : List Bytes → List RunStep
-typed operands = steps_in (operand_group operands)
+typed operands = steps_in (operand_group Own operands)
 
 abbrev Steps : Type 0
 Steps =
@@ -166,7 +167,7 @@ WorkedRefusals = (fault_line stdin (Unexpected 12 305) ≡ codes "<stdin>:12:305
     × (fault_lines (codes "a/BUILD.journal") (of_resuming Version)
     ≡ codes "a/BUILD.journal: Version (72)\n"
     ∷ codes "buildozer: a program of another version wrote it: use that one, or delete a/BUILD.journal to begin a new history\n" ∷ [])
-    × (operand_line (record { operand = codes "//a::b"; fault = BadTarget; pattern = None })
+    × (operand_line (record { profile = Own; operand = codes "//a::b"; fault = BadTarget; pattern = None })
     ≡ codes "buildozer: //a::b: BadTarget (12)\nbuildozer: the form of a target is //PACKAGE:NAME, without an empty part; a package has at most 65,536 bytes\n")
     × (fixed_line (codes "a/BUILD") ≡ codes "fixed a/BUILD\n")
     × (unedited_lines (codes "app/BUILD") (beside (codes "app")) ≡ codes "app/BUILD: cannot open\n" ∷ codes "buildozer: the file of //app is its BUILD.bazel\n" ∷ [])

@@ -122,7 +122,7 @@ fn run_text<R: Source, W: Sink, E: Sink, F: Files>(
         × ReportsLines E.Sink err.old err.new (line ∷ []) }
     ensures unread_kept { job.options.journal ≡ true → IsStill R.Source input.old input.new }
     ensures moments { job.options.journal ≡ true → F.honest files.old ≡ true → PassesBy F.Files (λ now. (lines : List a.Requested)
-        × IsText read.entry.bytes.now × (script_of read.entry.bytes.now ≡ Ok lines) × IsMomentOfSteps (F.folder files.old) (all_steps lines) [] now) files.old files.new }
+        × IsText read.entry.bytes.now × (script_of job.options.profile read.entry.bytes.now ≡ Ok lines) × IsMomentOfSteps (F.folder files.old) (all_steps lines) [] now) files.old files.new }
     ensures sound { R.sound input.old ≡ true → result.cut ≢ Cut.Read }
     ensures status { result.cut ≢ Cut.Whole → result.status ≡ 2 }
     ensures ended { IsEndedOver R.Source W.Sink F.Files result.cut input.old input.new out.old out.new files.old files.new }
@@ -135,7 +135,7 @@ fn run_text<R: Source, W: Sink, E: Sink, F: Files>(
             return UNUSED;
         }
     };
-    let lines = match read_script(job.alloc, text) {
+    let lines = match read_script(job.alloc, job.options.profile, text) {
         Ok(lines) => lines,
         Err(fault) => return unused(
             report_script(job.alloc, err, reported_name(read.name), &fault),
@@ -173,7 +173,7 @@ fn run_script<R: Source, W: Sink, E: Sink, F: Files>(
         × ReportsLines E.Sink err.old err.new (line ∷ []) }
     ensures unread_kept { job.options.journal ≡ true → name.now ≢ input_package → IsStill R.Source input.old input.new }
     ensures moments { job.options.journal ≡ true → F.honest files.old ≡ true
-        → PassesBy F.Files (IsMomentOfRun (world_of R.Source F.Files input.old files.old (acts_over F.Files files.old files.new)) (script name.now)) files.old files.new }
+        → PassesBy F.Files (IsMomentOfRun job.options.profile (world_of R.Source F.Files input.old files.old (acts_over F.Files files.old files.new)) (script name.now)) files.old files.new }
     ensures sound { R.sound input.old ≡ true → result.cut ≢ Cut.Read }
     ensures status { result.cut ≢ Cut.Whole → (result.status ≡ 2) ⊎ (result.status ≡ 1) }
     ensures ended { IsEndedOver R.Source W.Sink F.Files result.cut input.old input.new out.old out.new files.old files.new }
@@ -196,7 +196,7 @@ fn run_script<R: Source, W: Sink, E: Sink, F: Files>(
 /// then the text of standard input, unless each command on it prints, and with `--stdout` the text of each file that
 /// changed; without it those files are written, each where it still holds what was read of it, and reported by a line on `err`
 /// unless `--quiet` was given. With `--journal` each action that changes a text replaces FILE.journal and then the file, and what is
-/// reported at the end is which files were written. Statuses: 1 where the words or lines request nothing, or the file of lines was not read
+/// reported at the end is which files were written. Commands are read in the profile of `--profile`. Statuses: 1 where the words or lines request nothing, or the file of lines was not read
 /// (nothing is then done); else 2 where a step or a port failed or memory was refused; else 0 where some text at the end is
 /// another one than was read; else 3. Each fault is reported by a line on `err`, whose own faults are passed over.
 pub fn buildozer<S: AsStr, R: Source, W: Sink, E: Sink, F: Files>(
@@ -237,7 +237,7 @@ pub fn buildozer<S: AsStr, R: Source, W: Sink, E: Sink, F: Files>(
     // Whatever cuts or stops a run with journals, each folder since it began is one at a moment of its steps: each file that it has open
     // goes on with the texts that its history has at that step or at the one before, and other names are as they were.
     ensures moments { F.honest files.old ≡ true → IfOk (command_line_of (map S.text words.now)) (λ line. line.options.journal ≡ true
-        → (now : Folder) → F.since files.new (F.moment files.old) now → IsMomentOfRun (world_of R.Source F.Files input.old files.old (acts_over F.Files files.old files.new)) line.given now) }
+        → (now : Folder) → F.since files.new (F.moment files.old) now → IsMomentOfRun line.options.profile (world_of R.Source F.Files input.old files.old (acts_over F.Files files.old files.new)) line.given now) }
 
     // Where standard input never fails, it cuts no run.
     ensures sound { R.sound input.old ≡ true → result.cut ≢ Cut.Read }
@@ -258,7 +258,7 @@ pub fn buildozer<S: AsStr, R: Source, W: Sink, E: Sink, F: Files>(
         options: line.options,
     };
     match &line.given {
-        Given::Operands(operands) => match read_group(alloc, operands) {
+        Given::Operands(operands) => match read_group(alloc, line.options.profile, operands) {
             Ok(requested) => perform(job, from_ref(&requested), input, out, err, files),
             Err(fault) => unused(report_usage(alloc, err, &fault), err),
         },

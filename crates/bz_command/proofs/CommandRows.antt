@@ -1,17 +1,7 @@
 -- What each command reads in its words is as the table says.
-use Rattle.std.proofs.Common.{◌≡◌, ℕ, false, List, [], ◌∷◌, get_or, Option, Some, None, refl}
-use Rattle.std.specs.Prelude.{IfOk}
-use Rattle.std.specs.Option.{option_and_then}
-use Rattle.bz_command.specs.Words.{Bytes, Operation}
+use Rattle.bz_command.proofs.Words.{[], ◌∷◌, ◌≡◌, AttributeOperation as wa, by_test, Bytes, CommentOperation as wc, DictOperation as wd, false, get_or, IfOk, List, LoadOperation as wl, None, Operation, Operation as w, Option, option_and_then, refl, RuleOperation as wr, Some, ValueOperation as wv, ℕ}
 use Rattle.bz_command_syntax.specs.Commands as c
-use Rattle.bz_command_syntax.specs.declared.command.Operation.TheVariants as w
-use Rattle.bz_command_syntax.specs.declared.command.RuleOperation.TheVariants as wr
-use Rattle.bz_command_syntax.specs.declared.command.AttributeOperation.TheVariants as wa
-use Rattle.bz_command_syntax.specs.declared.command.ValueOperation.TheVariants as wv
-use Rattle.bz_command_syntax.specs.declared.command.DictOperation.TheVariants as wd
-use Rattle.bz_command_syntax.specs.declared.command.LoadOperation.TheVariants as wl
-use Rattle.bz_command_syntax.specs.declared.command.CommentOperation.TheVariants as wc
-use Rattle.bz_rule.proofs.ProperChanges.{by_test}
+use Rattle.bz_command_syntax.specs.declared.command.Selects.TheVariants.{Skipped}
 use Rattle.bz_command.specs.Table.{CommandRow, command_rows, IsAsListed, CommandsAreListed}
 
 -- a row of the table by its place
@@ -54,7 +44,7 @@ remove_listed : (words : List Bytes) → ReadsAsListed (row_at 5) (c.remove_of w
 remove_listed [] = tt
 remove_listed (attribute ∷ []) = made_listed (row_at 5) (λ attributes. w.Attribute (wa.Remove attributes)) (c.attributes_of attribute) (λ _. (refl, refl, refl, refl))
 remove_listed (attribute ∷ value ∷ values) =
-    made_listed (row_at 5) (λ attributes. w.Value (wv.Remove attributes (value ∷ values))) (c.attributes_of attribute) (λ _. (refl, refl, refl, refl))
+    made_listed (row_at 5) (λ attributes. w.Value (wv.Remove attributes (value ∷ values) Skipped)) (c.attributes_of attribute) (λ _. (refl, refl, refl, refl))
 
 set_select_listed : (words : List Bytes) → ReadsAsListed (row_at 18) (c.set_select_of words)
 set_select_listed words =
@@ -72,8 +62,8 @@ commands_are_listed =
     (listed (row_at 4) (form_listed (row_at 4) (λ parts. w.Value (wv.Add parts.0 parts.1)) c.attribute_values (λ _. (refl, refl, refl, refl)))
     (listed (row_at 5) remove_listed
     (listed (row_at 6) (form_listed (row_at 6) (λ parts. w.Value (wv.RemoveIfEqual parts.0 parts.1)) c.attribute_word (λ _. (refl, refl, refl, refl)))
-    (listed (row_at 7) (form_listed (row_at 7) (λ parts. w.Value (wv.Replace parts.0 parts.1 parts.2)) c.attributes_words (λ _. (refl, refl, refl, refl)))
-    (listed (row_at 8) (form_listed (row_at 8) (λ parts. w.Value (wv.Substitute parts.0 parts.1 parts.2)) c.attributes_words (λ _. (refl, refl, refl, refl)))
+    (listed (row_at 7) (form_listed (row_at 7) (λ parts. w.Value (wv.Replace parts.0 parts.1 parts.2 Skipped)) c.attributes_words (λ _. (refl, refl, refl, refl)))
+    (listed (row_at 8) (form_listed (row_at 8) (λ parts. w.Value (wv.Substitute parts.0 parts.1 parts.2 Skipped)) c.attributes_words (λ _. (refl, refl, refl, refl)))
     (listed (row_at 9) (form_listed (row_at 9) (λ parts. w.Value (wv.Move parts.0 parts.1 parts.2)) c.moved_values (λ _. (refl, refl, refl, refl)))
     (listed (row_at 10) (form_listed (row_at 10) (λ parts. w.Attribute (wa.Rename parts.0 parts.1)) c.two_attributes (λ _. (refl, refl, refl, refl)))
     (listed (row_at 11) (form_listed (row_at 11) (λ parts. w.Attribute (wa.Copy parts.0 parts.1)) c.attribute_word (λ _. (refl, refl, refl, refl)))

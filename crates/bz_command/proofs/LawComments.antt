@@ -1,48 +1,20 @@
 -- Commands that take nothing away lose no comment.
-use Rattle.std.proofs.Common.{◌≡◌, ◌≤◌, ◌+◌, ℕ, Bool, true, false, not, List, [], ◌∷◌, Option, Some, None, Result, Ok, Err, refl, sym, subst, map, true≢false, arith}
-use Rattle.std.specs.Prelude.{if◌then◌else◌, IfOk, bytes_eq}
-use Rattle.std.specs.List.{AllByRecursion, insert, list_any}
-use Rattle.std.specs.Option.{option_map_or}
-use Rattle.bz_grammar.specs.declared.kind.Kind.TheVariants as k
-use Rattle.bz_value.specs.declared.value.Expr.{Expr, Token, Form', items-the_row-Expr}
-use Rattle.std.proofs.lemmas.List.Elements.{recursion_from_All}
-use Rattle.bz_value.specs.Proper.{IsProperItemIn}
-use Rattle.bz_command.specs.Words.{Grammar, IsProperCommand, Item, Bytes, Operation, RulePlace, Rule as RuleRead, rule_of, attribute, has_name, Refusal, Arguments, with_comment, comment}
-use Rattle.bz_value.specs.declared.value.Item.TheVariants as i
+use Rattle.bz_command.proofs.Words.{[], ◌+◌, ◌∷◌, ◌≡◌, ◌≤◌, add, AllByRecursion, argument_of, Arguments, arith, attribute, AttributeExists, AttributeOperation as wa, Attributes, Attributes as t, body_of, Bool, by_case, by_test, Bytes, bytes_eq, comment, CommentOperation as wc, CommentsStay, copy, copy_no_overwrite, dict_add, dict_add_grows, dict_list_add, dict_list_add_grows, dict_replace_if_equal, dict_replace_if_equal_grows, DictOperation as wd, Err, Expr, false, first_text, Form', Grammar, has_name, if_false, IfOk, if◌then◌else◌, in_attributes, in_value, insert, is_set, IsProperCommand, IsProperItemIn, Item, Item as i, items-the_row-Expr, keeps_comments, Kind as k, List, list_any, list_of, LoadOperation as wl, made, made_of, map, meant, moves_comments, NameTaken, new_rule_place, NewItem, NoAttribute, None, NoSource, not, NotAList, NoTarget, Ok, on_arguments, on_first, on_meant, on_row, on_rule, on_rules, on_statement, Operation, Operation as w, Option, option_map_or, parts_of, recursion_from_All, refl, Refusal, rename, replace, replace_load_same, replaced_item, Result, Rule as RuleRead, rule_made, rule_of, RuleOperation as wr, RulePlace, set, set_if_absent, setting, Some, source, strings_added, subst, substitute, substituted_item, sym, Token, true, true≢false, use_repo_add, ValueOperation as wv, with_arguments, with_body, with_comment, with_item_first, with_items, with_items_added, with_rule, with_text, ℕ}
 use Rattle.bz_value.specs.Counted.{total, amount, item_amount, one_if}
 use Rattle.bz_value.proofs.Totals.{form_amount}
 use Rattle.bz_command_syntax.specs.Patterns.{substituted}
-use Rattle.bz_command_syntax.specs.declared.command.Operation.TheVariants as w
-use Rattle.bz_command_syntax.specs.declared.command.RuleOperation.TheVariants as wr
-use Rattle.bz_command_syntax.specs.declared.command.AttributeOperation.TheVariants as wa
-use Rattle.bz_command_syntax.specs.declared.command.ValueOperation.TheVariants as wv
-use Rattle.bz_command_syntax.specs.declared.command.DictOperation.TheVariants as wd
-use Rattle.bz_command_syntax.specs.declared.command.LoadOperation.TheVariants as wl
-use Rattle.bz_command_syntax.specs.declared.command.CommentOperation.TheVariants as wc
-use Rattle.bz_command_syntax.specs.declared.command.Attributes.{Attributes}
-use Rattle.bz_command_syntax.specs.declared.command.Attributes.TheVariants as t
-use Rattle.bz_rule.specs.Values.{parts_of, with_items, with_text, on_row, on_first, first_text}
-use Rattle.bz_rule.proofs.ProperChanges.{by_test, by_case}
-use Rattle.bz_value.specs.declared.refusal.Refusal.TheVariants.{NoTarget, NoAttribute, AttributeExists, NotAList, NoSource, NameTaken}
+use Rattle.bz_command_syntax.specs.declared.command.Selects.{Selects}
+use Rattle.bz_command_syntax.specs.declared.command.Selects.TheVariants.{Skipped}
 use Rattle.bz_attribute.specs.Attributes.{is_attribute, has_attribute, is_other_attribute, on_first_that, on_value, with_value, with_new, put}
-use Rattle.bz_change.specs.Changes.{setting, is_set, set, set_if_absent, rename, copy, copy_no_overwrite}
-use Rattle.bz_list.specs.Changes.{strings_added, with_items_added, add, in_value, in_attributes, replaced_item, replace, with_body, substituted_item, substitute}
-use Rattle.bz_command.specs.Effect.{NewItem, with_arguments, made_of, on_rule, on_arguments, with_item_first, on_meant, new_rule_place, with_rule, source, on_rules, on_statement, meant}
 use Rattle.bz_command_syntax.specs.declared.command.Host.TheVariants.{Rule, Attribute, Item as ItemHost}
-use Rattle.bz_change.specs.Dicts.{dict_add, dict_list_add, dict_replace_if_equal}
-use Rattle.bz_change.proofs.ProperDicts.{dict_add_grows, dict_list_add_grows, dict_replace_if_equal_grows}
 use Rattle.bz_load.proofs.LawComments.{amount_answered, new_load_same, put_total, substitute_load_same}
-use Rattle.bz_load.proofs.LawReplaced.{replace_load_same}
 use Rattle.bz_load.proofs.LawUsages.{if_ok, use_repo_add_same}
-use Rattle.bz_load.specs.Usages.{use_repo_add}
 use Rattle.bz_comment.proofs.LawBack.{own_grows, comment_grows}
-use Rattle.bz_command.specs.Laws.{keeps_comments, moves_comments, CommentsStay}
 use Rattle.bz_command.proofs.ProperEffects.{effect_by}
 use Rattle.bz_command.proofs.StatementRules.{Holds, before_in, before_in_call, before_in_row, in_item}
-use Rattle.bz_attribute.specs.Lists.{has_lists, items_in, is_no_list, with_more, body_of, is_item}
-use Rattle.bz_attribute.specs.Made.{list_of, string_text, plus, argument_of, rule_made}
+use Rattle.bz_attribute.specs.Lists.{has_lists, items_in, is_no_list, with_more, is_item}
+use Rattle.bz_attribute.specs.Made.{string_text, plus}
 use Rattle.bz_attribute.proofs.AttributesAgain.{of_found}
-use Rattle.bz_attribute.proofs.FormsAgain.{if_false, made}
 use Rattle.bz_attribute.proofs.Grown.{itself, in_turn, both_at_most, Grows, map_grows, first_grows, first_that_grows}
 use Rattle.bz_attribute.proofs.GrownArguments.{text_grows, on_row_grows, on_lists_grows, on_value_grows, more_grows, plus_grows, with_value_grows, inserted_grows, Grown}
 use Rattle.bz_list.proofs.LawAdded.{grown}
@@ -67,9 +39,9 @@ module _ (number : Bytes → ℕ) where
   item_substituted_grows : (current name pattern template : Bytes) → Grows whole (substituted_item current name pattern template)
   item_substituted_grows current name pattern template x = text_substituted current name pattern template x (body_of x)
 
-  in_value_grows : (change : Expr → Expr) → Grows whole change → Grows whole (in_value change)
-  in_value_grows change g x =
-      in_turn (whole x) (whole (change x)) (whole (in_value change x)) (g x) (on_lists_grows number (map change) (map_grows whole change g) (change x))
+  in_value_grows : (selects : Selects) (change : Expr → Expr) → Grows whole change → Grows whole (in_value selects change)
+  in_value_grows selects change g x =
+      in_turn (whole x) (whole (change x)) (whole (in_value selects change x)) (g x) (on_lists_grows number selects (map change) (map_grows whole change g) (change x))
 
   -- ---- commands on arguments
 
@@ -86,27 +58,28 @@ module _ (number : Bytes → ℕ) where
   added_keeps : (name : Bytes) (added : List Expr → List Expr) → Keeps (with_items_added name added)
   added_keeps name added xs =
       of_found (Grown number xs) (attribute name xs) (Ok (with_new name (list_of (added [])) xs)) (grown name added xs) (inserted_grows number (argument_of name (list_of (added []))) xs)
-      (λ value e. by_test (Grown number xs) (has_lists value) (Ok (with_value name (with_more (added (items_in value)) value) xs))
+      (λ value e. by_test (Grown number xs) (has_lists Skipped value) (Ok (with_value name (with_more (added (items_in Skipped value)) value) xs))
       (if is_no_list value then Err NotAList else Ok (with_value name (plus value (list_of (added []))) xs))
-      (with_value_grows number name value (with_more (added (items_in value)) value) xs e (more_grows number (added (items_in value)) value))
+      (with_value_grows number name value (with_more (added (items_in Skipped value)) value) xs e (more_grows number (added (items_in Skipped value)) value))
       (by_test (Grown number xs) (is_no_list value) (Err NotAList) (Ok (with_value name (plus value (list_of (added []))) xs)) tt
       (with_value_grows number name value (plus value (list_of (added []))) xs e (plus_grows number (list_of (added [])) value))))
 
-  in_attributes_keeps : (attributes : Attributes) (change : Bytes → Expr → Expr) → ((name : Bytes) → Grows whole (change name)) → Keeps (λ xs. Ok (in_attributes attributes (λ name. in_value (change name)) xs))
-  in_attributes_keeps t.All change g xs =
-      map_grows whole (λ x. if is_other_attribute x then on_value (in_value (change (first_text (parts_of x)))) x else x)
-      (λ x. by_test (λ (y : Expr). whole x ≤ whole y) (is_other_attribute x) (on_value (in_value (change (first_text (parts_of x)))) x) x
-      (on_value_grows number (in_value (change (first_text (parts_of x)))) (in_value_grows (change (first_text (parts_of x))) (g (first_text (parts_of x)))) x) (itself (whole x)))
+  in_attributes_keeps : (selects : Selects) (attributes : Attributes) (change : Bytes → Expr → Expr) → ((name : Bytes) → Grows whole (change name))
+      → Keeps (λ xs. Ok (in_attributes attributes (λ name. in_value selects (change name)) xs))
+  in_attributes_keeps selects t.All change g xs =
+      map_grows whole (λ x. if is_other_attribute x then on_value (in_value selects (change (first_text (parts_of x)))) x else x)
+      (λ x. by_test (λ (y : Expr). whole x ≤ whole y) (is_other_attribute x) (on_value (in_value selects (change (first_text (parts_of x)))) x) x
+      (on_value_grows number (in_value selects (change (first_text (parts_of x)))) (in_value_grows selects (change (first_text (parts_of x))) (g (first_text (parts_of x)))) x) (itself (whole x)))
       xs
-  in_attributes_keeps (t.Named name) change g xs =
-      first_that_grows whole (is_attribute name) (on_value (in_value (change name))) (on_value_grows number (in_value (change name)) (in_value_grows (change name) (g name))) xs
+  in_attributes_keeps selects (t.Named name) change g xs =
+      first_that_grows whole (is_attribute name) (on_value (in_value selects (change name))) (on_value_grows number (in_value selects (change name)) (in_value_grows selects (change name) (g name))) xs
 
-  replace_keeps : (current : Bytes) (attributes : Attributes) (old new : Bytes) → Keeps (replace current attributes old new)
-  replace_keeps current attributes old new = in_attributes_keeps attributes (λ name. replaced_item current name old new) (λ name. item_replaced_grows current name old new)
+  replace_keeps : (selects : Selects) (current : Bytes) (attributes : Attributes) (old new : Bytes) → Keeps (replace selects current attributes old new)
+  replace_keeps selects current attributes old new = in_attributes_keeps selects attributes (λ name. replaced_item current name old new) (λ name. item_replaced_grows current name old new)
 
-  substitute_keeps : (current : Bytes) (attributes : Attributes) (pattern template : Bytes) → Keeps (substitute current attributes pattern template)
-  substitute_keeps current attributes pattern template =
-      in_attributes_keeps attributes (λ name. substituted_item current name pattern template) (λ name. item_substituted_grows current name pattern template)
+  substitute_keeps : (selects : Selects) (current : Bytes) (attributes : Attributes) (pattern template : Bytes) → Keeps (substitute selects current attributes pattern template)
+  substitute_keeps selects current attributes pattern template =
+      in_attributes_keeps selects attributes (λ name. substituted_item current name pattern template) (λ name. item_substituted_grows current name pattern template)
 
   rename_keeps : (from to : Bytes) → Keeps (rename from to)
   rename_keeps from to xs =
@@ -154,13 +127,6 @@ module _ (number : Bytes → ℕ) where
   rule_exact item rule new e =
       subst (λ (ys : List Expr). size (with_arguments new item) + total whole ys ≡ size item + total whole new)
       (subst (Holds (before_in new item)) e (in_item new item)) (item_exact new item)
-
-  -- the arguments that are put in are in the item then
-  pub rule_holds : (item : Item) (rule : RuleRead) (new : List Expr) → rule_of item ≡ Some rule → total whole new ≤ size (with_arguments new item)
-  rule_holds item rule new e =
-      let exact = rule_exact item rule new e in
-      let none = rule_exact item rule [] e in
-      omega (arith, exact, none)
 
   abbrev MadeItem : Item → NewItem → Type 0
   MadeItem item result = IfOk result (λ new. size item ≤ size new)
@@ -217,9 +183,10 @@ module _ (number : Bytes → ℕ) where
   rules_keep grammar (w.Attribute (wa.CopyNoOverwrite name rule)) current marks items h p =
       by_arguments (copy_no_overwrite name (source name rule items)) (copy_keeps name (source name rule items)) marks items
   rules_keep grammar (w.Value (wv.Add name words)) current marks items h p = by_arguments (add current name words) (added_keeps name (strings_added current name words)) marks items
-  rules_keep grammar (w.Value (wv.Replace attributes old new)) current marks items h p = by_arguments (replace current attributes old new) (replace_keeps current attributes old new) marks items
-  rules_keep grammar (w.Value (wv.Substitute attributes pattern template)) current marks items h p =
-      by_arguments (substitute current attributes pattern template) (substitute_keeps current attributes pattern template) marks items
+  rules_keep grammar (w.Value (wv.Replace attributes old new selects)) current marks items h p =
+      by_arguments (replace selects current attributes old new) (replace_keeps selects current attributes old new) marks items
+  rules_keep grammar (w.Value (wv.Substitute attributes pattern template selects)) current marks items h p =
+      by_arguments (substitute selects current attributes pattern template) (substitute_keeps selects current attributes pattern template) marks items
   rules_keep grammar (w.Dict (wd.Add name entries)) current marks items h p = by_arguments (dict_add current name entries) (dict_add_grows number current name entries) marks items
   rules_keep grammar (w.Dict (wd.ReplaceIfEqual name key old new)) current marks items h p =
       by_arguments (dict_replace_if_equal current name key old new) (dict_replace_if_equal_grows number current name key old new) marks items
@@ -235,7 +202,7 @@ module _ (number : Bytes → ℕ) where
       (use_repo_add_same number current usages repos items)
   rules_keep grammar (w.Comment (wc.Add Rule text)) current marks items h p = meant_keeps (λ item. Ok (on_statement (with_comment text) item)) (statement_keeps text) marks items
   rules_keep grammar (w.Comment (wc.Add (Attribute name) text)) current marks items h p = by_arguments (comment current (Attribute name) text) (comment_grows number current (Attribute name) text) marks items
-  rules_keep grammar (w.Comment (wc.Add (ItemHost name word) text)) current marks items h p = by_arguments (comment current (ItemHost name word) text) (comment_grows number current (ItemHost name word) text) marks items
+  rules_keep grammar (w.Comment (wc.Add (ItemHost name word selects) text)) current marks items h p = by_arguments (comment current (ItemHost name word selects) text) (comment_grows number current (ItemHost name word selects) text) marks items
   rules_keep grammar (w.Comment (wc.Print host)) current marks items h p = by_arguments (λ arguments. Ok arguments) (λ xs. itself (total whole xs)) marks items
   rules_keep grammar (w.Print fields) current marks items h p = itself (total size items)
   rules_keep grammar _ current marks items h p = absurd (true≢false (sym h))

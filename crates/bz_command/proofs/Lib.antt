@@ -8,3 +8,4 @@ pub mod ProperEffects
 pub mod RunningItems
 pub mod StatementRules
 pub mod TargetMarks
+mod Words

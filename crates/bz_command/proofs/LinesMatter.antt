@@ -1,18 +1,6 @@
 -- Commands that print no lines and have no target by its line depend on no lines.
-use Rattle.std.proofs.Common.{◌≡◌, ◌∙◌, ℕ, Bool, false, List, [], ◌∷◌, ◌++◌, Option, Some, None, refl, ap, ap₂, if◌then◌else◌, map, true≢false, Result, Ok, Err}
-use Rattle.std.specs.Prelude.{decimal, option_map}
-use Rattle.std.proofs.lemmas.Bool.{or_parts}
-use Rattle.std.specs.List.{list_any}
-use Rattle.std.specs.Option.{option_map_or}
-use Rattle.bz_command.specs.Words.{Target, Which, Bytes, line_feed, Item, Operation, Field, prints, Rule, rule_of, Refusal}
+use Rattle.bz_command.proofs.Words.{[], ◌++◌, ◌∙◌, ◌∷◌, ◌≡◌, ap, ap₂, before_rest, Bool, Bytes, CommentOperation as wc, decimal, Err, false, Field, Field as f, if◌then◌else◌, is_by_line, Item, item_line, kept, lacks_rules, line_feed, lines_after_item, LinesMatter, List, list_any, map, may_mean_none, meant, None, NoTarget, Ok, on_rules, Operation, Operation as w, Option, option_map, option_map_or, or_parts, printed_field, printed_one, printed_rule, printed_rules, prints, prints_line, prints_lines, refl, Refusal, Result, Rule, rule_of, Some, spaced, Target, true≢false, Which, ℕ}
 use Rattle.bz_label.specs.declared.target.Which.TheVariants.{Line}
-use Rattle.bz_command_syntax.specs.declared.command.Operation.TheVariants as w
-use Rattle.bz_command_syntax.specs.declared.command.CommentOperation.TheVariants as wc
-use Rattle.bz_command_syntax.specs.declared.command.Field.TheVariants as f
-use Rattle.bz_command.specs.Prints.{printed_field, printed_rule, spaced}
-use Rattle.bz_value.specs.declared.refusal.Refusal.TheVariants.{NoTarget}
-use Rattle.bz_command.specs.Effect.{kept, lacks_rules, on_rules, before_rest, item_line, lines_after_item, printed_one, printed_rules, meant, may_mean_none}
-use Rattle.bz_command.specs.Laws.{is_by_line, prints_line, prints_lines, LinesMatter}
 
 meant_same : (which : Which) (lines others : List ℕ) (items : List Item) → is_by_line which ≡ false → meant which lines items ≡ meant which others items
 meant_same (Line line) lines others items h = absurd (true≢false h)
@@ -20,25 +8,26 @@ meant_same _ lines others items h = refl
 
 -- ---- what is printed of one rule, on any line
 
-field_same : (line other : Option Bytes) (item : Item) (rule : Rule) (field : Field) → prints_line field ≡ false → printed_field line item rule field ≡ printed_field other item rule field
-field_same line other item rule f.StartLine h = absurd (true≢false h)
-field_same line other item rule _ h = refl
+field_same : (current : Bytes) (line other : Option Bytes) (item : Item) (rule : Rule) (field : Field) → prints_line field ≡ false → printed_field current line item rule field
+    ≡ printed_field current other item rule field
+field_same current line other item rule f.StartLine h = absurd (true≢false h)
+field_same current line other item rule _ h = refl
 
-fields_same : (line other : Option Bytes) (item : Item) (rule : Rule) (fields : List Field) → list_any prints_line fields ≡ false
-    → map (printed_field line item rule) fields ≡ map (printed_field other item rule) fields
-fields_same line other item rule [] h = refl
-fields_same line other item rule (field ∷ fields) h =
+fields_same : (current : Bytes) (line other : Option Bytes) (item : Item) (rule : Rule) (fields : List Field) → list_any prints_line fields ≡ false
+    → map (printed_field current line item rule) fields ≡ map (printed_field current other item rule) fields
+fields_same current line other item rule [] h = refl
+fields_same current line other item rule (field ∷ fields) h =
     let quiet = or_parts (prints_line field) (list_any prints_line fields) h in
-    ap₂ ◌∷◌ (field_same line other item rule field quiet.0) (fields_same line other item rule fields quiet.1)
+    ap₂ ◌∷◌ (field_same current line other item rule field quiet.0) (fields_same current line other item rule fields quiet.1)
 
-found_same : (line other : Option Bytes) (item : Item) (found : Option Rule) (fields : List Field) → list_any prints_line fields ≡ false
-    → option_map_or (λ rule. printed_rule line item rule fields) found [] ≡ option_map_or (λ rule. printed_rule other item rule fields) found []
-found_same line other item None fields h = refl
-found_same line other item (Some rule) fields h = ap (λ texts. spaced texts ++ line_feed ∷ []) (fields_same line other item rule fields h)
+found_same : (current : Bytes) (line other : Option Bytes) (item : Item) (found : Option Rule) (fields : List Field) → list_any prints_line fields ≡ false
+    → option_map_or (λ rule. printed_rule current line item rule fields) found [] ≡ option_map_or (λ rule. printed_rule current other item rule fields) found []
+found_same current line other item None fields h = refl
+found_same current line other item (Some rule) fields h = ap (λ texts. spaced texts ++ line_feed ∷ []) (fields_same current line other item rule fields h)
 
 one_same : (operation : Operation) (current : Bytes) (line other : Option Bytes) (item : Item) → prints_lines operation ≡ false
     → printed_one operation current line item ≡ printed_one operation current other item
-one_same (w.Print fields) current line other item h = ap (λ text. Ok text) (found_same line other item (rule_of item) fields h)
+one_same (w.Print fields) current line other item h = ap (λ text. Ok text) (found_same current line other item (rule_of item) fields h)
 one_same (w.Comment (wc.Print host)) current line other item h = refl
 one_same _ current line other item h = refl
 

@@ -1,20 +1,8 @@
 -- Items by their places, in the place of a mark for each.
-use Rattle.std.proofs.Common.{◌≡◌, ◌≤◌, ◌<◌, ◌+◌, ◌-◌, ℕ, suc, Bool, true, false, List, [], ◌∷◌, ◌++◌, length, map, refl, sym, ap, ap₂, subst, arith, ◌∙◌, Err, Ok, take, drop, get_or, set, Option, true≢false}
-use Rattle.std.specs.Prelude.{Result, codes, decimal, not, ◌==◌}
-use Rattle.std.specs.Option.{option_map}
-use Rattle.std.specs.List.{list_any}
-use Rattle.std.proofs.Math.Dec.{eqb-suc-zero}
-use Rattle.std.proofs.lemmas.List.{append_assoc, drop-drop, drop_at, drop_more, get_or_default, length-append}
-use Rattle.bz_command.specs.Words.{Which, Item, Refusal, Bytes, Ascend, is_rule_of_kind, Operation}
-use Rattle.bz_label.specs.declared.target.Which.TheVariants as t
-use Rattle.bz_value.specs.declared.value.Item.TheVariants as i
-use Rattle.bz_rule.specs.Index.{marked_places, places_from}
-use Rattle.bz_command.specs.Effect.{NewItem, before_rest, first_mark, item_line, lines_after_item, meant, on_meant, printed_one, printed_rules, unmarked, with_item_first}
-use Rattle.bz_command.specs.declared.ruling.Work.{Work}
-use Rattle.bz_command.specs.private.Looks.{made_by, marks_by, one_made, one_made_by, places_by}
-use Rattle.bz_command.specs.private.Steps.{each_meant, lines_after_items}
-use Rattle.bz_command.proofs.TargetMarks.{as_many}
-use Rattle.bz_command.proofs.RunningItems.{NewItems, with_front, with_next}
+use Rattle.bz_command.proofs.Words.{[], ◌++◌, ◌+◌, ◌-◌, ◌<◌, ◌==◌, ◌∙◌, ◌∷◌, ◌≡◌, ◌≤◌, ap, append_assoc, ap₂, arith, Ascend, before_rest, Bool, Bytes, codes, decimal, drop, drop-drop, drop_at, drop_more, each_meant, Err, false, first_mark, get_or, get_or_default, is_rule_of_kind, Item, Item as i, item_line, length, length-append, lines_after_item, lines_after_items, List, list_any, made_by, map, marked_places, marks_by, meant, NewItem, not, Ok, on_meant, one_made_by, Operation, Option, option_map, places_by, places_from, printed_one, printed_rules, refl, Refusal, Result, subst, suc, sym, take, true, true≢false, unmarked, Which, Which as t, with_item_first, ℕ}
+use Rattle.std.proofs.{Common.set, Math.Dec.eqb-suc-zero}
+use Rattle.bz_command.specs.{declared.ruling.Work.Work, private.Looks.one_made}
+use Rattle.bz_command.proofs.{TargetMarks.as_many, RunningItems.NewItems, RunningItems.with_front, RunningItems.with_next}
 
 -- ---- what a target means
 
@@ -66,11 +54,6 @@ taken at places first following split here true marks is = (refl, ap (drop 1) (s
 taken at places first following split here false marks is =
     let next = subst (Ascend (at + 1) (at + 1 + length marks)) (sym is ∙ split) (marked_ascend (at + 1) (at + 1 + length marks) marks (omega arith)) in
     absurd (omega (arith, here, next.0))
-
-pub not_taken : (at : ℕ) (places : List ℕ) (first : ℕ) (following : List ℕ) → places ≡ first ∷ following → ((first ≡ at) → ⊥)
-    → (mark : Bool) (marks : List Bool) → places ≡ marked_places at (mark ∷ marks) → (false ≡ mark) × (places ≡ marked_places (at + 1) marks)
-not_taken at places first following split there true marks is = absurd (there (ap (λ ps. get_or ps 0 0) (sym split ∙ is)))
-not_taken at places first following split there false marks is = (refl, is)
 
 pub meant_ascend : (which : Which) (lines : List ℕ) (items : List Item) → Ascend 0 (length items) (marked_places 0 (meant which lines items))
 meant_ascend which lines items = let many = as_many which lines items in marked_ascend 0 (length items) (meant which lines items) (omega (arith, many))

@@ -1,15 +1,6 @@
 -- Hashes of names: a name is at no item whose hash is another one.
-use Rattle.std.proofs.Common.{◌≡◌, ◌∙◌, ◌+◌, ◌++◌, ◌<◌, ◌≤◌, ℕ, Bool, true, false, List, [], ◌∷◌, Option, Some, None, take, drop, map, length, get_or, refl, sym, ap, ap₂, arith, cond, inl, inr, subst, le-ltb, lt-ltb, nat_lt}
-use Rattle.std.specs.Prelude.{bytes_eq}
-use Rattle.std.specs.Option.{option_map_or}
-use Rattle.std.specs.List.{position, position_or_len}
-use Rattle.std.proofs.lemmas.List.{append_assoc, drop-drop, drop-map, get_or_default, map-append, take-append-drop, take-map}
-use Rattle.std.proofs.Math.Nat.{eq-or-lt_of_le}
-use Rattle.std.proofs.lemmas.List.Sums.{position_or_len_is}
-use Rattle.std.proofs.lemmas.Slice.Eq.{bytes_eq-Decides}
-use Rattle.bz_value.specs.declared.value.Item.TheVariants as i
-use Rattle.bz_command.specs.Words.{AreOver, Bytes, Item, Window, has_name, held_name}
-use Rattle.bz_command.specs.Known.{item_hash, name_hash}
+use Rattle.bz_command.proofs.Words.{[], ◌++◌, ◌+◌, ◌<◌, ◌∙◌, ◌∷◌, ◌≡◌, ◌≤◌, ap, append_assoc, ap₂, AreOver, arith, Bool, Bytes, bytes_eq, cond, drop, drop-drop, drop-map, eq-or-lt_of_le, false, get_or, get_or_default, has_name, held_name, inl, inr, Item, Item as i, item_hash, le-ltb, length, List, lt-ltb, map, map-append, name_hash, nat_lt, None, Option, option_map_or, position, position_or_len, refl, Some, subst, sym, take, take-append-drop, take-map, true, Window, ℕ}
+use Rattle.std.proofs.{lemmas.List.Sums.position_or_len_is, lemmas.Slice.Eq.bytes_eq-Decides}
 
 -- where the hashes differ
 apart : (name : Bytes) (held : Option Bytes) → (option_map_or name_hash held 0 ≡ name_hash name → ⊥) → option_map_or (λ other. bytes_eq other name) held false ≡ false

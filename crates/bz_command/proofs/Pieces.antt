@@ -1,18 +1,9 @@
 -- What is printed, piece by piece: texts with a space between two of them, values by their forms, and names joined by dots.
-use Rattle.std.proofs.Common.{ℕ, Bool, ◌≡◌, ◌<◌, List, [], ◌∷◌, ◌++◌, ◌+◌, if◌then◌else◌, length, get_or, drop, map, refl, sym, ap, ◌∙◌, append-nil, Option, Some, None, true, false, nat_eq, ◌&&◌}
-use Rattle.std.specs.List.{list_all}
-use Rattle.std.specs.Option.{option_map_or}
-use Rattle.std.proofs.lemmas.List.{drop_more}
-use Rattle.bz_grammar.specs.declared.kind.Kind.TheVariants as k
+use Rattle.bz_command.proofs.Words.{[], ◌&&◌, ◌++◌, ◌+◌, ◌<◌, ◌∙◌, ◌∷◌, ◌≡◌, ap, append-nil, body_of, Bool, Bytes, dotted_name, drop, drop_more, each_named, Expr, false, Field, Form, get_or, has_kind, if◌then◌else◌, in_brackets, is_string, Item, items_of, joined, Kind as k, length, List, list_all, map, nat_eq, None, Option, option_map_or, printed_body, printed_field, printed_value, refl, Rule, Some, space_between, spaced, sym, true, ℕ}
 use Rattle.bz_grammar.specs.Kinds.{kind_number}
-use Rattle.bz_command.specs.Words.{Expr, Item, Bytes, Field, has_kind, items_of, each_named, body_of}
 use Rattle.bz_value.specs.declared.value.Expr.TheVariants as e
-use Rattle.bz_value.specs.declared.value.Form.{Form}
 use Rattle.bz_layout.specs.Written as written
-use Rattle.bz_rule.specs.Rules.{Rule, joined, dotted_name}
 use Rattle.bz_rule.proofs.Forms.{dotted_name_Form}
-use Rattle.bz_command.specs.Prints.{spaced, is_string, printed_body, in_brackets, printed_value, printed_field}
-use Rattle.bz_command.specs.private.Steps.{space_between}
 
 -- ---- texts with a space between two of them
 
@@ -29,10 +20,10 @@ pub bodies_next : (xs : List Expr) (k : ℕ) (d : Expr) → k < length xs →
     spaced (map printed_body (drop k xs)) ≡ printed_body (get_or xs k d) ++ (space_between (drop (k + 1) xs) ++ spaced (map printed_body (drop (k + 1) xs)))
 bodies_next = spaced_next printed_body
 
-pub fields_next : (line : Option Bytes) (item : Item) (rule : Rule) (xs : List Field) (k : ℕ) (d : Field) → k < length xs →
-    spaced (map (printed_field line item rule) (drop k xs)) ≡
-    printed_field line item rule (get_or xs k d) ++ (space_between (drop (k + 1) xs) ++ spaced (map (printed_field line item rule) (drop (k + 1) xs)))
-fields_next line item rule = spaced_next (printed_field line item rule)
+pub fields_next : (current : Bytes) (line : Option Bytes) (item : Item) (rule : Rule) (xs : List Field) (k : ℕ) (d : Field) → k < length xs →
+    spaced (map (printed_field current line item rule) (drop k xs)) ≡
+    printed_field current line item rule (get_or xs k d) ++ (space_between (drop (k + 1) xs) ++ spaced (map (printed_field current line item rule) (drop (k + 1) xs)))
+fields_next current line item rule = spaced_next (printed_field current line item rule)
 
 -- ---- what values print
 

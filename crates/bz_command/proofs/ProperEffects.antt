@@ -1,43 +1,14 @@
 -- What each command makes of a proper file value is proper.
-use Rattle.std.proofs.Common.{◌≡◌, ℕ, Bool, true, false, List, [], ◌∷◌, sym, subst, true≢false}
-use Rattle.std.specs.Prelude.{IfSome, IfOk, Option, Some, None, Result, Ok, Err, is_some, if◌then◌else◌}
-use Rattle.std.specs.List.{AllByRecursion, insert, list_any}
-use Rattle.std.specs.Option.{option_map_or}
-use Rattle.std.proofs.lemmas.List.Elements.{All-from_recursion, recursion_from_All}
-use Rattle.bz_command.specs.Words.{Target, Expr, Item, Bytes, Grammar, Operation, RulePlace, Rule, rule_of, attribute, has_name, with_parts, with_items, function_of, rule_made, Arguments, prints, with_comment, without_comments, comment, remove_comment, Refusal}
-use Rattle.bz_value.specs.declared.value.Item.TheVariants as i
-use Rattle.bz_value.specs.Proper.{IsProperItemIn}
-use Rattle.bz_command_syntax.specs.Proper.{IsKind, IsProperCommand}
-use Rattle.bz_command_syntax.specs.declared.command.Operation.TheVariants as w
-use Rattle.bz_command_syntax.specs.declared.command.RuleOperation.TheVariants as wr
-use Rattle.bz_command_syntax.specs.declared.command.AttributeOperation.TheVariants as wa
-use Rattle.bz_command_syntax.specs.declared.command.ValueOperation.TheVariants as wv
-use Rattle.bz_command_syntax.specs.declared.command.DictOperation.TheVariants as wd
-use Rattle.bz_command_syntax.specs.declared.command.LoadOperation.TheVariants as wl
-use Rattle.bz_command_syntax.specs.declared.command.Attributes.TheVariants as attributes_of
-use Rattle.bz_command_syntax.specs.declared.command.CommentOperation.TheVariants as wc
-use Rattle.bz_rule.proofs.ProperChanges.{by_test, by_case}
-use Rattle.bz_rule.proofs.ProperArguments.{attribute_value}
-use Rattle.bz_rule.proofs.ProperItems.{IsValue}
-use Rattle.bz_rule.proofs.ProperRules.{RuleItem, rule_item, on_statement}
-use Rattle.bz_command.specs.Effect.{is_rule, meant, may_mean_none, printed_rules, kept, lacks_rules, on_statement as statement_with, NewItem, with_arguments, with_function, made_of, on_rule, on_arguments, with_item_first, on_meant, unmarked, new_rule_place, rule_arguments, with_rule, on_one, on_each, on_rules, effect, source, source_of}
-use Rattle.bz_change.specs.Changes.{set, set_if_absent, remove, rename, copy, copy_no_overwrite}
-use Rattle.bz_list.specs.Changes.{add, remove_everywhere, remove_if_equal, remove_values, replace, substitute, move}
+use Rattle.bz_command.proofs.Words.{[], ◌∷◌, ◌≡◌, add, All-from_recursion, AllByRecursion, Arguments, attribute, AttributeOperation as wa, Attributes as attributes_of, Bool, by_case, by_test, Bytes, comment, CommentOperation as wc, copy, copy_no_overwrite, dict_add, dict_add_keeps, dict_list_add, dict_list_add_keeps, dict_remove, dict_remove_keeps, dict_replace_if_equal, dict_replace_if_equal_keeps, dict_set, dict_set_keeps, DictOperation as wd, effect, EffectsStayProper, Err, Expr, false, function_of, Grammar, has_name, IfOk, IfSome, if◌then◌else◌, insert, is_rule, is_some, IsProperCommand, IsProperItemIn, Item, Item as i, kept, lacks_rules, List, list_any, LoadOperation as wl, made_of, may_mean_none, meant, move, NameTaken, new_rule_place, NewItem, None, NoTarget, Ok, on_arguments, on_each, on_meant, on_one, on_rule, on_rules, on_statement as statement_with, Operation, Operation as w, Option, option_map_or, printed_rules, prints, recursion_from_All, Refusal, remove, remove_comment, remove_everywhere, remove_if_equal, remove_values, rename, replace, replace_load_keeps, Result, Rule, rule_arguments, rule_made, rule_of, RuleOperation as wr, RulePlace, set, set_if_absent, set_select, set_select_keeps, Some, source, source_of, subst, substitute, sym, Target, true, true≢false, unmarked, ValueOperation as wv, with_arguments, with_comment, with_function, with_item_first, with_items, with_parts, with_rule, without_comments, ℕ}
+use Rattle.bz_command_syntax.specs.Proper.{IsKind}
+use Rattle.bz_rule.proofs.{ProperArguments.attribute_value, ProperItems.IsValue, ProperRules.RuleItem, ProperRules.rule_item, ProperRules.on_statement}
 use Rattle.bz_command_syntax.specs.declared.command.Host.TheVariants as r
-use Rattle.bz_change.specs.Dicts.{dict_add, dict_list_add, dict_remove, dict_replace_if_equal, dict_set, set_select}
-use Rattle.bz_change.proofs.ProperDicts.{dict_add_keeps, dict_list_add_keeps, dict_remove_keeps, dict_replace_if_equal_keeps, dict_set_keeps, set_select_keeps}
-use Rattle.bz_load.proofs.LawReplaced.{replace_load_keeps}
-use Rattle.bz_load.proofs.ProperLoads.{new_load_keeps, fix_keeps, substitute_load_keeps}
-use Rattle.bz_load.proofs.ProperUsages.{use_repo_add_keeps, use_repo_remove_keeps}
-use Rattle.bz_load.proofs.PlaceSteps.{all_put}
+use Rattle.bz_load.proofs.{ProperLoads.new_load_keeps, ProperLoads.fix_keeps, ProperLoads.substitute_load_keeps, ProperUsages.use_repo_add_keeps, ProperUsages.use_repo_remove_keeps, PlaceSteps.all_put}
 use Rattle.bz_comment.proofs.ProperComments.{comment_keeps, remove_comment_keeps, statement_keeps, remove_statement_keeps}
-use Rattle.bz_value.specs.declared.refusal.Refusal.TheVariants.{NoTarget, NameTaken}
-use Rattle.bz_command.specs.Laws.{EffectsStayProper}
-use Rattle.bz_attribute.proofs.ProperAttributes.{Made, Keeps}
+use Rattle.bz_attribute.proofs.{ProperAttributes.Made, ProperAttributes.Keeps, ProperMade.made_rule, ProperMade.kind_function}
 use Rattle.bz_command_syntax.proofs.PlainTexts.{substituted_utf8}
 use Rattle.bz_change.proofs.ProperCommands.{set_keeps, set_if_absent_keeps, remove_keeps, rename_keeps, copy_keeps, copy_no_overwrite_keeps}
 use Rattle.bz_list.proofs.ProperCommands.{add_keeps, remove_everywhere_keeps, remove_if_equal_keeps, remove_values_keeps, replace_keeps, substitute_keeps, move_keeps}
-use Rattle.bz_attribute.proofs.ProperMade.{made_rule, kind_function}
 
 there_is : (P : Rule → Type 0) (C : Type 0) → ((rule : Rule) → P rule → C) → (o : Option Rule) → is_some o ≡ true → IfSome o P → C
 there_is P C f None is h = absurd (true≢false (sym is))
@@ -149,11 +120,11 @@ module _ (grammar : Grammar) where
     each_keeps (w.Attribute (wa.CopyNoOverwrite name rule)) p =
         arguments_changed (copy_no_overwrite name (source name rule items)) (copy_no_overwrite_keeps grammar name (source name rule items) p.0 (source_value name rule items h))
     each_keeps (w.Value (wv.Add name words)) p = arguments_changed (add current name words) (add_keeps grammar current name words p.0 p.1.1)
-    each_keeps (w.Value (wv.Remove attributes_of.All words)) p = arguments_changed (remove_everywhere current words) (remove_everywhere_keeps grammar current words)
-    each_keeps (w.Value (wv.Remove (attributes_of.Named name) words)) p = arguments_changed (remove_values current name words) (remove_values_keeps grammar current name words)
-    each_keeps (w.Value (wv.Replace attributes old new)) p = arguments_changed (replace current attributes old new) (replace_keeps grammar current attributes old new p.2)
-    each_keeps (w.Value (wv.Substitute attributes pattern template)) p =
-        arguments_changed (substitute current attributes pattern template) (substitute_keeps grammar current attributes pattern template (substituted_utf8 pattern template))
+    each_keeps (w.Value (wv.Remove attributes_of.All words selects)) p = arguments_changed (remove_everywhere selects current words) (remove_everywhere_keeps grammar selects current words)
+    each_keeps (w.Value (wv.Remove (attributes_of.Named name) words selects)) p = arguments_changed (remove_values selects current name words) (remove_values_keeps grammar selects current name words)
+    each_keeps (w.Value (wv.Replace attributes old new selects)) p = arguments_changed (replace selects current attributes old new) (replace_keeps grammar selects current attributes old new p.2)
+    each_keeps (w.Value (wv.Substitute attributes pattern template selects)) p =
+        arguments_changed (substitute selects current attributes pattern template) (substitute_keeps grammar selects current attributes pattern template (substituted_utf8 pattern template))
     each_keeps (w.Value (wv.Move from to values)) p = arguments_changed (move current from to values) (move_keeps grammar current from to values p.1)
     each_keeps (w.Value (wv.RemoveIfEqual name word)) p = arguments_changed (remove_if_equal current name word) (remove_if_equal_keeps grammar current name word)
     each_keeps (w.Dict (wd.Add name entries)) p = arguments_changed (dict_add current name entries) (dict_add_keeps grammar current name entries p.0 p.1)
@@ -166,11 +137,11 @@ module _ (grammar : Grammar) where
     each_keeps (w.Load operation) p = unchanged
     each_keeps (w.Comment (wc.Add r.Rule text)) p = statement_changed (with_comment text) (statement_keeps grammar text p.1 p.2)
     each_keeps (w.Comment (wc.Add (r.Attribute name) text)) p = arguments_changed (comment current (r.Attribute name) text) (comment_keeps grammar current (r.Attribute name) text p.0 p.1 p.2)
-    each_keeps (w.Comment (wc.Add (r.Item name word) text)) p = arguments_changed (comment current (r.Item name word) text) (comment_keeps grammar current (r.Item name word) text p.0 p.1 p.2)
+    each_keeps (w.Comment (wc.Add (r.Item name word selects) text)) p = arguments_changed (comment current (r.Item name word selects) text) (comment_keeps grammar current (r.Item name word selects) text p.0 p.1 p.2)
     each_keeps (w.Comment (wc.Print host)) p = unchanged
     each_keeps (w.Comment (wc.Remove r.Rule)) p = statement_changed without_comments (remove_statement_keeps grammar)
     each_keeps (w.Comment (wc.Remove (r.Attribute name))) p = arguments_changed (remove_comment current (r.Attribute name)) (remove_comment_keeps grammar current (r.Attribute name) p)
-    each_keeps (w.Comment (wc.Remove (r.Item name word))) p = arguments_changed (remove_comment current (r.Item name word)) (remove_comment_keeps grammar current (r.Item name word) p)
+    each_keeps (w.Comment (wc.Remove (r.Item name word selects))) p = arguments_changed (remove_comment current (r.Item name word selects)) (remove_comment_keeps grammar current (r.Item name word selects) p)
     each_keeps (w.Print fields) p = unchanged
 
     module _ (marks : List Bool) where

@@ -1,13 +1,7 @@
 -- What commands make of the items of a file, item by item.
-use Rattle.std.proofs.Common.{◌≡◌, ◌≤◌, Bool, List, [], ◌∷◌, ◌++◌, length, refl, ap, arith, Err, Ok, sym, ◌<◌, ◌∙◌, ℕ}
-use Rattle.std.specs.Prelude.{◌↔◌, IfOk, IfSome, IsTrue, None, OnOk, Option, Result, Some, is_some}
-use Rattle.std.specs.List.{list_any, position}
-use Rattle.std.proofs.lemmas.List.{append_assoc}
+use Rattle.bz_command.proofs.Words.{[], ◌++◌, ◌<◌, ◌↔◌, ◌∙◌, ◌∷◌, ◌≡◌, ◌≤◌, ap, append_assoc, arith, Bool, Err, IfOk, IfSome, is_some, IsTrue, Item, Item as i, length, List, list_any, None, Ok, OnOk, Option, position, refl, Refusal, Result, Some, sym, with_item_first, ℕ}
 use Rattle.std.proofs.lemmas.List.Folds.{list_any_at, list_any_none}
-use Rattle.bz_command.specs.Words.{Item, Refusal}
-use Rattle.bz_value.specs.declared.value.Item.TheVariants as i
 use Rattle.bz_attribute.proofs.ArgumentPlaces.{is_first, none_passes}
-use Rattle.bz_command.specs.Effect.{with_item_first}
 
 -- ---- the place of a rule
 

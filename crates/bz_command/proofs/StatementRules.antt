@@ -1,18 +1,7 @@
 -- What is in the brackets of a rule are its arguments, and other ones make another rule.
-use Rattle.std.proofs.Common.{◌≡◌, ◌≤◌, ◌∙◌, Bool, true, List, [], ◌∷◌, ap, arith, get_or, length, refl, subst, sym, true≢false}
-use Rattle.std.specs.Prelude.{◌↔◌, IsTrue, Option, Some, None, Ok, Err, IfSome, is_some, option_map, if◌then◌else◌}
-use Rattle.std.specs.Option.{option_and_then}
-use Rattle.bz_grammar.specs.declared.kind.Kind.TheVariants as k
-use Rattle.bz_value.specs.declared.value.Expr.{Expr, Token, Form', items-the_row-Expr, items_hidden-the_row-Expr-0}
+use Rattle.bz_command.proofs.Words.{[], ◌↔◌, ◌∙◌, ◌∷◌, ◌≡◌, ◌≤◌, ap, Arguments, arith, Bool, Bytes, called, dotted_name, Err, Expr, Form, Form', form_in, get_or, has_kind, HostComments, if_true, IfSome, if◌then◌else◌, is_rule, is_some, IsTrue, Item, Item as i, items-the_row-Expr, items_hidden-the_row-Expr-0, Kind as k, length, List, made, made_of, named, NewItem, None, Ok, on_arguments, on_first, on_rule, only, Option, option_and_then, option_map, own_items, own_parts, parts_filled, parts_of, refl, Refusal, Rule, rule_of, Some, subst, sym, Token, true, true≢false, with_arguments, with_items, with_parts}
 use Rattle.bz_value.specs.declared.value.Expr.TheVariants as e
-use Rattle.bz_value.specs.declared.value.Form.{Form}
-use Rattle.bz_command.specs.Words.{Refusal, Item, HostComments, Bytes, Arguments}
-use Rattle.bz_value.specs.declared.value.Item.TheVariants as i
-use Rattle.bz_rule.specs.Rules.{Rule, only, form_in, called, named, rule_of, dotted_name}
-use Rattle.bz_rule.specs.Values.{has_kind, on_first, parts_of, with_items, with_parts}
-use Rattle.bz_attribute.proofs.FormsAgain.{if_true, made, own_items, own_parts, parts_filled}
 use Rattle.bz_attribute.proofs.ArgumentForms.{parts_Form}
-use Rattle.bz_command.specs.Effect.{NewItem, is_rule, made_of, on_arguments, on_rule, with_arguments}
 
 -- what is in the brackets of a call, of the first of a row, and of the call that an item is; where there is none, this list
 abbrev pub before_in_call : List Expr → Expr → List Expr

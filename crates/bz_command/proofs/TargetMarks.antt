@@ -1,12 +1,5 @@
 -- Marks of items.
-use Rattle.std.proofs.Common.{◌≡◌, ℕ, Bool, true, false, List, [], ◌∷◌, suc, length, map, refl, ap, ◌∙◌, Option, Some, None, option_map, is_some}
-use Rattle.std.proofs.lemmas.List.{length-map}
-use Rattle.std.specs.Option.{option_and_then, option_map_or}
-use Rattle.bz_command.specs.Words.{Which, Expr, Item, Bytes}
-use Rattle.bz_label.specs.declared.target.Which.TheVariants as t
-use Rattle.bz_rule.specs.Rules.{Call, Rule, dotted_name, named, is_rule_of_kind, has_name}
-use Rattle.bz_command.specs.Effect.{is_rule, item_line, lines_after_item, on_line, first_mark, meant}
-use Rattle.bz_command.specs.private.Steps.{each_meant, is_meant_at}
+use Rattle.bz_command.proofs.Words.{[], ◌∙◌, ◌∷◌, ◌≡◌, ap, Bool, Bytes, Call, dotted_name, each_meant, Expr, false, first_mark, has_name, is_meant_at, is_rule, is_rule_of_kind, is_some, Item, item_line, length, length-map, lines_after_item, List, map, meant, named, None, on_line, Option, option_and_then, option_map, option_map_or, refl, Rule, Some, suc, true, Which, Which as t, ℕ}
 
 abbrev made : List Expr → Bytes → Rule
 made arguments kind = record { kind = kind; arguments = arguments }

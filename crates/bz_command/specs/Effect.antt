@@ -73,7 +73,7 @@ printed_comments_of current host (i.Stmt x) = print_comment current host (commen
 -- what is printed of one rule; `line` is the line on which it begins, in decimal digits
 abbrev pub printed_one : Operation → Bytes → Option Bytes → Item → Result Bytes Refusal
 printed_one (w.Comment (wc.Print host)) current line item = printed_comments_of current host item
-printed_one (w.Print fields) current line item = Ok (printed_item line item fields)
+printed_one (w.Print fields) current line item = Ok (printed_item current line item fields)
 printed_one _ current line item = Ok []
 
 -- The first rule that refuses decides.

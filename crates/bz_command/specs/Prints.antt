@@ -1,9 +1,9 @@
--- What `print` prints of a rule. (Own profile of buildozer's print command.)
+-- What `print` prints of a rule in a package.
 use Rattle.std.specs.Prelude.{Bool, List, [], ◌∷◌, ◌++◌, Option, codes, is_some, length, ◌-◌, ◌&&◌, map, take, if◌then◌else◌}
 use Rattle.std.specs.List.{list_all}
 use Rattle.std.specs.Option.{option_map_or}
 use Rattle.bz_grammar.specs.declared.kind.Kind.TheVariants as k
-use Rattle.bz_command.specs.Words.{Expr, Item, Bytes, line_feed, space, Field, Rule, rule_of, attribute, has_kind, items_of, body_of}
+use Rattle.bz_command.specs.Words.{Expr, Item, Bytes, line_feed, space, Field, Rule, rule_of, attribute, has_kind, items_of, body_of, held_name}
 use Rattle.bz_layout.specs.Written as written
 use Rattle.bz_command_syntax.specs.declared.command.Field.TheVariants as f
 
@@ -41,17 +41,26 @@ printed_value value =
 abbrev pub without_last : Bytes → Bytes
 without_last text = take (length text - 1) text
 
+-- the label of the rule of this name in this package
+abbrev pub label_of : Bytes → Bytes → Bytes
+label_of current name = codes "//" ++ (current ++ (codes ":" ++ name))
+
+-- that of a rule, where it has a name
+abbrev pub printed_label : Bytes → Item → Bytes
+printed_label current item = option_map_or (label_of current) (held_name item) missing
+
 -- `line` is the line on which the rule begins, where it is on one, in decimal digits
-abbrev pub printed_field : Option Bytes → Item → Rule → Field → Bytes
-printed_field line item rule f.Kind = rule.kind
-printed_field line item rule f.StartLine = option_map_or (λ digits. digits) line missing
-printed_field line item rule f.Rule = without_last (written.item_text item)
-printed_field line item rule (f.Attribute name) = option_map_or printed_value (attribute name rule.arguments) missing
+abbrev pub printed_field : Bytes → Option Bytes → Item → Rule → Field → Bytes
+printed_field current line item rule f.Kind = rule.kind
+printed_field current line item rule f.StartLine = option_map_or (λ digits. digits) line missing
+printed_field current line item rule f.Rule = without_last (written.item_text item)
+printed_field current line item rule f.Label = printed_label current item
+printed_field current line item rule (f.Attribute name) = option_map_or printed_value (attribute name rule.arguments) missing
 
 -- one line a rule, fields joined by one space
-abbrev pub printed_rule : Option Bytes → Item → Rule → List Field → Bytes
-printed_rule line item rule fields = spaced (map (printed_field line item rule) fields) ++ line_feed ∷ []
+abbrev pub printed_rule : Bytes → Option Bytes → Item → Rule → List Field → Bytes
+printed_rule current line item rule fields = spaced (map (printed_field current line item rule) fields) ++ line_feed ∷ []
 
 -- an item that is no rule prints nothing
-abbrev pub printed_item : Option Bytes → Item → List Field → Bytes
-printed_item line item fields = option_map_or (λ rule. printed_rule line item rule fields) (rule_of item) []
+abbrev pub printed_item : Bytes → Option Bytes → Item → List Field → Bytes
+printed_item current line item fields = option_map_or (λ rule. printed_rule current line item rule fields) (rule_of item) []

@@ -8,6 +8,8 @@ use Rattle.bz_label.specs.declared.target.Which.TheVariants.{All, Kind as OfKind
 use Rattle.bz_value.specs.declared.value.Item.TheVariants as i
 use Rattle.bz_value.specs.declared.refusal.Refusal.TheVariants.{AttributeExists, NameTaken, NoSource, NoTarget, NotADict, NotAList}
 use Rattle.bz_command_syntax.specs.Patterns.{substituted}
+use Rattle.bz_command_syntax.specs.declared.profile.Profile.{Profile}
+use Rattle.bz_command_syntax.specs.declared.profile.Profile.TheVariants.{Own, Bazelbuild}
 use Rattle.bz_command.specs.Effect.{effect, printed}
 
 -- ---- small values
@@ -106,10 +108,15 @@ target which = record { «package» = codes "p"; which = which }
 
 -- What the command of a text makes of a file, and what it prints of it.
 abbrev made : Bytes → Which → List Item → TypedAnswer (List Item)
-made text which items = option_map (λ operation. effect operation (target which) (codes "p") (1 ∷ 2 ∷ 3 ∷ []) items) (result_ok (command_of text))
+made text which items = option_map (λ operation. effect operation (target which) (codes "p") (1 ∷ 2 ∷ 3 ∷ []) items) (result_ok (command_of Own text))
+
+-- the same of what it prints, as it is read in a profile, of a file of this package
+abbrev shown_in : Profile → Bytes → Bytes → Which → List Item → TypedAnswer Bytes
+shown_in profile current text which items =
+    option_map (λ operation. printed operation (target which) current (1 ∷ 2 ∷ 3 ∷ []) items) (result_ok (command_of profile text))
 
 abbrev shown : Bytes → Which → List Item → TypedAnswer Bytes
-shown text which items = option_map (λ operation. printed operation (target which) (codes "p") (1 ∷ 2 ∷ 3 ∷ []) items) (result_ok (command_of text))
+shown text which items = shown_in Own (codes "p") text which items
 
 -- What it makes of f(name = "x", ..) alone, by its further arguments.
 abbrev done : Bytes → List Expr → TypedAnswer (List Item)
@@ -261,6 +268,9 @@ Prints =
     × (shown (codes "print") All (x [] ∷ settings ∷ []) ≡ gives (codes "x f\n(missing) package\n"))
     -- A comment on its own is no statement. Of a fourth one no line is known here.
     × (shown (codes "print startline name") All (x [] ∷ block ∷ settings ∷ x [] ∷ y [] ∷ []) ≡ gives (codes "1 x\n2 (missing)\n3 x\n(missing) y\n"))
+    -- The label of a rule, of one without a name, and of one in the root's package.
+    × (shown_in Bazelbuild (codes "p/q") (codes "print label kind") All (x [] ∷ settings ∷ []) ≡ gives (codes "//p/q:x f\n(missing) package\n"))
+    × (shown_in Bazelbuild [] (codes "print label") All (x [] ∷ []) ≡ gives (codes "//:x\n"))
     -- No rule is meant: nothing is printed, and the command is refused where it names one.
     × (shown (codes "print") (Name (codes "z")) (x [] ∷ []) ≡ gives [])
     × (made (codes "print") (Name (codes "z")) (x [] ∷ []) ≡ refuses NoTarget)

@@ -7,7 +7,7 @@ ghost use Rattle.bz_command.specs.Words.{item_text, each_named};
 ghost use Rattle.bz_rule.specs.Rules as r;
 ghost use Rattle.bz_command.specs.Effect.{before_rest, printed_one, printed_rules};
 ghost use Rattle.bz_command.specs.Laws.{looks_at_lines, prints_line, prints_lines};
-ghost use Rattle.bz_command.specs.Prints.{in_brackets, is_string, printed_body, printed_field, printed_item, printed_value, spaced, without_last};
+ghost use Rattle.bz_command.specs.Prints.{in_brackets, is_string, printed_body, printed_field, printed_item, printed_label, printed_value, spaced, without_last};
 ghost use Rattle.bz_command.specs.private.Looks.{marks_by, places_by};
 ghost use Rattle.bz_command.specs.private.Steps.{seen_rule, space_between, text_or_nothing};
 
@@ -20,7 +20,7 @@ use bz_grammar::{Class, Kind};
 use bz_items::{Memory, Text};
 use bz_label::{Target, Which};
 use bz_layout::{expr_text, item_text};
-use bz_rule::{attribute, call_of, text_in};
+use bz_rule::{attribute, call_of, held_name, text_in};
 use bz_value::{Expr, Item, Refusal};
 use itoa::Buffer;
 use std::alloc::Global;
@@ -92,10 +92,11 @@ fn push_item(alloc: Global, item: &Item, out: &mut Vec<u8>) -> Result<(), Memory
     Ok(())
 }
 
-/// A rule that is printed: the line on which it begins, where it is on one, its item, and its kind as a text without blanks.
+/// A rule that is printed: its package, the line on which it begins, where it is on one, its item, and its kind as a text without blanks.
 #[derive(Clone, Copy)]
 struct Subject<'a> {
     alloc: Global,
+    current: &'a [u8],
     line: Option<u32>,
     item: &'a Item,
     kind: &'a [u8],
@@ -105,9 +106,23 @@ struct Subject<'a> {
 /// What is printed where a field has no value.
 const MISSING: &[u8] = b"(missing)";
 
+/// Appends the label of a rule in a package, or where it has no name that this is missing.
+fn push_label(current: &[u8], item: &Item, out: &mut Vec<u8>) -> Result<(), Memory>
+    ensures { OnOk result (out.new.items ≡ out.old.items ++ printed_label current.now item.now) }
+{
+    let Some(name) = held_name(item) else {
+        return Ok(out.extend_from_slice(MISSING)?);
+    };
+    out.extend_from_slice(b"//")?;
+    out.extend_from_slice(current)?;
+    out.push(b':')?;
+    out.extend_from_slice(name)?;
+    Ok(())
+}
+
 /// Appends a field.
 fn push_field(subject: Subject<'_>, field: &Field, out: &mut Vec<u8>) -> Result<(), Memory>
-    ensures { OnOk result (out.new.items ≡ out.old.items ++ printed_field (option_map decimal subject.entry.line) subject.entry.item.now (seen_rule subject.entry) field.now) }
+    ensures { OnOk result (out.new.items ≡ out.old.items ++ printed_field subject.entry.current.now (option_map decimal subject.entry.line) subject.entry.item.now (seen_rule subject.entry) field.now) }
 {
     match field {
         Field::Kind => Ok(out.extend_from_slice(subject.kind)?),
@@ -116,6 +131,7 @@ fn push_field(subject: Subject<'_>, field: &Field, out: &mut Vec<u8>) -> Result<
             None => Ok(out.extend_from_slice(MISSING)?),
         },
         Field::Rule => push_item(subject.alloc, subject.item, out),
+        Field::Label => push_label(subject.current, subject.item, out),
         Field::Attribute(name) => match attribute(name.as_slice(), subject.arguments) {
             Some(value) => push_value(subject.alloc, value, out),
             None => Ok(out.extend_from_slice(MISSING)?),
@@ -126,7 +142,7 @@ fn push_field(subject: Subject<'_>, field: &Field, out: &mut Vec<u8>) -> Result<
 /// Appends the fields, with a space between two of them.
 #[tactic(auto, using(crate::proofs::Pieces::fields_next))]
 fn push_fields(subject: Subject<'_>, fields: &[Field], out: &mut Vec<u8>) -> Result<(), Memory>
-    ensures { OnOk result (out.new.items ≡ out.old.items ++ spaced (map (printed_field (option_map decimal subject.entry.line) subject.entry.item.now (seen_rule subject.entry)) fields.now)) }
+    ensures { OnOk result (out.new.items ≡ out.old.items ++ spaced (map (printed_field subject.entry.current.now (option_map decimal subject.entry.line) subject.entry.item.now (seen_rule subject.entry)) fields.now)) }
 {
     for (i, field) in fields.iter().enumerate() {
         push_field(subject, field, out)?;
@@ -179,12 +195,13 @@ fn push_joined(out: &mut Vec<u8>, parts: &[Expr]) -> Result<bool, Memory>
 /// Appends what a rule prints for these fields: one line, with one space between two fields. An item that is no rule prints nothing.
 fn push_rule(
     alloc: Global,
+    current: &[u8],
     line: Option<u32>,
     item: &Item,
     fields: &[Field],
     out: &mut Vec<u8>,
 ) -> Result<(), Memory>
-    ensures { OnOk result (out.new.items ≡ out.old.items ++ printed_item (option_map decimal line) item.now fields.now) }
+    ensures { OnOk result (out.new.items ≡ out.old.items ++ printed_item current.now (option_map decimal line) item.now fields.now) }
 {
     let Some(call) = call_of(item) else {
         return Ok(());
@@ -195,6 +212,7 @@ fn push_rule(
     }
     let subject = Subject {
         alloc,
+        current,
         line,
         item,
         kind: kind.as_slice(),
@@ -220,7 +238,14 @@ fn push(work: Work<'_, '_>, at: Option<u32>, item: &Item, out: &mut Vec<u8>) -> 
             let text = print_comments(alloc, work.current, host, own, arguments_of(item))?;
             out.extend_from_slice(text.as_slice())?;
         }
-        Operation::Print { fields } => push_rule(alloc, at, item, fields.as_slice(), out)?,
+        Operation::Print { fields } => push_rule(
+            alloc,
+            work.current,
+            at,
+            item,
+            fields.as_slice(),
+            out,
+        )?,
         Operation::Comment(CommentOperation::Add { .. } | CommentOperation::Remove { .. })
         | Operation::Rule(_)
         | Operation::Attribute(_)

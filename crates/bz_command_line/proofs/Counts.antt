@@ -1,11 +1,7 @@
 -- The number that digits write, digit by digit.
-use Rattle.std.proofs.Common.{◌≡◌, ◌≤◌, ◌<◌, ◌+◌, ◌-◌, ◌*◌, ◌^◌, ℕ, List, [], ◌∷◌, ◌&&◌, refl, ap, ◌∙◌, arith, Some, None}
-use Rattle.std.specs.Prelude.{nat_lt}
+use Rattle.bz_command_line.proofs.Words.{[], ◌&&◌, ◌*◌, ◌+◌, ◌-◌, ◌<◌, ◌^◌, ◌∙◌, ◌∷◌, ◌≡◌, ◌≤◌, ap, arith, count_of, fold, le-ltb, List, lt-ltb, nat_lt, None, refl, Some, ℕ}
 use Rattle.std.specs.Str.{all_ascii_digits}
 use Rattle.std.proofs.Math.Bool.{and-false}
-use Rattle.std.proofs.lemmas.Bool.{le-ltb, lt-ltb}
-use Rattle.std.specs.List.{fold}
-use Rattle.bz_command_line.specs.Operands.{count_of}
 
 -- the number whose decimal digits are those of the first number and then these
 abbrev pub number_after : ℕ → List ℕ → ℕ

@@ -1,14 +1,8 @@
 -- Operands of a line, and lines of a file, one after the other.
-use Rattle.std.proofs.Common.{◌≡◌, ◌≢◌, ◌<◌, ◌+◌, ◌++◌, ◌∷◌, [], ℕ, List, Bor, true, Result, Ok, Err, Option, Some, None, IfSome, option_map, map, take, drop, get_or, length, append_assoc, add-one, arith, suc, refl, ap, subst, sym, ◌∙◌, inl, inr}
-use Rattle.std.proofs.Math.Seq.{drop-cons}
-use Rattle.std.proofs.lemmas.List.{append-nil, map_more, length-map, length-take-le, map-append, take-append-drop}
-use Rattle.bz_items.specs.Characters.{Bytes}
+use Rattle.bz_command_line.proofs.Words.{[], ◌++◌, ◌+◌, ◌<◌, ◌∙◌, ◌∷◌, ◌≡◌, ◌≢◌, add-one, ap, append-nil, append_assoc, arith, BadPattern, Bor, both, Bytes, Command, drop, drop-cons, Err, get_or, IfSome, in_front, in_line, inl, inr, is_read, joined_by, joined_operands, length, length-map, length-take-le, line_group, line_with_nul, List, map, map-append, map_more, None, nothing_requested, Ok, operand_groups, operands_in, Option, option_map, refl, Refused, refused_for, Requested, requested_by, requested_of, Result, script_lines, Some, subst, suc, sym, take, take-append-drop, true, Usage, ℕ}
 use Rattle.bz_command_line.specs.Refused.{IsFirstFault, IsFirstRefused, IsGroupFault, IsOperandFault, IsRefusedOperand, IsScriptFault}
-use Rattle.bz_command_line.specs.Requested.{Refused, Requested, Usage, both, in_line, refused_for, joined_by, joined_operands, nothing_requested, requested_by, requested_of}
-use Rattle.bz_command_line.specs.Script.{in_front, is_read, line_group, line_with_nul, operand_groups, operands_in, script_lines}
-use Rattle.bz_command_syntax.specs.declared.fault.CommandFault.TheVariants.{BadPattern}
 use Rattle.bz_command_line.specs.declared.verb.OperandFault.{OperandFault}
-use Rattle.bz_command_line.specs.declared.verb.OperandFault.TheVariants.{Command}
+use Rattle.bz_command_syntax.specs.declared.profile.Profile.{Profile}
 use Rattle.bz_command_line.proofs.OtherFaults.{no_pattern}
 
 -- ---- texts after references, cut at a place
@@ -46,84 +40,85 @@ module _ {A E : Type 0} (join : A → A → A) where
   joined_by-assoc same (Ok a) (Ok b) (Err fault) = refl
   joined_by-assoc same (Ok a) (Ok b) (Ok c) = ap Ok (same a b c)
 
--- ---- operands
+module _ (profile : Profile) where
+  -- ---- operands
 
-requested_more : (front : List Bytes) (operand : Bytes) → requested_of (front ++ operand ∷ []) ≡ joined_operands (requested_of front) (requested_by operand)
-requested_more [] operand =
-    joined_by-none both nothing_requested (λ a. rw (append-nil a.commands, append-nil a.targets) refl) (requested_by operand)
-requested_more (first ∷ front) operand =
-    ap (joined_operands (requested_by first)) (requested_more front operand)
-    ∙ sym (joined_by-assoc both (λ a b c. rw (append_assoc a.commands b.commands c.commands, append_assoc a.targets b.targets c.targets) refl)
-    (requested_by first) (requested_of front) (requested_by operand))
+  requested_more : (front : List Bytes) (operand : Bytes) → requested_of profile (front ++ operand ∷ []) ≡ joined_operands (requested_of profile front) (requested_by profile operand)
+  requested_more [] operand =
+      joined_by-none both nothing_requested (λ a. rw (append-nil a.commands, append-nil a.targets) refl) (requested_by profile operand)
+  requested_more (first ∷ front) operand =
+      ap (joined_operands (requested_by profile first)) (requested_more front operand)
+      ∙ sym (joined_by-assoc both (λ a b c. rw (append_assoc a.commands b.commands c.commands, append_assoc a.targets b.targets c.targets) refl)
+      (requested_by profile first) (requested_of profile front) (requested_by profile operand))
 
--- one operand more is read
-pub requested_turn : (items : List (Bor Bytes)) (at : ℕ) (requested more : Requested) → at < length items → requested_of (texts_in (take at items)) ≡ Ok requested
-    → joined_operands (Ok requested) (requested_by (text_at items at)) ≡ Ok more → requested_of (texts_in (take (at + 1) items)) ≡ Ok more
-requested_turn items at requested more within before one =
-    ap requested_of (texts_more items at within) ∙ requested_more (texts_in (take at items)) (text_at items at)
-    ∙ ap (λ first. joined_operands first (requested_by (text_at items at))) before ∙ one
+  -- one operand more is read
+  pub requested_turn : (items : List (Bor Bytes)) (at : ℕ) (requested more : Requested) → at < length items → requested_of profile (texts_in (take at items)) ≡ Ok requested
+      → joined_operands (Ok requested) (requested_by profile (text_at items at)) ≡ Ok more → requested_of profile (texts_in (take (at + 1) items)) ≡ Ok more
+  requested_turn items at requested more within before one =
+      ap (requested_of profile) (texts_more items at within) ∙ requested_more (texts_in (take at items)) (text_at items at)
+      ∙ ap (λ first. joined_operands first (requested_by profile (text_at items at))) before ∙ one
 
--- what is reported of an operand that is refused for this fault, with the reason where that is a pattern
-pub is_refused : (refused : Refused) (operand : Bytes) (fault : OperandFault) → IsOperandFault operand fault → refused.operand ≡ operand → refused.fault ≡ fault
-    → (fault ≢ Command BadPattern → refused.pattern ≡ None) → IsRefusedOperand refused
-is_refused refused operand fault (inl is) same named other =
-    let none = other (no_pattern operand fault is) in
-    let all : refused_for operand fault ≡ refused = rw (sym same, sym named, sym none) refl in
-    inl (ap requested_by same ∙ is ∙ ap Err all)
-is_refused refused operand fault (inr is) same named other = inr (rw (same, named) is)
+  -- what is reported of an operand that is refused for this fault, with the reason where that is a pattern
+  pub is_refused : (refused : Refused) (operand : Bytes) (fault : OperandFault) → IsOperandFault profile operand fault → refused.profile ≡ profile
+      → refused.operand ≡ operand → refused.fault ≡ fault → (fault ≢ Command BadPattern → refused.pattern ≡ None) → IsRefusedOperand profile refused
+  is_refused refused operand fault (inl is) in_profile same named other =
+      let none = other (no_pattern profile operand fault is) in
+      let all : refused_for profile operand fault ≡ refused = rw (sym in_profile, sym same, sym named, sym none) refl in
+      inl (ap (requested_by profile) same ∙ is ∙ ap Err all)
+  is_refused refused operand fault (inr is) in_profile same named other = inr (rw (same, named) is)
 
-pub refused_turn : (items : List (Bor Bytes)) (at : ℕ) (requested : Requested) (refused : Refused) → at < length items
-    → requested_of (texts_in (take at items)) ≡ Ok requested → refused.operand ≡ text_at items at → IsRefusedOperand refused
-    → IsFirstRefused (texts_in items) refused
-refused_turn items at requested refused within before same is = record {
-  front = texts_in (take at items);
-  rest = texts_in (drop (at + 1) items);
-  requested = requested;
-  split = rw same (texts_split items at within);
-  before = before;
-  fault = is;
-}
+  pub refused_turn : (items : List (Bor Bytes)) (at : ℕ) (requested : Requested) (refused : Refused) → at < length items
+      → requested_of profile (texts_in (take at items)) ≡ Ok requested → refused.operand ≡ text_at items at → IsRefusedOperand profile refused
+      → IsFirstRefused profile (texts_in items) refused
+  refused_turn items at requested refused within before same is = record {
+    front = texts_in (take at items);
+    rest = texts_in (drop (at + 1) items);
+    requested = requested;
+    split = rw same (texts_split items at within);
+    before = before;
+    fault = is;
+  }
 
--- ---- lines
+  -- ---- lines
 
-groups_more : (number : ℕ) (front : List Bytes) (line : Bytes)
-    → operand_groups number (front ++ line ∷ []) ≡ in_front (operand_groups number front) (line_group (number + length front) line)
-groups_more number [] line =
-    let same : number ≡ number + 0 = omega arith in
-    joined_by-none (λ a b. a ++ b) [] append-nil (line_group number line) ∙ ap (λ (n : ℕ). in_front (Ok []) (line_group n line)) same
-groups_more number (first ∷ front) line =
-    let same : number + 1 + length front ≡ number + suc (length front) = omega arith in
-    ap (in_front (line_group number first)) (groups_more (number + 1) front line)
-    ∙ sym (joined_by-assoc (λ a b. a ++ b) append_assoc (line_group number first) (operand_groups (number + 1) front) (line_group (number + 1 + length front) line))
-    ∙ ap (λ (n : ℕ). in_front (operand_groups number (first ∷ front)) (line_group n line)) same
+  groups_more : (number : ℕ) (front : List Bytes) (line : Bytes)
+      → operand_groups profile number (front ++ line ∷ []) ≡ in_front (operand_groups profile number front) (line_group profile (number + length front) line)
+  groups_more number [] line =
+      let same : number ≡ number + 0 = omega arith in
+      joined_by-none (λ a b. a ++ b) [] append-nil (line_group profile number line) ∙ ap (λ (n : ℕ). in_front (Ok []) (line_group profile n line)) same
+  groups_more number (first ∷ front) line =
+      let same : number + 1 + length front ≡ number + suc (length front) = omega arith in
+      ap (in_front (line_group profile number first)) (groups_more (number + 1) front line)
+      ∙ sym (joined_by-assoc (λ a b. a ++ b) append_assoc (line_group profile number first) (operand_groups profile (number + 1) front) (line_group profile (number + 1 + length front) line))
+      ∙ ap (λ (n : ℕ). in_front (operand_groups profile number (first ∷ front)) (line_group profile n line)) same
 
--- one line more is read
-pub groups_turn : (items : List (Bor Bytes)) (at : ℕ) (groups more : List Requested) → at < length items → operand_groups 1 (texts_in (take at items)) ≡ Ok groups
-    → in_front (Ok groups) (line_group (at + 1) (text_at items at)) ≡ Ok more → operand_groups 1 (texts_in (take (at + 1) items)) ≡ Ok more
-groups_turn items at groups more within before turn =
-    let count = texts_before items at within in
-    let number : 1 + length (texts_in (take at items)) ≡ at + 1 = omega (arith, count) in
-    ap (operand_groups 1) (texts_more items at within) ∙ groups_more 1 (texts_in (take at items)) (text_at items at)
-    ∙ ap (λ (it : Result (List Requested) Usage). in_front it (line_group (1 + length (texts_in (take at items))) (text_at items at))) before
-    ∙ ap (λ (n : ℕ). in_front (Ok groups) (line_group n (text_at items at))) number ∙ turn
+  -- one line more is read
+  pub groups_turn : (items : List (Bor Bytes)) (at : ℕ) (groups more : List Requested) → at < length items → operand_groups profile 1 (texts_in (take at items)) ≡ Ok groups
+      → in_front (Ok groups) (line_group profile (at + 1) (text_at items at)) ≡ Ok more → operand_groups profile 1 (texts_in (take (at + 1) items)) ≡ Ok more
+  groups_turn items at groups more within before turn =
+      let count = texts_before items at within in
+      let number : 1 + length (texts_in (take at items)) ≡ at + 1 = omega (arith, count) in
+      ap (operand_groups profile 1) (texts_more items at within) ∙ groups_more 1 (texts_in (take at items)) (text_at items at)
+      ∙ ap (λ (it : Result (List Requested) Usage). in_front it (line_group profile (1 + length (texts_in (take at items))) (text_at items at))) before
+      ∙ ap (λ (n : ℕ). in_front (Ok groups) (line_group profile n (text_at items at))) number ∙ turn
 
--- the fault of a line is the first one
-pub fault_turn : (items : List (Bor Bytes)) (at : ℕ) (groups : List Requested) (found : Option Usage) (operands : List Bytes) → at < length items
-    → operand_groups 1 (texts_in (take at items)) ≡ Ok groups → is_read (text_at items at) ≡ true → operands ≡ operands_in (text_at items at)
-    → IfSome found (IsGroupFault operands) → IfSome (option_map (in_line (at + 1)) found) (IsFirstFault (texts_in items))
-fault_turn items at groups None operands within before here same is = tt
-fault_turn items at groups (Some usage) operands within before here same is = record {
-  front = texts_in (take at items);
-  line = text_at items at;
-  rest = texts_in (drop (at + 1) items);
-  groups = groups;
-  split = texts_split items at within;
-  before = before;
-  fault = rw (texts_before items at within) (here, usage, subst (λ (all : List Bytes). IsGroupFault all usage) same is, refl);
-}
+  -- the fault of a line is the first one
+  pub fault_turn : (items : List (Bor Bytes)) (at : ℕ) (groups : List Requested) (found : Option Usage) (operands : List Bytes) → at < length items
+      → operand_groups profile 1 (texts_in (take at items)) ≡ Ok groups → is_read (text_at items at) ≡ true → operands ≡ operands_in (text_at items at)
+      → IfSome found (IsGroupFault profile operands) → IfSome (option_map (in_line (at + 1)) found) (IsFirstFault profile (texts_in items))
+  fault_turn items at groups None operands within before here same is = tt
+  fault_turn items at groups (Some usage) operands within before here same is = record {
+    front = texts_in (take at items);
+    line = text_at items at;
+    rest = texts_in (drop (at + 1) items);
+    groups = groups;
+    split = texts_split items at within;
+    before = before;
+    fault = rw (texts_before items at within) (here, usage, subst (λ (all : List Bytes). IsGroupFault profile all usage) same is, refl);
+  }
 
--- the first fault of the lines of a file, none of which has a NUL byte
-pub fault_of_script : (found : Option Usage) (text : Bytes) (lines : List Bytes) → lines ≡ script_lines text → line_with_nul lines ≡ None
-    → IfSome found (IsFirstFault lines) → IfSome found (IsScriptFault text)
-fault_of_script None text lines is none first = tt
-fault_of_script (Some usage) text lines is none first = inr (subst (λ (it : List Bytes). line_with_nul it ≡ None) is none, subst (λ (it : List Bytes). IsFirstFault it usage) is first)
+  -- the first fault of the lines of a file, none of which has a NUL byte
+  pub fault_of_script : (found : Option Usage) (text : Bytes) (lines : List Bytes) → lines ≡ script_lines text → line_with_nul lines ≡ None
+      → IfSome found (IsFirstFault profile lines) → IfSome found (IsScriptFault profile text)
+  fault_of_script None text lines is none first = tt
+  fault_of_script (Some usage) text lines is none first = inr (subst (λ (it : List Bytes). line_with_nul it ≡ None) is none, subst (λ (it : List Bytes). IsFirstFault profile it usage) is first)

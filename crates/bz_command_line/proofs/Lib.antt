@@ -4,3 +4,4 @@ pub mod Lines
 pub mod OtherFaults
 pub mod PathTexts
 pub mod Texts
+mod Words

@@ -1,12 +1,5 @@
 -- Why operands request nothing, and what is below that.
-use Rattle.std.proofs.Common.{◌≡◌, ◌++◌, ◌∷◌, ◌∙◌, ℕ, [], codes, decimal, Option, Some, None, IfSome, option_map, append_assoc, ap, subst}
-use Rattle.std.specs.List.{concat}
-use Rattle.std.proofs.lemmas.List.{append-nil}
-use Rattle.bz_items.specs.Characters.{Bytes}
-use Rattle.bz_streams.specs.Controls.{escaped_text}
-use Rattle.bz_streams.specs.Faults.{AppendsUnlessFailed}
-use Rattle.bz_command_line.specs.Requested.{Usage, in_line}
-use Rattle.bz_command_line.specs.Reported.{usage_line}
+use Rattle.bz_command_line.proofs.Words.{[], ◌++◌, ◌∙◌, ◌∷◌, ◌≡◌, ap, append-nil, append_assoc, AppendsUnlessFailed, Bytes, codes, concat, decimal, escaped_text, IfSome, in_line, None, Option, option_map, Some, subst, Usage, usage_line, ℕ}
 
 -- of operands among the words nothing
 pub nothing_below : (found : Option Usage) (f g : ℕ) (old new : Option Bytes)

@@ -1,19 +1,13 @@
 -- By its words alone no operand is refused for a pattern.
-use Rattle.std.proofs.Common.{◌≡◌, ◌≢◌, Bool, true, false, List, [], ◌∷◌, Option, Some, None, Result, Ok, Err, bytes_eq, codes, subst, length, ℕ}
-use Rattle.std.specs.Prelude.{if◌then◌else◌, nat_le}
-use Rattle.std.specs.Option.{ok_or, option_map_or}
-use Rattle.std.specs.Result.{result_map_both}
-use Rattle.bz_items.specs.Characters.{Bytes}
+use Rattle.bz_command_line.proofs.Words.{[], ◌∷◌, ◌≡◌, ◌≢◌, aimed, BadTarget, Bool, by_command, Bytes, bytes_eq, codes, Command, count_of, Err, false, if◌then◌else◌, is_target, length, List, Memory, nat_le, None, Ok, ok_or, operand_target, Option, Refused, refused_for, Requested, requested_by, Result, Some, steps_of, subst, Target, true, verb_in, wanted, without_words, words_of, ℕ}
+use Rattle.std.specs.{Option.option_map_or, Result.result_map_both}
 use Rattle.bz_label.specs.TargetRead.{target_in}
-use Rattle.bz_label.specs.declared.target.Target.{Target}
-use Rattle.bz_command_syntax.specs.Words.{words_of}
-use Rattle.bz_command_syntax.specs.Commands.{ReadCommand, begins_with_kind, command_in, commands, delete_of, operation_of, remove_of, row_named, set_if_absent_of, set_of, set_select_of, text_limit}
+use Rattle.bz_command_syntax.specs.Commands.{ReadCommand, begins_with_kind, command_in, commands, delete_of, listed_in, operation_of, prints_label, read_by_profile, remove_of, row_named, set_if_absent_of, set_of, set_select_of, text_limit}
 use Rattle.bz_command_syntax.specs.declared.command.Operation.{Operation}
+use Rattle.bz_command_syntax.specs.declared.profile.Profile.{Profile}
+use Rattle.bz_command_syntax.specs.declared.profile.Profile.TheVariants.{Own, Bazelbuild}
 use Rattle.bz_command_syntax.specs.declared.fault.CommandFault.TheVariants as c
-use Rattle.bz_command_line.specs.Operands.{by_command, count_of, is_target, operand_target, steps_of, verb_in, without_words}
-use Rattle.bz_command_line.specs.Requested.{Refused, Requested, aimed, refused_for, requested_by, wanted}
 use Rattle.bz_command_line.specs.declared.{verb.OperandFault.OperandFault, verb.Verb.Verb}
-use Rattle.bz_command_line.specs.declared.verb.OperandFault.TheVariants.{Memory, BadTarget, Command}
 use Rattle.bz_command_line.specs.declared.verb.Verb.TheVariants.{Undo, Redo, Journal, Format}
 
 -- ---- commands
@@ -69,9 +63,17 @@ of_row [] are name fits words = tt
 of_row (row ∷ rows) are name fits words =
     of_found (bytes_eq name row.0) fits words row.1 (row_named rows name) (are.0 words) (of_row rows are.1 name fits words)
 
-of_words : (fits : Bool) (words : List Bytes) → IsOther (command_in fits words)
-of_words fits [] = tt
-of_words fits (name ∷ words) = of_row commands commands_other name fits words
+of_listed : (fits : Bool) (words : List Bytes) → IsOther (listed_in fits words)
+of_listed fits [] = tt
+of_listed fits (name ∷ words) = of_row commands commands_other name fits words
+
+of_profile : (profile : Profile) (read : ReadCommand) → IsOther read → IsOther (read_by_profile profile read)
+of_profile Own (Ok operation) other = of_test (prints_label operation) (Err c.Arguments) (Ok operation) tt tt
+of_profile Bazelbuild (Ok operation) other = tt
+of_profile profile (Err fault) other = other
+
+of_words : (profile : Profile) (fits : Bool) (words : List Bytes) → IsOther (command_in profile fits words)
+of_words profile fits words = of_profile profile (listed_in fits words) (of_listed fits words)
 
 -- ---- what is done with a file as a whole, and operands
 
@@ -112,11 +114,11 @@ module _ (fits : Bool) (read : Result Verb OperandFault) (other : IsOtherVerb re
       by true = f
       by false = tt
 
-of_verb : (fits : Bool) (words : List Bytes) → IsOtherVerb (verb_in fits words)
-of_verb fits [] = tt
-of_verb fits (name ∷ words) =
-    let read = by_command (command_in fits (name ∷ words)) in
-    let other = of_command (command_in fits (name ∷ words)) (of_words fits (name ∷ words)) in
+of_verb : (profile : Profile) (fits : Bool) (words : List Bytes) → IsOtherVerb (verb_in profile fits words)
+of_verb profile fits [] = tt
+of_verb profile fits (name ∷ words) =
+    let read = by_command (command_in profile fits (name ∷ words)) in
+    let other = of_command (command_in profile fits (name ∷ words)) (of_words profile fits (name ∷ words)) in
     of_some fits read other (bytes_eq name (codes "undo")) _ _ (of_steps Undo words)
     (of_some fits read other (bytes_eq name (codes "redo")) _ _ (of_steps Redo words)
     (of_some fits read other (bytes_eq name (codes "journal")) _ _ (of_none Journal words)
@@ -126,26 +128,28 @@ abbrev IsOtherRefused : Result Requested Refused → Type 0
 IsOtherRefused (Ok requested) = Unit {0}
 IsOtherRefused (Err refused) = refused.fault ≢ Command c.BadPattern
 
-of_wanted : (operand : Bytes) (verb : Result Verb OperandFault) → IsOtherVerb verb → IsOtherRefused (wanted operand verb)
-of_wanted operand (Ok verb) other = tt
-of_wanted operand (Err Memory) other = λ is. absurd (cc is)
-of_wanted operand (Err BadTarget) other = λ is. absurd (cc is)
-of_wanted operand (Err (Command c.Unknown)) other = λ is. absurd (cc is)
-of_wanted operand (Err (Command c.Arguments)) other = λ is. absurd (cc is)
-of_wanted operand (Err (Command c.BadPattern)) other = absurd other
-of_wanted operand (Err (Command c.Memory)) other = λ is. absurd (cc is)
+of_wanted : (profile : Profile) (operand : Bytes) (verb : Result Verb OperandFault) → IsOtherVerb verb → IsOtherRefused (wanted profile operand verb)
+of_wanted profile operand (Ok verb) other = tt
+of_wanted profile operand (Err Memory) other = λ is. absurd (cc is)
+of_wanted profile operand (Err BadTarget) other = λ is. absurd (cc is)
+of_wanted profile operand (Err (Command c.Unknown)) other = λ is. absurd (cc is)
+of_wanted profile operand (Err (Command c.Arguments)) other = λ is. absurd (cc is)
+of_wanted profile operand (Err (Command c.BadPattern)) other = absurd other
+of_wanted profile operand (Err (Command c.Memory)) other = λ is. absurd (cc is)
 
-of_aimed : (operand : Bytes) (target : Option Target) → IsOtherRefused (aimed operand (ok_or target BadTarget))
-of_aimed operand None = λ is. absurd (cc is)
-of_aimed operand (Some target) = tt
+of_aimed : (profile : Profile) (operand : Bytes) (target : Option Target) → IsOtherRefused (aimed profile operand (ok_or target BadTarget))
+of_aimed profile operand None = λ is. absurd (cc is)
+of_aimed profile operand (Some target) = tt
 
-of_operand : (operand : Bytes) → IsOtherRefused (requested_by operand)
-of_operand operand = by (is_target operand)
+of_operand : (profile : Profile) (operand : Bytes) → IsOtherRefused (requested_by profile operand)
+of_operand profile operand = by (is_target operand)
   where
-    by : (t : Bool) → IsOtherRefused (if t then aimed operand (operand_target operand) else wanted operand (verb_in (nat_le (length operand) text_limit) (words_of operand)))
-    by true = of_aimed operand (target_in operand)
-    by false = of_wanted operand _ (of_verb (nat_le (length operand) text_limit) (words_of operand))
+    by : (t : Bool) → IsOtherRefused (if t then aimed profile operand (operand_target operand)
+        else wanted profile operand (verb_in profile (nat_le (length operand) text_limit) (words_of operand)))
+    by true = of_aimed profile operand (target_in operand)
+    by false = of_wanted profile operand _ (of_verb profile (nat_le (length operand) text_limit) (words_of operand))
 
 -- what its function refuses it for is something else
-pub no_pattern : (operand : Bytes) (fault : OperandFault) → requested_by operand ≡ Err (refused_for operand fault) → fault ≢ Command c.BadPattern
-no_pattern operand fault is = subst IsOtherRefused is (of_operand operand)
+pub no_pattern : (profile : Profile) (operand : Bytes) (fault : OperandFault) → requested_by profile operand ≡ Err (refused_for profile operand fault)
+    → fault ≢ Command c.BadPattern
+no_pattern profile operand fault is = subst IsOtherRefused is (of_operand profile operand)

@@ -1,10 +1,7 @@
 -- The package of a target that is read in a text of characters.
-use Rattle.std.proofs.Common.{◌++◌, IsUtf8, codes, subst, inl, inr, arith, append_assoc}
-use Rattle.bz_items.specs.Characters.{Bytes}
+use Rattle.bz_command_line.proofs.Words.{◌++◌, append_assoc, arith, Bytes, codes, HasPath, inl, inr, IsUtf8, subst, Target}
 use Rattle.bz_label.specs.Targets.{IsSpelled, IsTarget}
-use Rattle.bz_label.specs.declared.target.Target.{Target}
 use Rattle.bz_command_syntax.proofs.Utf8Texts.{beside_ascii}
-use Rattle.bz_command_line.specs.Paths.{HasPath}
 
 slashes_cut : (path : Bytes) → IsUtf8 (codes "//" ++ path) → IsUtf8 path
 slashes_cut path u = (beside_ascii (codes "/") 47 path (omega arith) u).1

@@ -1,8 +1,5 @@
 -- Texts of a list: the place of one among those after references, and the characters of each.
-use Rattle.std.proofs.Common.{◌≡◌, ◌<◌, ◌+◌, ◌∷◌, [], ℕ, Bool, not, cond, nat_lt, List, Bor, position, get_or, length, Some, None, IsUtf8, arith, zero, suc, refl, ap, sym, ◌∙◌}
-use Rattle.std.specs.List.{position_or_len}
-use Rattle.std.proofs.lemmas.List.{length-map}
-use Rattle.bz_items.specs.Characters.{Bytes}
+use Rattle.bz_command_line.proofs.Words.{[], ◌+◌, ◌<◌, ◌∙◌, ◌∷◌, ◌≡◌, ap, arith, Bool, Bor, Bytes, cond, get_or, IsUtf8, length, length-map, List, nat_lt, None, not, position, position_or_len, refl, Some, suc, sym, zero, ℕ}
 use Rattle.bz_command_syntax.specs.Proper.{AreUtf8}
 use Rattle.bz_command_line.proofs.InTurn.{texts_in}
 

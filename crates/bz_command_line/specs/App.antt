@@ -17,6 +17,10 @@ script_rule = record (new_rule (codes "file")) { short = Some letter_f; value_na
 abbrev pub flag_rule : Text → Rule
 flag_rule name = record (new_rule name) { long = Some name; action = Some SetTrue }
 
+-- `--profile PROFILE`
+abbrev pub profile_rule : Rule
+profile_rule = record (new_rule (codes "profile")) { long = Some (codes "profile"); value_names = 1 }
+
 abbrev pub operand_rule : Rule
 operand_rule = record (new_rule (codes "operand")) { action = Some Append; value_names = 1 }
 
@@ -28,15 +32,19 @@ nameless = let app = new_app (codes "buildozer") in record { top = record app.to
 abbrev pub lines_app : App
 lines_app = with_rule (with_rule (with_rule nameless operand_rule) keep_going_rule) script_rule
 
--- and what becomes of files: buildozer [-k] [-f FILE] [--stdout] [--quiet] [--journal] [OPERAND..]
+-- and what becomes of files
+abbrev pub files_app : App
+files_app = with_rule (with_rule (with_rule lines_app (flag_rule (codes "stdout"))) (flag_rule (codes "quiet"))) (flag_rule (codes "journal"))
+
+-- and what commands mean: buildozer [-k] [-f FILE] [--stdout] [--quiet] [--journal] [--profile PROFILE] [OPERAND..]
 abbrev pub buildozer_app : App
-buildozer_app = with_rule (with_rule (with_rule lines_app (flag_rule (codes "stdout"))) (flag_rule (codes "quiet"))) (flag_rule (codes "journal"))
+buildozer_app = with_rule files_app profile_rule
 
 -- the same options, with those that clap adds
 abbrev pub buildozer_options : OptionTable
 buildozer_options = record {
   program = codes "buildozer";
-  names = codes "stdout" ∷ codes "quiet" ∷ codes "journal" ∷ codes "help" ∷ codes "version" ∷ [];
+  names = codes "stdout" ∷ codes "quiet" ∷ codes "journal" ∷ codes "profile" ∷ codes "help" ∷ codes "version" ∷ [];
   letters = codes "kfhV";
 }
 

@@ -12,6 +12,7 @@ use Rattle.bz_label.specs.declared.target.Target.{Target}
 use Rattle.bz_command_syntax.specs.Commands.{command_in, text_limit}
 use Rattle.bz_command_syntax.specs.Words.{words_of}
 use Rattle.bz_command_syntax.specs.declared.command.Operation.{Operation}
+use Rattle.bz_command_syntax.specs.declared.profile.Profile.{Profile}
 use Rattle.bz_command_syntax.specs.declared.fault.CommandFault.{CommandFault}
 use Rattle.bz_command_syntax.specs.declared.fault.CommandFault.TheVariants as c
 use Rattle.bz_command_line.specs.declared.{verb.Verb.Verb, verb.OperandFault.OperandFault}
@@ -64,10 +65,11 @@ of_command fault = Command fault
 abbrev pub by_command : Result Operation CommandFault → Result Verb OperandFault
 by_command read = result_map_both Do of_command read
 
--- what the words of a text request: `undo`, `redo`, `journal` or `format`, else a command on the rules of a target; the flag: the text is not too long
-abbrev pub verb_in : Bool → List Bytes → Result Verb OperandFault
-verb_in fits words =
-    option_map_or (λ verb. if fits then verb else Err (Command c.Arguments)) (file_verb_in words) (by_command (command_in fits words))
+-- what the words of a text request in a profile: `undo`, `redo`, `journal` or `format`, else a command on the rules of a target; the flag: the text
+-- is not too long
+abbrev pub verb_in : Profile → Bool → List Bytes → Result Verb OperandFault
+verb_in profile fits words =
+    option_map_or (λ verb. if fits then verb else Err (Command c.Arguments)) (file_verb_in words) (by_command (command_in profile fits words))
 
-abbrev pub verb_of : Bytes → Result Verb OperandFault
-verb_of text = verb_in (nat_le (length text) text_limit) (words_of text)
+abbrev pub verb_of : Profile → Bytes → Result Verb OperandFault
+verb_of profile text = verb_in profile (nat_le (length text) text_limit) (words_of text)

@@ -8,7 +8,7 @@ use Rattle.bz_streams.specs.Reported.{named_line}
 use Rattle.bz_streams.specs.declared.sink.Sink.{Ghosts as SinkOf}
 use Rattle.bz_command_line.specs.App.{line_hint}
 use Rattle.bz_command_line.specs.Hints.{hint_for}
-use Rattle.bz_command_line.specs.Line.{LineUsage, of_clap, beside_script, beside_stdout}
+use Rattle.bz_command_line.specs.Line.{LineUsage, of_clap, no_profile, beside_script, beside_stdout}
 use Rattle.bz_command_line.specs.Requested.{Refused, Usage, of_operand, no_command, no_target, no_line, nul, in_line}
 use Rattle.bz_command_line.specs.Verbs.{operand_fault_name, operand_fault_number}
 
@@ -42,8 +42,13 @@ usage_line file no_line = named_line file (codes "no operands")
 usage_line file (nul line) = nul_line file line
 usage_line file (in_line line usage) = usage_line file usage ++ refused_place file line
 
+-- a text that is no profile, and those that there are
+abbrev pub profile_line : Bytes → Bytes
+profile_line name = concat (codes "buildozer: no profile: " ∷ escaped_text name ∷ codes "\nbuildozer: a profile is own or bazelbuild\n" ∷ [])
+
 -- Words that are no line of the program's. Of a fault that clap finds the text is clap's; below it is the hint, if there is one.
 abbrev pub IsLineUsageLine : List Bytes → LineUsage → Bytes → Type 0
 IsLineUsageLine words of_clap line = (text : Bytes) × (line ≡ text ++ line_hint words)
+IsLineUsageLine words (no_profile name) line = line ≡ profile_line name
 IsLineUsageLine words beside_script line = line ≡ codes "buildozer: operands beside -f\n"
 IsLineUsageLine words beside_stdout line = line ≡ codes "buildozer: --stdout beside --journal\n"

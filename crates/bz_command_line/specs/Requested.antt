@@ -2,6 +2,7 @@
 use Rattle.std.specs.Prelude.{ℕ, List, [], ◌∷◌, ◌++◌, if◌then◌else◌, Option, None, Result, Ok, Err}
 use Rattle.bz_items.specs.Characters.{Bytes}
 use Rattle.bz_label.specs.declared.target.Target.{Target}
+use Rattle.bz_command_syntax.specs.declared.profile.Profile.{Profile}
 use Rattle.bz_command_line.specs.Operands.{is_target, operand_target, verb_of}
 use Rattle.bz_command_line.specs.declared.{verb.Verb.Verb, verb.OperandFault.OperandFault}
 
@@ -19,30 +20,31 @@ pub data PatternFault : Type 0 where
   syntax : ℕ → Bytes → PatternFault
   too_large : PatternFault
 
--- an operand that is refused; of a pattern with the reason, where that is known
+-- an operand that is refused in a profile; of a pattern with the reason, where that is known
 pub record Refused : Type 0 where
+  pub profile : Profile
   pub operand : Bytes
   pub fault : OperandFault
   pub pattern : Option PatternFault
 
 -- an operand that is refused for another cause than its pattern
-abbrev pub refused_for : Bytes → OperandFault → Refused
-refused_for operand fault = record { operand = operand; fault = fault; pattern = None }
+abbrev pub refused_for : Profile → Bytes → OperandFault → Refused
+refused_for profile operand fault = record { profile = profile; operand = operand; fault = fault; pattern = None }
 
 abbrev pub nothing_requested : Requested
 nothing_requested = record { commands = []; targets = [] }
 
-abbrev pub wanted : Bytes → Result Verb OperandFault → Result Requested Refused
-wanted operand (Ok verb) = Ok (record { commands = record { verb = verb; text = operand } ∷ []; targets = [] })
-wanted operand (Err fault) = Err (refused_for operand fault)
+abbrev pub wanted : Profile → Bytes → Result Verb OperandFault → Result Requested Refused
+wanted profile operand (Ok verb) = Ok (record { commands = record { verb = verb; text = operand } ∷ []; targets = [] })
+wanted profile operand (Err fault) = Err (refused_for profile operand fault)
 
-abbrev pub aimed : Bytes → Result Target OperandFault → Result Requested Refused
-aimed operand (Ok target) = Ok (record { commands = []; targets = target ∷ [] })
-aimed operand (Err fault) = Err (refused_for operand fault)
+abbrev pub aimed : Profile → Bytes → Result Target OperandFault → Result Requested Refused
+aimed profile operand (Ok target) = Ok (record { commands = []; targets = target ∷ [] })
+aimed profile operand (Err fault) = Err (refused_for profile operand fault)
 
--- what one operand requests
-abbrev pub requested_by : Bytes → Result Requested Refused
-requested_by operand = if is_target operand then aimed operand (operand_target operand) else wanted operand (verb_of operand)
+-- what one operand requests in a profile
+abbrev pub requested_by : Profile → Bytes → Result Requested Refused
+requested_by profile operand = if is_target operand then aimed profile operand (operand_target operand) else wanted profile operand (verb_of profile operand)
 
 -- what both give together, or the first fault of them
 abbrev pub joined_by : {A E : Type 0} → (A → A → A) → Result A E → Result A E → Result A E
@@ -57,9 +59,9 @@ both first more = record { commands = first.commands ++ more.commands; targets =
 abbrev pub joined_operands : Result Requested Refused → Result Requested Refused → Result Requested Refused
 joined_operands first more = joined_by both first more
 
-abbrev pub requested_of : List Bytes → Result Requested Refused
-requested_of [] = Ok nothing_requested
-requested_of (operand ∷ operands) = joined_operands (requested_by operand) (requested_of operands)
+abbrev pub requested_of : Profile → List Bytes → Result Requested Refused
+requested_of profile [] = Ok nothing_requested
+requested_of profile (operand ∷ operands) = joined_operands (requested_by profile operand) (requested_of profile operands)
 
 -- why operands, or the lines of a file, request nothing; `in_line` says why the operands of this line, from 1, do
 pub data Usage : Type 0 where
@@ -81,5 +83,5 @@ accepted (Ok requested) = complete requested.commands requested.targets
 accepted (Err refused) = Err (of_operand refused)
 
 -- one line: its operands, of which one at least is a command and one a target
-abbrev pub operand_group : List Bytes → Result Requested Usage
-operand_group operands = accepted (requested_of operands)
+abbrev pub operand_group : Profile → List Bytes → Result Requested Usage
+operand_group profile operands = accepted (requested_of profile operands)

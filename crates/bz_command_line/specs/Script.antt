@@ -4,6 +4,7 @@ use Rattle.std.specs.Prelude.{ℕ, ◌+◌, ◌==◌, Bool, false, not, List, []
 use Rattle.std.specs.List.{list_any, slice_split}
 use Rattle.std.specs.Str.Lines.{lines}
 use Rattle.bz_items.specs.Characters.{Bytes, number_sign, vertical_bar}
+use Rattle.bz_command_syntax.specs.declared.profile.Profile.{Profile}
 use Rattle.bz_command_line.specs.Operands.{begins_with}
 use Rattle.bz_command_line.specs.Requested.{Requested, Usage, no_line, nul, in_line, joined_by, operand_group}
 
@@ -42,13 +43,13 @@ group_in_line number (Ok requested) = Ok (requested ∷ [])
 group_in_line number (Err usage) = Err (in_line number usage)
 
 -- what the line of this number requests
-abbrev pub line_group : ℕ → Bytes → Result (List Requested) Usage
-line_group number line = if is_read line then group_in_line number (operand_group (operands_in line)) else Ok []
+abbrev pub line_group : Profile → ℕ → Bytes → Result (List Requested) Usage
+line_group profile number line = if is_read line then group_in_line number (operand_group profile (operands_in line)) else Ok []
 
 -- what each of these lines requests, of which the first has this number
-abbrev pub operand_groups : ℕ → List Bytes → Result (List Requested) Usage
-operand_groups number [] = Ok []
-operand_groups number (line ∷ lines) = in_front (line_group number line) (operand_groups (number + 1) lines)
+abbrev pub operand_groups : Profile → ℕ → List Bytes → Result (List Requested) Usage
+operand_groups profile number [] = Ok []
+operand_groups profile number (line ∷ lines) = in_front (line_group profile number line) (operand_groups profile (number + 1) lines)
 
 -- A line at least requests something.
 abbrev pub some_groups : Result (List Requested) Usage → Result (List Requested) Usage
@@ -57,10 +58,10 @@ some_groups (Ok (group ∷ groups)) = Ok (group ∷ groups)
 some_groups (Err usage) = Err usage
 
 -- A NUL byte is reported before all else.
-abbrev pub without_nul : Option ℕ → List Bytes → Result (List Requested) Usage
-without_nul (Some line) lines = Err (nul line)
-without_nul None lines = some_groups (operand_groups 1 lines)
+abbrev pub without_nul : Profile → Option ℕ → List Bytes → Result (List Requested) Usage
+without_nul profile (Some line) lines = Err (nul line)
+without_nul profile None lines = some_groups (operand_groups profile 1 lines)
 
--- what the lines of a file request
-abbrev pub script_of : Bytes → Result (List Requested) Usage
-script_of text = without_nul (line_with_nul (script_lines text)) (script_lines text)
+-- what the lines of a file request in a profile
+abbrev pub script_of : Profile → Bytes → Result (List Requested) Usage
+script_of profile text = without_nul profile (line_with_nul (script_lines text)) (script_lines text)

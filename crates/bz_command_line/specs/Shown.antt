@@ -19,6 +19,7 @@ line_in line = record { options = line.options; given = given_in line.given }
 -- why words are no line, where memory is not the cause
 abbrev pub line_usage_in : LineFault → Option l.LineUsage
 line_usage_in (f.Clap error) = Some l.of_clap
+line_usage_in (f.NoProfile name) = Some (l.no_profile name.now)
 line_usage_in f.BesideScript = Some l.beside_script
 line_usage_in f.BesideStdout = Some l.beside_stdout
 line_usage_in f.Memory = None
@@ -34,7 +35,7 @@ pattern_in (t.Syntax at reason) = a.syntax at reason.now
 pattern_in t.TooLarge = a.too_large
 
 abbrev pub refused_in : Refused → a.Refused
-refused_in refused = record { operand = refused.operand.now; fault = refused.fault; pattern = option_map pattern_in refused.pattern }
+refused_in refused = record { profile = refused.profile; operand = refused.operand.now; fault = refused.fault; pattern = option_map pattern_in refused.pattern }
 
 -- why operands request nothing, where memory is not the cause
 abbrev pub usage_in : UsageFault → Option a.Usage

@@ -146,7 +146,7 @@ pub fn report_line_usage<S: AsStr, E: Sink>(
     alloc: Global,
     err: &mut E,
     words: &[S],
-    fault: &LineFault,
+    fault: &LineFault<'_>,
 ) -> Result<(), AllocError>
     ensures some { OnOk result (IsSome (line_usage_in fault.now)) }
     ensures reported { OnOk result (IfSome (line_usage_in fault.now) (λ usage. (line : List ℕ) × IsLineUsageLine (map S.text words.now) usage line
@@ -158,6 +158,14 @@ pub fn report_line_usage<S: AsStr, E: Sink>(
             let hint = line_hint(alloc, words)?;
             report_clap_hinted(alloc, err, error, "buildozer", hint)?;
         }
+        LineFault::NoProfile(name) => report_pieces(
+            err,
+            &[
+                LinePiece::Own("buildozer: no profile: "),
+                LinePiece::Outside(name),
+                LinePiece::Own("\nbuildozer: a profile is own or bazelbuild\n"),
+            ],
+        ),
         LineFault::BesideScript => report_pieces(
             err,
             &[LinePiece::Own("buildozer: operands beside -f\n")],

@@ -9,7 +9,7 @@ ghost use Rattle.bz_command_line.specs.Shown.{refused_in, requested_in, usage_in
 
 use crate::pattern::pattern_fault;
 use crate::verb::{OperandFault, Refused, Verb, read_verb};
-use bz_command_syntax::CommandFault;
+use bz_command_syntax::{CommandFault, Profile};
 use bz_label::{Target, TargetFault};
 use std::alloc::Global;
 
@@ -65,12 +65,13 @@ fn release(verb: &mut Verb)
 // push that fails gives its value back, and the proof that it is dropped is long.
 fn add<'a>(
     alloc: Global,
+    profile: Profile,
     requested: &mut Requested<'a>,
     text: &'a str,
     kept: usize,
 ) -> Result<(), OperandFault>
-    ensures ok { OnOk result (a.joined_operands (Ok (requested_in requested.old)) (a.requested_by text.entry.now) ≡ Ok (requested_in requested.new)) }
-    ensures err { IfErr result (λ fault. IsOperandFault text.entry.now fault ⊎ (fault ≡ OperandFault.Memory)) }
+    ensures ok { OnOk result (a.joined_operands (Ok (requested_in requested.old)) (a.requested_by profile text.entry.now) ≡ Ok (requested_in requested.new)) }
+    ensures err { IfErr result (λ fault. IsOperandFault profile text.entry.now fault ⊎ (fault ≡ OperandFault.Memory)) }
     ensures paths { All HasPath requested.old.targets.items → OnOk result (All HasPath requested.new.targets.items) }
 {
     if is_target(text.as_bytes()) {
@@ -87,7 +88,7 @@ fn add<'a>(
     if requested.commands.reserve(1).is_err() {
         return Err(OperandFault::Memory);
     }
-    let mut verb = read_verb(alloc, text)?;
+    let mut verb = read_verb(alloc, profile, text)?;
     if requested.commands.len() >= kept {
         release(&mut verb);
     }
@@ -95,8 +96,14 @@ fn add<'a>(
     Ok(())
 }
 
-// An operand that is refused for this fault, of a pattern with the reason.
-fn with_reason<'a>(alloc: Global, operand: &'a str, fault: OperandFault) -> Refused<'a>
+// An operand that is refused in a profile for this fault, of a pattern with the reason.
+fn with_reason<'a>(
+    alloc: Global,
+    profile: Profile,
+    operand: &'a str,
+    fault: OperandFault,
+) -> Refused<'a>
+    ensures profile { (refused_in result).profile ≡ profile }
     ensures seen { (refused_in result).operand ≡ operand.entry.now }
     ensures fault { (refused_in result).fault ≡ fault }
     ensures other { fault ≢ OperandFault.Command CommandFault.BadPattern → (refused_in result).pattern ≡ None }
@@ -106,21 +113,26 @@ fn with_reason<'a>(alloc: Global, operand: &'a str, fault: OperandFault) -> Refu
         _ => None,
     };
     Refused {
+        profile,
         operand,
         fault,
         pattern,
     }
 }
 
-/// What the operands of one line request: commands and targets, at least one of each, in order. The package of each target
+/// What the operands of one line request in a profile: commands and targets, at least one of each, in order. The package of each target
 /// is text in UTF-8, of at most 65,536 bytes. Errors, in this order: `Operand` where one is refused, which is the first
 /// such; `NoCommand`; `NoTarget`; and `Memory` where a growth was refused.
-pub fn read_group<'a>(alloc: Global, operands: &[&'a str]) -> Result<Requested<'a>, UsageFault<'a>>
-    ensures ok { IfOk result (λ requested. a.operand_group (map (λ s. s.now) operands.now) ≡ Ok (requested_in requested)) }
-    ensures err { IfErr result (λ fault. IfSome (usage_in fault) (IsGroupFault (map (λ s. s.now) operands.now))) }
+pub fn read_group<'a>(
+    alloc: Global,
+    profile: Profile,
+    operands: &[&'a str],
+) -> Result<Requested<'a>, UsageFault<'a>>
+    ensures ok { IfOk result (λ requested. a.operand_group profile (map (λ s. s.now) operands.now) ≡ Ok (requested_in requested)) }
+    ensures err { IfErr result (λ fault. IfSome (usage_in fault) (IsGroupFault profile (map (λ s. s.now) operands.now))) }
     ensures paths { IfOk result (λ requested. All HasPath requested.targets.items) }
 {
-    match group_of(alloc, operands, MOST_COMPILED) {
+    match group_of(alloc, profile, operands, MOST_COMPILED) {
         Ok(requested) => Ok(requested),
         Err(fault) => Err(fault),
     }
@@ -129,11 +141,12 @@ pub fn read_group<'a>(alloc: Global, operands: &[&'a str]) -> Result<Requested<'
 /// The same, and the patterns of the first commands are kept compiled, of as many as `kept` says.
 pub(crate) fn group_of<'a>(
     alloc: Global,
+    profile: Profile,
     operands: &[&'a str],
     kept: usize,
 ) -> Result<Requested<'a>, UsageFault<'a>>
-    ensures ok { IfOk result (λ requested. a.operand_group (map (λ s. s.now) operands.now) ≡ Ok (requested_in requested)) }
-    ensures err { IfErr result (λ fault. IfSome (usage_in fault) (IsGroupFault (map (λ s. s.now) operands.now))) }
+    ensures ok { IfOk result (λ requested. a.operand_group profile (map (λ s. s.now) operands.now) ≡ Ok (requested_in requested)) }
+    ensures err { IfErr result (λ fault. IfSome (usage_in fault) (IsGroupFault profile (map (λ s. s.now) operands.now))) }
     ensures paths { IfOk result (λ requested. All HasPath requested.targets.items) }
 {
     let mut requested = Requested {
@@ -141,11 +154,13 @@ pub(crate) fn group_of<'a>(
         targets: Vec::new(alloc),
     };
     for &operand in operands {
-        match add(alloc, &mut requested, operand, kept) {
+        match add(alloc, profile, &mut requested, operand, kept) {
             Ok(()) => {}
             Err(fault) => match fault {
                 OperandFault::Memory => return Err(UsageFault::Memory),
-                fault => return Err(UsageFault::Operand(with_reason(alloc, operand, fault))),
+                fault => return Err(UsageFault::Operand(with_reason(
+                    alloc, profile, operand, fault,
+                ))),
             },
         }
     }

@@ -7,6 +7,7 @@ ghost use Rattle.bz_command_line.specs.Script.{has_nul, is_read, line_with_nul, 
 ghost use Rattle.bz_command_line.specs.Shown.{requested_in, script_usage_in};
 
 use crate::requested::{MOST_COMPILED, Requested, UsageFault, group_of};
+use bz_command_syntax::Profile;
 use std::alloc::{AllocError, Global};
 
 /// Why the lines of a file request nothing.
@@ -68,9 +69,13 @@ fn operands_in<'a>(alloc: Global, line: &'a str) -> Result<Vec<&'a str>, AllocEr
 }
 
 // What the lines request that are not passed over.
-fn read_groups<'a>(alloc: Global, lines: &[&'a str]) -> Result<Vec<Requested<'a>>, ScriptFault<'a>>
-    ensures ok { IfOk result (λ groups. operand_groups 1 (map (λ s. s.now) lines.now) ≡ Ok (map requested_in groups.items)) }
-    ensures err { IfErr result (λ fault. IfSome (script_usage_in fault) (IsFirstFault (map (λ s. s.now) lines.now))) }
+fn read_groups<'a>(
+    alloc: Global,
+    profile: Profile,
+    lines: &[&'a str],
+) -> Result<Vec<Requested<'a>>, ScriptFault<'a>>
+    ensures ok { IfOk result (λ groups. operand_groups profile 1 (map (λ s. s.now) lines.now) ≡ Ok (map requested_in groups.items)) }
+    ensures err { IfErr result (λ fault. IfSome (script_usage_in fault) (IsFirstFault profile (map (λ s. s.now) lines.now))) }
     ensures paths { IfOk result (λ groups. All (λ requested. All HasPath requested.targets.items) groups.items) }
 {
     let mut groups = Vec::new(alloc);
@@ -85,7 +90,7 @@ fn read_groups<'a>(alloc: Global, lines: &[&'a str]) -> Result<Vec<Requested<'a>
         let Ok(operands) = operands_in(alloc, line) else {
             return Err(ScriptFault::Memory);
         };
-        match group_of(alloc, &operands, kept) {
+        match group_of(alloc, profile, &operands, kept) {
             Ok(group) => {
                 kept = kept.saturating_sub(group.commands.len());
                 groups.push_reserved(group);
@@ -96,17 +101,18 @@ fn read_groups<'a>(alloc: Global, lines: &[&'a str]) -> Result<Vec<Requested<'a>
     Ok(groups)
 }
 
-/// What the lines of a file request, in order. Its lines end at newlines alone, and one carriage return right before a
+/// What the lines of a file request in a profile, in order. Its lines end at newlines alone, and one carriage return right before a
 /// newline goes with it; a byte order mark at the beginning is passed over. Lines that are empty or begin with `#` are
 /// passed over; `|` separates the operands of a line. Packages are as `read_group` gives them. Errors, in this order: `Nul`
 /// where some line has a NUL byte; `Line` where one is refused, which is the first such, as `read_group` reports it; `NoLine`
 /// where there is no line of operands; and `Memory`, alone or of a line, where a growth was refused.
 pub fn read_script<'a>(
     alloc: Global,
+    profile: Profile,
     script: &'a str,
 ) -> Result<Vec<Requested<'a>>, ScriptFault<'a>>
-    ensures ok { IfOk result (λ groups. script_of script.entry.now ≡ Ok (map requested_in groups.items)) }
-    ensures err { IfErr result (λ fault. IfSome (script_usage_in fault) (IsScriptFault script.entry.now)) }
+    ensures ok { IfOk result (λ groups. script_of profile script.entry.now ≡ Ok (map requested_in groups.items)) }
+    ensures err { IfErr result (λ fault. IfSome (script_usage_in fault) (IsScriptFault profile script.entry.now)) }
     ensures paths { IfOk result (λ groups. All (λ requested. All HasPath requested.targets.items) groups.items) }
 {
     let Ok(lines) = script_lines(alloc, script) else {
@@ -115,7 +121,7 @@ pub fn read_script<'a>(
     if let Some(line) = line_with_nul(&lines) {
         return Err(ScriptFault::Nul(line));
     }
-    let groups = match read_groups(alloc, &lines) {
+    let groups = match read_groups(alloc, profile, &lines) {
         Ok(groups) => groups,
         Err(fault) => return Err(fault),
     };

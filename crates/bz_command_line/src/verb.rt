@@ -5,14 +5,14 @@ ghost use Rattle.bz_command_syntax.specs.Commands.{row_named};
 ghost use Rattle.bz_command_syntax.specs.Proper.{AreUtf8};
 ghost use Rattle.bz_streams.specs.Near.{nearest};
 ghost use Rattle.bz_command_line.specs.Operands.{begins_with, verb_of, of_command, count_of, file_verb_in, steps_of, without_words};
-ghost use Rattle.bz_command_line.specs.Hints.{verb_forms, fix_names, did_you_mean, bad_target_hint, target_hint, name_hint, is_fix, near_word, words_end, form_end, form_hint, words_hint, pattern_line, hint_in, hint_for};
+ghost use Rattle.bz_command_line.specs.Hints.{verb_forms, fix_names, did_you_mean, bad_target_hint, target_hint, name_hint, is_fix, near_word, words_end, fields_line, form_end, form_hint, words_hint, pattern_line, hint_in, hint_for};
 ghost use Rattle.bz_command_line.specs.Refused.{IsPatternFault};
 ghost use Rattle.bz_command_line.specs.Shown.{refused_in, pattern_in};
 ghost use Rattle.bz_command_line.specs.Verbs.{prints, operand_fault_name, operand_fault_number};
 
 use crate::pattern::PatternFault;
 use bz_command_syntax::{
-    COMMAND_NAMES, Command, CommandFault, TEXT_LIMIT, as_text, command_form, read_words,
+    COMMAND_NAMES, Command, CommandFault, Profile, TEXT_LIMIT, as_text, command_form, read_words,
 };
 use bz_items::Text;
 use bz_streams::nearest;
@@ -97,6 +97,8 @@ impl OperandFault {
 /// An operand that is refused.
 #[derive(Drop)]
 pub struct Refused<'a> {
+    /// The profile in which it was read.
+    pub profile: Profile,
     pub operand: &'a str,
     pub fault: OperandFault,
     /// Of a pattern that is refused: why, where that is known.
@@ -176,11 +178,11 @@ fn of_command(fault: CommandFault) -> OperandFault
     }
 }
 
-/// What the command of this text requests. Errors: `Command`: there is no command of that name, its arguments are wrong,
+/// What the command of this text requests in a profile. Errors: `Command`: there is no command of that name, its arguments are wrong,
 /// it is too long, or `regex` refuses its pattern; `Memory`: a growth was refused.
-pub(crate) fn read_verb(alloc: Global, text: &str) -> Result<Verb, OperandFault>
-    ensures ok { IfOk result (λ verb. verb_of text.now ≡ Ok verb) }
-    ensures err { IfErr result (λ fault. (verb_of text.now ≡ Err fault) ⊎ IsPatternFault text.now fault ⊎ (fault ≡ OperandFault.Memory)) }
+pub(crate) fn read_verb(alloc: Global, profile: Profile, text: &str) -> Result<Verb, OperandFault>
+    ensures ok { IfOk result (λ verb. verb_of profile text.now ≡ Ok verb) }
+    ensures err { IfErr result (λ fault. (verb_of profile text.now ≡ Err fault) ⊎ IsPatternFault profile text.now fault ⊎ (fault ≡ OperandFault.Memory)) }
 {
     let Ok(words) = read_words(alloc, text.as_bytes()) else {
         return Err(OperandFault::Memory);
@@ -189,7 +191,7 @@ pub(crate) fn read_verb(alloc: Global, text: &str) -> Result<Verb, OperandFault>
     match file_verb_in(&words) {
         Some(verb) if fits => verb,
         Some(_) => Err(WRONG_ARGUMENTS),
-        None => match Command::of_words(words, fits) {
+        None => match Command::of_words_in(profile, words, fits) {
             Ok(command) => Ok(Verb::Do(command)),
             Err(fault) => Err(of_command(fault)),
         },
@@ -216,6 +218,9 @@ const UNKNOWN_LINE: &str =
 
 const NAME_ALONE: &str =
     "buildozer: on a command line, put a command and its words in one pair of quotation marks\n";
+
+const LABEL_FIELDS_LINE: &str =
+    "buildozer: a field is kind, startline, rule, label or the name of an attribute; endline and path are none here\n";
 
 const FIELDS_LINE: &str =
     "buildozer: a field is kind, startline, rule or the name of an attribute; label, endline and path are none here\n";
@@ -337,12 +342,22 @@ fn forms_of(name: &str) -> Option<&'static str>
     }
 }
 
+// What a word of `print` may be.
+fn fields_line(profile: Profile) -> &'static str
+    ensures { result.now ≡ fields_line profile }
+{
+    match profile {
+        Profile::Own => FIELDS_LINE,
+        Profile::Bazelbuild => LABEL_FIELDS_LINE,
+    }
+}
+
 // What is printed below the forms of the command of this name, of one word or of several.
-fn words_end(name: &str, several: bool) -> &'static str
-    ensures { result.now ≡ words_end name.now several }
+fn words_end(profile: Profile, name: &str, several: bool) -> &'static str
+    ensures { result.now ≡ words_end profile name.now several }
 {
     if name == "print" {
-        return FIELDS_LINE;
+        return fields_line(profile);
     }
     if name == "fix" {
         return FIXES_LINE;
@@ -354,34 +369,44 @@ fn words_end(name: &str, several: bool) -> &'static str
 }
 
 // What is printed below the forms of the command of this name.
-fn form_end(name: &str, words: &[Text]) -> &'static str
-    ensures { result.now ≡ form_end name.now words.now }
+fn form_end(profile: Profile, name: &str, words: &[Text]) -> &'static str
+    ensures { result.now ≡ form_end profile name.now words.now }
 {
     match words {
         [] => NAME_ALONE,
-        [_] => words_end(name, false),
-        _ => words_end(name, true),
+        [_] => words_end(profile, name, false),
+        _ => words_end(profile, name, true),
     }
 }
 
 #[tactic(auto, using(crate::proofs::Lines::three_pieces))]
-fn form_hint(alloc: Global, name: &str, words: &[Text]) -> Result<String, AllocError>
-    ensures { IfOk result (λ hint. string_bytes hint ≡ form_hint name.now words.now) }
+fn form_hint(
+    alloc: Global,
+    profile: Profile,
+    name: &str,
+    words: &[Text],
+) -> Result<String, AllocError>
+    ensures { IfOk result (λ hint. string_bytes hint ≡ form_hint profile name.now words.now) }
 {
     let Some(forms) = forms_of(name) else {
         return joined(alloc, "", "", "");
     };
     let mut hint = joined(alloc, "buildozer: the form is ", forms, "\n")?;
-    hint.push_str(form_end(name, words))?;
+    hint.push_str(form_end(profile, name, words))?;
     Ok(hint)
 }
 
-fn words_hint(alloc: Global, name: &str, words: &[Text]) -> Result<String, AllocError>
+fn words_hint(
+    alloc: Global,
+    profile: Profile,
+    name: &str,
+    words: &[Text],
+) -> Result<String, AllocError>
     requires { AreUtf8 words.now }
-    ensures { IfOk result (λ hint. string_bytes hint ≡ words_hint name.now words.now) }
+    ensures { IfOk result (λ hint. string_bytes hint ≡ words_hint profile name.now words.now) }
 {
     let near = near_word(alloc, name, words)?;
-    let form = form_hint(alloc, name, words)?;
+    let form = form_hint(alloc, profile, name, words)?;
     did_you_mean(alloc, near, form.as_str())
 }
 
@@ -440,7 +465,7 @@ fn command_hint(
     match fault {
         CommandFault::Unknown => Ok(name_hint(alloc, name)?),
         CommandFault::Arguments if refused.operand.len() <= TEXT_LIMIT => {
-            Ok(words_hint(alloc, name, words)?)
+            Ok(words_hint(alloc, refused.profile, name, words)?)
         }
         CommandFault::Arguments => Ok(joined(alloc, LENGTH_HINT, "", "")?),
         CommandFault::BadPattern => Ok(pattern_line(alloc, refused.pattern)?),

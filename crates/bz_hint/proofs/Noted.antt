@@ -1,6 +1,5 @@
 -- What is noted of an attribute that was set.
-use Rattle.std.proofs.Common.{◌≡◌, List, refl}
-use Rattle.bz_items.specs.Characters.{Bytes}
+use Rattle.bz_hint.proofs.Words.{◌≡◌, Bytes, List, refl}
 use Rattle.bz_command_syntax.specs.declared.command.AttributeOperation.TheVariants as a
 use Rattle.bz_command_syntax.specs.declared.command.Operation.{Operation}
 use Rattle.bz_command_syntax.specs.declared.command.Operation.TheVariants as o

@@ -1,14 +1,10 @@
 -- Rules by the calls that they are, and statements that are passed over.
-use Rattle.std.proofs.Common.{◌≡◌, Bool, false, refl, ap, sym, ◌∙◌, ℕ, ◌+◌, ◌<◌, List, ◌∷◌, drop, get_or, length, Option, Some, None, option_map, is_some}
+use Rattle.bz_hint.proofs.Words.{◌+◌, ◌<◌, ◌∙◌, ◌∷◌, ◌≡◌, ap, Bool, Bytes, drop, false, first_refusing, get_or, if◌then◌else◌, is_some, length, List, named_at, None, Option, option_and_then, option_map, refl, Some, sym, ℕ}
 use Rattle.std.proofs.lemmas.List.{drop_more}
-use Rattle.std.specs.Prelude.{if◌then◌else◌}
-use Rattle.std.specs.Option.{option_and_then, option_map_or}
-use Rattle.bz_items.specs.Characters.{Bytes}
-use Rattle.bz_value.specs.declared.value.Expr.{Expr}
-use Rattle.bz_value.specs.declared.value.Item.{Item}
+use Rattle.std.specs.Option.{option_map_or}
+use Rattle.bz_value.specs.{declared.value.Expr.Expr, declared.value.Item.Item}
 use Rattle.bz_value.specs.declared.value.Item.TheVariants as i
 use Rattle.bz_rule.specs.Rules.{Call, Rule, dotted_name, named, name_in, name_of}
-use Rattle.bz_hint.specs.Refusing.{first_refusing, named_at}
 
 pub name_of_call : (call : Call) → option_and_then name_of (named call) ≡ (if is_some (dotted_name call.function) then name_in call.arguments else None)
 name_of_call call = of (dotted_name call.function)

@@ -161,8 +161,8 @@ abbrev pub change_notes : Bytes → Operation → List Bytes
 change_notes file (o.Attribute (a.Set attribute values)) = setting_lines file attribute values
 change_notes file (o.Attribute (a.SetIfAbsent attribute values)) = setting_lines file attribute values
 change_notes file (o.Value (v.Add attribute values)) = quoted_lines file (list_any is_quoted values)
-change_notes file (o.Value (v.Replace attributes old new)) = quoted_lines file (is_quoted new)
-change_notes file (o.Value (v.Substitute attributes pattern template)) = template_lines file pattern template
+change_notes file (o.Value (v.Replace attributes old new selects)) = quoted_lines file (is_quoted new)
+change_notes file (o.Value (v.Substitute attributes pattern template selects)) = template_lines file pattern template
 change_notes file (o.Dict (d.ListAdd attribute key values)) = quoted_lines file (list_any is_quoted values)
 change_notes file (o.Load (l.Substitute pattern template)) = template_lines file pattern template
 change_notes file _ = []

@@ -1,19 +1,5 @@
-use Rattle.std.proofs.Common.{◌∙◌, ◌∷◌, inl, inr, Ok, Err, Option, Some, true, ap, refl, subst, sym, []}
-use Rattle.std.specs.Prelude.{option_map}
-use Rattle.bz_buildozer.specs.Words.{request_in, Cut, Bytes}
-use Rattle.bz_buildozer.specs.Sessions.{Action, KeepFault, Refused, Pair, action_in}
-use Rattle.bz_value.specs.declared.refusal.Refusal.TheVariants.{Memory}
-use Rattle.bz_buildozer.specs.Calls.{ReportsLines}
-use Rattle.bz_buildozer.specs.Keeps.{KeepsAt, file_left}
-use Rattle.bz_buildozer.specs.Found.{Opened}
-use Rattle.bz_buildozer.specs.Reported.{unkept_line}
-use Rattle.bz_buildozer.specs.Run.{Answers, AreHints, Progress, reply_notes, reported_of}
-use Rattle.bz_buildozer.specs.private.Shown.{progress_in, step_in}
-use Rattle.bz_buildozer.proofs.ActSteps.{file_put, free_here, leads_by, led_to, left_answers, step_at}
-use Rattle.bz_buildozer.proofs.FailSteps.{one_line}
-use Rattle.bz_buildozer.proofs.KeepSteps.{kept_answers, kept_by, kept_open, refused_answers, unkept_answers, unprinted_answers, wants_memory}
-use Rattle.bz_buildozer.proofs.SafeSteps.{name_left}
-use Rattle.bz_buildozer.proofs.UnreadSteps.{grows_none}
+use Rattle.bz_buildozer.proofs.Words.{[], ◌∙◌, ◌∷◌, Action, action_in, Answers, ap, AreHints, Bytes, Cut, Err, file_left, inl, inr, KeepFault, KeepsAt, Memory, Ok, Opened, Option, option_map, Pair, Progress, progress_in, refl, Refused, reply_notes, reported_of, ReportsLines, request_in, Some, step_in, subst, sym, true, unkept_line}
+use Rattle.bz_buildozer.proofs.{ActSteps.file_put, ActSteps.free_here, ActSteps.leads_by, ActSteps.led_to, ActSteps.left_answers, ActSteps.step_at, FailSteps.one_line, KeepSteps.kept_answers, KeepSteps.kept_by, KeepSteps.kept_open, KeepSteps.refused_answers, KeepSteps.unkept_answers, KeepSteps.unprinted_answers, KeepSteps.wants_memory, SafeSteps.name_left, UnreadSteps.grows_none}
 use Rattle.bz_buildozer.proofs.acting.act.Goals as goal
 
 pub returns-in_default-clause-answers : goal.returns-in_default-clause-answers

@@ -1,15 +1,5 @@
-use Rattle.std.proofs.Common.{◌≡◌, ◌∙◌, ◌++◌, inl, true, sym, subst}
-use Rattle.bz_streams.proofs.Outputs.{counts_more}
-use Rattle.bz_items.specs.Characters.{Bytes}
-use Rattle.bz_buildozer.specs.Calls.{UsesSome}
-use Rattle.bz_buildozer.specs.Run.{World}
-use Rattle.bz_buildozer.specs.private.Shown.{progress_in, step_in}
-use Rattle.bz_buildozer.specs.Steps.{input_package}
-use Rattle.bz_buildozer.proofs.CutSteps.{by_name, cut_after, neither_read, works_unread}
-use Rattle.bz_buildozer.proofs.FailSteps.{does_so, left_after, more_lines}
-use Rattle.bz_buildozer.proofs.RunSteps.{honest_kept}
-use Rattle.bz_buildozer.proofs.SafeSteps.{opened_safely, step_acted}
-use Rattle.bz_buildozer.proofs.UnreadSteps.{among_first, grows_on}
+use Rattle.bz_buildozer.proofs.Words.{◌++◌, ◌∙◌, ◌≡◌, Bytes, counts_more, inl, input_package, progress_in, step_in, subst, sym, true, UsesSome, World}
+use Rattle.bz_buildozer.proofs.{CutSteps.by_name, CutSteps.cut_after, CutSteps.neither_read, CutSteps.works_unread, FailSteps.does_so, FailSteps.left_after, FailSteps.more_lines, RunSteps.honest_kept, SafeSteps.opened_safely, SafeSteps.step_acted, UnreadSteps.among_first, UnreadSteps.grows_on}
 use Rattle.bz_buildozer.proofs.acting.do_step.Goals as goal
 
 pub returns : goal.returns

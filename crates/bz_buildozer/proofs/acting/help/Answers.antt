@@ -1,9 +1,4 @@
-use Rattle.std.proofs.Common.{◌≡◌, ◌∙◌, ◌++◌, List, ℕ, Some, refl, inl, inr, sym, ap, subst}
-use Rattle.bz_buildozer.specs.Words.{Bytes, Reads, lines_of, view_of, refusal_hint}
-use Rattle.bz_buildozer.specs.Calls.{ReportsLines}
-use Rattle.bz_buildozer.specs.Found.{Opened, package_of}
-use Rattle.bz_buildozer.specs.Sessions.{present}
-use Rattle.bz_buildozer.specs.private.ShownFiles.{opened_in}
+use Rattle.bz_buildozer.proofs.Words.{◌++◌, ◌∙◌, ◌≡◌, ap, Bytes, inl, inr, lines_of, List, Opened, opened_in, package_of, present, Reads, refl, refusal_hint, ReportsLines, Some, subst, sym, view_of, ℕ}
 use Rattle.bz_buildozer.proofs.acting.help.Goals as goal
 
 pub returns-in-Ok-report_hint : goal.returns-in-Ok-report_hint

@@ -1,7 +1,4 @@
-use Rattle.std.proofs.Common.{◌∙◌, Bool, ap, sym}
-use Rattle.std.specs.Prelude.{if◌then◌else◌}
-use Rattle.bz_buildozer.specs.Found.{folder_of}
-use Rattle.bz_buildozer.specs.Steps.{input_package}
+use Rattle.bz_buildozer.proofs.Words.{◌∙◌, ap, Bool, folder_of, if◌then◌else◌, input_package, sym}
 use Rattle.bz_buildozer.proofs.acting.label_package.Goals as goal
 
 pub returns-then-is_of_input : goal.returns-then-is_of_input

@@ -1,6 +1,4 @@
-use Rattle.std.proofs.Common.{◌∙◌, sym}
-use Rattle.bz_resume.specs.declared.pair_fault.PairFault.TheVariants as f
-use Rattle.bz_buildozer.specs.private.ShownFiles.{opened_in}
+use Rattle.bz_buildozer.proofs.Words.{◌∙◌, opened_in, PairFault as f, sym}
 use Rattle.bz_buildozer.proofs.ActSteps.{unkept_by}
 use Rattle.bz_buildozer.proofs.acting.leave.Goals as goal
 

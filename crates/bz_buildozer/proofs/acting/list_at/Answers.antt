@@ -1,10 +1,5 @@
-use Rattle.std.proofs.Common.{Err, [], refl, ap, sym}
-use Rattle.bz_value.specs.declared.refusal.Refusal.TheVariants.{Memory}
-use Rattle.bz_buildozer.specs.Run.{reported_of}
-use Rattle.bz_buildozer.specs.private.ShownFiles.{opened_in}
-use Rattle.bz_buildozer.specs.private.Shown.{progress_in}
-use Rattle.bz_buildozer.proofs.ActSteps.{listed, unlisted}
-use Rattle.bz_buildozer.proofs.KeepSteps.{wants_memory}
+use Rattle.bz_buildozer.proofs.Words.{[], ap, Err, Memory, opened_in, progress_in, refl, reported_of, sym}
+use Rattle.bz_buildozer.proofs.{ActSteps.listed, ActSteps.unlisted, KeepSteps.wants_memory}
 use Rattle.bz_buildozer.proofs.acting.list_at.Goals as goal
 
 pub returns-in-Ok-put_printed-clause-answers : goal.returns-in-Ok-put_printed-clause-answers

@@ -1,5 +1,4 @@
-use Rattle.std.proofs.Common.{◌∙◌, sym}
-use Rattle.bz_buildozer.specs.private.ShownFiles.{opened_in}
+use Rattle.bz_buildozer.proofs.Words.{◌∙◌, opened_in, sym}
 use Rattle.bz_buildozer.proofs.ActSteps.{reported_by}
 use Rattle.bz_buildozer.proofs.acting.refuse.Goals as goal
 

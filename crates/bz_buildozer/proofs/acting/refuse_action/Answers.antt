@@ -1,11 +1,5 @@
-use Rattle.std.proofs.Common.{◌≡◌, ◌∙◌, [], Err, Option, Some, sym, ap, subst}
-use Rattle.bz_command_line.specs.Shown.{request_in}
-use Rattle.bz_buildozer.specs.Found.{file_at}
-use Rattle.bz_buildozer.specs.Run.{AreHints, LeadsBy, Progress, reported_of}
-use Rattle.bz_buildozer.specs.Sessions.{Action, Do}
-use Rattle.bz_buildozer.specs.Steps.{action_of}
-use Rattle.bz_buildozer.proofs.ActSteps.{refused_tree}
-use Rattle.bz_buildozer.proofs.FailSteps.{more_lines}
+use Rattle.bz_buildozer.proofs.Words.{[], ◌∙◌, ◌≡◌, Action, action_of, ap, AreHints, Do, Err, file_at, LeadsBy, Option, Progress, reported_of, request_in, Some, subst, sym}
+use Rattle.bz_buildozer.proofs.{ActSteps.refused_tree, FailSteps.more_lines}
 use Rattle.bz_buildozer.proofs.acting.refuse_action.Goals as goal
 
 pub returns-in-Do-clause-reported : goal.returns-in-Do-clause-reported

@@ -1,15 +1,5 @@
-use Rattle.std.proofs.Common.{◌≡◌, ◌⊎◌, ◌∙◌, ◌++◌, List, [], true, ap, subst, sym}
-use Rattle.std.specs.List.{All}
-use Rattle.bz_streams.specs.Exits.{first_cut}
-use Rattle.bz_streams.specs.declared.exit.Cut.TheVariants as cut
-use Rattle.bz_buildozer.specs.Calls.{PrintsUntil}
-use Rattle.bz_buildozer.specs.Ending.{TriesFiles, texts_out}
-use Rattle.bz_buildozer.specs.Found.{Used}
-use Rattle.bz_buildozer.specs.Steps.{input_package}
-use Rattle.bz_buildozer.specs.Reported.{output_lines}
-use Rattle.bz_buildozer.proofs.FailSteps.{cut_alone, more_lines}
-use Rattle.bz_buildozer.proofs.EndingSteps.{not_whole, prints_err}
-use Rattle.bz_buildozer.proofs.CutSteps.{whole_after}
+use Rattle.bz_buildozer.proofs.Words.{[], ◌++◌, ◌∙◌, ◌≡◌, ◌⊎◌, All, ap, Cut as cut, first_cut, input_package, List, output_lines, PrintsUntil, subst, sym, texts_out, TriesFiles, true, Used}
+use Rattle.bz_buildozer.proofs.{FailSteps.cut_alone, FailSteps.more_lines, EndingSteps.not_whole, EndingSteps.prints_err, CutSteps.whole_after}
 use Rattle.bz_buildozer.proofs.ending.finish.Goals as goal
 
 pub returns-clause-whole : goal.returns-clause-whole

@@ -1,7 +1,4 @@
-use Rattle.std.proofs.Common.{◌≡◌, ◌||◌, ◌++◌, map, drop}
-use Rattle.std.specs.List.{list_any}
-use Rattle.bz_buildozer.specs.private.ShownFiles.{used_in}
-use Rattle.bz_buildozer.specs.Ending.{has_changed, texts_out}
+use Rattle.bz_buildozer.proofs.Words.{◌++◌, ◌||◌, ◌≡◌, drop, has_changed, list_any, map, texts_out, used_in}
 use Rattle.bz_buildozer.proofs.ending.put_texts.Given as goal
 
 -- what is left makes of it what all packages do

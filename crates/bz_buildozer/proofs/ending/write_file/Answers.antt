@@ -1,11 +1,5 @@
-use Rattle.std.proofs.Common.{◌∙◌, ◌++◌, codes, List, ℕ, Option, Some, ap, refl, sym, subst}
-use Rattle.bz_buildozer.specs.Sessions.{present}
-use Rattle.std.specs.Option.{option_map}
-use Rattle.bz_buildozer.specs.private.ShownFiles.{opened_in, used_in}
-use Rattle.bz_buildozer.specs.Ending.{Writing, WritesFile}
-use Rattle.bz_buildozer.specs.Words.{AppendsUnlessFailed, named_line}
+use Rattle.bz_buildozer.proofs.Words.{◌++◌, ◌∙◌, ap, AppendsUnlessFailed, codes, List, named_line, opened_in, Option, option_map, present, refl, rewrite_reads, Some, subst, sym, used_in, WritesFile, Writing, ℕ}
 use Rattle.bz_buildozer.proofs.EndingSteps.{trusted, unwritten_as, writing_is}
-use Rattle.bz_files.proofs.Orders.{rewrite_reads}
 use Rattle.bz_buildozer.proofs.UnreadSteps.{grows_none, grows_read}
 use Rattle.bz_buildozer.proofs.ending.write_file.Goals as goal
 

@@ -1,16 +1,7 @@
-use Rattle.std.proofs.Common.{refl, ◌≡◌, ◌⊎◌, List, inl, inr, ◌∙◌, ◌++◌, ◌∷◌, [], true, map, take, ap, subst, sym}
-use Rattle.std.proofs.lemmas.List.{map_more}
-use Rattle.bz_buildozer.specs.private.ShownFiles.{used_in}
-use Rattle.bz_buildozer.specs.Ending.{TriesFiles}
+use Rattle.bz_buildozer.proofs.Words.{[], ◌++◌, ◌∙◌, ◌∷◌, ◌≡◌, ◌⊎◌, ap, first_cut, inl, input_package, inr, List, map, map_more, refl, subst, sym, take, TriesFiles, true, used_in}
 use Rattle.bz_buildozer.specs.Found as p
-use Rattle.bz_buildozer.specs.Steps.{input_package}
 use Rattle.bz_buildozer.specs.declared.used.Used.{Used}
-use Rattle.bz_streams.specs.Exits.{first_cut}
-use Rattle.bz_buildozer.proofs.EndingSteps.{of_input_at, tries_file, tries_more}
-use Rattle.bz_buildozer.proofs.FailSteps.{more_lines}
-use Rattle.bz_buildozer.proofs.KeepSteps.{works_more}
-use Rattle.bz_buildozer.proofs.RunSteps.{counts_same}
-use Rattle.bz_buildozer.proofs.UnreadSteps.{grows_none, grows_on}
+use Rattle.bz_buildozer.proofs.{EndingSteps.of_input_at, EndingSteps.tries_file, EndingSteps.tries_more, FailSteps.more_lines, KeepSteps.works_more, RunSteps.counts_same, UnreadSteps.grows_none, UnreadSteps.grows_on}
 use Rattle.bz_buildozer.proofs.ending.write_files.Goals as goal
 
 pub loop-used-init : goal.loop-used-init

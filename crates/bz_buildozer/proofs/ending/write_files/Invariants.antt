@@ -1,10 +1,4 @@
-use Rattle.std.proofs.Common.{◌≡◌, ◌⊎◌, ℕ, List, true, map, take}
-use Rattle.std.specs.List.{All}
-use Rattle.bz_buildozer.specs.private.ShownFiles.{used_in}
-use Rattle.bz_buildozer.specs.Calls.{ReportsLines, WorksOn}
-use Rattle.bz_buildozer.specs.Ending.{TriesFiles}
-use Rattle.bz_buildozer.specs.Steps.{input_package}
-use Rattle.bz_buildozer.specs.Unread.{ActsGrow}
+use Rattle.bz_buildozer.proofs.Words.{◌≡◌, ◌⊎◌, ActsGrow, All, input_package, List, map, ReportsLines, take, TriesFiles, true, used_in, WorksOn, ℕ}
 use Rattle.bz_buildozer.proofs.ending.write_files.Given as goal
 
 -- what the packages so far leave

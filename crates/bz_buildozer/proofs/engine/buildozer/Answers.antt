@@ -1,16 +1,5 @@
-use Rattle.std.proofs.Common.{◌≡◌, ◌≢◌, ◌∷◌, [], List, ℕ, map, refl, ap, sym, subst, ◌∙◌, arith, true≢false, Bor, Ok, inl, inr}
-use Rattle.std.specs.Prelude.{IsErr}
-use Rattle.std.specs.List.{All}
-use Rattle.std.proofs.lemmas.List.Elements.{All-push}
-use Rattle.bz_buildozer.specs.Words.{Folder, LineUsage, operands, script, command_line_of, HasPath, IsGroupFault, Usage}
-use Rattle.bz_command_line.specs.Shown.{given_in, line_in, line_usage_in, requested_in, usage_in}
+use Rattle.bz_buildozer.proofs.Words.{[], ◌∙◌, ◌∷◌, ◌≡◌, ◌≢◌, acts_over, All, All-push, ap, arith, Bor, command_line_of, Folder, given_in, GivesNothing, HasPath, inl, input_package, inr, IsErr, IsGroupFault, IsLineUsageLine, IsMomentOfRun, line_in, line_usage_in, LineGivesNothing, LineOutcome, LineUsage, List, map, names_input, no_journal_line, Ok, operands, refl, ReportsLine, requested_in, script, subst, sym, true≢false, unused, Usage, usage_in, usage_line, World, ℕ}
 use Rattle.bz_command_line.specs.declared.requested.Requested.{Requested}
-use Rattle.bz_buildozer.specs.Calls.{ReportsLine, acts_over}
-use Rattle.bz_buildozer.specs.Outcome.{unused, GivesNothing, LineGivesNothing, LineOutcome}
-use Rattle.bz_buildozer.specs.Moments.{IsMomentOfRun}
-use Rattle.bz_buildozer.specs.Reported.{IsLineUsageLine, no_journal_line, usage_line}
-use Rattle.bz_buildozer.specs.Run.{World}
-use Rattle.bz_buildozer.specs.Steps.{input_package, names_input}
 use Rattle.bz_buildozer.proofs.FailSteps.{one_line}
 use Rattle.bz_buildozer.proofs.Outcomes.{at_some, by_operands, by_words, each_of, names_given, no_journal, operands_done, operands_premise, no_words, ends_more, ends_told, read_nothing, told_found, words_done, words_given, words_kept, words_premise, words_unused, script_premise, no_time, of_script}
 use Rattle.bz_buildozer.proofs.UnreadSteps.{among_all}
@@ -49,7 +38,7 @@ returns-in-Operands-clause-usage g c is is_whole =
         world,
         (λ _. refl),
         words_given words line (operands texts) world (unused world.folder (usage_line [] it.0)) c.in-Ok.ensures.ok same
-            (inl (it.0, at_some (IsGroupFault texts) (usage_in c.in-Err-read_group.fault) it.0 it.1 c.in-Err-read_group.ensures.err, refl)),
+            (inl (it.0, at_some (IsGroupFault line.options.profile texts) (usage_in c.in-Err-read_group.fault) it.0 it.1 c.in-Err-read_group.ensures.err, refl)),
       ),
       one_line g.E.Sink c.args.err.now end.new.err (usage_line [] it.0) it.2,
     )
@@ -67,7 +56,7 @@ returns-in-Ok-read_group-clause-ends g c premise =
     ends_more g.W.Sink g.E.Sink g.F.Files c.perform.result _ _ c.args.out.now c.perform.new.out c.args.err.now c.perform.new.err c.perform.new.files
     (λ ended is. words_done words line (operands texts) world ended c.in-Ok.ensures.ok same
     (operands_done line.options texts world requested lines ended c.in-Ok-read_group.ensures.ok one is))
-    (c.perform.ensures.ends (operands_premise (g.F.Files.honest c.args.files.now) texts requested lines c.in-Ok-read_group.ensures.ok one
+    (c.perform.ensures.ends (operands_premise (g.F.Files.honest c.args.files.now) line.options.profile texts requested lines c.in-Ok-read_group.ensures.ok one
     (words_premise (g.F.Files.honest c.args.files.now) words line (operands texts) c.in-Ok.ensures.ok same premise))
     (acts_over g.F.Files c.args.files.now c.perform.new.files) (among_all (g.F.Files.acts c.args.files.now) (g.F.Files.acts c.perform.new.files)))
 
@@ -86,7 +75,7 @@ returns-in-Operands-clause-ends g c premise =
     (λ (usage : Usage). λ now. ReportsLine g.E.Sink c.args.err.now now (usage_line [] usage)) _ is e.ensures.some e.ensures.reported end.ensures.ok end.ensures.err in (
       usage_line [] it.0,
       words_given words line (operands texts) world (unused world.folder (usage_line [] it.0)) c.in-Ok.ensures.ok same
-          (inl (it.0, at_some (IsGroupFault texts) (usage_in c.in-Err-read_group.fault) it.0 it.1 c.in-Err-read_group.ensures.err, refl)),
+          (inl (it.0, at_some (IsGroupFault line.options.profile texts) (usage_in c.in-Err-read_group.fault) it.0 it.1 c.in-Err-read_group.ensures.err, refl)),
       one_line g.E.Sink c.args.err.now end.new.err (usage_line [] it.0) it.2,
     )) e.ensures.refused end.ensures.ok end.ensures.err
 
@@ -99,7 +88,7 @@ returns-clause-ends g c premise =
     let world : World = record { folder = g.F.Files.folder c.args.files.now; known = g.R.Source.remaining c.args.input.now; acts = acts_over g.F.Files c.args.files.now c.run_script.new.files } in
     ends_more g.W.Sink g.E.Sink g.F.Files c.run_script.result _ _ c.args.out.now c.run_script.new.out c.args.err.now c.run_script.new.err c.run_script.new.files
     (λ ended. words_done words line (script name) world ended c.in-Ok.ensures.ok same)
-    (c.run_script.ensures.ends (script_premise (g.F.Files.honest c.args.files.now) name
+    (c.run_script.ensures.ends (script_premise (g.F.Files.honest c.args.files.now) line.options.profile name
     (words_premise (g.F.Files.honest c.args.files.now) words line (script name) c.in-Ok.ensures.ok same premise)))
 
 pub returns-in-Err-clause-read : goal.returns-in-Err-clause-read
@@ -135,7 +124,7 @@ returns-in-Ok-read_group-clause-unread g c nothing =
     let given : GivesNothing line.options (operands texts) = subst (GivesNothing line.options) same found in
     elim given [
       | inl refused ↦ absurd (true≢false (sym (subst IsErr c.in-Ok-read_group.ensures.ok refused)))
-      | inr named ↦ c.perform.ensures.unread named.0 (names_given texts (requested_in c.in-Ok-read_group.requested) (map requested_in c.from_ref.result.now)
+      | inr named ↦ c.perform.ensures.unread named.0 (names_given line.options.profile texts (requested_in c.in-Ok-read_group.requested) (map requested_in c.from_ref.result.now)
           c.in-Ok-read_group.ensures.ok (ap (map requested_in) c.from_ref.ensures.value) named.1)
     ]
 
@@ -238,8 +227,8 @@ returns-in-Ok-read_group-clause-moments g c honest =
     let known = g.R.Source.remaining c.args.input.now in
     let world : World = record { folder = g.F.Files.folder c.args.files.now; known = known; acts = acts_over g.F.Files c.args.files.now c.perform.new.files } in
     by_words g.F.Files c.args.files.now c.perform.new.files (map g.S.AsStr.text c.args.words.now) line (operands texts) world
-    c.in-Ok.ensures.ok same (λ kept. each_of g.F.Files c.args.files.now c.perform.new.files known (operands texts) (g.met.F.Files.only_now c.args.files.now)
-    (by_operands g.F.Files c.args.files.now c.perform.new.files known texts (requested_in c.in-Ok-read_group.requested) (map requested_in c.from_ref.result.now)
+    c.in-Ok.ensures.ok same (λ kept. each_of g.F.Files c.args.files.now c.perform.new.files line.options.profile known (operands texts) (g.met.F.Files.only_now c.args.files.now)
+    (by_operands g.F.Files c.args.files.now c.perform.new.files line.options.profile known texts (requested_in c.in-Ok-read_group.requested) (map requested_in c.from_ref.result.now)
     c.in-Ok-read_group.ensures.ok (ap (map requested_in) c.from_ref.ensures.value) (c.perform.ensures.moments kept honest)))
 
 pub returns-in-Operands-clause-moments : goal.returns-in-Operands-clause-moments
@@ -250,8 +239,8 @@ returns-in-Operands-clause-moments g c honest =
     let known = g.R.Source.remaining c.args.input.now in
     let world : World = record { folder = g.F.Files.folder c.args.files.now; known = known; acts = acts_over g.F.Files c.args.files.now c.args.files.now } in
     by_words g.F.Files c.args.files.now c.args.files.now (map g.S.AsStr.text c.args.words.now) line (operands texts) world
-    c.in-Ok.ensures.ok same (λ kept. each_of g.F.Files c.args.files.now c.args.files.now known (operands texts) (g.met.F.Files.only_now c.args.files.now)
-    (no_time g.F.Files.moment g.F.Files.since c.args.files.now c.args.files.now (IsMomentOfRun world (operands texts)) refl))
+    c.in-Ok.ensures.ok same (λ kept. each_of g.F.Files c.args.files.now c.args.files.now line.options.profile known (operands texts) (g.met.F.Files.only_now c.args.files.now)
+    (no_time g.F.Files.moment g.F.Files.since c.args.files.now c.args.files.now (IsMomentOfRun line.options.profile world (operands texts)) refl))
 
 pub returns-clause-moments : goal.returns-clause-moments
 returns-clause-moments g c honest =
@@ -259,7 +248,7 @@ returns-clause-moments g c honest =
     let known = g.R.Source.remaining c.args.input.now in
     let world : World = record { folder = g.F.Files.folder c.args.files.now; known = known; acts = acts_over g.F.Files c.args.files.now c.run_script.new.files } in
     by_words g.F.Files c.args.files.now c.run_script.new.files (map g.S.AsStr.text c.args.words.now) (line_in c.in-Ok.line) (script name) world
-    c.in-Ok.ensures.ok (ap given_in c.in-Script.is) (λ kept. each_of g.F.Files c.args.files.now c.run_script.new.files known (script name)
+    c.in-Ok.ensures.ok (ap given_in c.in-Script.is) (λ kept. each_of g.F.Files c.args.files.now c.run_script.new.files c.in-Ok.line.options.profile known (script name)
     (g.met.F.Files.only_now c.args.files.now) (c.run_script.ensures.moments kept honest))
 
 pub perform-requires : goal.perform-requires

@@ -1,21 +1,6 @@
-use Rattle.std.proofs.Common.{[], ◌∙◌, ap, true≢false, inl, inr, refl, map, subst, sym}
-use Rattle.std.proofs.lemmas.Bool.{and_parts}
-use Rattle.bz_command_line.specs.Shown.{requested_in}
-use Rattle.bz_buildozer.specs.Words.{Exit}
-use Rattle.bz_buildozer.specs.Calls.{PassesBy}
-use Rattle.bz_buildozer.specs.Moments.{IsMeanwhile, IsMomentOfSteps}
-use Rattle.bz_buildozer.specs.Outcome.{LinesEnd, OrOutOfMemory}
-use Rattle.bz_buildozer.specs.Run.{World, Progress}
+use Rattle.bz_buildozer.proofs.Words.{[], ◌∙◌, all_steps, and_parts, ap, Exit, inl, inr, IsMeanwhile, IsMomentOfSteps, LinesEnd, map, names_input, no_journal_line, OneStep, OrOutOfMemory, PassesBy, Progress, progress_in, refl, requested_in, subst, sym, true≢false, World}
 use Rattle.bz_streams.specs.declared.exit.Cut.TheVariants as cut
-use Rattle.bz_buildozer.specs.declared.step.OneStep.{OneStep}
-use Rattle.bz_buildozer.specs.private.Shown.{progress_in}
-use Rattle.bz_buildozer.specs.Steps.{all_steps, names_input}
-use Rattle.bz_buildozer.specs.Reported.{no_journal_line}
-use Rattle.bz_buildozer.proofs.CutSteps.{read_before}
-use Rattle.bz_buildozer.proofs.FailSteps.{one_line}
-use Rattle.bz_buildozer.proofs.Outcomes.{unused_yet, ends_refused, ends_unused, lines_premise, begins_safely, honest_still, lines_end, no_more_time, no_time}
-use Rattle.bz_buildozer.proofs.StepLists.{shown_by_lines}
-use Rattle.bz_buildozer.proofs.UnreadSteps.{among_first}
+use Rattle.bz_buildozer.proofs.{CutSteps.read_before, FailSteps.one_line, Outcomes.unused_yet, Outcomes.ends_refused, Outcomes.ends_unused, Outcomes.lines_premise, Outcomes.begins_safely, Outcomes.honest_still, Outcomes.lines_end, Outcomes.no_more_time, Outcomes.no_time, StepLists.shown_by_lines, UnreadSteps.among_first}
 use Rattle.bz_buildozer.proofs.engine.perform.Goals as goal
 
 pub returns-then-lacks_journal-clause-ends : goal.returns-then-lacks_journal-clause-ends

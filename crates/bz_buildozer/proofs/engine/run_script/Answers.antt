@@ -1,15 +1,5 @@
-use Rattle.std.proofs.Common.{◌≡◌, ap, sym, subst, refl, inr, List, ℕ, ◌∙◌}
-use Rattle.bz_buildozer.specs.Words.{Folder, Cut}
-use Rattle.bz_streams.proofs.Outputs.{appends_nothing}
-use Rattle.bz_streams.specs.declared.exit.Cut.TheVariants as cut
-use Rattle.bz_buildozer.specs.Calls.{ReportsLine, acts_over}
-use Rattle.bz_buildozer.specs.Outcome.{reported_name, unread}
-use Rattle.bz_buildozer.specs.Reported.{unread_line}
-use Rattle.bz_buildozer.specs.Run.{World}
-use Rattle.bz_buildozer.proofs.FailSteps.{one_line, unread_either}
-use Rattle.bz_buildozer.proofs.Outcomes.{by_no_script, by_script, ends_more, exit_of, script_done, script_missing, script_unused, no_more_time}
-use Rattle.bz_buildozer.proofs.ReadSteps.{script_read}
-use Rattle.bz_buildozer.proofs.UnreadSteps.{among_all, among_second}
+use Rattle.bz_buildozer.proofs.Words.{◌∙◌, ◌≡◌, acts_over, ap, appends_nothing, Cut, Cut as cut, Folder, inr, List, refl, reported_name, ReportsLine, subst, sym, unread, unread_line, World, ℕ}
+use Rattle.bz_buildozer.proofs.{FailSteps.one_line, FailSteps.unread_either, Outcomes.by_no_script, Outcomes.by_script, Outcomes.ends_more, Outcomes.exit_of, Outcomes.script_done, Outcomes.script_missing, Outcomes.script_unused, Outcomes.no_more_time, ReadSteps.script_read, UnreadSteps.among_all, UnreadSteps.among_second}
 use Rattle.bz_buildozer.proofs.engine.run_script.Goals as goal
 
 pub returns-in-Err-clause-ends : goal.returns-in-Err-clause-ends
@@ -81,13 +71,13 @@ returns-in-Ok-clause-unread_kept g c kept other =
 
 pub returns-in-Err-clause-moments : goal.returns-in-Err-clause-moments
 returns-in-Err-clause-moments g c kept honest =
-    by_no_script g.F.Files c.args.files.now c.read_bytes.new.files (g.R.Source.remaining c.args.input.now) c.args.name.now (c.read_bytes.ensures.time honest)
+    by_no_script g.F.Files c.args.files.now c.read_bytes.new.files c.args.job.options.profile (g.R.Source.remaining c.args.input.now) c.args.name.now (c.read_bytes.ensures.time honest)
 
 pub returns-in-Ok-clause-moments : goal.returns-in-Ok-clause-moments
 returns-in-Ok-clause-moments g c kept honest =
     let world : World = record { folder = g.F.Files.folder c.args.files.now; known = g.R.Source.remaining c.args.input.now; acts = acts_over g.F.Files c.args.files.now c.run_text.new.files } in
     let read = script_read world c.args.name.now c.in-Ok.bytes.items (c.in-Ok.ensures.ok.0 honest) in
-    by_script g.F.Files c.args.files.now c.run_text.new.files (g.R.Source.remaining c.args.input.now) c.args.name.now read.0 c.in-Ok.bytes.items c.deref.result.now
+    by_script g.F.Files c.args.files.now c.run_text.new.files c.args.job.options.profile (g.R.Source.remaining c.args.input.now) c.args.name.now read.0 c.in-Ok.bytes.items c.deref.result.now
     c.read_bytes.new.files (c.read_bytes.ensures.folder honest) c.deref.ensures.value read.1 read.2 (c.read_bytes.ensures.time honest)
     (c.run_text.ensures.moments kept (c.read_bytes.ensures.honest ∙ honest))
 

@@ -1,13 +1,6 @@
-use Rattle.std.proofs.Common.{List, ℕ, refl, map, ap, sym, subst, ◌∙◌, inl, inr}
-use Rattle.std.specs.List.{All}
-use Rattle.bz_buildozer.specs.Words.{HasPath, Usage, fault_line}
-use Rattle.bz_command_line.specs.Shown.{requested_in, script_usage_in}
+use Rattle.bz_buildozer.proofs.Words.{◌∙◌, All, ap, fault_line, HasPath, inl, input_line, inr, List, map, no_journal_line, OrOutOfMemory, refl, ReportsLine, requested_in, script_usage_in, subst, sym, TextOutcome, unused, Usage, usage_line, World, ℕ}
 use Rattle.bz_command_line.specs.declared.requested.Requested.{Requested}
 use Rattle.bz_streams.specs.declared.exit.Cut.TheVariants as cut
-use Rattle.bz_buildozer.specs.Calls.{ReportsLine}
-use Rattle.bz_buildozer.specs.Outcome.{OrOutOfMemory, TextOutcome, unused}
-use Rattle.bz_buildozer.specs.Reported.{input_line, no_journal_line, usage_line}
-use Rattle.bz_buildozer.specs.Run.{World}
 use Rattle.bz_buildozer.proofs.FailSteps.{one_line}
 use Rattle.bz_buildozer.proofs.Outcomes.{IsMomentOfText, by_text, ends_more, ends_told, ends_unused, no_journal, text_lines, text_unused, told_found, no_time}
 use Rattle.bz_buildozer.proofs.StandSteps.{not_input}
@@ -103,18 +96,18 @@ returns-clause-unread_kept g c kept = let still = c.perform.ensures.reads_nothin
 
 pub returns-in-Err-clause-moments : goal.returns-in-Err-clause-moments
 returns-in-Err-clause-moments g c kept honest = no_time g.F.Files.moment g.F.Files.since c.args.files.now c.args.files.now
-    (IsMomentOfText (g.F.Files.folder c.args.files.now) c.args.read.bytes.now) refl
+    (IsMomentOfText c.args.job.options.profile (g.F.Files.folder c.args.files.now) c.args.read.bytes.now) refl
 
 pub returns-then-edits_input-clause-moments : goal.returns-then-edits_input-clause-moments
 returns-then-edits_input-clause-moments g c kept honest = no_time g.F.Files.moment g.F.Files.since c.args.files.now c.args.files.now
-    (IsMomentOfText (g.F.Files.folder c.args.files.now) c.args.read.bytes.now) refl
+    (IsMomentOfText c.args.job.options.profile (g.F.Files.folder c.args.files.now) c.args.read.bytes.now) refl
 
 pub returns-clause-moments : goal.returns-clause-moments
 returns-clause-moments g c kept honest =
-    by_text g.F.Files c.args.files.now c.perform.new.files c.args.read.bytes.now c.in-Ok.text.now (map requested_in c.in-Ok-read_script.lines.items)
+    by_text g.F.Files c.args.files.now c.perform.new.files c.args.job.options.profile c.args.read.bytes.now c.in-Ok.text.now (map requested_in c.in-Ok-read_script.lines.items)
     (map requested_in c.as_slice-lines.result.now) c.in-Ok.ensures.ok.0 c.in-Ok.ensures.ok.1 c.in-Ok-read_script.ensures.ok (ap (map requested_in) c.as_slice-lines.ensures.value)
     (c.perform.ensures.moments kept honest)
 
 pub returns-in-Err-read_script-clause-moments : goal.returns-in-Err-read_script-clause-moments
 returns-in-Err-read_script-clause-moments g c kept honest = no_time g.F.Files.moment g.F.Files.since c.args.files.now c.args.files.now
-    (IsMomentOfText (g.F.Files.folder c.args.files.now) c.args.read.bytes.now) refl
+    (IsMomentOfText c.args.job.options.profile (g.F.Files.folder c.args.files.now) c.args.read.bytes.now) refl

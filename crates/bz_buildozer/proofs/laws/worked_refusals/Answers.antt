@@ -1,5 +1,4 @@
-use Rattle.std.proofs.Common.{refl}
-use Rattle.std.specs.Fmt.{digits}
+use Rattle.bz_buildozer.proofs.Words.{digits, refl}
 use Rattle.bz_buildozer.proofs.laws.worked_refusals.Goals as goal
 
 pub returns : goal.returns

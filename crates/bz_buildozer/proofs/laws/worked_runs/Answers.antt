@@ -1,6 +1,4 @@
-use Rattle.std.proofs.Common.{inl, refl}
-use Rattle.std.specs.Fmt.{digits}
-use Rattle.bz_buildozer.specs.WorkedParts.{text_read}
+use Rattle.bz_buildozer.proofs.Words.{digits, inl, refl, text_read}
 use Rattle.bz_buildozer.proofs.WorkedEnds.{found_first, found_second, found_none, settles, usage, whole}
 use Rattle.bz_buildozer.proofs.laws.worked_runs.Goals as goal
 

@@ -1,14 +1,5 @@
-use Rattle.std.proofs.Common.{rules, ◌≡◌, ◌∙◌, true, false, ap, refl, subst, None, Err, List, ℕ, inl}
-use Rattle.std.specs.FinMap.{get}
-use Rattle.bz_streams.specs.declared.exit.Cut.TheVariants as cut
-use Rattle.bz_buildozer.specs.Found.{in_package}
-use Rattle.bz_buildozer.specs.Run.{SecondUntil, unreadable, wanting_name}
-use Rattle.bz_buildozer.specs.Words.{Folder}
-use Rattle.bz_buildozer.specs.private.ShownFiles.{taken_in}
-use Rattle.bz_buildozer.specs.private.Taking.{NamedUntil, base_of}
+use Rattle.bz_buildozer.proofs.Words.{◌∙◌, ◌≡◌, ap, base_of, Cut as cut, Err, false, FileKind as k, Folder, get, in_package, inl, IsUnreadInRun, List, NamedUntil, None, refl, rules, SecondUntil, subst, taken_in, true, unreadable, wanting_name, ℕ}
 use Rattle.bz_buildozer.proofs.FailSteps.{absent_until, by_name_of, fails_as, memory_named, memory_read, named_until, none_taken, tried_on}
-use Rattle.bz_files.specs.declared.files.FileKind.TheVariants as k
-use Rattle.bz_buildozer.specs.Unread.{IsUnreadInRun}
 use Rattle.bz_buildozer.proofs.ReadSteps.{neither_opens}
 use Rattle.bz_buildozer.proofs.UnreadSteps.{among_first, among_second, grows_none, grows_on, grows_read, unread_among}
 use Rattle.bz_buildozer.proofs.opening.+open_named.Goals as goal

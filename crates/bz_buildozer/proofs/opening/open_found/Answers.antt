@@ -1,14 +1,5 @@
-use Rattle.std.proofs.Common.{rules, subst, ◌≡◌, ◌∙◌, ◌∷◌, [], ap, inl, inr, refl, true, Some, Err, codes}
+use Rattle.bz_buildozer.proofs.Words.{[], ◌∙◌, ◌∷◌, ◌≡◌, ap, Bytes, codes, Cut as cut, Err, FileKind as k, inl, inr, IsUnreadInRun, named_line, refl, rules, Some, subst, taken_in, Takes, TakesBeside, TakesUntil, true, unreadable, wanting}
 use Rattle.bz_buildozer.proofs.ReadSteps.{none_beside, plain_beside, read_beside}
-use Rattle.bz_streams.specs.Reported.{named_line}
-use Rattle.bz_streams.specs.declared.exit.Cut.TheVariants as cut
-use Rattle.bz_buildozer.specs.Journals.{TakesBeside}
-use Rattle.bz_buildozer.specs.Opens.{Takes}
-use Rattle.bz_buildozer.specs.Run.{TakesUntil, unreadable, wanting}
-use Rattle.bz_buildozer.specs.private.ShownFiles.{taken_in}
-use Rattle.bz_items.specs.Characters.{Bytes}
-use Rattle.bz_files.specs.declared.files.FileKind.TheVariants as k
-use Rattle.bz_buildozer.specs.Unread.{IsUnreadInRun}
 use Rattle.bz_buildozer.proofs.FailSteps.{fails_as, journal_there, memory_until}
 use Rattle.bz_buildozer.proofs.UnreadSteps.{among_second, grows_none, grows_read, unread_among}
 use Rattle.bz_buildozer.proofs.opening.open_found.Goals as goal

@@ -1,12 +1,5 @@
-use Rattle.std.proofs.Common.{codes, refl}
-use Rattle.bz_streams.specs.declared.exit.Cut.TheVariants as cut
-use Rattle.bz_streams.specs.Reported.{named_line, stdin}
-use Rattle.bz_buildozer.specs.Opens.{Takes}
-use Rattle.bz_buildozer.specs.private.Taking.{InputUntil}
-use Rattle.bz_buildozer.specs.Steps.{input_package}
-use Rattle.bz_buildozer.specs.private.ShownFiles.{taken_in}
-use Rattle.bz_buildozer.proofs.FailSteps.{fails_as, memory_until}
-use Rattle.bz_buildozer.proofs.PlaceSteps.{input_takes}
+use Rattle.bz_buildozer.proofs.Words.{codes, Cut as cut, input_package, InputUntil, named_line, refl, stdin, taken_in, Takes}
+use Rattle.bz_buildozer.proofs.{FailSteps.fails_as, FailSteps.memory_until, PlaceSteps.input_takes}
 use Rattle.bz_buildozer.proofs.opening.open_input.Goals as goal
 
 pub returns-in-Ok-clause-takes : goal.returns-in-Ok-clause-takes

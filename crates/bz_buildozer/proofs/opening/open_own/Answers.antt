@@ -1,14 +1,5 @@
-use Rattle.std.proofs.Common.{rules, ◌≡◌, ◌∙◌, true, true≢false, ap, refl, sym, Err, Option, inl}
-use Rattle.std.specs.Prelude.{is_some}
-use Rattle.std.specs.FinMap.{get}
-use Rattle.bz_files.specs.declared.files.FileKind.TheVariants as k
-use Rattle.bz_streams.specs.declared.exit.Cut.TheVariants as cut
-use Rattle.bz_buildozer.specs.Run.{FileUntil}
-use Rattle.bz_buildozer.specs.Words.{Bytes}
-use Rattle.bz_buildozer.specs.private.ShownFiles.{taken_in}
-use Rattle.bz_buildozer.proofs.FailSteps.{fails_as, own_until}
-use Rattle.bz_buildozer.proofs.FileNames.{folder_fits}
-use Rattle.bz_buildozer.proofs.UnreadSteps.{among_second, grows_on, grows_read, unread_among}
+use Rattle.bz_buildozer.proofs.Words.{◌∙◌, ◌≡◌, ap, Bytes, Cut as cut, Err, FileKind as k, FileUntil, get, inl, is_some, Option, refl, rules, sym, taken_in, true, true≢false}
+use Rattle.bz_buildozer.proofs.{FailSteps.fails_as, FailSteps.own_until, FileNames.folder_fits, UnreadSteps.among_second, UnreadSteps.grows_on, UnreadSteps.grows_read, UnreadSteps.unread_among}
 use Rattle.bz_buildozer.proofs.opening.open_own.Goals as goal
 
 pub open_found-requires : goal.open_found-requires

@@ -1,15 +1,6 @@
-use Rattle.std.proofs.Common.{◌≡◌, ◌≢◌, ◌∙◌, Bool, true, false, not, true≢false, [], Option, None, Some, Ok, Err, ap, refl, subst, sym, string_bytes}
-use Rattle.std.proofs.lemmas.Slice.Eq.{bytes_eq-Decides}
-use Rattle.std.specs.Option.{option_map}
-use Rattle.bz_buildozer.specs.Words.{Bytes, past_history}
-use Rattle.bz_journal.specs.Shown.{session_history}
-use Rattle.bz_journal.specs.State.{SessionState}
-use Rattle.bz_streams.specs.declared.exit.Cut.TheVariants as cut
-use Rattle.bz_buildozer.specs.Journals.{JournalGives, TakesBeside, fault_lines, of_package, of_resuming}
+use Rattle.bz_buildozer.proofs.Words.{[], ◌∙◌, ◌≡◌, ◌≢◌, ap, Bool, Bytes, bytes_eq-Decides, Cut as cut, Err, false, fault_lines, JournalGives, None, not, of_package, of_resuming, Ok, opened_in, Option, option_map, past_history, refl, session_history, SessionState, Some, string_bytes, subst, sym, taken_in, TakesBeside, true, true≢false}
 use Rattle.bz_buildozer.specs.Found as p
-use Rattle.bz_buildozer.specs.private.ShownFiles.{opened_in, taken_in}
-use Rattle.bz_buildozer.proofs.ReadSteps.{fault_gives, other_gives, resumed_gives, same_opened}
-use Rattle.bz_buildozer.proofs.FailSteps.{none_taken}
+use Rattle.bz_buildozer.proofs.{ReadSteps.fault_gives, ReadSteps.other_gives, ReadSteps.resumed_gives, ReadSteps.same_opened, FailSteps.none_taken}
 use Rattle.bz_buildozer.proofs.opening.open_resumed.Goals as goal
 
 pub returns-in-Err-clause-whole : goal.returns-in-Err-clause-whole

@@ -1,16 +1,5 @@
-use Rattle.std.proofs.Common.{◌≡◌, ◌∙◌, true, ap, refl, subst, sym}
-use Rattle.std.specs.Prelude.{None, is_some}
-use Rattle.std.specs.FinMap.{get}
-use Rattle.bz_streams.specs.declared.exit.Cut.TheVariants as cut
-use Rattle.bz_buildozer.specs.Found.{Settled, settled}
-use Rattle.bz_buildozer.specs.Reported.{unedited_lines}
-use Rattle.bz_buildozer.specs.Run.{MeansUntil}
-use Rattle.bz_buildozer.specs.Words.{Bytes}
-use Rattle.bz_buildozer.specs.private.Settling.{settled_in, unedited_in}
-use Rattle.bz_buildozer.specs.private.ShownFiles.{taken_in}
-use Rattle.bz_buildozer.proofs.FailSteps.{none_taken}
-use Rattle.bz_buildozer.proofs.FileNames.{file_there}
-use Rattle.bz_buildozer.proofs.UnreadSteps.{grows_none}
+use Rattle.bz_buildozer.proofs.Words.{◌∙◌, ◌≡◌, ap, Bytes, Cut as cut, get, is_some, MeansUntil, None, refl, Settled, settled, settled_in, subst, sym, taken_in, true, unedited_in, unedited_lines}
+use Rattle.bz_buildozer.proofs.{FailSteps.none_taken, FileNames.file_there, UnreadSteps.grows_none}
 use Rattle.bz_buildozer.proofs.opening.open_settled.Goals as goal
 
 pub returns-in-Package-clause-opens : goal.returns-in-Package-clause-opens

@@ -1,7 +1,4 @@
-use Rattle.std.proofs.Common.{◌++◌, ◌∷◌, [], Some, refl, subst, sym, string_bytes}
-use Rattle.bz_buildozer.specs.Words.{fault_excerpt, fault_line}
-use Rattle.bz_buildozer.specs.Found.{Opened}
-use Rattle.bz_buildozer.specs.Opens.{Takes}
+use Rattle.bz_buildozer.proofs.Words.{[], ◌++◌, ◌∷◌, fault_excerpt, fault_line, Opened, refl, Some, string_bytes, subst, sym, Takes}
 use Rattle.bz_buildozer.proofs.ReadSteps.{past_takes, refused, refused_takes}
 use Rattle.bz_buildozer.proofs.opening.open_text.Goals as goal
 

@@ -1,5 +1,4 @@
-use Rattle.std.proofs.Common.{refl}
-use Rattle.bz_files.proofs.Orders.{reads_one}
+use Rattle.bz_buildozer.proofs.Words.{reads_one, refl}
 use Rattle.bz_buildozer.proofs.reading.bytes_of.Goals as goal
 
 pub returns-in_err-read_most-clause-regular : goal.returns-in_err-read_most-clause-regular

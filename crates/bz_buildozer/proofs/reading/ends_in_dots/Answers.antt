@@ -1,5 +1,4 @@
-use Rattle.std.proofs.Common.{codes}
-use Rattle.std.proofs.lemmas.Str.Pattern.{ends_text}
+use Rattle.bz_buildozer.proofs.Words.{codes, ends_text}
 use Rattle.bz_buildozer.proofs.reading.ends_in_dots.Goals as goal
 
 pub returns : goal.returns

@@ -1,6 +1,4 @@
-use Rattle.std.proofs.Common.{◌≡◌, ◌++◌, ◌∙◌, List, ℕ, ap, codes, subst, sym, append_assoc}
-use Rattle.std.proofs.lemmas.List.{append-nil}
-use Rattle.bz_buildozer.specs.Words.{escaped_text, named_line, AppendsUnlessFailed}
+use Rattle.bz_buildozer.proofs.Words.{◌++◌, ◌∙◌, ◌≡◌, ap, append-nil, append_assoc, AppendsUnlessFailed, codes, escaped_text, List, named_line, subst, sym, ℕ}
 use Rattle.bz_buildozer.proofs.reading.fail_absent.Goals as goal
 
 in_one : (a b c d rest : List ℕ) → a ++ (b ++ (c ++ (d ++ rest))) ≡ (((a ++ b) ++ c) ++ d) ++ rest

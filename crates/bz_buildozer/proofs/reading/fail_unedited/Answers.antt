@@ -1,8 +1,5 @@
-use Rattle.std.proofs.Common.{subst, sym}
-use Rattle.bz_buildozer.specs.Reported.{unedited_lines}
-use Rattle.bz_buildozer.specs.Words.{Reports}
+use Rattle.bz_buildozer.proofs.Words.{Reports, subst, sym, unedited_in, unedited_lines}
 use Rattle.bz_buildozer.specs.declared.settling.Unedited.{Unedited}
-use Rattle.bz_buildozer.specs.private.Settling.{unedited_in}
 use Rattle.bz_buildozer.proofs.reading.fail_unedited.Goals as goal
 
 pub returns-in-Beside-clause-reported : goal.returns-in-Beside-clause-reported

@@ -1,11 +1,5 @@
-use Rattle.std.proofs.Common.{◌≡◌, ◌∙◌, ◌⊎◌, ◌<◌, [], ℕ, List, Some, length, refl, subst}
-use Rattle.std.specs.FinMap.{get}
-use Rattle.std.proofs.lemmas.List.Elements.{All-nil}
+use Rattle.bz_buildozer.proofs.Words.{[], ◌<◌, ◌∙◌, ◌≡◌, ◌⊎◌, All-nil, BeginsNoJournal, elapsed_on, Folder, get, IsRegular, length, List, reads_on, refl, Some, subst, ℕ}
 use Rattle.std.proofs.lemmas.Result.{err_from_is_err_and}
-use Rattle.bz_files.proofs.Elapsing.{elapsed_on}
-use Rattle.bz_files.proofs.Orders.{reads_on}
-use Rattle.bz_files.specs.Orders.{IsRegular}
-use Rattle.bz_buildozer.specs.Words.{BeginsNoJournal, Folder}
 use Rattle.bz_buildozer.proofs.ReadSteps.{front_enough, whole_enough}
 use Rattle.bz_buildozer.proofs.reading.journal_bytes.Goals as goal
 

@@ -1,6 +1,4 @@
-use Rattle.std.proofs.Common.{◌≡◌, ◌∙◌, ◌||◌, Bool, false, codes, subst, sym}
-use Rattle.std.specs.Prelude.{IfOk}
-use Rattle.bz_buildozer.specs.Found.{has_file}
+use Rattle.bz_buildozer.proofs.Words.{◌||◌, ◌∙◌, ◌≡◌, Bool, codes, false, has_file, IfOk, subst, sym}
 use Rattle.bz_buildozer.proofs.rooting.is_root.Goals as goal
 
 pub returns : goal.returns

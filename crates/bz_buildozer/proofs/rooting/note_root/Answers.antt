@@ -1,8 +1,5 @@
-use Rattle.std.proofs.Common.{◌≡◌, ◌∙◌, Bor, List, ℕ, map, option_map, true, false, sym}
-use Rattle.bz_command_line.specs.Shown.{requested_in}
-use Rattle.bz_buildozer.specs.Steps.{names_file}
-use Rattle.bz_buildozer.proofs.RootsAbove.{nothing_noted, root_noted}
-use Rattle.bz_buildozer.proofs.StepLists.{filed_in_lines}
+use Rattle.bz_buildozer.proofs.Words.{◌∙◌, ◌≡◌, Bor, false, List, map, names_file, option_map, requested_in, sym, true, ℕ}
+use Rattle.bz_buildozer.proofs.{RootsAbove.nothing_noted, RootsAbove.root_noted, StepLists.filed_in_lines}
 use Rattle.bz_buildozer.proofs.rooting.note_root.Goals as goal
 
 pub returns-then-not-names_file-clause-ok : goal.returns-then-not-names_file-clause-ok

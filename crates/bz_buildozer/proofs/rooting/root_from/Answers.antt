@@ -1,5 +1,4 @@
-use Rattle.std.proofs.Common.{◌≡◌, ◌-◌, ◌+◌, ◌∙◌, true, false, ap, string_bytes, sym}
-use Rattle.bz_buildozer.specs.Found.{is_root, root_from}
+use Rattle.bz_buildozer.proofs.Words.{◌+◌, ◌-◌, ◌∙◌, ◌≡◌, ap, false, is_root, root_from, string_bytes, sym, true}
 use Rattle.bz_buildozer.proofs.RootsAbove.{found_above, found_here, found_nowhere}
 use Rattle.bz_buildozer.proofs.rooting.root_from.Goals as goal
 

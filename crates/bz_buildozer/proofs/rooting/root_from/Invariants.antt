@@ -1,5 +1,4 @@
-use Rattle.std.proofs.Common.{◌≡◌, ◌-◌, true, codes, string_bytes}
-use Rattle.bz_buildozer.specs.Found.{root_from}
+use Rattle.bz_buildozer.proofs.Words.{◌-◌, ◌≡◌, codes, root_from, string_bytes, true}
 use Rattle.bz_buildozer.proofs.rooting.root_from.Given as goal
 
 -- none of the folders up to this one is a root

@@ -1,15 +1,6 @@
-use Rattle.std.proofs.Common.{◌≡◌, ◌∙◌, ◌+◌, ◌++◌, ◌∷◌, [], refl, sym, ap, subst, List, false, map, take}
-use Rattle.std.specs.List.{All, flat_map}
-use Rattle.std.proofs.lemmas.List.{append-nil, get_or-map, length-map}
-use Rattle.bz_buildozer.specs.Words.{Target, HasPath, requested_in}
+use Rattle.bz_buildozer.proofs.Words.{[], ◌++◌, ◌+◌, ◌∙◌, ◌∷◌, ◌≡◌, All, all_steps, ap, append-nil, AreOfInput, ends_run, false, flat_map, get_or-map, HasPath, input_package, length-map, List, map, progress_in, refl, requested_in, RunStep, spot, subst, sym, take, Target}
 use Rattle.bz_command_line.specs.Requested as a
-use Rattle.bz_command_line.specs.declared.requested.Request.{Request}
-use Rattle.bz_command_line.specs.declared.requested.Requested.{Requested}
-use Rattle.bz_buildozer.specs.Calls.{spot}
-use Rattle.bz_buildozer.specs.Outcome.{AreOfInput}
-use Rattle.bz_buildozer.specs.Run.{ends_run}
-use Rattle.bz_buildozer.specs.private.Shown.{progress_in}
-use Rattle.bz_buildozer.specs.Steps.{RunStep, input_package, all_steps}
+use Rattle.bz_command_line.specs.{declared.requested.Request.Request, declared.requested.Requested.Requested}
 use Rattle.bz_buildozer.proofs.FailSteps.{one_runs}
 use Rattle.bz_buildozer.proofs.RunSteps.{Done, done_none, done_more, done_early, taken_at, all_taken, part_last, all_at, lines_before, on_target, one_line_more, one_more, steps_left, steps_on}
 use Rattle.bz_buildozer.proofs.running.run_lines.Goals as goal

@@ -1,8 +1,4 @@
-use Rattle.std.proofs.Common.{◌++◌, map, take}
-use Rattle.std.specs.List.{flat_map}
-use Rattle.bz_command_line.specs.Shown.{requested_in}
-use Rattle.bz_buildozer.specs.Calls.{spot}
-use Rattle.bz_buildozer.specs.Outcome.{AreOfInput}
+use Rattle.bz_buildozer.proofs.Words.{◌++◌, AreOfInput, flat_map, map, requested_in, spot, take}
 use Rattle.bz_buildozer.proofs.RunSteps.{Done, lines_before, on_target}
 use Rattle.bz_buildozer.proofs.running.run_lines.Given as goal
 

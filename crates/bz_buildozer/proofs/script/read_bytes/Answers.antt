@@ -1,6 +1,4 @@
-use Rattle.std.proofs.Common.{inl, ◌∙◌, refl, sym}
-use Rattle.std.proofs.lemmas.Slice.Eq.{bytes_eq-Decides}
-use Rattle.bz_buildozer.specs.Steps.{input_package}
+use Rattle.bz_buildozer.proofs.Words.{◌∙◌, bytes_eq-Decides, inl, input_package, refl, sym}
 use Rattle.bz_buildozer.proofs.UnreadSteps.{grows_none, grows_one}
 use Rattle.bz_buildozer.proofs.script.read_bytes.Goals as goal
 

@@ -1,7 +1,4 @@
-use Rattle.std.proofs.Common.{◌≡◌, ◌∙◌, ◌||◌, Bool, false, ap, subst, sym}
-use Rattle.std.specs.Prelude.{IfOk, is_some}
-use Rattle.std.specs.FinMap.{get}
-use Rattle.bz_buildozer.specs.Found.{first_name, second_name}
+use Rattle.bz_buildozer.proofs.Words.{◌||◌, ◌∙◌, ◌≡◌, ap, Bool, false, first_name, get, IfOk, is_some, second_name, subst, sym}
 use Rattle.bz_buildozer.proofs.settling.has_package.Goals as goal
 
 pub returns-then-branch : goal.returns-then-branch

@@ -1,7 +1,4 @@
-use Rattle.std.proofs.Common.{◌≡◌, ◌∙◌, true, false, le_refl, length, subst, sym}
-use Rattle.std.specs.Prelude.{IfOk}
-use Rattle.bz_buildozer.specs.Found.{Settled}
-use Rattle.bz_buildozer.specs.private.Settling.{settled_in}
+use Rattle.bz_buildozer.proofs.Words.{◌∙◌, ◌≡◌, false, IfOk, le_refl, length, Settled, settled_in, subst, sym, true}
 use Rattle.bz_buildozer.proofs.FileNames.{folder_fits, meant_first, meant_last, meant_second}
 use Rattle.bz_buildozer.proofs.settling.settle_file.Goals as goal
 

@@ -1,5 +1,4 @@
-use Rattle.std.proofs.Common.{arith}
-use Rattle.std.proofs.lemmas.Bool.{eqb-true}
+use Rattle.std.proofs.{Common.arith, lemmas.Bool.eqb-true}
 use Rattle.bz_buildozer.proofs.StepLists.{one_step}
 use Rattle.bz_buildozer.proofs.step.is_one_step.Goals as goal
 

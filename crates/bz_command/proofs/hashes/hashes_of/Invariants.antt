@@ -1,5 +1,4 @@
-use Rattle.std.proofs.Common.{◌≡◌, ◌++◌, drop, map}
-use Rattle.bz_command.specs.Known.{item_hash}
+use Rattle.bz_command.proofs.Words.{◌++◌, ◌≡◌, drop, item_hash, map}
 use Rattle.bz_command.proofs.hashes.hashes_of.Given as goal
 
 abbrev pub invariant-loop-item : goal.invariant-loop-item

@@ -1,5 +1,4 @@
-use Rattle.std.proofs.Common.{◌∙◌, ap, map}
-use Rattle.bz_command.specs.Known.{item_hash}
+use Rattle.bz_command.proofs.Words.{◌∙◌, ap, item_hash, map}
 use Rattle.bz_command.proofs.NameHashes.{hashes_spliced}
 use Rattle.bz_command.proofs.hashes.hashes_over.Goals as goal
 

@@ -1,6 +1,4 @@
-use Rattle.std.proofs.Common.{◌≡◌, ◌*◌, ◌+◌, ◌%◌, ◌<◌, drop}
-use Rattle.std.specs.List.{fold}
-use Rattle.bz_command.specs.Known.{name_hash}
+use Rattle.bz_command.proofs.Words.{◌%◌, ◌*◌, ◌+◌, ◌<◌, ◌≡◌, drop, fold, name_hash}
 use Rattle.bz_command.proofs.hashes.name_hash.Given as goal
 
 abbrev pub invariant-loop-byte : goal.invariant-loop-byte

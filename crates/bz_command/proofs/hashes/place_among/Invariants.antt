@@ -1,6 +1,4 @@
-use Rattle.std.proofs.Common.{◌≡◌, ◌<◌, [], ℕ, false, get_or}
-use Rattle.bz_value.specs.declared.value.Item.TheVariants as i
-use Rattle.bz_command.specs.Words.{has_name}
+use Rattle.bz_command.proofs.Words.{[], ◌<◌, ◌≡◌, false, get_or, has_name, Item as i, ℕ}
 use Rattle.bz_command.proofs.hashes.place_among.Given as goal
 
 -- no item before this one has the name

@@ -1,8 +1,5 @@
-use Rattle.std.proofs.Common.{[], ◌∷◌, refl, ap}
-use Rattle.std.specs.Prelude.{codes}
+use Rattle.bz_command.proofs.Words.{[], ◌∷◌, ap, argument_of, codes, list_of, refl, with_body}
 use Rattle.std.specs.Fmt.{digits}
-use Rattle.bz_attribute.specs.Made.{argument_of, list_of}
-use Rattle.bz_list.specs.Changes.{with_body}
 use Rattle.bz_command.specs.Worked.{leaves, string}
 use Rattle.bz_command.proofs.laws.worked_command_effects.Goals as goal
 
@@ -38,5 +35,5 @@ returns c = (
     refl,
   ),
   (refl, refl, refl, refl, refl),
-  (refl, refl, refl, refl, refl),
+  (refl, refl, refl, refl, refl, refl, refl),
 )

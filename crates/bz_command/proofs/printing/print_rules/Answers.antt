@@ -1,9 +1,4 @@
-use Rattle.std.proofs.Common.{append-nil, ◌+◌, ◌∙◌, [], ℕ, List, Ok, ap, arith, drop, get_or, inl, inr, length, suc, subst, sym}
-use Rattle.std.proofs.lemmas.List.{drop_all}
-use Rattle.std.proofs.lemmas.Result.{err_from_is_err_and}
-use Rattle.bz_command.specs.Words.{Bytes, Ascend}
-use Rattle.bz_value.specs.declared.value.Item.TheVariants as i
-use Rattle.bz_command.specs.Effect.{before_rest}
+use Rattle.bz_command.proofs.Words.{[], ◌+◌, ◌∙◌, ap, append-nil, arith, Ascend, before_rest, Bytes, drop, drop_all, err_from_is_err_and, get_or, inl, inr, Item as i, length, List, Ok, subst, suc, sym, ℕ}
 use Rattle.bz_command.proofs.MeantPlaces.{ascend_from, ascend_here, before_nothing, meant_ascend, print_made, print_refused, printed_at, printed_by_places}
 use Rattle.bz_command.proofs.printing.print_rules.Goals as goal
 

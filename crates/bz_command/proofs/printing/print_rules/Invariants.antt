@@ -1,7 +1,4 @@
-use Rattle.std.proofs.Common.{◌≡◌, Ok, [], drop, length}
-use Rattle.bz_value.specs.declared.value.Item.TheVariants as i
-use Rattle.bz_grammar.specs.Places.{Ascend}
-use Rattle.bz_command.specs.Effect.{before_rest}
+use Rattle.bz_command.proofs.Words.{[], ◌≡◌, Ascend, before_rest, drop, Item as i, length, Ok}
 use Rattle.bz_command.proofs.MeantPlaces.{printed_at}
 use Rattle.bz_command.proofs.printing.print_rules.Given as goal
 

@@ -1,6 +1,4 @@
-use Rattle.std.proofs.Common.{◌≡◌, ◌++◌, drop, map}
-use Rattle.std.specs.Prelude.{codes}
-use Rattle.bz_command.specs.Prints.{printed_body, spaced}
+use Rattle.bz_command.proofs.Words.{◌++◌, ◌≡◌, codes, drop, map, printed_body, spaced}
 use Rattle.bz_command.proofs.printing.push_strings.Given as goal
 
 abbrev pub invariant-loop-i : goal.invariant-loop-i

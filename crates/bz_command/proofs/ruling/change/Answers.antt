@@ -1,7 +1,4 @@
-use Rattle.std.proofs.Common.{◌≡◌, subst, sym}
-use Rattle.std.specs.Prelude.{◌↔◌, IfOk, IsTrue, Ok}
-use Rattle.bz_command.specs.Words.{Operation, values_changed}
-use Rattle.bz_command.specs.private.Looks.{arguments_by, says_itself}
+use Rattle.bz_command.proofs.Words.{◌↔◌, ◌≡◌, arguments_by, IfOk, IsTrue, Ok, Operation, says_itself, subst, sym, values_changed}
 use Rattle.bz_command.proofs.RunningItems.{same_made}
 use Rattle.bz_command.proofs.ruling.change.Goals as goal
 

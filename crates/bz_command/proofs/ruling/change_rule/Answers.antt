@@ -1,9 +1,4 @@
-use Rattle.std.proofs.Common.{◌≡◌, ◌∙◌, true, List, rules, subst}
-use Rattle.std.specs.Prelude.{◌↔◌, IsTrue, Ok}
-use Rattle.bz_command.specs.Words.{Expr, Arguments}
-use Rattle.bz_value.specs.declared.value.Form.{Form}
-use Rattle.bz_command.specs.Effect.{is_rule}
-use Rattle.bz_command.specs.private.Looks.{arguments_by}
+use Rattle.bz_command.proofs.Words.{◌↔◌, ◌∙◌, ◌≡◌, Arguments, arguments_by, Expr, Form, is_rule, IsTrue, List, Ok, rules, subst, true}
 use Rattle.bz_command.proofs.StatementRules.{held_in, same_rule}
 use Rattle.bz_command.proofs.ruling.change_rule.Goals as goal
 

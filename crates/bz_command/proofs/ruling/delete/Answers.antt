@@ -1,12 +1,5 @@
-use Rattle.std.proofs.Common.{append-nil, ◌≡◌, ◌<◌, ◌+◌, ◌++◌, ◌∷◌, ◌∙◌, Bool, List, ap, ap₂, arith, drop, false, get_or, length, subst, sym}
-use Rattle.std.proofs.lemmas.List.{drop_more}
-use Rattle.std.specs.Vec.Iter.{into_iter_items}
-use Rattle.bz_command.specs.Words.{Item, marked_places}
-use Rattle.bz_command.specs.Effect.{unmarked}
-use Rattle.bz_load.specs.Growing.{IsGrown}
-use Rattle.bz_command.specs.private.Looks.{marks_by}
-use Rattle.bz_command.proofs.MeantPlaces.{unmarked_none}
-use Rattle.bz_command.proofs.TargetMarks.{as_many}
+use Rattle.bz_command.proofs.Words.{◌++◌, ◌+◌, ◌<◌, ◌∙◌, ◌∷◌, ◌≡◌, ap, append-nil, ap₂, arith, Bool, drop, drop_more, false, get_or, into_iter_items, IsGrown, Item, length, List, marked_places, marks_by, subst, sym, unmarked}
+use Rattle.bz_command.proofs.{MeantPlaces.unmarked_none, TargetMarks.as_many}
 use Rattle.bz_command.proofs.ruling.delete.Goals as goal
 
 pub loop-at-preserved : goal.loop-at-preserved

@@ -1,9 +1,4 @@
-use Rattle.std.proofs.Common.{◌≡◌, ◌≤◌, ◌+◌, ◌++◌, [], drop, length}
-use Rattle.std.specs.Vec.Iter.{into_iter_items}
-use Rattle.bz_command.specs.Effect.{unmarked}
-use Rattle.bz_load.specs.Growing.{IsGrown}
-use Rattle.bz_command.specs.private.Looks.{marks_by}
-use Rattle.bz_rule.specs.Index.{marked_places}
+use Rattle.bz_command.proofs.Words.{[], ◌++◌, ◌+◌, ◌≡◌, ◌≤◌, drop, into_iter_items, IsGrown, length, marked_places, marks_by, unmarked}
 use Rattle.bz_command.proofs.ruling.delete.Given as goal
 
 -- those that stay so far, and after them those of the items that are left, or all of these; the places are those of the marks that are left

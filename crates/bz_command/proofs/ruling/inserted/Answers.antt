@@ -1,8 +1,4 @@
-use Rattle.std.proofs.Common.{◌∙◌, List, ap, sym, true≢false}
-use Rattle.std.specs.List.{insert}
-use Rattle.bz_value.specs.declared.value.Item.{Item}
-use Rattle.bz_load.proofs.PutSteps.{put_in}
-use Rattle.bz_load.proofs.OneMore.{others}
+use Rattle.bz_command.proofs.Words.{◌∙◌, ap, insert, Item, List, others, put_in, sym, true≢false}
 use Rattle.bz_command.proofs.ruling.inserted.Goals as goal
 
 pub returns-clause-compared : goal.returns-clause-compared

@@ -1,6 +1,4 @@
-use Rattle.std.proofs.Common.{◌∙◌, ap, ap₂, sym, Ok}
-use Rattle.bz_command.specs.Words.{LoadOperation, new_load, replace_load}
-use Rattle.bz_command.specs.Effect.{loads_changed}
+use Rattle.bz_command.proofs.Words.{◌∙◌, ap, ap₂, LoadOperation, loads_changed, new_load, Ok, replace_load, sym}
 use Rattle.bz_command.proofs.ruling.on_loads.Goals as goal
 
 pub returns-in_ok-made-in-New-clause-ok : goal.returns-in_ok-made-in-New-clause-ok

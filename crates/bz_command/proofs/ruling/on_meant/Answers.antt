@@ -1,14 +1,5 @@
-use Rattle.std.proofs.Common.{◌∙◌, ◌<◌, [], ℕ, List, ap, arith, get_or, inl, inr, length, refl, set, subst, sym}
-use Rattle.std.proofs.lemmas.List.{drop_all, length-set}
-use Rattle.std.proofs.lemmas.Bool.{and_parts}
-use Rattle.std.proofs.lemmas.Result.{err_from_is_err_and}
-use Rattle.std.proofs.Math.Seq.{map-set_same}
-use Rattle.bz_value.specs.declared.value.Item.TheVariants as i
-use Rattle.bz_load.proofs.PutSteps.{put_over}
-use Rattle.bz_grammar.specs.Places.{Ascend}
-use Rattle.bz_rule.specs.Rules.{has_name, is_text}
-use Rattle.bz_command.specs.private.Looks.{one_made_by}
-use Rattle.bz_load.proofs.OneMore.{left_further, left_next, nothing_grown, same_before, same_put}
+use Rattle.bz_command.proofs.Words.{[], ◌<◌, ◌∙◌, and_parts, ap, arith, Ascend, drop_all, err_from_is_err_and, get_or, has_name, inl, inr, is_text, Item as i, left_further, left_next, length, length-set, List, nothing_grown, one_made_by, put_over, refl, same_before, same_put, subst, sym, ℕ}
+use Rattle.std.proofs.{Common.set, Math.Seq.map-set_same}
 use Rattle.bz_command.proofs.MeantPlaces.{ascend_here, by_places, made, meant_ascend, on_places, one_made_is, refused}
 use Rattle.bz_command.proofs.ruling.on_meant.Goals as goal
 

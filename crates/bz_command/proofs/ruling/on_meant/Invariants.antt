@@ -1,9 +1,4 @@
-use Rattle.std.proofs.Common.{◌≡◌, [], drop, length}
-use Rattle.std.specs.Prelude.{IsTrue}
-use Rattle.bz_value.specs.declared.value.Item.TheVariants as i
-use Rattle.bz_command.specs.Words.{Ascend, HaveSameNames}
-use Rattle.bz_load.specs.Growing.{IsGrown}
-use Rattle.bz_command.specs.private.Looks.{one_made_by}
+use Rattle.bz_command.proofs.Words.{[], ◌≡◌, Ascend, drop, HaveSameNames, IsGrown, IsTrue, Item as i, length, one_made_by}
 use Rattle.bz_command.proofs.MeantPlaces.{on_places}
 use Rattle.bz_command.proofs.ruling.on_meant.Given as goal
 

@@ -1,5 +1,4 @@
-use Rattle.std.proofs.Common.{◌≡◌, true, rules}
-use Rattle.bz_command.specs.private.Looks.{made_by, says_itself}
+use Rattle.bz_command.proofs.Words.{◌≡◌, made_by, rules, says_itself, true}
 use Rattle.bz_command.proofs.RunningItems.{same_after}
 use Rattle.bz_command.proofs.ruling.on_one_compared.Goals as goal
 

@@ -1,5 +1,4 @@
-use Rattle.std.proofs.Common.{◌++◌, ◌∷◌, ◌∙◌, []}
-use Rattle.bz_load.proofs.OneMore.{changed_at}
+use Rattle.bz_command.proofs.Words.{[], ◌++◌, ◌∙◌, ◌∷◌, changed_at}
 use Rattle.bz_command.proofs.ruling.push_unmarked.Goals as goal
 
 pub returns-then-mark-clause-grown : goal.returns-then-mark-clause-grown

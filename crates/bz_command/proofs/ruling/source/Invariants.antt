@@ -1,5 +1,4 @@
-use Rattle.std.proofs.Common.{◌≡◌, drop}
-use Rattle.bz_command.specs.Effect.{source}
+use Rattle.bz_command.proofs.Words.{◌≡◌, drop, source}
 use Rattle.bz_command.proofs.ruling.source.Given as goal
 
 -- what the items that are left say is what all say

@@ -1,8 +1,5 @@
-use Rattle.std.proofs.Common.{◌≡◌, Ok, rules}
+use Rattle.bz_command.proofs.Words.{◌≡◌, effect_by, IsProper, IsProperCommand, Ok, rules}
 use Rattle.bz_value.specs.LineShapes.{whole_grammar}
-use Rattle.bz_value.specs.Proper.{IsProper}
-use Rattle.bz_command_syntax.specs.Proper.{IsProperCommand}
-use Rattle.bz_command.specs.private.Looks.{effect_by}
 use Rattle.bz_command.proofs.running.change.Goals as goal
 
 pub invariant_of-file-2 : goal.invariant_of-file-2

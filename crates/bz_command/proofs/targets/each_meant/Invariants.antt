@@ -1,6 +1,4 @@
-use Rattle.std.proofs.Common.{◌≡◌, ◌++◌, drop}
-use Rattle.bz_rule.specs.Index.{marked_places}
-use Rattle.bz_command.specs.private.Steps.{each_meant}
+use Rattle.bz_command.proofs.Words.{◌++◌, ◌≡◌, drop, each_meant, marked_places}
 use Rattle.bz_command.proofs.targets.each_meant.Given as goal
 
 -- the places of the items so far, and after them those of the items that are left

@@ -1,5 +1,4 @@
-use Rattle.std.proofs.Common.{◌≡◌, ◌-◌, drop, take}
-use Rattle.bz_command.specs.private.Steps.{lines_after_items}
+use Rattle.bz_command.proofs.Words.{◌-◌, ◌≡◌, drop, lines_after_items, take}
 use Rattle.bz_command.proofs.targets.lines_after.Given as goal
 
 abbrev pub invariant-loop-item : goal.invariant-loop-item

@@ -1,7 +1,4 @@
-use Rattle.std.proofs.Common.{◌∙◌, ap, take}
-use Rattle.std.proofs.lemmas.Result.{IfOk-weaker}
-use Rattle.bz_items.specs.Characters.{Bytes}
-use Rattle.bz_rule.specs.Index.{places_from}
+use Rattle.bz_command.proofs.Words.{◌∙◌, ap, Bytes, IfOk-weaker, places_from, take}
 use Rattle.bz_command.proofs.MeantPlaces.{first_meant, index_meant}
 use Rattle.bz_command.proofs.targets.meant.Goals as goal
 

@@ -1,16 +1,13 @@
-use Rattle.std.proofs.Common.{◌≡◌, [], List, Ok, Err, true, map, subst, refl}
-use Rattle.std.specs.Prelude.{IfErr, IfOk, IfSome, Result}
+use Rattle.bz_command_line.proofs.Words.{[], ◌≡◌, Err, IfErr, IfOk, IfSome, line_in, line_usage_in, List, map, Ok, refl, Result, subst, true}
 use Rattle.clap.specs.Words.{App, HasMatchesOf, Text, app_of, fault_of, found_of, is_simple_and_free, matches_of, rows_of}
 use Rattle.clap.specs.declared.parser.matches.ArgMatches.{ArgMatches}
-use Rattle.bz_command_line.specs.App.{buildozer_app}
-use Rattle.bz_command_line.specs.Line.{CommandLine, LineUsage, command_line_of, given_of, options_of, with_options}
-use Rattle.bz_command_line.specs.Shown.{line_in, line_usage_in}
+use Rattle.bz_command_line.specs.{App.buildozer_app, Line.CommandLine, Line.LineUsage, Line.command_line_of, Line.line_of}
 use Rattle.bz_command_line.proofs.line.read_line.Goals as goal
 
 -- words in which clap finds no fault
 matched : (app : App) (words : List Text) (matches : ArgMatches) → app ≡ buildozer_app → HasMatchesOf app words matches
     → (is_simple_and_free app ≡ true → fault_of app words ≡ [])
-    → with_options (options_of (rows_of (found_of matches))) (given_of (rows_of (found_of matches))) ≡ command_line_of words
+    → line_of (rows_of (found_of matches)) ≡ command_line_of words
 matched app words matches is has free =
     let fine : fault_of buildozer_app words ≡ [] = subst (λ (other : App). is_simple_and_free other ≡ true → fault_of other words ≡ []) is free refl in
     let rows : rows_of (found_of matches) ≡ matches_of buildozer_app words = (subst (λ (other : App). HasMatchesOf other words matches) is has refl).0 in

@@ -1,8 +1,5 @@
-use Rattle.std.proofs.Common.{◌++◌, ◌∷◌, [], codes, subst}
+use Rattle.bz_command_line.proofs.Words.{[], ◌++◌, ◌∷◌, AppendsUnlessFailed, codes, escaped_text, numbered, subst}
 use Rattle.std.proofs.lemmas.List.Folds.{concat-append}
-use Rattle.bz_streams.specs.Controls.{escaped_text}
-use Rattle.bz_streams.specs.Faults.{AppendsUnlessFailed}
-use Rattle.bz_command_line.specs.Reported.{numbered}
 use Rattle.bz_command_line.specs.Verbs.{operand_fault_name}
 use Rattle.bz_command_line.proofs.reported.report_numbered.Goals as goal
 

@@ -1,5 +1,4 @@
-use Rattle.std.proofs.Common.{◌∙◌}
-use Rattle.bz_command_line.specs.Shown.{usage_in}
+use Rattle.bz_command_line.proofs.Words.{◌∙◌, usage_in}
 use Rattle.bz_command_line.proofs.Lines.{in_its_place}
 use Rattle.bz_command_line.proofs.reported.report_script.Goals as goal
 

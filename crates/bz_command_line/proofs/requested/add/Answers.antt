@@ -1,5 +1,4 @@
-use Rattle.std.proofs.lemmas.List.Elements.{All-push}
-use Rattle.bz_command_line.specs.Paths.{HasPath}
+use Rattle.bz_command_line.proofs.Words.{All-push, HasPath}
 use Rattle.bz_command_line.proofs.PathTexts.{has_path}
 use Rattle.bz_command_line.proofs.requested.add.Goals as goal
 

@@ -1,6 +1,4 @@
-use Rattle.std.proofs.Common.{◌∙◌, ◌+◌, ap, sym, ℕ}
-use Rattle.std.specs.Option.{option_map}
-use Rattle.bz_command_line.specs.Script.{has_nul}
+use Rattle.bz_command_line.proofs.Words.{◌+◌, ◌∙◌, ap, has_nul, option_map, sym, ℕ}
 use Rattle.bz_command_line.proofs.Texts.{place_in_texts}
 use Rattle.bz_command_line.proofs.script.line_with_nul.Goals as goal
 

@@ -1,7 +1,4 @@
-use Rattle.std.proofs.Common.{lit<}
-use Rattle.std.proofs.lemmas.Iterator.Consumers.{map_from_collect}
-use Rattle.std.proofs.lemmas.Iterator.Splits.{YieldsList-from_str_split}
-use Rattle.bz_items.specs.Characters.{vertical_bar}
+use Rattle.bz_command_line.proofs.Words.{lit<, map_from_collect, vertical_bar, YieldsList-from_str_split}
 use Rattle.bz_command_line.proofs.script.operands_in.Goals as goal
 
 pub returns : goal.returns

@@ -1,8 +1,5 @@
-use Rattle.std.proofs.Common.{◌≡◌, IfOk, map, subst, rules}
-use Rattle.std.proofs.lemmas.Iterator.Consumers.{map_from_collect}
-use Rattle.std.proofs.lemmas.Iterator.Splits.{YieldsList-from_lines}
+use Rattle.bz_command_line.proofs.Words.{◌≡◌, IfOk, map, map_from_collect, rules, subst, without_mark, YieldsList-from_lines}
 use Rattle.std.specs.Str.Lines.{lines}
-use Rattle.bz_command_line.specs.Script.{without_mark}
 use Rattle.bz_command_line.proofs.script.script_lines.Goals as goal
 
 pub returns : goal.returns

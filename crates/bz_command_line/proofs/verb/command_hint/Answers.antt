@@ -1,7 +1,4 @@
-use Rattle.std.proofs.Common.{◌≡◌, ◌∙◌, ◌∷◌, ap, rules}
-use Rattle.bz_command_syntax.specs.Words.{words_of}
-use Rattle.bz_command_syntax.specs.declared.fault.CommandFault.TheVariants.{Unknown}
-use Rattle.bz_command_line.specs.Hints.{name_hint}
+use Rattle.bz_command_line.proofs.Words.{◌∙◌, ◌∷◌, ◌≡◌, ap, name_hint, rules, Unknown, words_of}
 use Rattle.bz_command_line.proofs.verb.command_hint.Goals as goal
 
 pub returns-in-Unknown : goal.returns-in-Unknown

@@ -1,5 +1,4 @@
-use Rattle.std.proofs.Common.{List, rules, subst}
-use Rattle.bz_items.specs.Characters.{Bytes}
+use Rattle.bz_hint.proofs.Words.{Bytes, List, rules, subst}
 use Rattle.bz_streams.specs.Outputs.{Reports}
 use Rattle.bz_hint.proofs.Noted.{set_if_absent_noted, set_noted}
 use Rattle.bz_hint.proofs.notes.report_notes.Goals as goal

@@ -1,6 +1,4 @@
-use Rattle.std.proofs.Common.{◌∙◌, rules}
-use Rattle.std.specs.Option.{option_copied}
-use Rattle.bz_hint.specs.Refusing.{refuses}
+use Rattle.bz_hint.proofs.Words.{◌∙◌, option_copied, refuses, rules}
 use Rattle.bz_hint.proofs.Rules.{passed_over}
 use Rattle.bz_hint.proofs.refusing.first_refusing.Goals as goal
 

@@ -1,6 +1,4 @@
-use Rattle.std.proofs.Common.{◌≡◌, drop}
-use Rattle.std.specs.Option.{option_copied}
-use Rattle.bz_hint.specs.Refusing.{first_refusing, refuses}
+use Rattle.bz_hint.proofs.Words.{◌≡◌, drop, first_refusing, option_copied, refuses}
 use Rattle.bz_hint.proofs.refusing.first_refusing.Given as goal
 
 abbrev pub invariant-loop-item : goal.invariant-loop-item

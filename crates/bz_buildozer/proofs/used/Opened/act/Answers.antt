@@ -1,12 +1,5 @@
-use Rattle.std.proofs.Common.{◌≡◌, ◌∙◌, ◌||◌, Bool, not, Ok, Err, refl, subst, sym, true≢false}
-use Rattle.std.specs.Prelude.{◌==◌}
-use Rattle.bz_buildozer.specs.Words.{Bytes, past_history}
-use Rattle.bz_buildozer.specs.Keeps.{file_left}
-use Rattle.bz_buildozer.specs.Sessions.{KeepFault, Keeps, KeepsFile, action_in}
-use Rattle.bz_buildozer.specs.private.ShownFiles.{opened_in}
-use Rattle.bz_buildozer.proofs.ActSteps.{marked_written}
-use Rattle.bz_buildozer.proofs.CourseSteps.{kept_course, stays_course}
-use Rattle.bz_buildozer.proofs.UnreadSteps.{grows_none, grows_read}
+use Rattle.bz_buildozer.proofs.Words.{◌==◌, ◌||◌, ◌∙◌, ◌≡◌, action_in, Bool, Bytes, Err, file_left, KeepFault, Keeps, KeepsFile, not, Ok, opened_in, past_history, refl, subst, sym, true≢false}
+use Rattle.bz_buildozer.proofs.{ActSteps.marked_written, CourseSteps.kept_course, CourseSteps.stays_course, UnreadSteps.grows_none, UnreadSteps.grows_read}
 use Rattle.bz_buildozer.proofs.used.Opened.act.Goals as goal
 
 pub returns-in-Ok-clause-acts : goal.returns-in-Ok-clause-acts

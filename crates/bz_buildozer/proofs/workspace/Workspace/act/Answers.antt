@@ -1,10 +1,5 @@
-use Rattle.std.proofs.Common.{◌∙◌, List, Some, ap, arith, sym, true≢false}
-use Rattle.std.specs.Prelude.{is_some}
-use Rattle.std.specs.Option.{option_map}
-use Rattle.bz_buildozer.specs.Keeps.{file_left}
-use Rattle.bz_buildozer.specs.private.ShownFiles.{texts_of_keys, opened_in, used_in}
+use Rattle.bz_buildozer.proofs.Words.{◌∙◌, ap, arith, file_at, file_left, is_some, List, opened_in, option_map, Some, sym, texts_of_keys, true≢false, used_in, with_opened}
 use Rattle.bz_buildozer.specs.Found as p
-use Rattle.bz_buildozer.specs.Found.{file_at, with_opened}
 use Rattle.bz_buildozer.proofs.PlaceSteps.{file_in, is_open, kept_by, put_in, within_items}
 use Rattle.bz_buildozer.proofs.workspace.Workspace.act.Goals as goal
 

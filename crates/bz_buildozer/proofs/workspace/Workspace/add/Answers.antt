@@ -1,7 +1,4 @@
-use Rattle.std.proofs.Common.{◌++◌, ◌∷◌, [], ◌∙◌, None, ap, map, sym}
-use Rattle.bz_items.specs.Characters.{Bytes}
-use Rattle.bz_buildozer.specs.private.ShownFiles.{texts_of_keys, used_in}
-use Rattle.bz_buildozer.specs.Found.{package_number}
+use Rattle.bz_buildozer.proofs.Words.{[], ◌++◌, ◌∙◌, ◌∷◌, ap, Bytes, map, None, package_number, sym, texts_of_keys, used_in}
 use Rattle.bz_buildozer.proofs.PlaceSteps.{kept_pushed, key_added}
 use Rattle.bz_buildozer.proofs.workspace.Workspace.add.Goals as goal
 

@@ -1,14 +1,5 @@
-use Rattle.std.proofs.Common.{◌∙◌, [], List, None, inl, inr, refl, ap, sym, subst, true≢false}
-use Rattle.bz_items.specs.Characters.{Bytes}
-use Rattle.bz_buildozer.specs.Found.{Used, package_number}
-use Rattle.bz_buildozer.specs.Calls.{IsLeft}
-use Rattle.bz_buildozer.specs.Run.{Uses, World, wanting_name}
-use Rattle.bz_buildozer.specs.declared.reading.Taken.{Taken}
-use Rattle.bz_buildozer.specs.private.ShownFiles.{taken_in}
-use Rattle.bz_buildozer.proofs.FailSteps.{last_within, uses_input}
-use Rattle.bz_buildozer.proofs.PlaceSteps.{opened_last, place_last}
-use Rattle.bz_buildozer.proofs.StandSteps.{key_known}
-use Rattle.bz_buildozer.proofs.UnreadSteps.{grows_none}
+use Rattle.bz_buildozer.proofs.Words.{[], ◌∙◌, ap, Bytes, inl, inr, IsLeft, List, None, package_number, refl, subst, sym, Taken, taken_in, true≢false, Used, Uses, wanting_name, World}
+use Rattle.bz_buildozer.proofs.{FailSteps.last_within, FailSteps.uses_input, PlaceSteps.opened_last, PlaceSteps.place_last, StandSteps.key_known, UnreadSteps.grows_none}
 use Rattle.bz_buildozer.proofs.workspace.Workspace.open.Goals as goal
 
 pub put-place-requires : goal.put-place-requires

@@ -1,16 +1,5 @@
-use Rattle.std.proofs.Common.{◌≡◌, ◌∙◌, [], true, Bool, List, None, inl, inr, refl, ap, sym, subst, arith}
-use Rattle.std.specs.Prelude.{IfSome}
-use Rattle.bz_items.specs.Characters.{Bytes}
-use Rattle.bz_buildozer.specs.Found.{Settled, Used, key_in, key_of, package_number, settled}
-use Rattle.bz_buildozer.specs.Calls.{IsLeft, acts_over}
-use Rattle.bz_buildozer.specs.Journals.{IsOpenedIn}
-use Rattle.bz_buildozer.specs.Run.{MeansUntil, Uses, World, wanting_name}
-use Rattle.bz_buildozer.specs.declared.reading.Taken.{Taken}
-use Rattle.bz_buildozer.specs.private.ShownFiles.{taken_in}
-use Rattle.bz_buildozer.proofs.FailSteps.{last_within, means_opened, uses_read}
-use Rattle.bz_buildozer.proofs.PlaceSteps.{opened_last, place_last}
-use Rattle.bz_buildozer.proofs.StandSteps.{key_unknown}
-use Rattle.bz_buildozer.proofs.UnreadSteps.{among_all, grows_none}
+use Rattle.bz_buildozer.proofs.Words.{[], ◌∙◌, ◌≡◌, acts_over, ap, arith, Bool, Bytes, IfSome, inl, inr, IsLeft, IsOpenedIn, key_in, key_of, List, MeansUntil, None, package_number, refl, Settled, settled, subst, sym, Taken, taken_in, true, Used, Uses, wanting_name, World}
+use Rattle.bz_buildozer.proofs.{FailSteps.last_within, FailSteps.means_opened, FailSteps.uses_read, PlaceSteps.opened_last, PlaceSteps.place_last, StandSteps.key_unknown, UnreadSteps.among_all, UnreadSteps.grows_none}
 use Rattle.bz_buildozer.proofs.workspace.Workspace.open_file.Goals as goal
 
 pub open_settled-file-requires : goal.open_settled-file-requires

@@ -1,6 +1,4 @@
-use Rattle.std.proofs.Common.{◌∙◌, ap, map}
-use Rattle.bz_buildozer.specs.Found.{package_number}
-use Rattle.bz_buildozer.specs.private.ShownFiles.{used_in}
+use Rattle.bz_buildozer.proofs.Words.{◌∙◌, ap, map, package_number, used_in}
 use Rattle.bz_buildozer.proofs.PlaceSteps.{place_found}
 use Rattle.bz_buildozer.proofs.workspace.Workspace.place.Goals as goal
 

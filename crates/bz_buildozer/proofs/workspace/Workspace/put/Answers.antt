@@ -1,7 +1,4 @@
-use Rattle.std.proofs.Common.{◌∙◌, ap, map}
-use Rattle.std.specs.Option.{option_map}
-use Rattle.bz_buildozer.specs.private.ShownFiles.{texts_of_keys, opened_in, used_in}
-use Rattle.bz_buildozer.specs.Found.{Opened, file_at, with_opened}
+use Rattle.bz_buildozer.proofs.Words.{◌∙◌, ap, file_at, map, Opened, opened_in, option_map, texts_of_keys, used_in, with_opened}
 use Rattle.bz_buildozer.proofs.PlaceSteps.{file_there, kept_by}
 use Rattle.bz_buildozer.proofs.workspace.Workspace.put.Goals as goal
 
