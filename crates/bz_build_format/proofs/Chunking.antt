@@ -1,25 +1,14 @@
 -- Chunk by chunk a text is formatted as a whole.
-use Rattle.std.proofs.Common.{◌≡◌, ◌≤◌, ◌<◌, ◌+◌, ◌-◌, ℕ, Bool, false, true, not, List, [], ◌∷◌, ◌++◌, ◌⊎◌, inl, inr, Option, None, Some, Err, Ok, length, length-drop, length-take, take, drop, refl, sym, ap, ap₂, ◌∙◌, subst, append_assoc, arith}
-use Rattle.std.specs.Option.{is_some}
-use Rattle.std.proofs.Math.Seq.{take-add, take-length}
-use Rattle.bz_build_format.specs.Words.{Bytes, Node, NoBzlTree, depth_limit, depth_of, limit, Item, ReadFault, view_of, Drafted, drafted, pushed, flags, laid_out, layout, tidied}
+use Rattle.bz_build_format.proofs.Words.{[], ◌++◌, ◌+◌, ◌-◌, ◌<◌, ◌∙◌, ◌∷◌, ◌≡◌, ◌≤◌, ◌⊎◌, ap, append_assoc, ap₂, arith, Bool, BuildViews, Bytes, depth_limit, depth_of, Drafted, drafted, drop, Err, false, FileKind, flags, FlagsKeepLayout, gap_below, inl, inr, is_some, IsAppended, IsFormattedAs, IsProper, Item, laid_out, layout, LayoutIsAccepted, LayoutIsTooDeep, LayoutReadsBack, length, length-drop, length-take, limit, List, NoBzlTree, Node, None, not, of_kind, Ok, Option, pushed, ReadFault, ReadFault as r, ReadsAs, refl, Some, subst, sym, take, take-add, take-length, tidied, true, view_of, ViewsAreProper, ℕ}
 use Rattle.bz_token.proofs.Tokens.{whole_rest}
-use Rattle.bz_lex.specs.declared.fault.ReadFault.TheVariants as r
-use Rattle.bz_value.specs.Proper.{IsProper}
-use Rattle.bz_hosts.specs.Joined.{ViewsJoin}
-use Rattle.bz_hosts.specs.Laws.{BuildViews, ViewsAreProper}
-use Rattle.bz_hosts.specs.SuitesJoined.{SuitesJoin}
-use Rattle.bz_layout.specs.Appended.{LayoutsJoin, DepthsJoin, gap_below}
+use Rattle.bz_hosts.specs.{Joined.ViewsJoin, SuitesJoined.SuitesJoin}
+use Rattle.bz_layout.specs.Appended.{LayoutsJoin, DepthsJoin}
 use Rattle.bz_layout.proofs.Pushing.{pushed_twice}
-use Rattle.bz_layout.specs.Laws.{FlagsKeepLayout, LayoutIsAccepted, LayoutIsTooDeep, LayoutReadsBack}
 use Rattle.bz_passes.specs.Joined.{TidiedApart}
-use Rattle.bz_build_format.specs.declared.chunks.FileKind.{FileKind}
 use Rattle.bz_build_format.specs.declared.chunks.FileKind.TheVariants.{Build, Suites}
-use Rattle.bz_build_format.specs.private.Chunks.{IsAppended, IsFormattedAs, ReadsAs, of_kind}
 use Rattle.bz_build_format.specs.declared.formatter.FormatFault.{FormatFault}
 use Rattle.bz_build_format.specs.declared.formatter.FormatFault.TheVariants as f
-use Rattle.bz_build_format.proofs.Formatting.{laid_out_given}
-use Rattle.bz_build_format.proofs.Writes.{written_given, written_too_deep, written_too_large}
+use Rattle.bz_build_format.proofs.{Formatting.laid_out_given, Writes.written_given, Writes.written_too_deep, Writes.written_too_large}
 
 -- ---- texts one after the other
 

@@ -1,21 +1,10 @@
 -- A formatted text is formatted to itself, and says what the text says that it was made of.
-use Rattle.std.proofs.Common.{◌≡◌, ◌∙◌, List, refl, sym, ap, subst, None, ◌≤◌, length, Err, Ok, Option, Result}
-use Rattle.std.specs.Prelude.{IfOk}
-use Rattle.bz_build_format.specs.Words.{Bytes, Node, Reads, ReadsBzl, depth_of, depth_limit, limit, Item, IsProperBuild, view_of, flags, laid_out, layout, tidied, program, token_times}
-use Rattle.bz_grammar.specs.Laws.{OneReading, OneBzlReading}
+use Rattle.bz_build_format.proofs.Words.{◌∙◌, ◌≡◌, ◌≤◌, ap, BuildLayoutIsBuild, BuildViews, Bytes, bzl_formatted, BzlFixedPoint, depth_limit, depth_of, Err, FixedPoint, flags, FlagsKeepLayout, FormatsBzlTo, formatted_tree, gives, IfOk, IsProper, IsProperBuild, Item, KeepsProgram, laid_out, Lasts, layout, LayoutIsAccepted, LayoutReadsBack, length, limit, List, Node, None, Ok, OneBzlReading, OneReading, Option, program, Reads, ReadsBzl, refl, Result, subst, sym, tidied, token_times, view_of, ViewsAreProper, ViewsKeepPrograms, whole_grammar, WritingKeepsProgram, written}
 use Rattle.bz_value.specs.Counted.{times}
-use Rattle.bz_value.specs.LineShapes.{whole_grammar}
-use Rattle.bz_value.specs.Proper.{IsProper}
 use Rattle.bz_hosts.specs.Kept.{CommentsKept}
-use Rattle.bz_hosts.specs.Laws.{BuildViews, ViewsAreProper}
-use Rattle.bz_layout.specs.Laws.{BuildLayoutIsBuild, FlagsKeepLayout, LayoutIsAccepted, LayoutReadsBack}
 use Rattle.bz_passes.specs.Laws.{BuildStays, LevelKeepsComments, LevelKeepsProgram, LevelStays, ProperStays, TidySettles, TidyStays, TidyingKeepsComments}
-use Rattle.bz_passes.specs.Programs.{KeepsProgram, KeptProgramsKeepTokens, TidyingKeepsProgram}
-use Rattle.bz_build_format.specs.Meaning.{written, gives}
-use Rattle.bz_build_format.specs.Fixed.{FixedPoint, BzlFixedPoint, WritingKeepsProgram}
-use Rattle.bz_build_format.specs.TreePrograms.{ViewsKeepPrograms}
+use Rattle.bz_passes.specs.Programs.{KeptProgramsKeepTokens, TidyingKeepsProgram}
 use Rattle.bz_build_format.proofs.Writes.{limited, IsGiven, given}
-use Rattle.bz_build_format.specs.Faults.{bzl_formatted, formatted_tree, FormatsBzlTo, Lasts}
 
 -- the text of the layout of a proper value, which is these items, reads as its tree
 pub layout_read : LayoutIsAccepted → (text : Bytes) (items file : List Item) → items ≡ file → IsProper file → text ≡ layout items → length (layout items) ≤ limit → depth_of (laid_out items) ≤ depth_limit

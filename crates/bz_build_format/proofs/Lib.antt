@@ -8,3 +8,4 @@ pub mod Chunking
 pub mod Nodes
 pub mod Lines
 pub mod Windowed
+mod Words

@@ -1,17 +1,8 @@
 -- Lines of texts: of one that is read, of one after another, and of parts of a legal file.
-use Rattle.std.proofs.Common.{ℕ, ◌≡◌, ◌≤◌, ◌<◌, ◌+◌, ◌∙◌, List, [], ◌∷◌, ◌++◌, length, take, drop, refl, ap, sym, subst, arith, append_assoc, append-nil, flat_map}
-use Rattle.std.specs.Prelude.{Option, None, Some, MatchOption}
-use Rattle.std.proofs.lemmas.Grind.{flat_map-append}
-use Rattle.std.proofs.lemmas.List.{length-drop, same_from_push, take-append-drop}
-use Rattle.bz_items.specs.Characters.{Bytes, line_feed}
-use Rattle.bz_build_format.specs.Words.{Leaf, Node, Part, LegalBuild, Reads, EndsWithLine}
+use Rattle.bz_build_format.proofs.Words.{[], ◌++◌, ◌+◌, ◌<◌, ◌∙◌, ◌∷◌, ◌≡◌, ◌≤◌, ap, append-nil, append_assoc, AreWholeLines, arith, bare_end, Bytes, drop, EndsWithLine, file_with, flat_map, flat_map-append, last_token, Leaf, leaves_Node, leaves_part, LegalBuild, length, length-drop, limit, LinesJoin, LinesSplit, List, MatchOption, Node, None, Option, Part, ReadAsLines, Reads, refl, same_from_push, Some, spell_node, spell_part, spelled_parts, subst, sym, take, take-append-drop, ℕ}
+use Rattle.bz_items.specs.Characters.{line_feed}
 use Rattle.bz_grammar.specs.declared.tree.Part.TheVariants as p
-use Rattle.bz_grammar.specs.Joined.{last_token, AreWholeLines, file_with, LinesJoin}
-use Rattle.bz_grammar.specs.Spell.{leaves_part, limit, spell_node, spell_part}
-use Rattle.bz_grammar.specs.Split.{LinesSplit, bare_end}
-use Rattle.bz_grammar.proofs.Spells.{leaves_Node}
 use Rattle.bz_hosts.proofs.JoinedLines.{last_after, whole_both}
-use Rattle.bz_build_format.specs.private.Lines.{ReadAsLines, spelled_parts}
 
 -- ---- whole lines
 

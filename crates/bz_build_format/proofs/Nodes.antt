@@ -1,12 +1,7 @@
 -- What leaves and nodes spell.
-use Rattle.std.proofs.Common.{ℕ, ◌≡◌, ◌≤◌, ◌-◌, ◌∙◌, ◌++◌, List, length, drop, ap, sym, append_assoc, arith}
-use Rattle.std.proofs.lemmas.List.{take_all}
-use Rattle.bz_build_format.specs.Words.{Bytes, Node, Part, spell_part}
+use Rattle.bz_build_format.proofs.Words.{◌++◌, ◌-◌, ◌∙◌, ◌≡◌, ◌≤◌, ap, append_assoc, arith, at_side, Bytes, drop, joined_at, length, List, Node, Part, spell_Node, spell_part, spelled_parts, sym, take_all, ℕ}
 use Rattle.bz_grammar.specs.declared.tree.Part.TheVariants as p
-use Rattle.bz_grammar.proofs.Spells.{spell_Node}
-use Rattle.bz_build_format.specs.declared.ends.Side.{Side}
-use Rattle.bz_build_format.specs.declared.ends.Side.TheVariants.{Front, Back}
-use Rattle.bz_build_format.specs.private.Lines.{at_side, joined_at, spelled_parts}
+use Rattle.bz_build_format.specs.{declared.ends.Side.Side, declared.ends.Side.TheVariants.Front, declared.ends.Side.TheVariants.Back}
 
 -- as many parts at a side as there are
 all_at_side : (side : Side) (n : ℕ) (parts : List Part) → length parts ≤ n → at_side side n parts ≡ parts

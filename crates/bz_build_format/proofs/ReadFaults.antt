@@ -1,10 +1,7 @@
 -- The fault that is reported where a text is not formatted.
-use Rattle.std.proofs.Common.{◌≡◌, ◌↔◌, ◌≤◌, ◌<◌, ℕ, true, length, Result, Err, refl, ap}
+use Rattle.bz_build_format.proofs.Words.{◌<◌, ◌↔◌, ◌≡◌, ◌≤◌, ap, Bytes, Err, is_of_leaves, IsFaultAt, IsFaultOf, IsReported, length, limit, ReadFault, ReadFault as f, refl, Result, true, ℕ}
 use Rattle.std.specs.Str.{IsValidUpTo}
-use Rattle.bz_build_format.specs.Words.{ReadFault, is_of_leaves, IsFaultAt, limit, Bytes}
-use Rattle.bz_lex.specs.declared.fault.ReadFault.TheVariants as f
-use Rattle.bz_grammar.specs.Faults.{IsOfText, IsFaultOf}
-use Rattle.bz_build_format.specs.Faults.{IsReported}
+use Rattle.bz_grammar.specs.Faults.{IsOfText}
 
 -- a fault of the text says that it is refused
 pub refused_text : (Refused : Type 0) (fault : ReadFault) → (IsOfText fault → Refused) → (fault ≡ f.Memory → ⊥) → Refused

@@ -1,25 +1,11 @@
 -- The program of what a tree says is that of the tree.
-use Rattle.std.proofs.Common.{zero, suc, Bool, true, false, ◌&&◌, if◌then◌else◌, List, [], ◌∷◌, ◌++◌, ◌≡◌, Option, refl, ap, ◌∙◌, map, take, drop, inl, inr}
-use Rattle.std.specs.Prelude.{ℕ}
-use Rattle.std.proofs.lemmas.Bool.{cases_Bool}
-use Rattle.std.proofs.lemmas.List.{map-append}
-use Rattle.bz_build_format.specs.Words.{Kind, Part, Row_of-Part, end_of-Part, more_of-Part, Node', is_kind, Expr, Item, Bytes}
-use Rattle.bz_grammar.specs.declared.kind.Kind.TheVariants as k
-use Rattle.bz_grammar.specs.declared.tree.Part.TheVariants as p
+use Rattle.bz_build_format.proofs.Words.{[], ◌&&◌, ◌++◌, ◌∙◌, ◌∷◌, ◌≡◌, ap, bare_form, before_marks, Bool, both, branches, Bytes, cases_Bool, drop, end_of-Part, Expr, exprs_in, false, Frame, frame, headers_in, if◌then◌else◌, indented_lines_before, inl, inr, is_binary, is_comprehension, is_header, is_kind, is_operator, Item, Item as i, Kind, Kind as k, lead, List, made, map, map-append, more_of-Part, no_comments, Node', node_statements, node_syntax, Option, Parsed, parsed, parsed_row, Part, Part as p, part_syntax, program, put_header, refl, Row_of-Part, row_syntax, sequence, Stated, stated, stated_row, statement_read, statements_in, suc, suite_form, suite_in, suite_statements, suite_syntax, suites_in, syntax_of, take, true, ViewsKeepPrograms, walked, with_suite, zero, ℕ}
 use Rattle.bz_value.specs.declared.value.Expr.TheVariants as e
-use Rattle.bz_value.specs.declared.value.Item.TheVariants as i
-use Rattle.bz_value.specs.Comments.{HostComments, no_comments}
-use Rattle.bz_value.specs.Frames.{Frame, sequence, frame, lead, is_binary, is_comprehension, is_header}
+use Rattle.bz_value.specs.Comments.{HostComments}
 use Rattle.bz_value.specs.Gaps.{GapLine, has_newline, groups_of, all_but_last, last_group, all_in, others_in, comments_in}
-use Rattle.bz_value.specs.Proper.{is_operator}
 use Rattle.bz_hosts.specs.View.{items_from}
-use Rattle.bz_hosts.specs.Suites.{branches, exprs_in, indented_lines_before, put_header, statement_read, stated, stated_row, suite_form, suite_in, walked, with_suite, Stated}
 use Rattle.bz_hosts.specs.Seen.{Seen, plain, row_exprs, items_in, item_in, is_split, is_open, first_seen_gap, seen_node, seen, seen_row, blocks, statements_in as seen_statements, statement_before}
-use Rattle.bz_passes.specs.Syntax.{syntax_of, program}
-use Rattle.bz_passes.proofs.Keeping.{both}
-use Rattle.bz_passes.proofs.Parts.{made}
 use Rattle.bz_passes.proofs.SameSyntax.{syntax_Form}
-use Rattle.bz_build_format.specs.TreePrograms.{before_marks, bare_form, node_syntax, part_syntax, row_syntax, headers_in, node_statements, Parsed, parsed, parsed_row, statements_in, suite_statements, suite_syntax, suites_in, ViewsKeepPrograms}
 
 -- whatever comments and break it is given, a part that was read has this syntax
 abbrev Says : Seen → Expr → Type 0

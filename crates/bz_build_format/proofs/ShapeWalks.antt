@@ -1,11 +1,6 @@
 -- What holds of a row of parts by walking along its shape, from state to state.
-use Rattle.std.proofs.Common.{Bool, true, ◌&&◌, List, [], ◌∷◌, ◌++◌, ◌≡◌, inl, inr, sym, subst, append_assoc, append-nil}
-use Rattle.std.specs.List.{AllByRecursion}
-use Rattle.std.proofs.lemmas.Bool.{and_parts}
-use Rattle.bz_grammar.specs.declared.tree.Part.{Part}
-use Rattle.bz_grammar.specs.Legal.{IsNonterminal}
+use Rattle.bz_build_format.proofs.Words.{[], ◌&&◌, ◌++◌, ◌∷◌, ◌≡◌, After, AllByRecursion, and_parts, append-nil, append_assoc, Bool, Fits, has_token, inl, inr, IsNonterminal, List, Listed, no_more, Nonterminal, once_more, Part, Several, Shape, subst, sym, Terminal, Times, true}
 use Rattle.bz_grammar.specs.Shapes as s
-use Rattle.bz_grammar.specs.Shapes.{Nonterminal, Terminal, Shape, Fits, Listed, After, Several, Times, no_more, once_more, has_token}
 use Rattle.bz_hosts.proofs.SeenParts.{all_parted}
 
 -- where a token of these leads, and a part of a sort; whether two states are known to be one

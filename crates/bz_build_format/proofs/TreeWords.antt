@@ -1,35 +1,15 @@
 -- The tokens of a legal tree, in their order, are those of its program, but for separators; so each is there as often.
-use Rattle.std.proofs.Common.{ℕ, zero, suc, ◌+◌, Bool, true, false, not, ◌&&◌, List, [], ◌∷◌, ◌++◌, ◌≡◌, ◌≤◌, ◌<◌, ◌⊎◌, refl, sym, ap, ◌∙◌, map, take, drop, length, subst, inl, inr, append_assoc, append-nil, length-append, true≢false, if◌then◌else◌, arith}
-use Rattle.std.specs.Prelude.{bytes_eq}
-use Rattle.std.specs.List.{flat_map, AllByRecursion}
-use Rattle.std.proofs.lemmas.Bool.{cases_Bool, and_parts, or_left, or_right, cond-true, cond-false}
-use Rattle.std.proofs.lemmas.Grind.{flat_map-append}
-use Rattle.std.proofs.lemmas.Slice.Eq.{bytes_eq-Decides}
-use Rattle.bz_build_format.specs.Words.{Class, Leaf, Kind, Node, Bytes, Form, total}
-use Rattle.bz_grammar.specs.declared.kind.Kind.TheVariants as k
-use Rattle.bz_grammar.specs.declared.tree.Part.{Part, Row_of-Part, end_of-Part, more_of-Part, Node', items-the_row-Part}
-use Rattle.bz_grammar.specs.declared.tree.Part.TheVariants as p
-use Rattle.bz_grammar.specs.Kinds.{kind_number}
-use Rattle.bz_grammar.specs.Legal.{IsBuild, IsBuildPart, IsBuildRow, IsNonterminal, LegalBuild, Legal, LegalPart, LegalRow}
+use Rattle.bz_build_format.proofs.Words.{[], ◌&&◌, ◌++◌, ◌+◌, ◌<◌, ◌∙◌, ◌∷◌, ◌≡◌, ◌≤◌, ◌⊎◌, AllByRecursion, and_parts, ap, append-nil, append_assoc, arith, bare_form, before_marks, Bool, both, Bytes, bytes_eq, bytes_eq-Decides, bzl_shape, BzlFixedPoint, cases_Bool, Class, compound, cond-false, cond-true, done, drop, end_of-Part, Expr, false, Fits, FixedPoint, flat_map, flat_map-append, Form, FormattingKeepsTokens, FormattingKeepsWords, Frame, frame, has_token, headers_in, if◌then◌else◌, inl, inr, is_bzl_separator, is_class, is_inner_frame, is_mark_between, is_one_of, IsBuild, IsBuildPart, IsBuildRow, IsNonterminal, items_after, items_are, Kind, Kind as k, lead, Leaf, leaf_times, leaf_words, leaves_of, leaves_part, leaves_row, Legal, LegalBuild, LegalPart, LegalRow, length, length-append, line_shape, line_statements, List, map, marks_between, more_of-Part, Node, Node', node_statements, node_syntax, Nonterminal, nonterminal_has_kind, not, one_if_token, or_left, or_right, parsed, parsed_row, Part, Part as p, part_syntax, parts_after, parts_are, put_header, refl, row, Row_of-Part, row_syntax, row_token_sum, sequence, Several, Shape, stated, statements_in, subst, suc, suite_statements, suite_syntax, suites_in, sym, take, Terminal, tok, token_sum, token_times, total, tree_program, tree_words, TreeProgramsKeepTokens, true, true≢false, zero, ℕ}
+use Rattle.bz_grammar.specs.{declared.tree.Part.items-the_row-Part, Kinds.kind_number}
 use Rattle.bz_grammar.specs.Shapes as s
-use Rattle.bz_grammar.specs.Shapes.{Nonterminal, Terminal, Shape, Fits, Several, bzl_shape, nonterminal_has_kind, tok, done, has_token, is_class, is_one_of}
-use Rattle.bz_grammar.specs.Spell.{leaves_of, leaves_part, leaves_row}
 use Rattle.bz_grammar.proofs.Balance.{inner_nonterminal, leaves_rows, no_such, same_class}
 use Rattle.bz_grammar.proofs.Terminals.{subset, subset-one_of}
-use Rattle.bz_value.specs.declared.value.Expr.{Expr, Token, Form', Row_of-Expr, end_of-Expr, more_of-Expr, items-the_row-Expr}
+use Rattle.bz_value.specs.declared.value.Expr.{Token, Form', Row_of-Expr, end_of-Expr, more_of-Expr, items-the_row-Expr}
 use Rattle.bz_value.specs.declared.value.Expr.TheVariants as e
-use Rattle.bz_value.specs.Frames.{Frame, row, sequence, compound, frame, is_inner_frame, lead}
-use Rattle.bz_value.specs.LineShapes.{line_shape}
 use Rattle.bz_value.proofs.LegalBy.{LegalBy, LegalRowBy}
-use Rattle.bz_hosts.specs.Suites.{put_header, stated}
 use Rattle.bz_hosts.proofs.InnerParts.{InLine, in_line, inner_legal, line_framed, nonterminal_inner}
 use Rattle.bz_hosts.proofs.QuietGaps.{in_statements}
-use Rattle.bz_passes.specs.Syntax.{token_sum, row_token_sum, one_if_token, token_times}
-use Rattle.bz_passes.proofs.Keeping.{both}
-use Rattle.bz_passes.proofs.Parts.{parts_after, items_after, parts_are, items_are}
 use Rattle.bz_hosts.proofs.Colons.{NoColon, no_colons, nonterminal_plain, token_plain}
-use Rattle.bz_build_format.specs.Fixed.{BzlFixedPoint, FixedPoint, FormattingKeepsTokens, FormattingKeepsWords, TreeProgramsKeepTokens, is_bzl_separator, is_mark_between, leaf_times, leaf_words, marks_between, tree_words}
-use Rattle.bz_build_format.specs.TreePrograms.{bare_form, before_marks, node_syntax, part_syntax, row_syntax, tree_program, headers_in, suite_syntax, suites_in, line_statements, node_statements, parsed, parsed_row, statements_in, suite_statements}
 use Rattle.bz_build_format.proofs.ShapeWalks.{leads, led}
 
 -- ---- where separators are

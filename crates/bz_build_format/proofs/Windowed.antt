@@ -1,18 +1,7 @@
 -- Windows of parts, read one after the other.
-use Rattle.std.proofs.Common.{ℕ, suc, Bool, true, nat_eq, ◌≡◌, ◌≤◌, ◌<◌, ◌+◌, ◌-◌, ◌∙◌, List, [], ◌∷◌, ◌++◌, length, take, drop, drop-cons, get_or, refl, ap, sym, subst, arith, inl, inr, append_assoc, append-nil, length-append, length-take}
-use Rattle.std.specs.Prelude.{IfOk, Result, Ok, Err, Some}
+use Rattle.bz_build_format.proofs.Words.{[], ◌++◌, ◌+◌, ◌-◌, ◌<◌, ◌∙◌, ◌∷◌, ◌≡◌, ◌≤◌, Accepted, ap, append-nil, append_assoc, AreAmong, AreRead, AreTextsOf, AreThere, AreWholeLines, arith, bare_end, Bool, Bytes, drop, drop-cons, drop-drop, drop-take, drop_all, Err, file_with, flat_map-append, get_or, IfOk, inl, inr, IsBuild, IsPushed, IsPutAmong, Legal, LegalBuild, length, length-append, length-drop, length-take, limit, LinesJoin, LinesSplit, List, nat_eq, nat_tests, nil_from_length, Node, Ok, OneReading, Part, PartWindow, put_in, ReadAsLines, Reads, refl, Result, Some, spell_node, spell_part, spelled_parts, subst, suc, sym, take, take-add, take-append-drop, take-append_seam, take-take, take_all, text_with, TextWindow, true, window_parts, with_windows, ℕ}
 use Rattle.std.specs.Result.{result_ok}
 use Rattle.std.proofs.lemmas.Option.{same_Some}
-use Rattle.std.proofs.Math.Seq.{take-add, take-append_seam}
-use Rattle.std.proofs.lemmas.Bool.Decides.{nat_tests}
-use Rattle.std.proofs.lemmas.Grind.{flat_map-append}
-use Rattle.std.proofs.lemmas.List.{length-drop, nil_from_length, take-append-drop, take-take, take_all, drop-drop, drop-take, drop_all}
-use Rattle.bz_build_format.specs.Words.{Bytes, Node, Part, limit, spell_node, spell_part, PartWindow, AreThere, window_parts, with_windows, TextWindow, AreTextsOf}
-use Rattle.bz_grammar.specs.Joined.{AreWholeLines, file_with, LinesJoin}
-use Rattle.bz_grammar.specs.Legal.{Accepted, IsBuild, Legal, LegalBuild, Reads}
-use Rattle.bz_grammar.specs.Split.{LinesSplit, bare_end}
-use Rattle.bz_grammar.specs.Laws.{OneReading}
-use Rattle.bz_build_format.specs.private.Lines.{AreAmong, ReadAsLines, AreRead, IsPushed, IsPutAmong, put_in, spelled_parts, text_with}
 use Rattle.bz_build_format.proofs.Lines.{bare_legal, first_lines, legal_after, lines_after, lines_text, next_lines, no_lines, read_after}
 
 -- ---- texts around a window

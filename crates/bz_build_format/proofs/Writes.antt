@@ -1,10 +1,6 @@
 -- What is written of a value: the layout of it tidied.
-use Rattle.std.proofs.Common.{◌∙◌, ◌≡◌, ◌≤◌, ◌<◌, ℕ, List, length, true, false, Bool, refl, Option, nat_lt, subst, sym, ap, arith, if◌then◌else◌}
-use Rattle.std.proofs.lemmas.Bool.Decides.{nat_tests}
-use Rattle.std.proofs.lemmas.Bool.{ltb-false}
-use Rattle.bz_build_format.specs.Words.{depth_of, depth_limit, limit, Item, Bytes, layout, laid_out, tidied}
+use Rattle.bz_build_format.proofs.Words.{◌<◌, ◌∙◌, ◌≡◌, ◌≤◌, ap, arith, Bool, Bytes, depth_limit, depth_of, false, gives, if◌then◌else◌, Item, laid_out, layout, length, limit, List, ltb-false, Meaning, nat_lt, nat_tests, Option, refl, refuses, subst, sym, tidied, true, written, ℕ}
 use Rattle.bz_value.specs.declared.refusal.Refusal.TheVariants.{TooLarge, TooDeep}
-use Rattle.bz_build_format.specs.Meaning.{Meaning, gives, refuses, written}
 
 abbrev pub limited : ℕ → Bytes → Option Bytes → Meaning
 limited depth text printed = if nat_lt limit (length text) then refuses TooLarge else (if nat_lt depth_limit depth then refuses TooDeep else gives text printed)

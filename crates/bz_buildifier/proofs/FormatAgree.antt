@@ -1,25 +1,11 @@
 -- Two runs that no failure cuts agree.
-use Rattle.std.proofs.Common.{◌≡◌, ◌≤◌, ◌<◌, ◌∙◌, ◌∷◌, ◌++◌, ◌⊎◌, inl, inr, List, [], length, Bool, true, false, Some, None, Ok, Err, Result, refl, sym, ap, subst, arith}
-use Rattle.std.specs.Prelude.{IfOk, if◌then◌else◌}
-use Rattle.std.specs.List.{All}
-use Rattle.std.specs.FinMap.{get}
-use Rattle.bz_buildifier.specs.Words.{Bytes, ReadFault, Folder, IsAside, SameFolders, with_file, FormatFault, stdin}
-use Rattle.bz_grammar.specs.declared.tree.Node.{Node}
-use Rattle.bz_grammar.specs.Laws.{OneReading, OneBzlReading}
-use Rattle.bz_grammar.specs.Spell.{limit}
+use Rattle.bz_buildifier.proofs.Words.{[], ◌++◌, ◌<◌, ◌∙◌, ◌∷◌, ◌≡◌, ◌≤◌, ◌⊎◌, absent, Agree, All, ap, arith, begun, Bool, Bytes, Cut as c, Effect, Err, Exact, exact_absent, exact_formatted, exact_unformatted, ExactStep, false, file_out, FilesFormatted, FileType, Folder, FormatFault, FormatFault as f, FormatOutcomeOf, FormatsAs, get, grown, IfOk, if◌then◌else◌, inl, input_out, input_printed, input_unformatted, input_unread, input_without_memory, InputStep, inr, is_bzl, is_rewritten, IsAside, IsFormatUsageLine, length, limit, List, Mode, None, noted, Ok, OutcomesAgree, output_effect, ReadFault, ReadsBzl, refl, refused, Result, RunOf, SameFolders, SameReports, Some, stdin, subst, sym, text_status, true, unopened, with_file}
+use Rattle.bz_grammar.specs.{declared.tree.Node.Node, Laws.OneReading, Laws.OneBzlReading}
 use Rattle.bz_hosts.specs.View.{view_of}
 use Rattle.bz_build_format.specs.Meaning.{Meaning, gives, refuses, written, Formats}
-use Rattle.bz_build_format.specs.declared.formatter.FormatFault.TheVariants as f
 use Rattle.bz_value.specs.declared.refusal.Refusal.TheVariants as r
 use Rattle.bz_build_format.specs.Faults.{bzl_formatted, formatted_tree}
-use Rattle.bz_grammar.specs.Legal.{ReadsBzl}
-use Rattle.bz_streams.specs.declared.exit.Cut.TheVariants as c
 use Rattle.bz_buildifier.specs.Modes as m
-use Rattle.bz_buildifier.specs.FormatRun.{FormatsAs, Effect, FilesFormatted, InputStep, input_unread, input_without_memory, input_unformatted, input_printed, FormatOutcomeOf, RunOf, IsFormatUsageLine, begun, grown, noted, output_effect, absent, unopened, input_out, file_out, is_rewritten, text_status, refused}
-use Rattle.bz_buildifier.specs.Modes.{is_bzl}
-use Rattle.bz_buildifier.specs.Laws.{ExactStep, exact_absent, exact_unformatted, exact_formatted, Exact, SameReports, Agree, OutcomesAgree}
-use Rattle.bz_buildifier.specs.declared.file_type.FileType.{FileType}
-use Rattle.bz_buildifier.specs.declared.mode.Mode.{Mode}
 use Rattle.bz_buildifier.proofs.FormatWhole.{exact_run}
 
 -- ---- what formatting a text answers is fixed

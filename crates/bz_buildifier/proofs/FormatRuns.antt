@@ -1,18 +1,8 @@
 -- What several texts of buildifier's do, one after the other.
-use Rattle.std.proofs.Common.{◌≡◌, ◌∙◌, ◌∷◌, ◌++◌, ◌==◌, ◌||◌, inr, ℕ, List, [], length, Option, Ok, Err, Bool, Bor, map, true, false, refl, sym, ap, subst, true≢false}
-use Rattle.std.specs.Prelude.{if◌then◌else◌}
-use Rattle.std.proofs.lemmas.List.{nil_from_length}
-use Rattle.std.proofs.lemmas.Bool.{eqb-true}
-use Rattle.bz_buildifier.specs.Words.{Folder, Counts, Writes, WritesUnlessClosed, first_cut, Cut}
-use Rattle.bz_streams.specs.Faults.{Rises, AppendsSome}
-use Rattle.bz_streams.specs.declared.exit.Cut.TheVariants as c
-use Rattle.bz_streams.proofs.Outputs.{rises_more, writes_more}
+use Rattle.bz_buildifier.proofs.Words.{[], ◌++◌, ◌==◌, ◌||◌, ◌∙◌, ◌∷◌, ◌≡◌, ap, begun, Bool, Bor, Counts, Cut, Cut as c, Effect, effect_seen, eqb-true, Err, false, FilesFormatted, FileStep, FileType, first_cut, Folder, FormatOutcome, grown, if◌then◌else◌, InputStep, inr, IsCutBy, IsFormatUsageLine, length, List, map, Mode, nil_from_length, Ok, Option, refl, Rises, rises_more, RunOf, subst, sym, true, true≢false, worse, Writes, writes_more, WritesUnlessClosed, ℕ}
+use Rattle.bz_streams.specs.Faults.{AppendsSome}
 use Rattle.bz_buildifier.specs.Modes as m
-use Rattle.bz_buildifier.specs.FormatRun.{Effect, FilesFormatted, FileStep, InputStep, FormatOutcome, RunOf, IsFormatUsageLine, begun, IsCutBy, grown, worse}
-use Rattle.bz_buildifier.specs.private.FormatShown.{effect_seen}
 use Rattle.bz_buildifier.specs.declared.effect.Effect as e
-use Rattle.bz_buildifier.specs.declared.file_type.FileType.{FileType}
-use Rattle.bz_buildifier.specs.declared.mode.Mode.{Mode}
 
 -- ---- why a run is cut
 

@@ -1,21 +1,8 @@
 -- What one text of buildifier's does.
-use Rattle.std.proofs.Common.{◌≡◌, ◌⊎◌, ◌≤◌, ◌<◌, ◌∙◌, ◌++◌, ◌+◌, inl, inr, ℕ, List, [], take, length, Option, Some, None, Ok, Err, Bool, true, false, refl, sym, ap, subst, arith, length-take}
-use Rattle.std.specs.Prelude.{◌≢◌, IfSome}
-use Rattle.std.proofs.lemmas.List.{take_all}
+use Rattle.bz_buildifier.proofs.Words.{[], ◌++◌, ◌+◌, ◌<◌, ◌∙◌, ◌≡◌, ◌≢◌, ◌≤◌, ◌⊎◌, Accepted, ap, appends_nothing, arith, Bool, Cut as c, Effect, Err, false, FileFault, FileFault as file, Folder, FormatFault, FormatFault as f, FormatsAs, get, IfSome, inl, inr, IsInput, length, length-take, limit, List, None, Ok, Option, ReadFault, ReadFault as read, refl, refused, Rewrites, Some, subst, sym, take, take_all, true, unread_file, WritesUnlessClosed, ℕ}
 use Rattle.std.proofs.lemmas.Bool.{cases_lt}
-use Rattle.std.specs.FinMap.{get}
-use Rattle.bz_buildifier.specs.Words.{ReadFault, Folder, FileFault, FormatFault, WritesUnlessClosed, IsInput}
-use Rattle.bz_lex.specs.declared.fault.ReadFault.TheVariants as read
-use Rattle.bz_lex.specs.Faults.{is_of_leaves}
-use Rattle.bz_lex.specs.Stops.{IsFaultAt}
-use Rattle.bz_grammar.specs.Spell.{limit}
-use Rattle.bz_grammar.specs.Legal.{Accepted}
+use Rattle.bz_lex.specs.{Faults.is_of_leaves, Stops.IsFaultAt}
 use Rattle.bz_grammar.specs.Faults.{IsFaultOf}
-use Rattle.bz_files.specs.declared.files.FileFault.TheVariants as file
-use Rattle.bz_build_format.specs.declared.formatter.FormatFault.TheVariants as f
-use Rattle.bz_streams.specs.declared.exit.Cut.TheVariants as c
-use Rattle.bz_streams.proofs.Outputs.{appends_nothing}
-use Rattle.bz_buildifier.specs.FormatRun.{FormatsAs, Effect, refused, unread_file, Rewrites}
 
 -- an effect that writes nothing on standard output, which does not fail
 pub record IsQuiet (effect : Effect) : Type 0 where

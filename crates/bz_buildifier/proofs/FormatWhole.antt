@@ -1,21 +1,8 @@
 -- Whole runs over files, as exact ones, and those that a failure of standard output cuts, up to that failure.
-use Rattle.std.proofs.Common.{◌≡◌, ◌∙◌, ◌∷◌, ◌++◌, ◌||◌, inl, inr, List, [], Bool, true, false, cond, Some, None, refl, sym, ap, subst}
-use Rattle.std.specs.Prelude.{if◌then◌else◌}
-use Rattle.std.specs.List.{All}
-use Rattle.std.specs.FinMap.{get, get-insert}
-use Rattle.std.specs.Ordering.{nat_cmp, eq_by_cmp}
-use Rattle.std.specs.Cmp.Lexicographic.{slice_cmp}
-use Rattle.std.proofs.lemmas.Cmp.{nat_list_cmp_total}
-use Rattle.std.proofs.lemmas.List.Elements.{All-head, All-tail}
-use Rattle.bz_buildifier.specs.Words.{Bytes, Folder, IsAside, SameFolders, SameBut, with_file, new_name, FileFault, first_cut, Cut}
-use Rattle.bz_files.specs.declared.files.FileFault.TheVariants as file
-use Rattle.bz_buildifier.specs.FormatRun.{Effect, FilesFormatted, FileStep, unread, without_memory, unformatted, kept, rewritten, grown, noted, output_effect, file_out, text_status, is_rewritten, unread_file}
-use Rattle.bz_buildifier.specs.Laws.{ExactStep, exact_absent, exact_unformatted, exact_formatted, Exact}
+use Rattle.bz_buildifier.proofs.Words.{[], ◌++◌, ◌||◌, ◌∙◌, ◌∷◌, ◌≡◌, All, ap, Bool, Bytes, cond, Cut, Cut as c, Effect, Exact, exact_absent, exact_formatted, exact_unformatted, ExactStep, false, file_out, FileFault, FileFault as file, FilesFormatted, FileStep, FileType, first_cut, Folder, get, get-insert, grown, if◌then◌else◌, inl, inr, is_rewritten, IsAside, kept, List, Mode, Mode as m, nat_cmp, new_name, None, noted, output_effect, refl, rewritten, SameBut, SameFolders, Some, subst, sym, text_status, true, unformatted, unread, unread_file, with_file, without_memory}
+use Rattle.std.specs.{Ordering.eq_by_cmp, Cmp.Lexicographic.slice_cmp}
+use Rattle.std.proofs.{lemmas.Cmp.nat_list_cmp_total, lemmas.List.Elements.All-head, lemmas.List.Elements.All-tail}
 use Rattle.bz_buildifier.proofs.FormatSteps.{unread_quiet, refused_quiet}
-use Rattle.bz_streams.specs.declared.exit.Cut.TheVariants as c
-use Rattle.bz_buildifier.specs.declared.file_type.FileType.{FileType}
-use Rattle.bz_buildifier.specs.declared.mode.Mode.{Mode}
-use Rattle.bz_buildifier.specs.declared.mode.Mode.TheVariants as m
 
 both_whole : (a b : Cut) → first_cut a b ≡ c.Whole → (a ≡ c.Whole) × (b ≡ c.Whole)
 both_whole c.Whole b is = (refl, is)

@@ -1,10 +1,5 @@
 -- Lists: what holds of each item and of each two, and lists that are cut in three.
-use Rattle.std.proofs.Common.{ℕ, ◌≡◌, ◌+◌, ◌≤◌, List, [], ◌∷◌, ◌++◌, length, take, drop, map, refl, sym, ap, ◌∙◌, arith, Some, append_assoc, length-append, length-take-le, length-drop}
-use Rattle.std.specs.List.{AllByRecursion}
-use Rattle.std.specs.Prelude.{slice_get}
-use Rattle.std.proofs.lemmas.List.{take-append-drop, take_at, drop_at, drop-drop, get_or_at}
-use Rattle.std.proofs.lemmas.Option.{slice_get_read}
-use Rattle.bz_edit.specs.Steps.{EachPair}
+use Rattle.bz_edit.proofs.Words.{[], ◌++◌, ◌+◌, ◌∙◌, ◌∷◌, ◌≡◌, ◌≤◌, AllByRecursion, ap, append_assoc, arith, drop, drop-drop, drop_at, EachPair, get_or_at, length, length-append, length-drop, length-take-le, List, map, refl, slice_get, slice_get_read, Some, sym, take, take-append-drop, take_at, ℕ}
 
 -- ---- each item
 

@@ -1,16 +1,7 @@
 -- The same of trails: a list of steps and a cursor.
-use Rattle.std.proofs.Common.{ℕ, suc, true, Result, Ok, Err, OnOk, ◌≡◌, ◌-◌, ◌+◌, ◌≤◌, List, [], ◌∷◌, ◌++◌, length, map, reverse, take, drop, refl, sym, ap, ◌∙◌, subst, arith, length-append, length-take-le}
-use Rattle.std.specs.Prelude.{slice_range}
-use Rattle.std.proofs.lemmas.Slice.{between_is, take-put_mid, drop-put_mid}
+use Rattle.bz_edit.proofs.Words.{[], ◌++◌, ◌+◌, ◌-◌, ◌∙◌, ◌∷◌, ◌≡◌, ◌≤◌, ap, are_even, AreSteps, arith, between_is, crossed, drop, drop-append-le, drop-drop, drop-put_mid, drop_at, Edit, Err, IsTrail, LeadOn, length, length-append, length-reverse, length-take-le, List, map, Moves, Node, Ok, OnOk, reached, refl, Result, reverse, reverse-append, slice_range, spell_node, steps_back, steps_forward, subst, suc, swap_node, sym, take, take-append-drop, take-put_mid, take-take, take_at, Trail, trail_at, trees_around, true, ℕ}
 use Rattle.std.proofs.lemmas.List.Edits.{length-between}
 use borrow.Rule.Slice.PartMut.{put_mid}
-use Rattle.std.proofs.lemmas.List.{reverse-append, length-reverse, take-append-drop, take-take, take_at, drop_at, drop-append-le, drop-drop}
-use Rattle.bz_grammar.specs.declared.tree.Node.{Node}
-use Rattle.bz_grammar.specs.Spell.{spell_node}
-use Rattle.bz_edit.specs.declared.edit.Edit.{Edit}
-use Rattle.bz_edit.specs.Steps.{swap_node}
-use Rattle.bz_edit.specs.Trails.{are_even, Trail, IsTrail, LeadOn, AreSteps, steps_back, steps_forward, reached, crossed, trail_at}
-use Rattle.bz_edit.specs.Shown.{Moves, trees_around}
 use Rattle.bz_edit.proofs.Sides.{AreSides, AreKept, passed, passed_on}
 
 -- a move over steps, whatever its two sides are made of

@@ -1,18 +1,7 @@
 -- A tree between the steps that lead back and those that lead forward: over steps of the one side, they are on the other.
-use Rattle.std.proofs.Common.{◌≡◌, List, [], ◌∷◌, ◌++◌, reverse, refl, sym, ap, ◌∙◌, subst, append_assoc}
-use Rattle.std.proofs.lemmas.List.{append-nil, reverse-append, reverse-reverse}
-use Rattle.std.proofs.lemmas.Grind.{reverse_onto}
+use Rattle.bz_edit.proofs.Words.{[], ◌++◌, ◌∙◌, ◌∷◌, ◌≡◌, ap, append-nil, append_assoc, AreSteps, crossed, Edit, IsTree, LeadOn, List, Node, reached, refl, reverse, reverse-append, reverse-reverse, reverse_onto, spell_node, step, StepLeads, subst, swap_node, sym, trees, trees_around, turned_all}
 use mathlib.Core.List.{reverse_aux}
-use Rattle.bz_grammar.specs.declared.tree.Node.{Node}
-use Rattle.bz_grammar.specs.Spell.{spell_node}
-use Rattle.bz_edit.specs.declared.edit.Edit.{Edit}
-use Rattle.bz_edit.specs.Steps.{swap_node, turned_all}
-use Rattle.bz_edit.specs.Between.{step}
-use Rattle.bz_edit.proofs.Turns.{apart_of, turned_step}
-use Rattle.bz_edit.proofs.Twice.{Back, twice}
-use Rattle.bz_edit.proofs.Turning.{step_turned}
-use Rattle.bz_edit.specs.Trails.{IsTree, StepLeads, LeadOn, AreSteps, trees, reached, crossed}
-use Rattle.bz_edit.specs.Shown.{trees_around}
+use Rattle.bz_edit.proofs.{Turns.apart_of, Turns.turned_step, Twice.Back, Twice.twice, Turning.step_turned}
 
 pub record AreSides (n : Node) (back forward : List (List Edit)) : Type 0 where
   pub tree : IsTree n

@@ -1,16 +1,6 @@
 -- A trail that takes up a new tree.
-use Rattle.std.proofs.Common.{ℕ, ◌≡◌, ◌+◌, ◌≤◌, List, [], ◌∷◌, ◌++◌, length, map, reverse, take, drop, refl, sym, ap, ◌∙◌, subst, arith, append_assoc, length-append, length-take-le}
-use Rattle.std.proofs.lemmas.List.{length-map, reverse-append, length-reverse, take_all, drop_all, map-append, take_at}
-use Rattle.std.proofs.lemmas.Grind.{reverse_onto}
-use Rattle.bz_grammar.specs.declared.tree.Node.{Node}
-use Rattle.bz_grammar.specs.Spell.{spell_node}
-use Rattle.bz_edit.specs.declared.edit.Edit.{Edit}
-use Rattle.bz_edit.specs.Steps.{IsStep, swap_node}
-use Rattle.bz_edit.specs.Between.{Least, step}
-use Rattle.bz_edit.proofs.Leads.{step_is_least}
-use Rattle.bz_edit.specs.Trails.{Trail, IsTrail, IsTree, StepLeads, LeadOn, AreSteps, steps_back, steps_forward, trail_at, trees}
-use Rattle.bz_edit.proofs.Keeps.{trees_length}
-use Rattle.bz_edit.specs.Shown.{TakesUp, texts_of, trees_around}
+use Rattle.bz_edit.proofs.Words.{[], ◌++◌, ◌+◌, ◌∙◌, ◌∷◌, ◌≡◌, ◌≤◌, ap, append_assoc, AreSteps, arith, drop, drop_all, Edit, IsStep, IsTrail, IsTree, LeadOn, Least, length, length-append, length-map, length-reverse, length-take-le, List, map, map-append, Node, refl, reverse, reverse-append, reverse_onto, spell_node, step, StepLeads, steps_back, steps_forward, subst, swap_node, sym, take, take_all, take_at, TakesUp, texts_of, Trail, trail_at, trees, trees_around, ℕ}
+use Rattle.bz_edit.proofs.{Leads.step_is_least, Keeps.trees_length}
 
 kinds : (x y : Node) → IsTree x → IsTree y → x.kind ≡ y.kind
 kinds x y h k = h.0.legal.file.root ∙ sym k.0.legal.file.root

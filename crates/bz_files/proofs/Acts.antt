@@ -1,14 +1,6 @@
 -- How the calls that replace a file follow one another.
-use Rattle.std.proofs.Common.{◌≡◌, ◌∙◌, ◌≤◌, ◌++◌, ◌∷◌, [], ℕ, List, Result, Some, true, Ok, Err, OnOk, sym, subst, refl}
-use Rattle.std.proofs.lemmas.Bool.{false≢true}
-use Rattle.std.proofs.lemmas.Result.{on_ok_weaker}
-use Rattle.std.specs.FinMap.{get}
-use Rattle.bz_files.specs.Acts.{Counted, GoesThrough}
-use Rattle.bz_files.specs.Faults.{Rises}
-use Rattle.bz_files.specs.Folder.{Folder, Text, IsUntouched, SameBeside}
-use Rattle.bz_files.specs.Pair.{PutsFiles, PutsNewest, RewritesHeld}
-use Rattle.bz_files.specs.declared.files.FileFault.{FileFault}
-use Rattle.bz_files.specs.declared.files.Files.{Ghosts as FilesOf}
+use Rattle.bz_files.proofs.Words.{[], ◌++◌, ◌∙◌, ◌∷◌, ◌≡◌, ◌≤◌, Err, false≢true, FileFault, Folder, get, IsUntouched, List, Ok, on_ok_weaker, OnOk, PutsFiles, PutsNewest, refl, Result, RewritesHeld, SameBeside, Some, subst, sym, Text, true, ℕ}
+use Rattle.bz_files.specs.{Acts.Counted, Acts.GoesThrough, Faults.Rises, declared.files.Files.Ghosts as FilesOf}
 use Rattle.bz_files.proofs.Elapsing.{weakened, elapsed_on, each_since}
 
 abbrev pub Step : Type 1

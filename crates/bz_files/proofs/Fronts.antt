@@ -1,7 +1,5 @@
 -- The front of a list.
-use Rattle.std.proofs.Common.{◌≡◌, ◌+◌, ◌++◌, ◌∷◌, ◌∙◌, ◌||◌, Bool, ℕ, List, [], length, map, take, ap, refl, sym, arith, length-take}
-use Rattle.std.specs.List.{list_any}
-use Rattle.std.proofs.lemmas.List.{take_all}
+use Rattle.bz_files.proofs.Words.{[], ◌++◌, ◌+◌, ◌||◌, ◌∙◌, ◌∷◌, ◌≡◌, ap, arith, Bool, length, length-take, List, list_any, map, refl, sym, take, take_all, ℕ}
 
 -- what was read after nothing, up to one byte more than a list has, shows whether the bytes are that list
 pub shows : (held bytes start items read : List ℕ) → items ≡ start ++ take (length held + 1) bytes → start ≡ [] → read ≡ items

@@ -1,13 +1,6 @@
 -- How the acts of calls follow one another.
-use Rattle.std.proofs.Common.{◌≡◌, ◌∙◌, ◌++◌, ◌∷◌, [], ℕ, List, Option, Result, Ok, Err, IsErrAnd, arith, pos, ap, sym, subst, refl, length-append}
-use Rattle.std.specs.List.{All}
-use Rattle.std.proofs.lemmas.List.{append_assoc, get_or_append_left}
+use Rattle.bz_files.proofs.Words.{[], ◌++◌, ◌∙◌, ◌∷◌, ◌≡◌, Act, act_of, All, ap, append_assoc, arith, BreaksOff, Err, Failed, FileFault, fold-append, GaveUp, get_or_append_left, IsErrAnd, IsMadeFor, IsRegular, KeepsOrder, length-append, List, Ok, on_err_weaker, on_ok_weaker, Option, pair_acts, pos, ReadsRegular, refl, Result, rewrite_acts, Saw, subst, sym, Text, WasSeen, with_act, with_acts, ℕ}
 use Rattle.std.proofs.lemmas.List.Elements.{All-append, All-cons, All-nil}
-use Rattle.std.proofs.lemmas.List.Sums.{fold-append}
-use Rattle.std.proofs.lemmas.Result.{on_ok_weaker, on_err_weaker}
-use Rattle.bz_files.specs.Folder.{Text}
-use Rattle.bz_files.specs.Orders.{Act, Saw, GaveUp, Failed, with_act, with_acts, act_of, IsMadeFor, IsRegular, WasSeen, ReadsRegular, BreaksOff, KeepsOrder, pair_acts, rewrite_acts}
-use Rattle.bz_files.specs.declared.files.FileFault.{FileFault}
 use Rattle.bz_files.specs.declared.stamp.FileStamp.{FileStamp}
 
 abbrev pub Acts : Type 0

@@ -1,6 +1,5 @@
 -- What is known of the calls that are to fail.
-use Rattle.std.proofs.Common.{◌≡◌, Option, Some, subst}
-use Rattle.bz_files.specs.Failing.{FailurePlan, GoesAsPlanned, IsNextCall}
+use Rattle.bz_files.proofs.Words.{◌≡◌, FailurePlan, GoesAsPlanned, IsNextCall, Option, Some, subst}
 
 -- a call that is not to fail, and goes on
 pub goes_on : {Fails Goes : FailurePlan → Type 0} {failed : Type 0} (before later : FailurePlan) (after : Option FailurePlan) → after ≡ Some later

@@ -1,18 +1,7 @@
 -- The lines of all statements, as one walk collects them or passes them.
-use Rattle.std.proofs.Common.{nat_eq, ◌-◌, ℕ, zero, suc, Bool, true, false, ◌≡◌, ◌<◌, ◌≤◌, ◌+◌, List, [], ◌∷◌, ◌++◌, Option, Some, None, if◌then◌else◌, refl, sym, ap, subst, ◌∙◌, take, drop, length, get_or, slice_get, option_map, map, append_assoc, arith}
-use Rattle.std.specs.List.{AllByRecursion, flat_map}
-use Rattle.std.proofs.lemmas.Bool.{both_ways, ne_eqb}
-use Rattle.std.proofs.lemmas.List.{drop_more, map-append, append-nil}
-use Rattle.bz_grammar.specs.declared.statement.Sought.{Sought}
-use Rattle.bz_grammar.specs.declared.tree.Node.{Node}
-use Rattle.bz_grammar.specs.declared.tree.Part.{Part, Row_of-Part, end_of-Part, more_of-Part, items-the_row-Part}
+use Rattle.bz_grammar.proofs.Words.{[], ◌++◌, ◌+◌, ◌-◌, ◌<◌, ◌∙◌, ◌∷◌, ◌≡◌, ◌≤◌, all_passed, AllByRecursion, ap, append-nil, append_assoc, arith, Bool, both_ways, drop, drop_more, end_of-Part, false, flat_map, fronts, fronts_part, fronts_row, gap_of, get_or, has_statements, if◌then◌else◌, is_stated, items-the_row-Part, length, line_following, List, map, map-append, more_of-Part, nat_eq, ne_eqb, newlines, Node, None, Option, option_map, own_front, Part, passed_line, refl, Row_of-Part, slice_get, Some, Sought, spell_part, subst, suc, sym, take, true, zero, ℕ}
 use Rattle.bz_grammar.specs.declared.tree.Part.TheVariants as v
-use Rattle.bz_grammar.specs.Spell.{spell_part}
-use Rattle.bz_grammar.specs.Statements.{gap_of, has_statements, newlines, fronts_part, fronts_row, fronts, line_following}
-use Rattle.bz_grammar.specs.private.Seeking.{is_stated, own_front, passed_line, all_passed}
-use Rattle.bz_grammar.proofs.Nested.{row_of, items_of_row, part_ind}
-use Rattle.bz_grammar.proofs.Spells.{spell_Node, spelled_so_far}
-use Rattle.bz_grammar.proofs.Statements.{text_to, text_more, newlines_within, newlines_append}
+use Rattle.bz_grammar.proofs.{Nested.row_of, Nested.items_of_row, Nested.part_ind, Spells.spell_Node, Spells.spelled_so_far, Statements.text_to, Statements.text_more, Statements.newlines_within, Statements.newlines_append}
 
 -- ---- the statements of a node, by its list of parts
 

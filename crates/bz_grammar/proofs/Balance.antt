@@ -1,31 +1,9 @@
 -- Each node opens and closes its own brackets only: where its leaves are is what the tree says.
-use Rattle.std.proofs.Common.{◌≡◌, ℕ, Bool, true, false, not, ◌&&◌, ◌||◌, List, [], ◌∷◌, ◌++◌, ◌⊎◌, inl, inr, Some, refl, sym, ap, ◌∙◌, subst, ◌↔◌, codes}
-use Rattle.std.specs.List.{AllByRecursion, flat_map}
-use Rattle.std.proofs.lemmas.Bool.{and_parts, or_cases, not-true, false≢true, eqb-true}
-use Rattle.std.proofs.lemmas.Option.{same_Some}
-use Rattle.bz_token.specs.Classes.{class_number}
-use Rattle.bz_token.specs.declared.class.Class.{Class}
-use Rattle.bz_token.specs.declared.class.Class.TheVariants as c
-use Rattle.bz_lex.specs.declared.leaf.Leaf.{Leaf}
-use Rattle.bz_lex.specs.declared.place.Place.{Place}
-use Rattle.bz_lex.specs.declared.place.Place.TheVariants.{Fresh, Over}
-use Rattle.bz_lex.specs.Places.{next, after_newline, same_depth, deeper, shallower}
-use Rattle.bz_grammar.specs.declared.kind.Kind.{Kind}
+use Rattle.bz_grammar.proofs.Words.{[], ◌&&◌, ◌++◌, ◌||◌, ◌↔◌, ◌∙◌, ◌∷◌, ◌≡◌, ◌⊎◌, after_newline, after_node, after_part, AllByRecursion, and_parts, ap, AtLeaves, AtParts, AtRow, Begins, Bool, bytes_eq-Decides, bzl_shape, Class, Class as c, class_number, class_of, closes, codes, deeper, def_header, else_header, end_of-Part, ends, eqb-true, false, false≢true, Fits, flat_map, following_token, for_header, Fresh, has_token, inl, inr, is_one_of, is_terminal, IsFile, IsNonterminal, items-the_row-Part, Kind, Leaf, leaves_at, leaves_of, leaves_part, leaves_row, LegalPart, LegalRow, List, Listed, more_of-Part, next, Node, Node', Nonterminal, nonterminal_has_kind, not, not-true, onward, opens, or_cases, Over, Part, Part as part, Place, plain, refl, Role, role, Row_of-Part, same_depth, same_Some, Several, shallower, Shape, Some, Spot, subst, sym, Terminal, test_header, Times, true, ℕ}
 use Rattle.bz_grammar.specs.declared.kind.Kind.TheVariants as k
-use Rattle.bz_grammar.specs.declared.tree.Node.{Node}
-use Rattle.bz_grammar.specs.declared.tree.Part.{Part, Row_of-Part, end_of-Part, more_of-Part, Node', items-the_row-Part}
-use Rattle.bz_grammar.specs.declared.tree.Part.TheVariants as part
-use Rattle.bz_grammar.specs.Spell.{leaves_part, leaves_row, leaves_of}
 use Rattle.bz_grammar.specs.Shapes as s
-use Rattle.bz_grammar.specs.Shapes.{Nonterminal, Terminal, Shape, Fits, Listed, Several, bzl_shape, has_token, is_one_of, is_terminal, nonterminal_has_kind, leaves_at}
-use Rattle.bz_grammar.specs.Legal.{IsNonterminal, LegalPart, LegalRow, IsFile}
-use Rattle.bz_grammar.specs.Shapes.{Times}
-use Rattle.bz_grammar.specs.Suites.{def_header, for_header, test_header, else_header}
 use Rattle.bz_grammar.proofs.Exact.{leaves_join}
 use Rattle.bz_grammar.proofs.Ended.{And, split_sub, test_split}
-use Rattle.bz_token.specs.Classes.{class_of}
-use Rattle.std.proofs.lemmas.Slice.Eq.{bytes_eq-Decides}
-use Rattle.bz_grammar.specs.Spots.{Spot, Begins, onward, Role, opens, closes, ends, plain, role, following_token, after_node, after_part, AtLeaves, AtRow, AtParts}
 use Rattle.bz_grammar.proofs.Flat.{spot_of, after, after-append, Flat, flat_join, flat_parts, same_again, same_deep, deep_same, shallow_deep, spot_same, spot_deep, spot_newline, after_opening, after_closing, after_plain}
 
 pub no_such : {A : Type 0} → false ≡ true → A

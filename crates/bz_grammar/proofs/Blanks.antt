@@ -1,8 +1,5 @@
 -- The spaces and tabs at the end of a gap, and indents by their lengths.
-use Rattle.std.proofs.Common.{◌≡◌, ℕ, zero, suc, ◌-◌, ◌≤◌, ◌<◌, inl, inr, Bool, true, false, ◌&&◌, nat_eq, List, [], ◌∷◌, length, take, drop, get_or, bytes_eq, refl, sym, ap, ◌∙◌, arith}
-use Rattle.std.proofs.lemmas.Bool.{and_parts, both_ways, cases_Bool, cond-true, cond-false, eqb-true, eq-eqb}
-use Rattle.bz_lex.specs.Gaps.{is_indent, are_indents, indent}
-use Rattle.bz_grammar.specs.Suites.{is_deeper}
+use Rattle.bz_grammar.proofs.Words.{[], ◌&&◌, ◌-◌, ◌<◌, ◌∙◌, ◌∷◌, ◌≡◌, ◌≤◌, and_parts, ap, are_indents, arith, Bool, both_ways, bytes_eq, cases_Bool, cond-false, cond-true, drop, eq-eqb, eqb-true, false, get_or, indent, inl, inr, is_deeper, is_indent, length, List, nat_eq, refl, suc, sym, take, true, zero, ℕ}
 
 pub all_blank : (s : List ℕ) → are_indents s ≡ true → s ≡ indent s
 all_blank [] h = refl

@@ -1,23 +1,7 @@
 -- Legal by nodes and legal by the list of leaves are the same.
-use Rattle.std.proofs.Common.{◌≡◌, ℕ, zero, suc, Bool, true, false, List, [], ◌∷◌, ◌++◌, ◌⊎◌, inl, inr, if◌then◌else◌, refl, sym, subst, ◌↔◌}
-use Rattle.bz_token.specs.declared.class.Class.{Class}
-use Rattle.bz_token.specs.declared.class.Class.TheVariants as c
-use Rattle.bz_token.specs.Tokens.{IsToken}
-use Rattle.bz_lex.specs.declared.leaf.Leaf.{Leaf}
-use Rattle.bz_lex.specs.declared.place.Place.{Place}
-use Rattle.bz_lex.specs.declared.place.Place.TheVariants.{Fresh, After, Inside, Last, Over}
-use Rattle.bz_lex.specs.Gaps.{IsGap, nothing}
-use Rattle.bz_lex.specs.Places.{next, after_token, after_newline, same_depth, deeper, shallower, is_opening, is_closing, May, first, later, inner, newline, no_newline, end, end_at_once}
-use Rattle.bz_lex.specs.Leaves.{Stand, spell_leaves, AreLeaves}
-use Rattle.bz_lex.proofs.Tokens.{token_holds}
-use Rattle.bz_lex.proofs.Unique.{not_over}
-use Rattle.bz_grammar.specs.declared.tree.Node.{Node}
-use Rattle.bz_grammar.specs.Legal.{IsFile, Legal}
-use Rattle.bz_grammar.specs.Laws.{IsLegalByLeaves}
-use Rattle.bz_grammar.specs.Spell.{leaves_of}
-use Rattle.bz_grammar.specs.Spots.{Begins, Within, Along, GapStands, Stands, TokenStands, AreTokens, AtParts}
-use Rattle.bz_grammar.proofs.Flat.{spot_of, after, Flat}
-use Rattle.bz_grammar.proofs.Balance.{file_at}
+use Rattle.bz_grammar.proofs.Words.{[], ◌++◌, ◌↔◌, ◌∷◌, ◌≡◌, ◌⊎◌, after_newline, after_token, Along, AreLeaves, AreTokens, AtParts, Begins, Bool, Class, Class as c, deeper, end, end_at_once, false, Fresh, GapStands, if◌then◌else◌, inl, inner, inr, Inside, is_closing, is_opening, IsFile, IsGap, IsLegalByLeaves, IsToken, Last, later, Leaf, leaves_of, Legal, List, May, newline, next, no_newline, Node, not_over, nothing, Over, Place, refl, same_depth, shallower, spell_leaves, Stand, Stands, subst, suc, sym, token_holds, TokenStands, true, Within, zero, ℕ}
+use Rattle.bz_lex.specs.{declared.place.Place.TheVariants.After, Places.first}
+use Rattle.bz_grammar.proofs.{Flat.spot_of, Flat.after, Flat.Flat, Balance.file_at}
 
 -- ---- from the list
 

@@ -1,8 +1,5 @@
 -- A row of parts and one more: a shape that ends with a part of a sort.
-use Rattle.std.proofs.Common.{◌≡◌, Bool, List, [], ◌∷◌, ◌++◌, inl, inr, refl, ap}
-use Rattle.bz_grammar.specs.declared.tree.Part.{Part}
-use Rattle.bz_grammar.specs.Shapes.{Terminal, Nonterminal, suite, test, colon_mark, Shape, none, done, tok, sub, alt, list, each, times, Listed, After, Several, Fits}
-use Rattle.bz_grammar.specs.Suites.{test_header}
+use Rattle.bz_grammar.proofs.Words.{[], ◌++◌, ◌∷◌, ◌≡◌, After, alt, ap, Bool, colon_mark, done, each, Fits, inl, inr, List, list, Listed, none, Nonterminal, Part, refl, Several, Shape, sub, suite, Terminal, test, test_header, times, tok}
 
 -- the shape, and then a part of a sort (no rows of groups)
 abbrev pub then_sub : Nonterminal → Shape → Shape

@@ -1,13 +1,5 @@
 -- Readers that read just what they ought to: loops.
-use Rattle.std.proofs.Common.{◌≡◌, ℕ, zero, suc, ◌≤◌, Bool, true, false, cond, List, [], ◌∷◌, ◌++◌, length, ◌&&◌, ◌⊎◌, inl, inr, Option, Some, None, refl, sym, ap, ◌∙◌, append_assoc, arith, length-append}
-use Rattle.std.proofs.lemmas.Bool.{and_parts, cases_Bool, both_ways, cond-false}
-use Rattle.std.specs.List.{flat_map}
-use Rattle.bz_lex.specs.declared.leaf.Leaf.{Leaf}
-use Rattle.bz_grammar.specs.declared.tree.Part.{Part, Node'}
-use Rattle.bz_grammar.specs.declared.tree.Part.TheVariants as v
-use Rattle.bz_grammar.specs.Spell.{leaves_part}
-use Rattle.bz_grammar.specs.Shapes.{Terminal, is_one_of, has_token, Listed, After, Several}
-use Rattle.bz_grammar.specs.Reading.{◌>>=◌, Read, starts_with, with_part_first, after_item, separated_parts, several}
+use Rattle.bz_grammar.proofs.Words.{[], ◌&&◌, ◌++◌, ◌>>=◌, ◌∙◌, ◌∷◌, ◌≡◌, ◌≤◌, ◌⊎◌, After, after_item, and_parts, ap, append_assoc, arith, Bool, both_ways, cases_Bool, cond, cond-false, false, flat_map, has_token, inl, inr, is_one_of, Leaf, leaves_part, length, length-append, List, Listed, Node', None, Option, Part, Part as v, Read, refl, separated_parts, Several, several, Some, starts_with, suc, sym, Terminal, true, with_part_first, zero, ℕ}
 use Rattle.bz_grammar.proofs.Terminals.{disjoint, disjoint-one_of, disjoint_at, full, full_front}
 
 abbrev pub all_leaves : List Part → List Leaf

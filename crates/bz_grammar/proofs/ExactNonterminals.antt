@@ -1,25 +1,7 @@
 -- Reading a part of each sort is exact.
-use Rattle.std.proofs.Common.{◌≡◌, ℕ, zero, suc, true, false, List, [], ◌∷◌, ◌++◌, ◌⊎◌, inl, inr, Some, refl, ap, ◌∙◌, append_assoc, arith}
-use Rattle.std.proofs.lemmas.Bool.{both_ways}
-use Rattle.bz_lex.specs.declared.leaf.Leaf.{Leaf}
-use Rattle.bz_grammar.specs.declared.kind.Kind.{Kind}
-use Rattle.bz_grammar.specs.declared.kind.Kind.TheVariants as k
-use Rattle.bz_grammar.specs.declared.tree.Node.{Node}
-use Rattle.bz_grammar.specs.declared.tree.Part.{Part}
+use Rattle.bz_grammar.proofs.Words.{[], ◌++◌, ◌∙◌, ◌∷◌, ◌≡◌, ◌⊎◌, ap, append_assoc, argument, arith, both_ways, bzl_shape, clause, clause_plan, climb, entry, false, first, first_clause, Fits, follow, has_token, infix_at, inl, inr, is_one_of, Kind, Kind as k, Leaf, leaves_at, leaves_part, level, line, List, loaded, name, named_tail, Node, node_part, Nonterminal, nonterminal_has_kind, param, param_tail, Part, prefix_at, Read, read_argument, read_param, reading, refl, run, shape_at, simple, small, small_plan, Some, starred, starts_level, starts_with, stmt, string, suc, suite, test, token_part, true, wrap, wrap_found, zero, ℕ}
 use Rattle.bz_grammar.specs.declared.tree.Part.TheVariants as v
-use Rattle.bz_grammar.specs.Spell.{leaves_part}
-use Rattle.bz_grammar.specs.Shapes.{is_one_of, has_token, Nonterminal, level, argument, entry, clause, first_clause, loaded, small, line, param, stmt, suite, test, starred, simple, string, name, leaves_at, nonterminal_has_kind, Fits, bzl_shape}
-use Rattle.bz_grammar.specs.Reading.{Read, starts_with, starts_level, first, run, node_part, wrap, wrap_found, follow, token_part, infix_at, prefix_at, climb, shape_at, named_tail, param_tail, read_argument, read_param, reading, clause_plan, small_plan}
-use Rattle.bz_grammar.proofs.Nested.{leaf_or_node}
-use Rattle.bz_grammar.proofs.Terminals.{disjoint_at, subset, subset-one_of}
-use Rattle.bz_grammar.proofs.Exact.{all_leaves, token_leaf, Exact}
-use Rattle.bz_grammar.proofs.Shapes.{go, by_table, is_deterministic, not_empty, run_exact}
-use Rattle.bz_grammar.proofs.Plans.{Finds, plan_exact, go_on}
-use Rattle.bz_grammar.proofs.Nodes.{node_leaves, exact_like, exact_within, Begun, Wrapped, IsLeaf, token_exact, leaf_starts, infix_exact, prefix_exact, wrapped_exact}
-use Rattle.bz_grammar.proofs.Trees.{At, node_fits}
-use Rattle.bz_grammar.proofs.Levels.{no, no_node, begins, goes, goes_level, level_by, levels_fine, made_node}
-use Rattle.bz_grammar.proofs.Families.{made_at, made_exact, clause_agrees, small_agrees, finds_clause, finds_small}
-use Rattle.bz_grammar.proofs.Primary.{primary_exact, starts_none}
+use Rattle.bz_grammar.proofs.{Nested.leaf_or_node, Terminals.disjoint_at, Terminals.subset, Terminals.subset-one_of, Exact.all_leaves, Exact.token_leaf, Exact.Exact, Shapes.go, Shapes.by_table, Shapes.is_deterministic, Shapes.not_empty, Shapes.run_exact, Plans.Finds, Plans.plan_exact, Plans.go_on, Nodes.node_leaves, Nodes.exact_like, Nodes.exact_within, Nodes.Begun, Nodes.Wrapped, Nodes.IsLeaf, Nodes.token_exact, Nodes.leaf_starts, Nodes.infix_exact, Nodes.prefix_exact, Nodes.wrapped_exact, Trees.At, Trees.node_fits, Levels.no, Levels.no_node, Levels.begins, Levels.goes, Levels.goes_level, Levels.level_by, Levels.levels_fine, Levels.made_node, Families.made_at, Families.made_exact, Families.clause_agrees, Families.small_agrees, Families.finds_clause, Families.finds_small, Primary.primary_exact, Primary.starts_none}
 
 -- a part of a sort, at a leaf or a node
 by_part : (d : ℕ) (q : Nonterminal) (x : Part) → At d q x → (IsLeaf (leaves_at q) x) ⊎ ((n : Node) × (x ≡ v.Node n) × At d q (v.Node n))

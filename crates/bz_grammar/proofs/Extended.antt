@@ -1,24 +1,13 @@
 -- A token of a text that ends in a newline is one where more is after that text, if no string is left open.
-use Rattle.std.proofs.Common.{◌≡◌, ℕ, Bool, true, false, List, [], ◌∷◌, ◌++◌, ◌⊎◌, inl, inr, Option, Some, None, refl, sym, ap, ◌∙◌, subst, append_assoc}
-use Rattle.std.proofs.lemmas.Bool.{false≢true}
-use Rattle.std.proofs.lemmas.Option.{same_Some}
-use Rattle.bz_token.specs.declared.class.Class.{Class}
+use Rattle.bz_grammar.proofs.Words.{[], ◌++◌, ◌∙◌, ◌∷◌, ◌≡◌, ◌⊎◌, ap, append_assoc, blank, Bool, Class, comment, end, end_at_once, escaped, escaped_return, false, false≢true, inl, inner, inr, IsGap, IsToken, last_comment, later, Leaf, List, May, newline, no_newline, None, nothing, NoToken, OpensString, Option, Place, refl, same_Some, Some, spell_leaves, Stand, subst, sym, true, unescaped, ℕ}
 use Rattle.bz_token.specs.declared.state.State.{State}
 use Rattle.bz_token.specs.declared.state.State.TheVariants.{Start, Opened, Empty, Short, ShortReturn, Long, LongOne, LongTwo}
 use Rattle.bz_token.specs.declared.state.Quote.TheVariants.{Single, Double}
 use Rattle.bz_token.specs.Bytes.{is_blank, is_quote}
 use Rattle.bz_token.specs.private.Machine.{after, and_next}
 use Rattle.bz_token.specs.private.Scanner.{move, is_in_string, quote_byte}
-use Rattle.bz_token.specs.Tokens.{IsToken, NoToken, OpensString}
-use Rattle.bz_token.proofs.Fronts.{some_next}
-use Rattle.bz_token.proofs.Laws.{state_of}
-use Rattle.bz_token.proofs.Opening.{last_state, answered, opens_after_prefix}
-use Rattle.bz_token.proofs.Strings.{quote_of}
-use Rattle.bz_lex.specs.declared.leaf.Leaf.{Leaf}
-use Rattle.bz_lex.specs.declared.place.Place.{Place}
-use Rattle.bz_lex.specs.Gaps.{IsGap, nothing, blank, escaped, escaped_return, unescaped, comment, last_comment}
-use Rattle.bz_lex.specs.Places.{May, first, later, inner, newline, no_newline, end, end_at_once}
-use Rattle.bz_lex.specs.Leaves.{Stand, spell_leaves}
+use Rattle.bz_token.proofs.{Fronts.some_next, Laws.state_of, Opening.last_state, Opening.answered, Opening.opens_after_prefix, Strings.quote_of}
+use Rattle.bz_lex.specs.Places.{first}
 
 -- ---- only within a string does the machine take a newline
 

@@ -1,18 +1,6 @@
 -- Kinds that begin alike: their plans require what the table of shapes requires.
-use Rattle.std.proofs.Common.{◌≡◌, ℕ, suc, true, false, List, [], ◌∷◌, ◌++◌, inl, inr, refl, sym, ap, subst, ◌∙◌}
-use Rattle.std.proofs.lemmas.Bool.{both_ways}
-use Rattle.bz_lex.specs.declared.leaf.Leaf.{Leaf}
-use Rattle.bz_grammar.specs.declared.kind.Kind.{Kind}
-use Rattle.bz_grammar.specs.declared.kind.Kind.TheVariants as k
-use Rattle.bz_grammar.specs.declared.tree.Part.{Part}
-use Rattle.bz_grammar.specs.Spell.{leaves_part}
-use Rattle.bz_grammar.specs.Shapes.{Terminal, Nonterminal, clause, small, entry, primary, test, nonterminal_has_kind, Shape, done, tok, sub, alt, items, Fits, bzl_shape, open_square, close_square, open_curly, close_curly}
-use Rattle.bz_grammar.specs.Reading.{Read, Plan, finish, one, piece, choose, FoundLevel, follow, node_part, wrap_found, round, square, curly, suffix_plan, clause_plan, small_plan, more_items}
-use Rattle.bz_grammar.proofs.Exact.{Exact}
-use Rattle.bz_grammar.proofs.Nodes.{node_leaves, wrap_found_some}
-use Rattle.bz_grammar.proofs.Plans.{Finds, shape_in, shape_of_plan, plan_of_shape, found_leaves}
-use Rattle.bz_grammar.proofs.Trees.{At}
-use Rattle.bz_grammar.proofs.Levels.{made_node}
+use Rattle.bz_grammar.proofs.Words.{[], ◌++◌, ◌∙◌, ◌∷◌, ◌≡◌, alt, ap, both_ways, bzl_shape, choose, clause, clause_plan, close_curly, close_square, curly, done, entry, false, finish, Fits, follow, FoundLevel, inl, inr, items, Kind, Kind as k, Leaf, leaves_part, List, more_items, node_part, Nonterminal, nonterminal_has_kind, one, open_curly, open_square, Part, piece, Plan, primary, Read, refl, round, Shape, small, small_plan, square, sub, subst, suc, suffix_plan, sym, Terminal, test, tok, true, wrap_found, ℕ}
+use Rattle.bz_grammar.proofs.{Exact.Exact, Nodes.node_leaves, Nodes.wrap_found_some, Plans.Finds, Plans.shape_in, Plans.shape_of_plan, Plans.plan_of_shape, Plans.found_leaves, Trees.At, Levels.made_node}
 
 -- ---- what holds of each kind that a plan may find
 

@@ -1,12 +1,6 @@
 -- Where leaves are in a flat list, and in a tree.
-use Rattle.std.proofs.Common.{◌≡◌, ℕ, Bool, true, false, List, [], ◌∷◌, ◌++◌, if◌then◌else◌, refl, subst}
-use Rattle.bz_token.specs.declared.class.Class.{Class}
-use Rattle.bz_token.specs.declared.class.Class.TheVariants as c
-use Rattle.bz_lex.specs.declared.leaf.Leaf.{Leaf}
-use Rattle.bz_lex.specs.declared.place.Place.{Place}
-use Rattle.bz_lex.specs.declared.place.Place.TheVariants.{After, Inside}
-use Rattle.bz_lex.specs.Places.{next, after_token, after_newline, same_depth, deeper, shallower, is_opening, is_closing}
-use Rattle.bz_grammar.specs.Spots.{Spot, Begins, Within, Along, onward, Role, opens, closes, ends, plain, role}
+use Rattle.bz_grammar.proofs.Words.{[], ◌++◌, ◌∷◌, ◌≡◌, after_newline, after_token, Along, Begins, Bool, Class, Class as c, closes, deeper, ends, false, if◌then◌else◌, Inside, is_closing, is_opening, Leaf, List, next, onward, opens, Place, plain, refl, Role, role, same_depth, shallower, Spot, subst, true, Within, ℕ}
+use Rattle.bz_lex.specs.declared.place.Place.TheVariants.{After}
 
 -- the spot of a place
 abbrev pub spot_of : Place → Spot

@@ -1,32 +1,10 @@
 -- Whole lines before a file.
-use Rattle.std.proofs.Common.{◌≡◌, ℕ, suc, ◌≤◌, List, [], ◌∷◌, ◌++◌, inl, inr, refl, sym, ap, ◌∙◌, subst, arith, append_assoc}
-use Rattle.std.specs.List.{AllByRecursion, flat_map}
-use Rattle.std.proofs.lemmas.Bool.{or_cases}
+use Rattle.bz_grammar.proofs.Words.{[], ◌++◌, ◌∙◌, ◌∷◌, ◌≡◌, ◌≤◌, AllByRecursion, ap, append-nil, append_assoc, AreCoded, AreIndented, AreLeaves, AreWholeLines, arith, bzl_shape, BzlLinesJoin, Class, Class as c, deepest, depth_limit, end, end_at_once, file_with, Fits, flat_map, Fresh, Indented, inl, inner, inr, IsBuild, IsBuildPart, IsCodedLeaf, IsFile, IsLegalByLeaves, IsNonterminal, IsToken, last_token, later, Leaf, leaves_of, leaves_part, Legal, LegalPart, LinesJoin, List, May, newline, next, no_newline, Node, Node', or_cases, Part, Place, refl, Several, spell_leaves, spell_node, spell_part, Stand, subst, suc, sym, token_no_newline, ℕ}
 use Rattle.std.proofs.lemmas.Grind.{flat_map-append}
-use Rattle.std.proofs.lemmas.List.{append-nil}
-use Rattle.bz_token.specs.declared.class.Class.{Class}
-use Rattle.bz_token.specs.declared.class.Class.TheVariants as c
-use Rattle.bz_token.specs.Tokens.{IsToken}
-use Rattle.bz_lex.specs.declared.leaf.Leaf.{Leaf}
-use Rattle.bz_lex.specs.declared.place.Place.{Place}
-use Rattle.bz_lex.specs.declared.place.Place.TheVariants.{Fresh}
-use Rattle.bz_lex.specs.Places.{next, May, first, later, inner, newline, no_newline, end, end_at_once}
-use Rattle.bz_lex.specs.Leaves.{Stand, AreLeaves, AreCoded, IsCodedLeaf, spell_leaves}
-use Rattle.bz_lex.proofs.Tokens.{token_no_newline}
-use Rattle.bz_grammar.specs.declared.tree.Node.{Node}
-use Rattle.bz_grammar.specs.declared.tree.Part.{Part, Node'}
+use Rattle.bz_lex.specs.Places.{first}
 use Rattle.bz_grammar.specs.declared.tree.Part as p
-use Rattle.bz_grammar.specs.Spell.{spell_part, spell_node, leaves_part, leaves_of, deepest, depth_limit}
 use Rattle.bz_grammar.specs.Shapes as s
-use Rattle.bz_grammar.specs.Shapes.{Fits, Several, bzl_shape}
-use Rattle.bz_grammar.specs.Indents.{Indented, AreIndented}
-use Rattle.bz_grammar.specs.Legal.{IsNonterminal, LegalPart, IsFile, Legal, IsBuild, IsBuildPart}
-use Rattle.bz_grammar.specs.Laws.{IsLegalByLeaves}
-use Rattle.bz_grammar.specs.Joined.{last_token, AreWholeLines, file_with, LinesJoin, BzlLinesJoin}
-use Rattle.bz_grammar.proofs.Balance.{no_such, same_class}
-use Rattle.bz_grammar.proofs.Both.{legal_by_nodes}
-use Rattle.bz_grammar.proofs.Spells.{spell_leaves-append}
-use Rattle.bz_grammar.proofs.Extended.{not_open, may_extend}
+use Rattle.bz_grammar.proofs.{Balance.no_such, Balance.same_class, Both.legal_by_nodes, Spells.spell_leaves-append, Extended.not_open, Extended.may_extend}
 
 -- ---- leaves
 

@@ -1,22 +1,7 @@
 -- With what a part of a sort begins, what may continue it, and the levels of operators.
-use Rattle.std.proofs.Common.{◌≡◌, ℕ, zero, suc, ◌+◌, ◌≤◌, Bool, true, false, eqb, leb, List, [], ◌∷◌, ◌++◌, ◌&&◌, not, ◌⊎◌, inl, inr, refl, ap, ◌∙◌, arith, ◌-◌, zero-add, suc-add}
-use Rattle.std.proofs.lemmas.Bool.{and_parts, both_ways, not-true, and_from, eqb-true, leb-true, le-leb, cases_lt}
-use Rattle.bz_lex.specs.declared.leaf.Leaf.{Leaf}
-use Rattle.bz_grammar.specs.declared.kind.Kind.{Kind}
-use Rattle.bz_grammar.specs.declared.kind.Kind.TheVariants as k
-use Rattle.bz_grammar.specs.declared.tree.Node.{Node}
-use Rattle.bz_grammar.specs.declared.tree.Part.{Part}
+use Rattle.bz_grammar.proofs.Words.{[], ◌&&◌, ◌++◌, ◌+◌, ◌-◌, ◌∙◌, ◌∷◌, ◌≡◌, ◌≤◌, ◌⊎◌, alt, and_from, and_parts, ap, argument, arith, assigns, Bool, both_ways, by_shape, bzl_shape, cases_lt, clause, depth_part, done, each, entry, eqb, eqb-true, equals, false, first, first_clause, first_of, Fits, fits_in, infix_at, inl, inr, is_expression, Kind, Kind as k, kind_at, le-leb, Leaf, leaves_at, leaves_part, leb, leb-true, level, line, List, list, loaded, name, Node, node_part, none, Nonterminal, nonterminal_has_kind, not, not-true, open_curly, open_round, open_square, own_token, param, Part, prefix_at, rank, Read, refl, Shape, shape_at, simple, small, starts, starts_level, starts_with, stmt, string, sub, suc, suc-add, suffix_plan, suite, Terminal, times, tok, true, zero, zero-add, ℕ}
 use Rattle.bz_grammar.specs.declared.tree.Part.TheVariants as v
-use Rattle.bz_grammar.specs.Spell.{leaves_part, depth_part}
-use Rattle.bz_grammar.specs.Shapes.{Terminal, Nonterminal, level, argument, entry, clause, first_clause, loaded, small, line, param, stmt, suite, nonterminal_has_kind, rank, is_expression, leaves_at, Shape, none, done, tok, sub, alt, list, each, times, Fits, bzl_shape, simple, name, string, equals, assigns, open_round, open_square, open_curly}
-use Rattle.bz_grammar.specs.Reading.{Read, starts_with, starts, starts_level, own_token, first, kind_at, shape_at, suffix_plan, first_of, node_part, by_shape, infix_at, prefix_at, fits_in}
-use Rattle.bz_grammar.proofs.Nested.{leaf_or_node}
-use Rattle.bz_grammar.proofs.Spells.{leaves_Node, depth_Node}
-use Rattle.bz_grammar.proofs.Terminals.{disjoint, disjoint_at, subset, subset_at, starts-append_left, starts-append_right, stops_right}
-use Rattle.bz_grammar.proofs.Exact.{Exact}
-use Rattle.bz_grammar.proofs.Shapes.{nullable, go, by_table, is_deterministic, not_empty, run_exact}
-use Rattle.bz_grammar.proofs.Trees.{At, legal_node, node_fits}
-use Rattle.bz_grammar.proofs.Nodes.{exact_like, Begun, Wrapped, infix_exact, prefix_exact}
+use Rattle.bz_grammar.proofs.{Nested.leaf_or_node, Spells.leaves_Node, Spells.depth_Node, Terminals.disjoint, Terminals.disjoint_at, Terminals.subset, Terminals.subset_at, Terminals.starts-append_left, Terminals.starts-append_right, Terminals.stops_right, Exact.Exact, Shapes.nullable, Shapes.go, Shapes.by_table, Shapes.is_deterministic, Shapes.not_empty, Shapes.run_exact, Trees.At, Trees.legal_node, Trees.node_fits, Nodes.exact_like, Nodes.Begun, Nodes.Wrapped, Nodes.infix_exact, Nodes.prefix_exact}
 
 -- ---- with what a part begins
 

@@ -26,3 +26,4 @@ pub mod Newer
 pub mod Extended
 pub mod Joining
 pub mod Split
+mod Words

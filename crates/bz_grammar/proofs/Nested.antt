@@ -1,10 +1,6 @@
 -- A part as if `Node` held a plain list of parts: induction, and how a function by rows goes at `Node`.
-use Rattle.std.proofs.Common.{List, [], ◌∷◌, ◌≡◌, refl, map, subst, sym, ◌⊎◌, inl, inr}
-use Rattle.std.specs.List.{AllByRecursion}
+use Rattle.bz_grammar.proofs.Words.{[], ◌∷◌, ◌≡◌, ◌⊎◌, AllByRecursion, end_of-Part, inl, inr, items-the_row-Part, items_hidden-the_row-Part-0, Leaf, List, map, Node, Part, refl, Row_of-Part, subst, sym}
 use mathlib.Core.Former.{Count}
-use Rattle.bz_grammar.specs.declared.tree.Node.{Node}
-use Rattle.bz_lex.specs.declared.leaf.Leaf.{Leaf}
-use Rattle.bz_grammar.specs.declared.tree.Part.{Part, Row_of-Part, end_of-Part, items-the_row-Part, items_hidden-the_row-Part-0}
 use Rattle.bz_grammar.specs.declared.tree.Part.TheVariants as p
 use Rattle.bz_grammar.specs.declared.tree.Part.TheOpen as o
 use Rattle.bz_grammar.specs.declared.tree.Part.TheViews as v

@@ -1,13 +1,6 @@
 -- Parts of BUILD files, by their rows and by their lists.
-use Rattle.std.proofs.Common.{◌≡◌, ℕ, zero, suc, ◌<◌, ◌≤◌, Bool, false, IsTrue, ◌↔◌, List, [], ◌∷◌, ◌++◌, inl, inr, take, drop, refl, sym, subst}
-use Rattle.std.proofs.lemmas.Bool.{cases_lt, both_ways}
-use Rattle.std.specs.List.{AllByRecursion}
-use Rattle.bz_grammar.specs.declared.kind.Kind.{Kind}
-use Rattle.bz_grammar.specs.declared.tree.Node.{Node}
-use Rattle.bz_grammar.specs.declared.tree.Part.{Part, Row_of-Part, end_of-Part, more_of-Part, items-the_row-Part}
+use Rattle.bz_grammar.proofs.Words.{[], ◌++◌, ◌<◌, ◌↔◌, ◌∷◌, ◌≡◌, ◌≤◌, AllByRecursion, Bool, both_ways, cases_lt, drop, end_of-Part, false, inl, inr, IsBuildPart, IsBuildRow, IsTrue, items-the_row-Part, Kind, kind_number, List, more_of-Part, Node, Part, refl, Row_of-Part, subst, suc, sym, take, zero, ℕ}
 use Rattle.bz_grammar.specs.declared.tree.Part.TheVariants as v
-use Rattle.bz_grammar.specs.Kinds.{kind_number}
-use Rattle.bz_grammar.specs.Legal.{IsBuildPart, IsBuildRow}
 use Rattle.bz_grammar.proofs.Nested.{row_of, items_of_row}
 
 abbrev pub AllBuild : List Part → Type 0

@@ -1,14 +1,5 @@
 -- Reading nodes: with a token of their own in front, or after their first part.
-use Rattle.std.proofs.Common.{◌≡◌, Bool, true, false, cond, List, [], ◌∷◌, ◌++◌, ◌⊎◌, inl, inr, Option, Some, None, refl, sym, ap, subst, ◌∙◌, append_assoc}
-use Rattle.std.proofs.lemmas.Option.{same_Some}
-use Rattle.bz_lex.specs.declared.leaf.Leaf.{Leaf}
-use Rattle.bz_grammar.specs.declared.kind.Kind.{Kind}
-use Rattle.bz_grammar.specs.declared.tree.Node.{Node}
-use Rattle.bz_grammar.specs.declared.tree.Part.{Part}
-use Rattle.bz_grammar.specs.declared.tree.Part.TheVariants as v
-use Rattle.bz_grammar.specs.Spell.{leaves_part}
-use Rattle.bz_grammar.specs.Shapes.{Terminal, is_one_of, Nonterminal, Shape}
-use Rattle.bz_grammar.specs.Reading.{Read, starts_with, first, with_part_first, run, FoundLevel, node_part, wrap, wrap_found, token_part, infix_at, prefix_at}
+use Rattle.bz_grammar.proofs.Words.{[], ◌++◌, ◌∙◌, ◌∷◌, ◌≡◌, ◌⊎◌, ap, append_assoc, Bool, cond, false, first, FoundLevel, infix_at, inl, inr, is_one_of, Kind, Leaf, leaves_part, List, Node, node_part, None, Nonterminal, Option, Part, Part as v, prefix_at, Read, refl, run, same_Some, Shape, Some, starts_with, subst, sym, Terminal, token_part, true, with_part_first, wrap, wrap_found}
 use Rattle.bz_grammar.proofs.Spells.{leaves_Node}
 use Rattle.bz_grammar.proofs.Terminals.{disjoint, disjoint_at, subset, subset_stops}
 use Rattle.bz_grammar.proofs.Exact.{all_leaves, bind_some, put_some, if_some, cond_parts, Exact}

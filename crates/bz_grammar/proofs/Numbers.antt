@@ -1,9 +1,5 @@
 -- Kinds and their numbers.
-use Rattle.std.proofs.Common.{◌≡◌, Some, refl, sym, ap, ◌∙◌}
-use Rattle.std.proofs.lemmas.Option.{same_Some}
-use Rattle.bz_grammar.specs.declared.kind.Kind.{Kind}
-use Rattle.bz_grammar.specs.declared.kind.Kind.TheVariants as k
-use Rattle.bz_grammar.specs.Kinds.{kind_number, kind_of}
+use Rattle.bz_grammar.proofs.Words.{◌∙◌, ◌≡◌, ap, Kind, Kind as k, kind_number, kind_of, refl, same_Some, Some, sym}
 
 pub of_number : (kind : Kind) → kind_of (kind_number kind) ≡ Some kind
 of_number k.File = refl

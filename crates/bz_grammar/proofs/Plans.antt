@@ -1,15 +1,5 @@
 -- Following a plan is exact where reading its sorts is, and one token decides what comes next.
-use Rattle.std.proofs.Common.{◌≡◌, Bool, true, false, cond, List, [], ◌∷◌, ◌++◌, ◌||◌, ◌&&◌, not, ◌⊎◌, inl, inr, Option, Some, None, refl, sym, ap, ◌∙◌, append_assoc}
-use Rattle.std.proofs.lemmas.Bool.{and_parts, both_ways, not-true, or_left, or_right, cases_Bool, eqb-true, eq-eqb}
-use Rattle.std.proofs.lemmas.Option.{same_Some}
-use Rattle.bz_lex.specs.declared.leaf.Leaf.{Leaf}
-use Rattle.bz_grammar.specs.declared.kind.Kind.{Kind}
-use Rattle.bz_grammar.specs.declared.tree.Part.{Part}
-use Rattle.bz_grammar.specs.declared.tree.Part.TheVariants as v
-use Rattle.bz_grammar.specs.Kinds.{kind_number}
-use Rattle.bz_grammar.specs.Spell.{leaves_part}
-use Rattle.bz_grammar.specs.Shapes.{Terminal, is_one_of, has_token, is_kind, Nonterminal, Shape, none, done, tok, sub, alt, list, each, times, Fits}
-use Rattle.bz_grammar.specs.Reading.{Read, starts_with, starts, run, Plan, finish, one, piece, choose, first_of, FoundLevel, as_kind, put_found, follow}
+use Rattle.bz_grammar.proofs.Words.{[], ◌&&◌, ◌++◌, ◌||◌, ◌∙◌, ◌∷◌, ◌≡◌, ◌⊎◌, alt, and_parts, ap, append_assoc, as_kind, Bool, both_ways, cases_Bool, choose, cond, done, each, eq-eqb, eqb-true, false, finish, first_of, Fits, follow, FoundLevel, has_token, inl, inr, is_kind, is_one_of, Kind, kind_number, Leaf, leaves_part, List, list, None, none, Nonterminal, not, not-true, one, Option, or_left, or_right, Part, Part as v, piece, Plan, put_found, Read, refl, run, same_Some, Shape, Some, starts, starts_with, sub, sym, Terminal, times, tok, true}
 use Rattle.bz_grammar.proofs.Numbers.{same_kind}
 use Rattle.bz_grammar.proofs.Terminals.{disjoint, disjoint_at, stops_left, stops_right, starts-append_left, starts-append_right}
 use Rattle.bz_grammar.proofs.Exact.{all_leaves, token_leaf, bind_some, if_some, cond_parts, Exact}

@@ -1,15 +1,6 @@
 -- What binds tightest is read exactly.
-use Rattle.std.proofs.Common.{◌≡◌, ℕ, zero, suc, ◌≤◌, ◌<◌, true, false, cond, List, [], ◌∷◌, ◌++◌, length, ◌⊎◌, inl, inr, Some, None, refl, sym, ap, subst, ◌∙◌, append_assoc, arith, length-append, ◌-◌}
-use Rattle.std.proofs.lemmas.Bool.{cond-false, leb-true, le-leb}
-use Rattle.std.proofs.lemmas.Option.{same_Some}
-use Rattle.bz_lex.specs.declared.leaf.Leaf.{Leaf}
-use Rattle.bz_grammar.specs.declared.kind.Kind.{Kind}
-use Rattle.bz_grammar.specs.declared.kind.Kind.TheVariants as k
-use Rattle.bz_grammar.specs.declared.tree.Part.{Part}
+use Rattle.bz_grammar.proofs.Words.{[], ◌++◌, ◌-◌, ◌<◌, ◌>>=◌, ◌∙◌, ◌∷◌, ◌≡◌, ◌≤◌, ◌⊎◌, ap, append_assoc, arith, atom, cond, cond-false, curly, deepest, depth_of, depth_part, false, first_of, fits_in, follow, FoundLevel, inl, inr, Kind, Kind as k, le-leb, Leaf, leaves_part, leb-true, length, length-append, List, node_part, None, Nonterminal, Part, piece, Plan, primary, put_found, Read, read_primary, refl, round, same_Some, simple, Some, square, starts_with, subst, suc, suffix_plan, suffixes, sym, token_part, true, wrap_found, zero, ℕ}
 use Rattle.bz_grammar.specs.declared.tree.Part.TheVariants as v
-use Rattle.bz_grammar.specs.Spell.{leaves_part, depth_part, depth_of, deepest}
-use Rattle.bz_grammar.specs.Shapes.{Nonterminal, primary, simple}
-use Rattle.bz_grammar.specs.Reading.{◌>>=◌, Read, starts_with, Plan, piece, first_of, FoundLevel, put_found, follow, node_part, wrap_found, token_part, fits_in, atom, suffixes, read_primary, round, square, curly, suffix_plan}
 use Rattle.bz_grammar.proofs.Nested.{leaf_or_node}
 use Rattle.bz_grammar.proofs.Spells.{depth_Node}
 use Rattle.bz_grammar.proofs.Terminals.{disjoint_at, full_front}

@@ -1,13 +1,5 @@
 -- Reading a shape is exact where reading its sorts is, and one token decides what comes next.
-use Rattle.std.proofs.Common.{◌≡◌, Bool, true, false, List, [], ◌∷◌, ◌++◌, length, ◌||◌, ◌&&◌, not, ◌⊎◌, inl, inr, Some, refl, sym, ap, subst, ◌∙◌, append_assoc, arith}
-use Rattle.std.proofs.lemmas.Bool.{and_parts, both_ways, not-true, or_left, or_right}
-use Rattle.std.proofs.lemmas.Option.{same_Some}
-use Rattle.bz_lex.specs.declared.leaf.Leaf.{Leaf}
-use Rattle.bz_grammar.specs.declared.tree.Part.{Part}
-use Rattle.bz_grammar.specs.declared.tree.Part.TheVariants as v
-use Rattle.bz_grammar.specs.Spell.{leaves_part}
-use Rattle.bz_grammar.specs.Shapes.{Terminal, is_one_of, Nonterminal, stmt, suite, Shape, none, done, tok, sub, alt, list, each, times, Several, Times, no_more, once_more, Fits}
-use Rattle.bz_grammar.specs.Reading.{Read, starts_with, starts, first, with_part_first, run}
+use Rattle.bz_grammar.proofs.Words.{[], ◌&&◌, ◌++◌, ◌||◌, ◌∙◌, ◌∷◌, ◌≡◌, ◌⊎◌, alt, and_parts, ap, append_assoc, arith, Bool, both_ways, done, each, false, first, Fits, inl, inr, is_one_of, Leaf, leaves_part, length, List, list, no_more, none, Nonterminal, not, not-true, once_more, or_left, or_right, Part, Part as v, Read, refl, run, same_Some, Several, Shape, Some, starts, starts_with, stmt, sub, subst, suite, sym, Terminal, Times, times, tok, true, with_part_first}
 use Rattle.bz_grammar.proofs.Terminals.{disjoint, disjoint_at, stops_left, stops_right, starts-append_left, starts-append_right}
 use Rattle.bz_grammar.proofs.Exact.{all_leaves, leaves_join, token_leaf, bind_some, put_some, if_some, cond_parts, Exact, listed_sound, listed_complete, several_sound, several_complete}
 

@@ -1,13 +1,5 @@
-use Rattle.std.proofs.Common.{suc, max, ℕ, ◌<◌, ◌≤◌, ◌+◌, get_or, take, drop, length, append_assoc, sym, subst, List, [], ◌∷◌, ◌++◌, ◌≡◌, refl, ap, ◌∙◌}
-use Rattle.bz_lex.specs.declared.leaf.Leaf.{Leaf}
-use Rattle.bz_lex.specs.Leaves.{spell_leaves}
-use Rattle.bz_grammar.specs.Spell.{spell_node, spell_part, spell_row, leaves_part, leaves_row, leaves_of, depth_part, depth_row, depth_of, deepest}
-use Rattle.std.specs.List.{flat_map, AllByRecursion}
-use Rattle.std.proofs.lemmas.List.{take-append-drop, append-nil}
-use Rattle.std.proofs.lemmas.List.Folds.{length-flat_map-take}
-use Rattle.std.proofs.Math.Seq.{take-append_seam}
-use Rattle.bz_grammar.specs.declared.tree.Node.{Node}
-use Rattle.bz_grammar.specs.declared.tree.Part.{Part, Row_of-Part, end_of-Part, more_of-Part, items-the_row-Part}
+use Rattle.bz_grammar.proofs.Words.{[], ◌++◌, ◌+◌, ◌<◌, ◌∙◌, ◌∷◌, ◌≡◌, ◌≤◌, AllByRecursion, ap, append-nil, append_assoc, deepest, depth_of, depth_part, depth_row, drop, end_of-Part, flat_map, get_or, items-the_row-Part, Leaf, leaves_of, leaves_part, leaves_row, length, List, max, more_of-Part, Node, Part, refl, Row_of-Part, spell_leaves, spell_node, spell_part, spell_row, subst, suc, sym, take, take-append-drop, ℕ}
+use Rattle.std.proofs.{lemmas.List.Folds.length-flat_map-take, Math.Seq.take-append_seam}
 use Rattle.bz_grammar.specs.declared.tree.Part.TheVariants as p
 use Rattle.bz_grammar.proofs.Nested.{row_of, items_of_row, part_ind}
 

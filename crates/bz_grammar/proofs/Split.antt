@@ -1,29 +1,8 @@
 -- The lines in front of a part of a legal file are a legal file, and so is what is after them.
-use Rattle.std.proofs.Common.{◌≡◌, ℕ, true, List, [], ◌∷◌, ◌++◌, inl, inr, refl, sym, ap, ◌∙◌, subst, arith, append_assoc}
+use Rattle.bz_grammar.proofs.Words.{[], ◌++◌, ◌∙◌, ◌∷◌, ◌≡◌, after_node, after_part, AllByRecursion, ap, append-nil, append_assoc, AreTokens, arith, AtParts, Begins, Class, Class as c, done, file_with, Fits, flat_map, Indented, inl, inr, IsBuildPart, IsCodedLeaf, IsNonterminal, IsToken, Kind, Kind as k, Leaf, leaves_part, Legal, LegalPart, List, Node', nonterminal_has_kind, nothing, Part, Part as p, refl, Several, spell_leaves, Spot, Stands, stmt, subst, sym, tok, TokenStands, true, ℕ}
 use Rattle.std.proofs.lemmas.Str.{IsUtf8-nil}
-use Rattle.std.proofs.lemmas.List.{append-nil}
-use Rattle.std.specs.List.{AllByRecursion, flat_map}
-use Rattle.bz_token.specs.declared.class.Class.{Class}
-use Rattle.bz_token.specs.declared.class.Class.TheVariants as c
-use Rattle.bz_token.specs.Tokens.{IsToken}
-use Rattle.bz_lex.specs.declared.leaf.Leaf.{Leaf}
-use Rattle.bz_lex.specs.Gaps.{nothing}
-use Rattle.bz_lex.specs.Leaves.{spell_leaves, IsCodedLeaf}
-use Rattle.bz_grammar.specs.declared.kind.Kind.{Kind}
-use Rattle.bz_grammar.specs.declared.kind.Kind.TheVariants as k
-use Rattle.bz_grammar.specs.declared.tree.Part.{Part, Node'}
-use Rattle.bz_grammar.specs.declared.tree.Part.TheVariants as p
-use Rattle.bz_grammar.specs.Spell.{leaves_part}
-use Rattle.bz_grammar.specs.Shapes.{Several, Fits, stmt, end, tok, done, nonterminal_has_kind}
-use Rattle.bz_grammar.specs.Spots.{Spot, Begins, AtParts, Stands, TokenStands, AreTokens, after_node, after_part}
-use Rattle.bz_grammar.specs.Indents.{Indented}
-use Rattle.bz_grammar.specs.Legal.{IsNonterminal, Legal, LegalPart, IsBuildPart}
-use Rattle.bz_grammar.specs.Joined.{file_with}
-use Rattle.bz_grammar.specs.Split.{bare_end, LinesSplit}
-use Rattle.bz_grammar.proofs.Spells.{spell_leaves-append}
-use Rattle.bz_grammar.proofs.Exact.{token_leaf}
-use Rattle.bz_grammar.proofs.Balance.{no_such}
-use Rattle.bz_grammar.proofs.Trees.{deepest_both}
+use Rattle.bz_grammar.specs.{Shapes.end, Split.bare_end, Split.LinesSplit}
+use Rattle.bz_grammar.proofs.{Spells.spell_leaves-append, Exact.token_leaf, Balance.no_such, Trees.deepest_both}
 
 -- ---- lists
 

@@ -1,22 +1,7 @@
 -- Where the statements of a legal tree are: by the table of shapes no part of a header or an expression is one, nor has one inside.
-use Rattle.std.proofs.Common.{◌≡◌, ℕ, Bool, true, false, not, ◌&&◌, ◌||◌, if◌then◌else◌, List, [], ◌∷◌, ◌++◌, map, inl, inr, refl, sym, ap, ◌∙◌, subst}
-use Rattle.std.proofs.lemmas.Bool.{and_parts, cases_Bool, both_ways, not-true}
-use Rattle.std.proofs.lemmas.List.{map-append, append-nil}
-use Rattle.std.specs.List.{AllByRecursion}
-use Rattle.bz_grammar.specs.declared.kind.Kind.{Kind}
-use Rattle.bz_grammar.specs.declared.kind.Kind.TheVariants as k
-use Rattle.bz_grammar.specs.declared.tree.Node.{Node}
-use Rattle.bz_grammar.specs.declared.tree.Part.{Part, Row_of-Part, end_of-Part, more_of-Part, Node', items-the_row-Part}
+use Rattle.bz_grammar.proofs.Words.{[], ◌&&◌, ◌++◌, ◌||◌, ◌∙◌, ◌∷◌, ◌≡◌, After, AllByRecursion, alt, and_parts, ap, append-nil, argument, begins_on, Bool, both_ways, bzl_shape, cases_Bool, clause, done, each, EachStatementHasALine, end_of-Part, entry, false, first_clause, Fits, fronts, fronts_part, gap_of, has_statements, has_token, if◌then◌else◌, inl, inr, is_kind, is_stated, is_statement_kind, IsNonterminal, items-the_row-Part, Kind, Kind as k, LegalPart, level, line, line_following, List, list, Listed, loaded, map, map-append, more_of-Part, no_more, Node, Node', none, Nonterminal, nonterminal_has_kind, not, not-true, once_more, own_front, param, Part, refl, Row_of-Part, Several, Shape, small, spell_part, statements, statements_part, statements_row, stmt, sub, subst, suite, sym, Terminal, Times, times, tok, true, ℕ}
 use Rattle.bz_grammar.specs.declared.tree.Part.TheVariants as v
-use Rattle.bz_grammar.specs.Spell.{spell_part}
-use Rattle.bz_grammar.specs.Shapes.{Terminal, Nonterminal, level, argument, entry, clause, first_clause, loaded, small, line, param, stmt, suite, is_kind, nonterminal_has_kind, has_token, Listed, After, Several, Times, no_more, once_more, Shape, none, done, tok, sub, alt, list, each, times, Fits, bzl_shape}
-use Rattle.bz_grammar.specs.Legal.{IsNonterminal, LegalPart}
-use Rattle.bz_grammar.specs.Laws.{EachStatementHasALine}
-use Rattle.bz_grammar.specs.Statements.{is_statement_kind, has_statements, gap_of, fronts_part, fronts, line_following, statements_part, statements_row, statements, begins_on}
-use Rattle.bz_grammar.specs.private.Seeking.{own_front, is_stated}
-use Rattle.bz_grammar.proofs.AllLines.{lines_among, lines_part, lines_alone, lines_within}
-use Rattle.bz_grammar.proofs.Nested.{row_of, items_of_row, part_ind}
-use Rattle.bz_grammar.proofs.Trees.{bzl_shapes_of}
+use Rattle.bz_grammar.proofs.{AllLines.lines_among, AllLines.lines_part, AllLines.lines_alone, AllLines.lines_within, Nested.row_of, Nested.items_of_row, Nested.part_ind, Trees.bzl_shapes_of}
 
 -- ---- what holds of each node among parts of a shape, by the sorts of the shape
 

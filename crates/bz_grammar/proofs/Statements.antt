@@ -1,14 +1,7 @@
 -- Newlines of parts, first leaves, and where a walk through the statements of a file is.
-use Rattle.std.proofs.Common.{ℕ, ◌≡◌, ◌<◌, ◌≤◌, ◌+◌, List, [], ◌∷◌, ◌++◌, Option, Some, None, cond, refl, sym, ap, ◌∙◌, subst, take, drop, length, get_or, slice_get, arith}
-use Rattle.std.specs.List.{flat_map}
-use Rattle.std.proofs.lemmas.List.{drop_more, take_more, flat_map_more, length-append}
+use Rattle.bz_grammar.proofs.Words.{[], ◌++◌, ◌+◌, ◌<◌, ◌∙◌, ◌∷◌, ◌≡◌, ◌≤◌, ap, arith, cond, drop, drop_more, first_gap, flat_map, flat_map_more, gap_of, get_or, Leaf, leaves_part, length, length-append, line_following, List, newlines, None, Option, Part, refl, slice_get, Some, spell_leaves, spell_part, subst, sym, take, take_more, ℕ}
 use Rattle.std.proofs.lemmas.List.Sums.{sum_by-append, count_by-le-length}
-use Rattle.bz_lex.specs.declared.leaf.Leaf.{Leaf}
-use Rattle.bz_lex.specs.Leaves.{spell_leaves}
 use Rattle.bz_lex.specs.Positions.{is_newline}
-use Rattle.bz_grammar.specs.declared.tree.Part.{Part}
-use Rattle.bz_grammar.specs.Spell.{spell_part, leaves_part}
-use Rattle.bz_grammar.specs.Statements.{gap_of, first_gap, newlines, line_following}
 use Rattle.bz_grammar.proofs.Spells.{spelled_so_far, part_spelled}
 
 pub newlines_append : (a b : List ℕ) → newlines (a ++ b) ≡ newlines a + newlines b

@@ -1,35 +1,9 @@
 -- Statements and suites are read exactly: the next token and its indent decide.
-use Rattle.std.proofs.Common.{◌≡◌, ℕ, zero, suc, ◌-◌, ◌≤◌, Bool, true, false, cond, ◌&&◌, List, [], ◌∷◌, ◌++◌, length, inl, inr, Option, Some, None, refl, sym, ap, subst, ◌∙◌, append_assoc, arith, length-append, bytes_eq, codes}
-use Rattle.std.specs.List.{AllByRecursion}
-use Rattle.std.proofs.lemmas.Bool.{and_parts, and_from, both_ways, cases_Bool, eqb-true, eq-eqb}
-use Rattle.std.proofs.lemmas.List.{append-nil}
-use Rattle.std.proofs.lemmas.Option.{same_Some, none-some}
-use Rattle.std.proofs.lemmas.Slice.Eq.{bytes_eq-Decides}
-use Rattle.bz_lex.specs.declared.leaf.Leaf.{Leaf}
-use Rattle.bz_lex.specs.Gaps.{indent}
-use Rattle.bz_grammar.specs.declared.kind.Kind.{Kind}
+use Rattle.bz_grammar.proofs.Words.{[], ◌&&◌, ◌++◌, ◌-◌, ◌>>=◌, ◌∙◌, ◌∷◌, ◌≡◌, ◌≤◌, After, AllByRecursion, AllIndented, alone, alt, alternatives, and_from, and_parts, ap, append-nil, append_assoc, AreIndented, arith, begins_at, Bool, both_ways, branches, branches_of, bytes_eq, bytes_eq-Decides, bzl_shape, cases_Bool, codes, colon_mark, cond, def_header, depth_of, done, each, else_header, end_of-Part, eq-eqb, eqb-true, false, first, first_indent, Fits, for_header, has_token, if_all, indent, Indented, inl, inr, is_deeper, is_one_of, IsFile, items-the_row-Part, Kind, Leaf, leaves_at, leaves_of, leaves_part, length, length-append, level, line, List, list, Listed, more_of-Part, no_more, Node, node_part, None, none, none-some, Nonterminal, nonterminal_has_kind, once_more, one_keyword, Option, Owned, owned, Owner, Part, put_all, Read, read_file, reading, refl, Row_of-Part, run, same_Some, Several, Shape, Some, stands_at, starts, starts_with, statement, statements_of, stmt, sub, subst, suc, suite, suite_of, sym, Terminal, test, test_header, Times, times, tok, true, while_next, with_part_first, with_suite, wrap, zero, ℕ}
 use Rattle.bz_grammar.specs.declared.kind.Kind.TheVariants as k
-use Rattle.bz_grammar.specs.declared.tree.Node.{Node}
-use Rattle.bz_grammar.specs.declared.tree.Part.{Part, Row_of-Part, end_of-Part, more_of-Part, items-the_row-Part}
 use Rattle.bz_grammar.specs.declared.tree.Part.TheVariants as v
-use Rattle.bz_grammar.specs.Spell.{leaves_part, leaves_of, depth_of}
-use Rattle.bz_grammar.specs.Shapes.{Terminal, is_one_of, has_token, Nonterminal, level, stmt, suite, line, test, newline, end, colon_mark, one_keyword, leaves_at, nonterminal_has_kind, Shape, none, done, tok, sub, alt, list, each, times, Listed, After, Several, Times, no_more, once_more, Fits, bzl_shape, owned, branches}
-use Rattle.bz_grammar.specs.Legal.{IsFile}
-use Rattle.bz_grammar.specs.Indents.{alternatives, first_indent, Indented, Owner, Owned, AllIndented, AreIndented}
-use Rattle.bz_grammar.specs.Reading.{◌>>=◌, Read, starts_with, starts, first, with_part_first, run, wrap, node_part, reading}
-use Rattle.bz_grammar.specs.Suites.{def_header, for_header, test_header, else_header, stands_at, begins_at, is_deeper, put_all, alone, while_next, with_suite, branches_of, statement, suite_of, if_all, statements_of, read_file}
-use Rattle.bz_grammar.proofs.Nested.{row_of, items_of_row, leaf_or_node}
-use Rattle.bz_grammar.proofs.Numbers.{same_kind}
-use Rattle.bz_grammar.proofs.Spells.{leaves_Node}
-use Rattle.bz_grammar.proofs.Terminals.{disjoint, disjoint_at, disjoint-one_of, subset_at, starts-append_left, starts-append_right, full_front}
-use Rattle.bz_grammar.proofs.Exact.{all_leaves, leaves_join, token_leaf, bind_some, put_some, if_some, cond_parts, Exact}
-use Rattle.bz_grammar.proofs.Shapes.{by_table, nullable, is_deterministic, go, not_empty, run_exact}
-use Rattle.bz_grammar.proofs.Nodes.{node_leaves, wrap_some}
-use Rattle.bz_grammar.proofs.Trees.{At, join, split, node_fits}
-use Rattle.bz_grammar.proofs.Levels.{no, no_node, begins, goes, made_node}
-use Rattle.bz_grammar.proofs.Primary.{starts_none}
-use Rattle.bz_grammar.proofs.ExactNonterminals.{reading_exact}
-use Rattle.bz_grammar.proofs.Ended.{then_sub, Ends, And, split_sub, join_sub, test_split, test_join}
+use Rattle.bz_grammar.specs.Shapes.{newline, end}
+use Rattle.bz_grammar.proofs.{Nested.row_of, Nested.items_of_row, Nested.leaf_or_node, Numbers.same_kind, Spells.leaves_Node, Terminals.disjoint, Terminals.disjoint_at, Terminals.disjoint-one_of, Terminals.subset_at, Terminals.starts-append_left, Terminals.starts-append_right, Terminals.full_front, Exact.all_leaves, Exact.leaves_join, Exact.token_leaf, Exact.bind_some, Exact.put_some, Exact.if_some, Exact.cond_parts, Exact.Exact, Shapes.by_table, Shapes.nullable, Shapes.is_deterministic, Shapes.go, Shapes.not_empty, Shapes.run_exact, Nodes.node_leaves, Nodes.wrap_some, Trees.At, Trees.join, Trees.split, Trees.node_fits, Levels.no, Levels.no_node, Levels.begins, Levels.goes, Levels.made_node, Primary.starts_none, ExactNonterminals.reading_exact, Ended.then_sub, Ended.Ends, Ended.And, Ended.split_sub, Ended.join_sub, Ended.test_split, Ended.test_join}
 
 -- ---- indents
 

@@ -1,12 +1,5 @@
 -- Sets of tokens: which have none in common, and which lie within another.
-use Rattle.std.proofs.Common.{◌≡◌, ℕ, Bool, true, false, eqb, List, [], ◌∷◌, ◌++◌, length, ◌||◌, ◌&&◌, not, ◌≤◌, inl, inr, refl, sym, ◌∙◌, arith}
-use Rattle.std.proofs.lemmas.Bool.{and_parts, or_parts, or_cases, cases_Bool, both_ways, not-true, or_left, or_right, and_from, eqb-true, eq-eqb}
-use Rattle.std.proofs.lemmas.Slice.Eq.{bytes_eq-Decides}
-use Rattle.std.specs.Str.{bytes_eq}
-use Rattle.bz_token.specs.Classes.{class_number}
-use Rattle.bz_lex.specs.declared.leaf.Leaf.{Leaf}
-use Rattle.bz_grammar.specs.Shapes.{Terminal, any, this, is_class, is_terminal, is_one_of}
-use Rattle.bz_grammar.specs.Reading.{starts_with}
+use Rattle.bz_grammar.proofs.Words.{[], ◌&&◌, ◌++◌, ◌||◌, ◌∙◌, ◌∷◌, ◌≡◌, ◌≤◌, and_from, and_parts, any, arith, Bool, both_ways, bytes_eq, bytes_eq-Decides, cases_Bool, class_number, eq-eqb, eqb, eqb-true, false, inl, inr, is_class, is_one_of, is_terminal, Leaf, length, List, not, not-true, or_cases, or_left, or_parts, or_right, refl, starts_with, sym, Terminal, this, true, ℕ}
 
 -- whether a leaf may be both
 abbrev pub meets : Terminal → Terminal → Bool

@@ -1,15 +1,7 @@
 -- Legal trees by their parts.
-use Rattle.std.proofs.Common.{◌≡◌, ℕ, suc, ◌≤◌, max, Bool, true, List, [], ◌∷◌, ◌++◌, inl, inr, sym, ap, subst, ◌∙◌, arith}
-use Rattle.std.specs.List.{AllByRecursion}
-use Rattle.bz_grammar.specs.declared.tree.Node.{Node}
-use Rattle.bz_grammar.specs.declared.tree.Part.{Part, Row_of-Part, end_of-Part, more_of-Part, items-the_row-Part}
+use Rattle.bz_grammar.proofs.Words.{[], ◌++◌, ◌∙◌, ◌∷◌, ◌≡◌, ◌≤◌, After, AllByRecursion, alt, ap, arith, Bool, bzl_shape, deepest, depth_part, done, each, end_of-Part, Fits, has_token, inl, inr, IsNonterminal, items-the_row-Part, LegalPart, LegalRow, LegalShapes, List, list, Listed, max, more_of-Part, no_more, Node, none, Nonterminal, once_more, Part, Row_of-Part, Several, Shape, sub, subst, suc, sym, Terminal, Times, times, tok, true, ℕ}
 use Rattle.bz_grammar.specs.declared.tree.Part.TheVariants as v
-use Rattle.bz_grammar.specs.Spell.{depth_part, deepest}
-use Rattle.bz_grammar.specs.Shapes.{Terminal, has_token, Nonterminal, Shape, none, done, tok, sub, alt, list, each, times, Listed, After, Several, Times, no_more, once_more, Fits, bzl_shape}
-use Rattle.bz_grammar.specs.Legal.{IsNonterminal, LegalPart, LegalRow, LegalShapes}
-use Rattle.bz_grammar.proofs.Nested.{row_of, items_of_row}
-use Rattle.bz_grammar.proofs.Spells.{depth_Node}
-use Rattle.bz_grammar.proofs.Exact.{token_leaf}
+use Rattle.bz_grammar.proofs.{Nested.row_of, Nested.items_of_row, Spells.depth_Node, Exact.token_leaf}
 
 abbrev pub AllLegal : List Part → Type 0
 AllLegal ps = AllByRecursion LegalPart ps

@@ -1,15 +1,6 @@
 -- No leaves are those of two files, and no text has two legal trees.
-use Rattle.std.proofs.Common.{◌≡◌, max, sym, ap, ◌∙◌, arith}
-use Rattle.std.proofs.lemmas.Option.{same_Some}
-use Rattle.bz_lex.proofs.Unique.{one_lexing}
-use Rattle.bz_grammar.specs.declared.tree.Node.{Node}
-use Rattle.bz_grammar.specs.Spell.{spell_node, leaves_of, depth_of}
-use Rattle.bz_grammar.specs.Legal.{LegalBuild, Legal}
-use Rattle.bz_grammar.specs.Laws.{OneFile}
-use Rattle.bz_grammar.specs.Suites.{read_file}
-use Rattle.bz_grammar.proofs.Spells.{node_spelled}
-use Rattle.bz_grammar.proofs.Suites.{read_complete}
-use Rattle.bz_grammar.proofs.Both.{leaves_bzl_legal}
+use Rattle.bz_grammar.proofs.Words.{◌∙◌, ◌≡◌, ap, arith, depth_of, leaves_of, Legal, LegalBuild, max, Node, one_lexing, OneFile, read_file, same_Some, spell_node, sym}
+use Rattle.bz_grammar.proofs.{Spells.node_spelled, Suites.read_complete, Both.leaves_bzl_legal}
 
 pub one_file : OneFile
 one_file m n f g a b e =

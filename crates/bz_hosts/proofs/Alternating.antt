@@ -1,12 +1,6 @@
 -- Items with separators between them and a closing token after them: their hosts.
-use Rattle.std.proofs.Common.{◌≡◌, ℕ, suc, ◌+◌, ◌<◌, Bool, true, false, List, [], ◌∷◌, ◌++◌, refl, sym, ap, ◌∙◌, subst, map, arith}
-use Rattle.std.specs.List.{AllByRecursion}
-use Rattle.bz_hosts.specs.Words.{Leaf, Part, Node', Terminal, is_one_of}
-use Rattle.bz_grammar.specs.declared.tree.Part.TheVariants as p
-use Rattle.bz_hosts.specs.Hosts.{Region, host, sizes, measured, is_word_class, is_item_part, hosts_from}
-use Rattle.bz_hosts.proofs.Around.{AllInside, all_wider}
-use Rattle.bz_hosts.proofs.InnerParts.{inner_kind}
-use Rattle.bz_hosts.proofs.Parts.{size, measured_part}
+use Rattle.bz_hosts.proofs.Words.{[], ◌++◌, ◌+◌, ◌<◌, ◌∙◌, ◌∷◌, ◌≡◌, AllByRecursion, ap, arith, Bool, false, host, hosts_from, is_item_part, is_one_of, is_word_class, Leaf, List, map, measured, Node', Part, Part as p, refl, Region, sizes, subst, suc, sym, Terminal, true, ℕ}
+use Rattle.bz_hosts.proofs.{Around.AllInside, Around.all_wider, InnerParts.inner_kind, Parts.size, Parts.measured_part}
 
 -- a node inside a line, a name, a number or a string
 abbrev pub IsItem : Part → Type 0

@@ -1,9 +1,5 @@
 -- Which regions of a text a gap sees: those that end before it or begin after it change nothing.
-use Rattle.std.proofs.Common.{◌≡◌, ◌≢◌, ℕ, suc, ◌<◌, ◌≤◌, Bool, false, ◌&&◌, List, [], ◌∷◌, ◌++◌, inl, inr, Option, Some, None, refl, ap, ◌∙◌, nat_eq, nat_lt, nat_le, if◌then◌else◌, arith}
-use Rattle.std.specs.List.{AllByRecursion}
-use Rattle.std.proofs.lemmas.Bool.{cases_Bool, eq-eqb, ne_eqb, lt-ltb, le-ltb}
-use Rattle.std.proofs.lemmas.Bool.Decides.{nat_tests}
-use Rattle.bz_hosts.specs.Hosts.{Region, host, between, holds_gap, innermost, ending_at, beginning_in}
+use Rattle.bz_hosts.proofs.Words.{[], ◌&&◌, ◌++◌, ◌<◌, ◌∙◌, ◌∷◌, ◌≡◌, ◌≢◌, ◌≤◌, AllByRecursion, ap, arith, beginning_in, between, Bool, cases_Bool, ending_at, eq-eqb, false, holds_gap, host, if◌then◌else◌, inl, innermost, inr, le-ltb, List, lt-ltb, nat_eq, nat_le, nat_lt, nat_tests, ne_eqb, None, Option, refl, Region, Some, suc, ℕ}
 
 -- ---- regions between two numbers
 

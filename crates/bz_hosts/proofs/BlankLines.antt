@@ -1,15 +1,6 @@
 -- Lines without comments after a statement change nothing of what it says, and are left with what it leaves.
-use Rattle.std.proofs.Common.{◌≡◌, ℕ, Bool, true, false, List, [], ◌∷◌, ◌++◌, Option, Some, None, if◌then◌else◌, refl, sym, ap, ap₂, ◌∙◌, subst, map, drop, append_assoc}
-use Rattle.std.specs.List.{AllByRecursion}
-use Rattle.std.proofs.lemmas.Bool.{cond-true}
-use Rattle.std.proofs.lemmas.List.{append-nil}
-use Rattle.bz_hosts.specs.Words.{Bytes, Kind, Part, Row_of-Part, end_of-Part, more_of-Part, Node', is_kind, is_header, as_list, comments_in, GapLine, lines_of, after_first_line}
-use Rattle.bz_grammar.specs.declared.kind.Kind.TheVariants as k
-use Rattle.bz_grammar.specs.declared.tree.Part.TheVariants as p
-use Rattle.bz_hosts.specs.Seen.{Seen, last_gap}
-use Rattle.bz_hosts.specs.Suites.{ReadStatements, Stated, stated, stated_row, indented_lines_before, end_comments, after_end, is_taken_line, line_read, walked, margin_of, suite_read, suite_form, put_header, branches, with_suite, statement_read, suite_in}
-use Rattle.bz_hosts.proofs.SuiteLines.{Lines}
-use Rattle.bz_hosts.proofs.SeenParts.{all_cut}
+use Rattle.bz_hosts.proofs.Words.{[], ◌++◌, ◌∙◌, ◌∷◌, ◌≡◌, after_end, after_first_line, AllByRecursion, ap, append-nil, append_assoc, ap₂, as_list, Bool, branches, Bytes, comments_in, cond-true, drop, end_comments, end_of-Part, false, GapLine, if◌then◌else◌, indented_lines_before, is_header, is_kind, is_taken_line, Kind, Kind as k, last_gap, line_read, lines_of, List, map, margin_of, more_of-Part, Node', None, Option, Part, Part as p, put_header, ReadStatements, refl, Row_of-Part, Seen, Some, Stated, stated, stated_row, statement_read, subst, suite_form, suite_in, suite_read, sym, true, walked, with_suite, ℕ}
+use Rattle.bz_hosts.proofs.{SuiteLines.Lines, SeenParts.all_cut}
 
 abbrev pub Blank : Lines → Type 0
 Blank lines = AllByRecursion (λ l. l.comment ≡ None) lines

@@ -1,13 +1,7 @@
 -- The suites of a statement, each with its header: one more, and all of them as one.
-use Rattle.std.proofs.Common.{◌≡◌, Bool, true, false, List, [], ◌∷◌, ◌++◌, Option, if◌then◌else◌, refl, sym, ap, ◌∙◌, map, append_assoc}
-use Rattle.std.proofs.lemmas.List.{append-nil, map-append}
-use Rattle.bz_hosts.specs.Words.{Kind, Part, Form, frame, Bytes, comments_in}
-use Rattle.bz_grammar.specs.declared.kind.Kind.TheVariants as k
-use Rattle.bz_value.specs.declared.value.Expr.{Expr, items-the_row-Expr, items_hidden-the_row-Expr-0}
+use Rattle.bz_hosts.proofs.Words.{[], ◌++◌, ◌∙◌, ◌∷◌, ◌≡◌, ap, append-nil, append_assoc, Bool, branches, Bytes, comments_in, Expr, false, Form, frame, if◌then◌else◌, indented_lines_before, items-the_row-Expr, items_hidden-the_row-Expr-0, Kind, Kind as k, List, map, map-append, Option, Part, plain, ReadStatements, refl, Seen, seen_node, Stated, stated, SuiteRead, sym, true, with_suite}
 use Rattle.bz_value.specs.declared.value.Expr.TheVariants as e
 use Rattle.bz_value.proofs.FormParts.{items_in}
-use Rattle.bz_hosts.specs.Seen.{Seen, plain, seen_node}
-use Rattle.bz_hosts.specs.Suites.{ReadStatements, Stated, SuiteRead, stated, branches, with_suite, indented_lines_before}
 use Rattle.bz_hosts.specs.private.Gathered.{gathered, with_others}
 use Rattle.bz_hosts.proofs.SuiteLines.{Lines}
 

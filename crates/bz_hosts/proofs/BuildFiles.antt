@@ -1,23 +1,9 @@
 -- What BUILD files say has none of the newer kinds.
-use Rattle.std.proofs.Common.{◌≡◌, List, [], ◌∷◌, ◌++◌, refl, sym, subst, map, ◌<◌, suc, Bool, true, false, if◌then◌else◌, take, drop, arith}
-use Rattle.std.specs.List.{AllByRecursion}
-use Rattle.bz_hosts.specs.Words.{Part, Node', Row_of-Part, end_of-Part, more_of-Part, is_kind, GapLine, groups_of, all_but_last, last_group, others_in, all_in, Bytes, Kind, Form, HostComments, no_comments, Frame, sequence, frame, lead, is_binary, is_header}
-use Rattle.bz_grammar.specs.Legal.{IsBuildPart, IsBuildRow}
-use Rattle.bz_hosts.specs.Seen.{Seen, seen, seen_row, first_seen_gap, blocks, statements_in, form_of_frame, held_in, items_in, plain, row_exprs}
-use Rattle.bz_hosts.specs.Suites.{stated, stated_row, indented_lines_before, exprs_in, ReadStatements, Stated, branches, line_read, statement_read}
-use Rattle.bz_hosts.specs.View.{items_from}
-use Rattle.bz_hosts.proofs.SeenParts.{all_cut}
-use Rattle.bz_hosts.proofs.Stated.{row_parts}
-use Rattle.std.proofs.lemmas.List.Elements.{All-from_recursion}
+use Rattle.bz_hosts.proofs.Words.{[], ◌++◌, ◌<◌, ◌∷◌, ◌≡◌, All-from_recursion, all_but_last, all_in, all_joined, AllByRecursion, arith, blocks, Bool, branches, BuildViews, Bytes, drop, end_of-Expr, end_of-Part, Expr, exprs_in, false, first_seen_gap, Form, form_of_frame, Frame, frame, GapLine, groups_of, held_in, HostComments, if◌then◌else◌, indented_lines_before, is_binary, is_header, is_kind, IsBuildPart, IsBuildRow, Item as i, items-the_row-Expr, items_from, items_hidden-the_row-Expr-0, items_in, Kind, Kind as k, last_group, lead, line_read, List, map, more_of-Expr, more_of-Part, no_comments, Node', others_in, Part, Part as p, parts_in, plain, ReadStatements, refl, row_exprs, Row_of-Expr, Row_of-Part, Seen, seen, seen_row, sequence, Stated, stated, stated_row, statement_read, statements_in, subst, suc, sym, take, true}
+use Rattle.bz_hosts.proofs.{SeenParts.all_cut, Stated.row_parts}
 use Rattle.bz_grammar.specs.Kinds.{kind_number}
-use Rattle.bz_value.specs.declared.value.Expr.{Expr, Row_of-Expr, end_of-Expr, more_of-Expr, items-the_row-Expr, items_hidden-the_row-Expr-0}
 use Rattle.bz_value.specs.BuildValues.{AreBuildExprs, IsBuildExpr, IsBuildItem}
-use Rattle.bz_value.proofs.FormParts.{items_in as value_items, parts_in}
-use Rattle.bz_value.proofs.GapComments.{all_joined}
-use Rattle.bz_hosts.specs.Laws.{BuildViews}
-use Rattle.bz_grammar.specs.declared.kind.Kind.TheVariants as k
-use Rattle.bz_grammar.specs.declared.tree.Part.TheVariants as p
-use Rattle.bz_value.specs.declared.value.Item.TheVariants as i
+use Rattle.bz_value.proofs.FormParts.{items_in as value_items}
 use Rattle.bz_value.specs.declared.value.Expr.TheVariants as e
 
 -- ---- forms, by lists

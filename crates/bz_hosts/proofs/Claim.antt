@@ -1,29 +1,7 @@
 -- In each part of a legal tree that is in a host, the comments are those of the view.
-use Rattle.std.proofs.Common.{◌≡◌, ℕ, suc, ◌+◌, ◌≤◌, true, false, ◌&&◌, List, [], ◌∷◌, ◌++◌, Some, refl, sym, ap, ◌∙◌, subst, map, take, drop}
-use Rattle.std.specs.List.{AllByRecursion, flat_map}
-use Rattle.std.proofs.lemmas.List.{take-map, drop-map}
-use Rattle.bz_hosts.specs.Words.{Leaf, Kind, leaves_row, Expr, Form, no_comments, all_in}
-use Rattle.bz_grammar.specs.declared.tree.Part.{Part, Row_of-Part, end_of-Part, more_of-Part, Node', items-the_row-Part}
-use Rattle.bz_grammar.specs.declared.tree.Part.TheVariants as p
+use Rattle.bz_hosts.proofs.Words.{[], ◌&&◌, ◌++◌, ◌+◌, ◌∙◌, ◌∷◌, ◌≡◌, ◌≤◌, all_in, AllByRecursion, ap, by_frame, Comment, compound, drop, drop-map, end_of-Part, ended, Expr, false, first_seen_gap, Fits, flat_map, Form, Frame, frame, host, Hosted, in_node, inside_expr, is_binary, is_comprehension, is_inner_frame, is_open, is_split, IsNonterminal, items-the_row-Part, items_in, Kind, lead, Leaf, leaves_row, LegalBy, LegalRowBy, line_shape, List, loose_in, map, Measured, measured, more_of-Part, no_comments, no_such, Node', Part, Part as p, plain, refl, Region, row, row_exprs, Row_of-Part, Seen, seen, seen_node, seen_row, sequence, sizes, Some, subst, suc, sym, take, take-map, true, values_wider, whole_shape, ℕ}
 use Rattle.bz_grammar.specs.Shapes as s
-use Rattle.bz_grammar.specs.Shapes.{Fits}
-use Rattle.bz_grammar.proofs.Balance.{no_such}
-use Rattle.bz_grammar.specs.Legal.{IsNonterminal}
-use Rattle.bz_value.specs.Frames.{Frame, row, sequence, compound, frame, lead, is_binary, is_comprehension, is_inner_frame}
-use Rattle.bz_value.specs.LineShapes.{line_shape, whole_shape}
-use Rattle.bz_value.proofs.LegalBy.{LegalBy, LegalRowBy}
-use Rattle.bz_value.proofs.Wider.{values_wider}
-use Rattle.bz_hosts.specs.Seen.{Seen, seen, seen_row, plain, first_seen_gap, loose_in, row_exprs, items_in, is_split, is_open, seen_node}
-use Rattle.bz_hosts.proofs.SeenParts.{seen_rows}
-use Rattle.bz_hosts.specs.Hosts.{Region, host, Comment, Measured, sizes, measured, in_node, Hosted, ended, by_frame, inside_expr}
-use Rattle.bz_hosts.proofs.Around.{SeesAt}
-use Rattle.bz_hosts.proofs.Parts.{measured_rows, leaves_rows, comments_after, after_parts, parts_after}
-use Rattle.bz_hosts.proofs.Alternating.{Alternating, Regions}
-use Rattle.bz_hosts.proofs.InnerParts.{line_framed}
-use Rattle.bz_hosts.proofs.Insides.{within, form_inside, parts_inside, items_inside, insides, row_insides, head_insides}
-use Rattle.bz_hosts.proofs.Texts.{Texts, InHost, first_texts}
-use Rattle.bz_hosts.proofs.Cuts.{Cut, sequence_cut}
-use Rattle.bz_hosts.proofs.Nodes.{cut_regions, head_of, body_of, cut_size, node_cut, parted, row_regions, row_solid, leaf_texts, same_texts, sequence_hosts, cut_texts}
+use Rattle.bz_hosts.proofs.{SeenParts.seen_rows, Around.SeesAt, Parts.measured_rows, Parts.leaves_rows, Parts.comments_after, Parts.after_parts, Parts.parts_after, Alternating.Alternating, Alternating.Regions, InnerParts.line_framed, Insides.within, Insides.form_inside, Insides.parts_inside, Insides.items_inside, Insides.insides, Insides.row_insides, Insides.head_insides, Texts.Texts, Texts.InHost, Texts.first_texts, Cuts.Cut, Cuts.sequence_cut, Nodes.cut_regions, Nodes.head_of, Nodes.body_of, Nodes.cut_size, Nodes.node_cut, Nodes.parted, Nodes.row_regions, Nodes.row_solid, Nodes.leaf_texts, Nodes.same_texts, Nodes.sequence_hosts, Nodes.cut_texts}
 
 -- ---- what is in a node
 

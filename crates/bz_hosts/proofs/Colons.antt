@@ -1,18 +1,6 @@
 -- Which parts are no colon, and the parts of a header, up to its colon.
-use Rattle.std.proofs.Common.{◌≡◌, ℕ, Bool, true, false, not, ◌&&◌, ◌||◌, List, refl, ap, codes, bytes_eq, suc, ◌≤◌, ◌<◌, ◌+◌, ◌-◌, [], ◌∷◌, ◌++◌, sym, ◌∙◌, subst, map, take, drop, length, get_or, length-drop, append-nil, append_assoc, arith}
-use Rattle.std.specs.List.{list_all, AllByRecursion}
-use Rattle.std.proofs.lemmas.Bool.{not-true, cond-true, cond-false}
-use Rattle.bz_hosts.specs.Words.{Class, Leaf, Part, Node', Bytes, Kind, GapLine}
-use Rattle.bz_grammar.specs.Shapes.{Nonterminal, Terminal, has_token, is_one_of, leaves_at}
-use Rattle.bz_grammar.specs.Legal.{IsNonterminal}
-use Rattle.bz_hosts.proofs.InnerParts.{of_terminals, is_inner}
-use Rattle.bz_hosts.specs.Suites.{stated, Stated, branches, with_suite}
-use Rattle.std.proofs.Math.Seq.{take-suc}
-use Rattle.std.proofs.lemmas.List.{drop_more, get_or-drop, map-append}
-use Rattle.bz_hosts.specs.Seen.{Seen, seen}
-use Rattle.bz_hosts.proofs.Stated.{stated_part}
-use Rattle.bz_token.specs.declared.class.Class.TheVariants as c
-use Rattle.bz_grammar.specs.declared.tree.Part.TheVariants as p
+use Rattle.bz_hosts.proofs.Words.{[], ◌&&◌, ◌++◌, ◌+◌, ◌-◌, ◌<◌, ◌||◌, ◌∙◌, ◌∷◌, ◌≡◌, ◌≤◌, AllByRecursion, ap, append-nil, append_assoc, arith, Bool, branches, Bytes, bytes_eq, Class, Class as c, codes, cond-false, cond-true, drop, drop_more, false, GapLine, get_or, get_or-drop, has_token, is_one_of, IsNonterminal, Kind, Leaf, leaves_at, length, length-drop, List, list_all, map, map-append, Node', Nonterminal, not, not-true, Part, Part as p, refl, Seen, seen, Stated, stated, subst, suc, sym, take, take-suc, Terminal, true, with_suite, ℕ}
+use Rattle.bz_hosts.proofs.{InnerParts.of_terminals, InnerParts.is_inner, Stated.stated_part}
 use Rattle.bz_grammar.specs.Shapes as s
 
 -- ---- no colon

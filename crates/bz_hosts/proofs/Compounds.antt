@@ -1,13 +1,6 @@
 -- A statement with suites as its headers one after the other: what each header has from those after it, they all have.
-use Rattle.std.proofs.Common.{◌≡◌, true, List, [], ◌∷◌, inl, inr, sym, subst, append-nil, codes}
-use Rattle.std.specs.List.{AllByRecursion}
-use Rattle.bz_hosts.specs.Words.{Kind, Part, Bytes, is_header}
-use Rattle.bz_grammar.specs.declared.kind.Kind.TheVariants as k
+use Rattle.bz_hosts.proofs.Words.{[], ◌∷◌, ◌≡◌, AllByRecursion, append-nil, AtParts, Begins, Bytes, codes, Fits, inl, inr, is_header, IsNonterminal, Kind, Kind as k, List, no_more, no_such, once_more, Part, Stands, subst, sym, true}
 use Rattle.bz_grammar.specs.Shapes as s
-use Rattle.bz_grammar.specs.Shapes.{Fits, no_more, once_more}
-use Rattle.bz_grammar.specs.Legal.{IsNonterminal}
-use Rattle.bz_grammar.specs.Spots.{Begins, Stands, AtParts}
-use Rattle.bz_grammar.proofs.Balance.{no_such}
 use Rattle.bz_hosts.proofs.SeenParts.{all_parted}
 use Rattle.bz_hosts.proofs.HeadParts.{Headed, fits_cut, tested, def_headed, for_headed, if_headed, elif_headed, else_headed}
 

@@ -1,20 +1,10 @@
 -- Where single tokens are in a legal tree: a node with a sequence is cut at its opening bracket; after it items and commas
 -- alternate, as statements and semicolons do in a line.
-use Rattle.std.proofs.Common.{◌≡◌, ℕ, zero, suc, Bool, true, false, not, List, [], ◌∷◌, ◌++◌, inl, inr, refl, ap, subst, take, drop}
-use Rattle.std.specs.List.{AllByRecursion, list_all}
-use Rattle.std.proofs.lemmas.Bool.{not-true}
-use Rattle.bz_hosts.specs.Words.{Class, Leaf, Kind, Part, Node', Frame, sequence, frame, lead}
+use Rattle.bz_hosts.proofs.Words.{[], ◌++◌, ◌∷◌, ◌≡◌, after_part, AllByRecursion, ap, Bool, Class, done, drop, false, Fits, Frame, frame, has_token, inl, inner_nonterminal, inr, is_one_of, is_word_class, IsNonterminal, items, Kind, Kind as k, lead, Leaf, leaves_at, List, list_all, Listed, no_such, Node', Nonterminal, not, not-true, opens, Part, Part as p, refl, role, sequence, Shape, Spot, subst, suc, take, Terminal, tok, true, whole_shape, Within, zero, ℕ}
 use Rattle.bz_token.specs.declared.class.Class.TheVariants as c
-use Rattle.bz_grammar.specs.declared.kind.Kind.TheVariants as k
-use Rattle.bz_grammar.specs.declared.tree.Part.TheVariants as p
 use Rattle.bz_grammar.specs.Shapes as s
-use Rattle.bz_grammar.specs.Shapes.{Nonterminal, Terminal, Shape, Fits, Listed, items, tok, done, has_token, is_one_of, leaves_at}
-use Rattle.bz_grammar.specs.Legal.{IsNonterminal}
-use Rattle.bz_grammar.specs.Spots.{Spot, Within, opens, plain, role, after_part}
-use Rattle.bz_grammar.proofs.Balance.{no_such, inner_nonterminal}
+use Rattle.bz_grammar.specs.Spots.{plain}
 use Rattle.bz_grammar.proofs.Terminals.{disjoint, disjoint-one_of}
-use Rattle.bz_value.specs.LineShapes.{whole_shape}
-use Rattle.bz_hosts.specs.Hosts.{is_word_class}
 use Rattle.bz_hosts.proofs.Alternating.{IsItem, IsMark, Alternating}
 use Rattle.bz_hosts.proofs.InnerParts.{GoesOn, all_turn, kind_goes, leaf_goes, nonterminal_inner, of_terminals, token_goes, token_opens}
 

@@ -1,18 +1,7 @@
 -- Steps of the walks over the parts of a file.
-use Rattle.std.proofs.Common.{ℕ, zero, suc, ◌≡◌, ◌<◌, ◌≤◌, ◌+◌, true, Bool, List, [], ◌∷◌, ◌++◌, refl, sym, ap, ap₂, ◌∙◌, map, drop, length, get_or, set, length-drop, append_assoc, append-nil, arith}
-use Rattle.std.proofs.lemmas.List.{drop-set-lt}
-use Rattle.bz_hosts.specs.Words.{Bytes, Leaf, Node, Part, Node', is_kind, Item, GapLine, lines_of, after_first_line, groups_of, all_but_last, last_group}
-use Rattle.bz_grammar.specs.declared.kind.Kind.TheVariants as k
+use Rattle.bz_hosts.proofs.Words.{[], ◌++◌, ◌+◌, ◌<◌, ◌∙◌, ◌∷◌, ◌≡◌, ◌≤◌, after_first_line, all_but_last, ap, append-nil, append_assoc, ap₂, arith, blocks, Bool, Bytes, drop, drop-set-lt, first_read, first_seen_gap, GapLine, get_or, groups_of, indented_lines_before, is_kind, Item, Item as i, items_below, items_from, Kind as k, last_gap, last_group, Leaf, left_below, length, length-drop, lines_at_end, lines_of, List, map, MovesOn, Node, Node', Part, part_read, ReadStatements, refl, seen, set, stated, statements_in, suc, sym, true, zero, ℕ}
 use Rattle.bz_grammar.specs.declared.tree.Part.TheVariants as p
-use Rattle.bz_value.specs.declared.value.Item.TheVariants as i
-use Rattle.bz_hosts.specs.Seen.{seen, blocks, first_seen_gap, last_gap, statements_in}
-use Rattle.bz_hosts.specs.Suites.{ReadStatements, stated, indented_lines_before}
-use Rattle.bz_hosts.specs.SuitesJoined.{lines_at_end}
-use Rattle.bz_hosts.specs.View.{items_from}
-use Rattle.bz_hosts.specs.private.FileParts.{part_read, first_read, items_below, left_below, MovesOn}
-use Rattle.bz_hosts.proofs.Colons.{part_here}
-use Rattle.bz_hosts.proofs.GroupSteps.{last_block}
-use Rattle.bz_hosts.proofs.Stated.{line_of, lines_first, all_simple}
+use Rattle.bz_hosts.proofs.{Colons.part_here, GroupSteps.last_block, Stated.line_of, Stated.lines_first, Stated.all_simple}
 
 abbrev Lines : Type 0
 Lines = List GapLine

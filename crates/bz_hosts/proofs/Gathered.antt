@@ -1,8 +1,5 @@
 -- The texts that a place gathers from the comments of a gap, and places that differ.
-use Rattle.std.proofs.Common.{◌≡◌, ℕ, suc, ◌+◌, Bool, true, false, List, [], ◌∷◌, ◌++◌, inl, inr, refl, sym, ap, ◌∙◌, map, if◌then◌else◌, append_assoc, append-nil}
-use Rattle.std.proofs.lemmas.Bool.{cases_Bool, eq-eqb, ne_eqb}
-use Rattle.bz_hosts.specs.Words.{Bytes, GapLine, lines_of, as_list, after_first_line, comments_in, first_comment, suffix_in, others_in, all_in}
-use Rattle.bz_hosts.specs.Hosts.{Region, Comment, comments_at, CommentPlace, suffix_of, above, end_of, outside, same_place, comment_place, texts_at}
+use Rattle.bz_hosts.proofs.Words.{[], ◌++◌, ◌+◌, ◌∙◌, ◌∷◌, ◌≡◌, above, after_first_line, all_in, ap, append-nil, append_assoc, as_list, Bool, Bytes, cases_Bool, Comment, comment_place, CommentPlace, comments_at, comments_in, end_of, eq-eqb, false, first_comment, GapLine, if◌then◌else◌, inl, inr, lines_of, List, map, ne_eqb, others_in, outside, refl, Region, same_place, suc, suffix_in, suffix_of, sym, texts_at, true, ℕ}
 
 -- ---- places
 

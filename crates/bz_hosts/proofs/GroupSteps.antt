@@ -1,10 +1,5 @@
 -- Groups of comment lines, read from the left.
-use Rattle.std.proofs.Common.{Bor, Bool, ℕ, ◌≡◌, List, [], ◌∷◌, ◌++◌, Option, Some, None, refl, sym, ap, ◌∙◌, subst, append_assoc, append-nil}
-use Rattle.std.specs.Option.{option_copied}
-use Rattle.bz_hosts.specs.Words.{Item, Bytes, GapLine, lines_of, groups_of, all_but_last, last_group}
-use Rattle.bz_value.specs.declared.value.Item.TheVariants as i
-use Rattle.bz_hosts.specs.Seen.{blocks}
-use Rattle.bz_hosts.specs.private.Walks.{prepend}
+use Rattle.bz_hosts.proofs.Words.{[], ◌++◌, ◌∙◌, ◌∷◌, ◌≡◌, all_but_last, ap, append-nil, append_assoc, blocks, Bool, Bor, Bytes, GapLine, groups_of, Item, Item as i, last_group, lines_of, List, None, Option, option_copied, prepend, refl, Some, subst, sym, ℕ}
 use Rattle.bz_hosts.proofs.Numbered.{has_group}
 
 prepend_none : (ls : List GapLine) → prepend [] (groups_of ls) ≡ groups_of ls

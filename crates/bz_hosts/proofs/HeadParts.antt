@@ -1,17 +1,7 @@
 -- Where headers are among the parts of a statement: parts up to a colon, the colon, a suite, and what follows that.
-use Rattle.std.proofs.Common.{◌≡◌, Bool, true, false, ◌&&◌, List, [], ◌∷◌, ◌++◌, inl, inr, refl, sym, ap, ◌∙◌, subst, append_assoc, codes}
-use Rattle.std.specs.List.{AllByRecursion}
-use Rattle.std.proofs.lemmas.Bool.{and_parts}
-use Rattle.bz_hosts.specs.Words.{Kind, Part, Node', Bytes}
-use Rattle.bz_grammar.specs.Shapes.{Terminal, Shape, Fits, Listed, After, Several, Times, no_more, once_more, nonterminal_has_kind, has_token}
-use Rattle.bz_grammar.specs.Legal.{IsNonterminal}
-use Rattle.bz_grammar.specs.Spots.{Spot, Begins, Along, after_node, after_part, Stands, AtLeaves, AtParts}
-use Rattle.bz_grammar.proofs.Balance.{no_such, inner_nonterminal, spot_after, parts_split}
-use Rattle.bz_value.specs.LineShapes.{whole_shape}
+use Rattle.bz_hosts.proofs.Words.{[], ◌&&◌, ◌++◌, ◌∙◌, ◌∷◌, ◌≡◌, After, after_node, after_part, AllByRecursion, Along, and_parts, ap, append_assoc, AtLeaves, AtParts, Begins, Bool, Bytes, codes, false, Fits, has_token, inl, inner_nonterminal, inr, IsNonterminal, Kind, Kind as k, List, Listed, no_more, no_such, Node', nonterminal_has_kind, once_more, Part, Part as p, parts_split, refl, Several, Shape, Spot, spot_after, Stands, subst, sym, Terminal, Times, true, whole_shape}
 use Rattle.bz_hosts.proofs.InnerParts.{inner_tokens, plain_tokens, every, every_part, GoesOn, token_inner, nonterminal_inner, token_goes, token_closes, nonterminal_goes}
 use Rattle.bz_hosts.proofs.Colons.{no_colons, token_plain, nonterminal_plain, InHeader}
-use Rattle.bz_grammar.specs.declared.kind.Kind.TheVariants as k
-use Rattle.bz_grammar.specs.declared.tree.Part.TheVariants as p
 use Rattle.bz_grammar.specs.Shapes as s
 
 -- ---- one shape after another

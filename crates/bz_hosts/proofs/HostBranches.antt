@@ -1,34 +1,6 @@
 -- The headers of a statement with their suites, as pieces with the hosts in them.
-use Rattle.std.proofs.Common.{◌≡◌, ℕ, suc, ◌+◌, Bool, true, false, List, [], ◌∷◌, ◌++◌, Option, refl, sym, ap, ◌∙◌, subst, map, append-nil, append_assoc, arith}
-use Rattle.std.specs.List.{AllByRecursion, flat_map}
-use Rattle.std.proofs.lemmas.Grind.{flat_map-append}
-use Rattle.bz_hosts.specs.Words.{Leaf, Kind, Part, Node', leaves_part, Expr, Bytes, comments_in, lines_of}
-use Rattle.bz_grammar.specs.Shapes.{Fits, has_token}
-use Rattle.bz_grammar.specs.Legal.{IsNonterminal, LegalPart}
-use Rattle.bz_grammar.specs.Spots.{Along, Stands, AtLeaves}
-use Rattle.bz_grammar.proofs.Balance.{no_such}
-use Rattle.bz_value.specs.Frames.{frame, is_inner_frame}
-use Rattle.bz_value.specs.LineShapes.{whole_shape}
-use Rattle.bz_value.proofs.LegalBy.{as_bzl}
-use Rattle.bz_hosts.specs.Seen.{seen}
-use Rattle.bz_hosts.specs.Hosts.{Hosted, sizes, measured, in_node, Stretch, header, Page, in_compound, suite_there}
-use Rattle.bz_hosts.specs.Suites.{ReadStatements, SuiteRead, stated, branches, indented_lines_before}
-use Rattle.bz_hosts.proofs.InnerParts.{in_line, inner_legal, token_inner}
-use Rattle.bz_hosts.proofs.Nodes.{part_regions, sizes_joined}
-use Rattle.bz_hosts.proofs.Parts.{size, Solid, part_solid}
-use Rattle.bz_hosts.proofs.QuietGaps.{part_silent}
-use Rattle.bz_hosts.proofs.SuiteLines.{gap_of, Lines, PieceRead, with_left}
-use Rattle.bz_hosts.proofs.Colons.{header_ends, InHeader}
-use Rattle.bz_hosts.proofs.Compounds.{KnownOf}
-use Rattle.bz_hosts.proofs.HeadParts.{Headed, BeginsWith}
-use Rattle.bz_hosts.proofs.HostHeaders.{header_read, suite_hosts, header_piece}
-use Rattle.bz_hosts.proofs.HostPieces.{Piece, same_piece, both_pieces}
-use Rattle.bz_hosts.proofs.HostReads.{AllLegal, hosts_read}
-use Rattle.bz_hosts.proofs.HostSuites.{OwnPiece}
-use Rattle.bz_hosts.proofs.KeptGaps.{colon_is}
-use Rattle.bz_hosts.proofs.SuiteHeaders.{header_placed}
-use Rattle.bz_hosts.proofs.SuiteReads.{stated_gap}
-use Rattle.bz_grammar.specs.declared.tree.Part.TheVariants as p
+use Rattle.bz_hosts.proofs.Words.{[], ◌++◌, ◌+◌, ◌∙◌, ◌∷◌, ◌≡◌, AllByRecursion, Along, ap, append-nil, append_assoc, arith, as_bzl, AtLeaves, Bool, branches, Bytes, comments_in, Expr, false, Fits, flat_map, flat_map-append, frame, has_token, header, Hosted, in_compound, in_node, indented_lines_before, is_inner_frame, IsNonterminal, Kind, Leaf, leaves_part, LegalPart, lines_of, List, map, measured, no_such, Node', Option, Page, Part, Part as p, ReadStatements, refl, seen, sizes, Stands, stated, Stretch, subst, suc, suite_there, SuiteRead, sym, true, whole_shape, ℕ}
+use Rattle.bz_hosts.proofs.{InnerParts.in_line, InnerParts.inner_legal, InnerParts.token_inner, Nodes.part_regions, Nodes.sizes_joined, Parts.size, Parts.Solid, Parts.part_solid, QuietGaps.part_silent, SuiteLines.gap_of, SuiteLines.Lines, SuiteLines.PieceRead, SuiteLines.with_left, Colons.header_ends, Colons.InHeader, Compounds.KnownOf, HeadParts.Headed, HeadParts.BeginsWith, HostHeaders.header_read, HostHeaders.suite_hosts, HostHeaders.header_piece, HostPieces.Piece, HostPieces.same_piece, HostPieces.both_pieces, HostReads.AllLegal, HostReads.hosts_read, HostSuites.OwnPiece, KeptGaps.colon_is, SuiteHeaders.header_placed, SuiteReads.stated_gap}
 use Rattle.bz_grammar.specs.Shapes as s
 
 abbrev as_branches : Bool → Kind → List Bytes → Lines → List Part → PieceRead

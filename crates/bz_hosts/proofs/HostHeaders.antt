@@ -1,31 +1,6 @@
 -- Headers with their suites: what is read of them, with the hosts by their places.
-use Rattle.std.proofs.Common.{◌≡◌, ℕ, suc, ◌+◌, ◌<◌, Bool, true, false, List, [], ◌∷◌, ◌++◌, Option, Some, None, length, refl, sym, ap, ◌∙◌, map, append-nil, append_assoc, length-append, arith}
-use Rattle.std.specs.List.{flat_map}
-use Rattle.std.proofs.lemmas.Grind.{flat_map-append}
-use Rattle.bz_hosts.specs.Words.{Leaf, Kind, Part, leaves_part, Expr, Bytes, no_comments, all_in, as_list, lines_of, suffix_in}
-use Rattle.bz_grammar.specs.Legal.{IsNonterminal}
-use Rattle.bz_grammar.specs.Shapes.{Fits}
-use Rattle.bz_value.specs.Frames.{frame, is_inner_frame}
-use Rattle.bz_value.specs.LineShapes.{whole_shape}
-use Rattle.bz_hosts.specs.Seen.{Seen, seen, seen_node, plain}
-use Rattle.bz_hosts.specs.Hosts.{Region, host, CommentPlace, suffix_of, above, outside, comments_at, comments_from, texts_at, Hosted, block, hosted, hosted_at, sizes, measured, in_node, leaf_gap, inside_expr, Suite, Stretch, header, Page, suite_end}
-use Rattle.bz_hosts.specs.Suites.{SuiteRead, suite_form, put_header}
-use Rattle.bz_hosts.proofs.Alternating.{inside_joined}
-use Rattle.bz_hosts.proofs.Claim.{node_texts}
-use Rattle.bz_hosts.proofs.SuiteReads.{gap_outside, outside_none}
-use Rattle.bz_hosts.proofs.Gathered.{key, pick, pick_same, pick_other, GapPlaces, texts_joined, three_none, three_first, three_third}
-use Rattle.bz_hosts.proofs.Insides.{within, inside_list, form_inside, items_inside}
-use Rattle.bz_hosts.proofs.Nodes.{node_inside}
-use Rattle.bz_hosts.proofs.Parts.{size, comments_after, comments_joined, after_parts, parts_from}
-use Rattle.bz_hosts.proofs.Sequences.{From}
-use Rattle.bz_hosts.proofs.Statements.{gap_ended, gap_suffix, silent_gap}
-use Rattle.bz_hosts.proofs.Texts.{Texts}
-use Rattle.bz_hosts.proofs.SuiteLines.{gap_of, last_leaf_gap, last_leaf_after, Lines, suites_wider, last_joined, PieceRead, with_left}
-use Rattle.bz_hosts.proofs.HostPieces.{regions_of, suites_of, comments, along, At, Piece, Extent}
-use Rattle.bz_hosts.proofs.HostReads.{AllLegal, all_solid, all_regions, all_texts}
-use Rattle.bz_hosts.proofs.HostSuites.{leaf_there, OwnAt, OwnPiece}
-use Rattle.bz_hosts.proofs.SuiteHeaders.{measured_leaves}
-use Rattle.bz_grammar.specs.declared.kind.Kind.TheVariants as k
+use Rattle.bz_hosts.proofs.Words.{[], ◌++◌, ◌+◌, ◌<◌, ◌∙◌, ◌∷◌, ◌≡◌, above, all_in, ap, append-nil, append_assoc, arith, as_list, block, Bool, Bytes, CommentPlace, comments_at, comments_from, Expr, false, Fits, flat_map, flat_map-append, frame, header, host, Hosted, hosted, hosted_at, in_node, inside_expr, is_inner_frame, IsNonterminal, Kind, Kind as k, Leaf, leaf_gap, leaves_part, length, length-append, lines_of, List, map, measured, no_comments, None, Option, outside, Page, Part, plain, put_header, refl, Region, Seen, seen, seen_node, sizes, Some, Stretch, suc, suffix_in, suffix_of, Suite, suite_end, suite_form, SuiteRead, sym, texts_at, true, whole_shape, ℕ}
+use Rattle.bz_hosts.proofs.{Alternating.inside_joined, Claim.node_texts, SuiteReads.gap_outside, SuiteReads.outside_none, Gathered.key, Gathered.pick, Gathered.pick_same, Gathered.pick_other, Gathered.GapPlaces, Gathered.texts_joined, Gathered.three_none, Gathered.three_first, Gathered.three_third, Insides.within, Insides.inside_list, Insides.form_inside, Insides.items_inside, Nodes.node_inside, Parts.size, Parts.comments_after, Parts.comments_joined, Parts.after_parts, Parts.parts_from, Sequences.From, Statements.gap_ended, Statements.gap_suffix, Statements.silent_gap, Texts.Texts, SuiteLines.gap_of, SuiteLines.last_leaf_gap, SuiteLines.last_leaf_after, SuiteLines.Lines, SuiteLines.suites_wider, SuiteLines.last_joined, SuiteLines.PieceRead, SuiteLines.with_left, HostPieces.regions_of, HostPieces.suites_of, HostPieces.comments, HostPieces.along, HostPieces.At, HostPieces.Piece, HostPieces.Extent, HostReads.AllLegal, HostReads.all_solid, HostReads.all_regions, HostReads.all_texts, HostSuites.leaf_there, HostSuites.OwnAt, HostSuites.OwnPiece, SuiteHeaders.measured_leaves}
 use Rattle.bz_hosts.proofs.Around as r
 
 from_first : (n : ℕ) (ls : List Leaf) → 0 < length ls → comments_from n ls ≡ comments_at n (gap_of ls) ++ comments_after n ls

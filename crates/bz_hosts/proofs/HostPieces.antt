@@ -1,17 +1,11 @@
 -- Pieces of a file: what is read of leaves that follow each other, with the hosts in it, and the hosts by their places.
-use Rattle.std.proofs.Common.{◌≡◌, ◌≢◌, ℕ, ◌+◌, ◌<◌, ◌≤◌, Bool, false, ◌||◌, List, [], ◌∷◌, ◌++◌, None, length, refl, sym, ap, ◌∙◌, subst, append_assoc, append-nil, length-append, nat_eq, arith}
-use Rattle.std.specs.List.{AllByRecursion, flat_map, list_any}
-use Rattle.std.proofs.lemmas.Bool.{ne_eqb}
-use Rattle.std.proofs.lemmas.Grind.{flat_map-append}
-use Rattle.bz_hosts.specs.Words.{Leaf, Bytes, comments_in, lines_of, after_first_line}
-use Rattle.bz_hosts.specs.Hosts.{Region, Comment, CommentPlace, Hosted, comments_from, texts_at, lines_before, Suite, Stretch, Page, regions_in, suites_in, first_leaf, left_by, lines_of_leaf, stretch_hosts, statement_hosts}
+use Rattle.bz_hosts.proofs.Words.{[], ◌++◌, ◌+◌, ◌<◌, ◌||◌, ◌∙◌, ◌∷◌, ◌≡◌, ◌≢◌, ◌≤◌, after_first_line, all_joined, AllByRecursion, ap, append-nil, append_assoc, arith, Bool, Bytes, Comment, CommentPlace, comments_from, comments_in, false, first_leaf, flat_map, flat_map-append, Hosted, Leaf, left_by, length, length-append, lines_before, lines_of, lines_of_leaf, List, list_any, nat_eq, ne_eqb, None, Page, refl, Region, regions_in, statement_hosts, Stretch, stretch_hosts, subst, Suite, suites_in, sym, texts_at, ℕ}
 use Rattle.bz_hosts.proofs.Alternating.{inside_joined}
 use Rattle.bz_hosts.proofs.Gathered.{key, texts_joined}
 use Rattle.bz_hosts.proofs.Parts.{comments_joined}
 use Rattle.bz_hosts.proofs.Sequences.{From}
 use Rattle.bz_hosts.proofs.SuiteLines.{gap_of, last_leaf_gap, Lines, Between, AllBetween, suites_wider, left_joined, past, beyond, gap_joined, last_joined, PieceRead, with_left, lines_there}
 use Rattle.bz_hosts.proofs.SeenParts.{all_mapped}
-use Rattle.bz_value.proofs.GapComments.{all_joined}
 use Rattle.bz_hosts.proofs.Around as r
 
 -- ---- where suites begin

@@ -1,29 +1,7 @@
 -- The hosts in a line of statements, by their places.
-use Rattle.std.proofs.Common.{◌≡◌, ℕ, suc, ◌+◌, ◌<◌, List, [], ◌∷◌, None, length, refl, sym, ap, ◌∙◌, subst, map, append-nil, arith}
-use Rattle.std.specs.List.{AllByRecursion, flat_map}
-use Rattle.std.proofs.lemmas.List.Folds.{flat_map-map}
-use Rattle.bz_hosts.specs.Words.{Part, leaves_part, Expr, Bytes, lines_of}
-use Rattle.bz_value.specs.LineShapes.{line_shape}
-use Rattle.bz_value.proofs.LegalBy.{LegalBy, as_bzl}
-use Rattle.bz_hosts.specs.Suites.{ReadStatements, stated, line_read, exprs_in}
-use Rattle.bz_hosts.specs.Seen.{Seen, seen, statements_in}
-use Rattle.bz_hosts.specs.Hosts.{Region, CommentPlace, outside, comments_at, comments_from, texts_at, Hosted, hosted_at, sizes, measured, hosts_from, inside_item, Page, Stretch, simple_line, statement_hosts}
-use Rattle.bz_hosts.proofs.Alternating.{Alternating, Regions, hosts_inside}
-use Rattle.bz_hosts.proofs.Claim.{part_texts}
-use Rattle.bz_hosts.proofs.SuiteReads.{gap_outside, outside_none, group_above}
-use Rattle.bz_hosts.proofs.Gathered.{key, GapPlaces, texts_joined}
-use Rattle.bz_hosts.proofs.Insides.{inside_list}
-use Rattle.bz_hosts.proofs.Nodes.{part_regions}
-use Rattle.bz_hosts.proofs.Parts.{Solid, part_solid, after_parts, parts_from}
-use Rattle.bz_hosts.proofs.QuietGaps.{Quiet, Statements, line_alternating}
-use Rattle.bz_hosts.proofs.SeenParts.{all_mapped}
-use Rattle.bz_hosts.proofs.Statements.{LineTexts, line_texts}
-use Rattle.bz_hosts.proofs.Texts.{InHost}
-use Rattle.bz_hosts.proofs.SuiteLines.{gap_of, Lines, with_left}
-use Rattle.bz_hosts.proofs.Stated.{parts_seen, all_simple}
-use Rattle.bz_hosts.proofs.HostPieces.{comments, Extent, At}
+use Rattle.bz_hosts.proofs.Words.{[], ◌+◌, ◌<◌, ◌∙◌, ◌∷◌, ◌≡◌, AllByRecursion, ap, append-nil, arith, as_bzl, Bytes, CommentPlace, comments_at, comments_from, Expr, exprs_in, flat_map, flat_map-map, Hosted, hosted_at, hosts_from, inside_item, Item as i, leaves_part, LegalBy, length, line_read, line_shape, lines_of, List, map, measured, None, outside, Page, Part, ReadStatements, refl, Region, Seen, seen, simple_line, sizes, stated, statement_hosts, statements_in, Stretch, subst, suc, sym, texts_at, ℕ}
+use Rattle.bz_hosts.proofs.{Alternating.Alternating, Alternating.Regions, Alternating.hosts_inside, Claim.part_texts, SuiteReads.gap_outside, SuiteReads.outside_none, SuiteReads.group_above, Gathered.key, Gathered.GapPlaces, Gathered.texts_joined, Insides.inside_list, Nodes.part_regions, Parts.Solid, Parts.part_solid, Parts.after_parts, Parts.parts_from, QuietGaps.Quiet, QuietGaps.Statements, QuietGaps.line_alternating, SeenParts.all_mapped, Statements.LineTexts, Statements.line_texts, Texts.InHost, SuiteLines.gap_of, SuiteLines.Lines, SuiteLines.with_left, Stated.parts_seen, Stated.all_simple, HostPieces.comments, HostPieces.Extent, HostPieces.At}
 use Rattle.bz_grammar.specs.Shapes as s
-use Rattle.bz_value.specs.declared.value.Item.TheVariants as i
 use Rattle.bz_hosts.proofs.Around as r
 
 -- ---- parts of a line, or of a header

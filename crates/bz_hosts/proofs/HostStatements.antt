@@ -1,20 +1,6 @@
 -- Statements as pieces with the hosts in them, and the law of hosts: in what a legal tree says each comment is where its place
 -- in the text says.
-use Rattle.std.proofs.Common.{◌≡◌, ℕ, suc, ◌+◌, true, false, List, [], ◌∷◌, ◌++◌, inl, inr, length, refl, sym, ap, ◌∙◌, subst, map, drop, append-nil, append_assoc, arith}
-use Rattle.std.specs.List.{AllByRecursion, flat_map}
-use Rattle.std.proofs.lemmas.Grind.{flat_map-append}
-use Rattle.bz_hosts.specs.Words.{Leaf, indent, Kind, first_indent, leaves_part, leaves_row, leaves_of, Expr, Item, Bytes, is_header, GapLine, all_but_last, comments_in, groups_of, last_group, lines_of, comments_of}
-use Rattle.bz_grammar.specs.declared.tree.Part.{Part, Row_of-Part, end_of-Part, more_of-Part, Node', items-the_row-Part}
-use Rattle.bz_grammar.specs.Shapes.{Fits, Several, bzl_shape, tok, done, nonterminal_has_kind}
-use Rattle.bz_grammar.specs.Legal.{IsNonterminal, LegalPart, LegalRow}
-use Rattle.bz_grammar.specs.Spots.{Begins, Along, Stands, AtLeaves, AtParts}
-use Rattle.bz_grammar.proofs.Balance.{no_such, parts_of_row}
-use Rattle.bz_value.specs.LineShapes.{line_shape}
-use Rattle.bz_value.proofs.LegalBy.{LegalBy, each_legal, as_bzl}
-use Rattle.bz_hosts.specs.Seen.{blocks}
-use Rattle.bz_hosts.specs.Hosts.{comments_at, texts_at, Measured, Hosted, hosts_alone, sizes, measured, measured_row, right_above, bare_lines, lines_before, hosted_by, inside_expr, inside_item, Suite, Stretch, in_statement, in_compound, one_by_one, regions_in, Page, suite_there, left_by, left_above, statement_hosts, hosted_from}
-use Rattle.bz_hosts.specs.Suites.{ReadStatements, Stated, stated, stated_row, statement_read, suite_in, suffix_before, branches, indented_lines_before, walked, margin_of}
-use Rattle.bz_hosts.specs.View.{items_from}
+use Rattle.bz_hosts.proofs.Words.{[], ◌++◌, ◌+◌, ◌∙◌, ◌∷◌, ◌≡◌, all_but_last, AllByRecursion, Along, ap, append-nil, append_assoc, arith, as_bzl, AtLeaves, AtParts, bare_lines, Begins, blocks, branches, Bytes, bzl_shape, comments_at, comments_in, comments_of, done, drop, each_legal, end_of-Part, Expr, false, first_indent, Fits, flat_map, flat_map-append, GapLine, groups_of, Hosted, hosted_by, hosted_from, hosts_alone, HostsByPlace, in_compound, in_statement, indent, indented_lines_before, inl, inr, inside_expr, inside_item, is_header, IsNonterminal, Item, Item as i, items-the_row-Part, items_from, Kind, Kind as k, last_group, Leaf, leaves_of, leaves_part, leaves_row, left_above, left_by, LegalBy, LegalPart, LegalRow, length, line_shape, lines_before, lines_of, List, map, margin_of, Measured, measured, measured_row, more_of-Part, no_such, Node', nonterminal_has_kind, one_by_one, Page, Part, Part as p, parts_of_row, ReadStatements, refl, regions_in, right_above, Row_of-Part, Several, sizes, Stands, Stated, stated, stated_row, statement_hosts, statement_read, Stretch, subst, suc, suffix_before, Suite, suite_in, suite_there, sym, texts_at, tok, true, walked, ℕ}
 use Rattle.bz_hosts.proofs.SuiteReads.{blocks_alone, gap_outside, outside_none, stated_gap, line_some, line_left}
 use Rattle.bz_hosts.proofs.InnerParts.{nonterminal_inner}
 use Rattle.bz_hosts.proofs.Insides.{inside_list}
@@ -23,7 +9,6 @@ use Rattle.bz_hosts.proofs.Parts.{size, measured_rows, leaves_rows, Solid, part_
 use Rattle.bz_hosts.proofs.QuietGaps.{Quiet, Statements, Silent, part_silent, legal_statements, statements_quiet}
 use Rattle.bz_hosts.proofs.SeenParts.{all_mapped}
 use Rattle.bz_hosts.proofs.SuiteLines.{gap_of, Lines, gap_joined, first_at, beyond, PieceRead, with_left}
-use Rattle.bz_hosts.specs.Laws.{HostsByPlace}
 use Rattle.bz_hosts.proofs.Compounds.{First, function, loop, condition, Further, KnownOf, statement}
 use Rattle.bz_hosts.proofs.HeadParts.{Headed, after_stmt}
 use Rattle.bz_hosts.proofs.HostBranches.{More, then_more, BranchesPiece, Alternatives, no_alternatives, some_alternatives, Parted, headed}
@@ -33,10 +18,7 @@ use Rattle.bz_hosts.proofs.HostSuites.{OwnPiece, line_own, suite_own, as_walked}
 use Rattle.bz_hosts.proofs.KeptGaps.{newline_ends, newline_comment}
 use Rattle.bz_hosts.proofs.Stated.{stated_rows}
 use Rattle.bz_hosts.proofs.SuiteHeaders.{measured_leaves}
-use Rattle.bz_grammar.specs.declared.kind.Kind.TheVariants as k
-use Rattle.bz_grammar.specs.declared.tree.Part.TheVariants as p
 use Rattle.bz_grammar.specs.Shapes as s
-use Rattle.bz_value.specs.declared.value.Item.TheVariants as i
 
 -- ---- parts and values
 

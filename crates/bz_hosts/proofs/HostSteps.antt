@@ -1,14 +1,6 @@
 -- An item of a sequence becomes a host.
-use Rattle.std.proofs.Common.{◌≡◌, ℕ, Bool, true, false, List, [], ◌∷◌, ◌++◌, ◌+◌, ◌<◌, ◌≤◌, Option, None, refl, sym, ap, ◌∙◌, map, drop, length, get_or, append_assoc, append-nil, length-drop, arith}
-use Rattle.std.proofs.lemmas.List.{length-map}
-use Rattle.bz_hosts.specs.Words.{Part, Expr, Seq, Item, HostComments, suffix_in, all_in, Bytes}
-use Rattle.bz_value.specs.declared.value.Item.TheVariants as i
-use Rattle.bz_value.specs.Commented.{with_comments}
-use Rattle.bz_hosts.specs.Seen.{Seen, seen, plain, first_seen_gap, items_in, is_split, seq_in}
-use Rattle.bz_hosts.specs.private.Walks.{above_after, is_unsigned, item_gap}
-use Rattle.bz_hosts.proofs.NodeViews.{seen_comments}
-use Rattle.bz_hosts.proofs.RowSteps.{seen_here, two_further}
-use Rattle.bz_hosts.proofs.UnsignedGaps.{nothing_after}
+use Rattle.bz_hosts.proofs.Words.{[], ◌++◌, ◌+◌, ◌<◌, ◌∙◌, ◌∷◌, ◌≡◌, ◌≤◌, above_after, all_in, ap, append-nil, append_assoc, arith, Bool, Bytes, drop, Expr, false, first_seen_gap, get_or, HostComments, is_split, is_unsigned, Item, Item as i, item_gap, items_in, length, length-drop, length-map, List, map, None, Option, Part, plain, refl, Seen, seen, Seq, seq_in, suffix_in, sym, true, with_comments, ℕ}
+use Rattle.bz_hosts.proofs.{NodeViews.seen_comments, RowSteps.seen_here, RowSteps.two_further, UnsignedGaps.nothing_after}
 
 abbrev pub host_comments : List Bytes → Option Bytes → HostComments
 host_comments before suffix = record { before = before; suffix = suffix }

@@ -1,11 +1,5 @@
 -- Suites, and lines in their place: what is read of them, with the hosts by their places.
-use Rattle.std.proofs.Common.{◌≡◌, ℕ, suc, ◌+◌, ◌<◌, ◌≤◌, true, false, ◌||◌, List, [], ◌∷◌, ◌++◌, Option, None, length, refl, sym, ap, ◌∙◌, subst, map, append-nil, append_assoc, length-append, nat_eq, nat_lt, arith}
-use Rattle.std.specs.List.{AllByRecursion, flat_map}
-use Rattle.std.proofs.lemmas.Bool.{and_right, eq-eqb, ne_eqb, lt-ltb, le-ltb}
-use Rattle.bz_hosts.specs.Words.{Leaf, Part, leaves_part, Expr, Bytes, all_in, as_list, comments_in, lines_of, after_first_line}
-use Rattle.bz_hosts.specs.Suites.{ReadStatements, SuiteRead, end_comments, stated, line_read, walked, suite_read, margin_of, only_comment, indented_lines_before}
-use Rattle.bz_hosts.specs.Seen.{seen, statements_in}
-use Rattle.bz_hosts.specs.Hosts.{Region, CommentPlace, texts_at, Hosted, hosted_at, sizes, measured, hosts_from, leaf_gap, inside_item, lines_before, Suite, Stretch, simple_line, header, one_by_one, Page, left_by, lines_of_leaf, statement_hosts, suite_end}
+use Rattle.bz_hosts.proofs.Words.{[], ◌++◌, ◌+◌, ◌<◌, ◌||◌, ◌∙◌, ◌∷◌, ◌≡◌, ◌≤◌, after_first_line, all_in, AllByRecursion, and_right, ap, append-nil, append_assoc, arith, as_list, Bytes, CommentPlace, comments_in, end_comments, eq-eqb, Expr, false, flat_map, header, Hosted, hosted_at, hosts_from, indented_lines_before, inside_item, le-ltb, Leaf, leaf_gap, leaves_part, left_by, length, length-append, line_read, lines_before, lines_of, lines_of_leaf, List, lt-ltb, map, margin_of, measured, nat_eq, nat_lt, ne_eqb, None, one_by_one, only_comment, Option, Page, Part, ReadStatements, refl, Region, seen, simple_line, sizes, stated, statement_hosts, statements_in, Stretch, subst, suc, Suite, suite_end, suite_read, SuiteRead, sym, texts_at, true, walked, ℕ}
 use Rattle.bz_hosts.proofs.SuiteReads.{group_above, stated_gap, line_some, line_left}
 use Rattle.bz_hosts.proofs.Gathered.{key}
 use Rattle.bz_hosts.proofs.Insides.{inside_list}

@@ -1,23 +1,8 @@
 -- What the table of shapes says of each part of a node: no part of a line ends it, and the operators of a binary operation
 -- are no brackets.
-use Rattle.std.proofs.Common.{◌≡◌, ℕ, Bool, true, false, not, ◌&&◌, List, [], ◌∷◌, inl, inr, refl, sym, ap, ◌∙◌, subst}
-use Rattle.std.specs.List.{AllByRecursion, list_all}
-use Rattle.std.proofs.lemmas.Bool.{and_parts, or_cases, not-true}
-use Rattle.std.proofs.lemmas.Slice.Eq.{bytes_eq-Decides}
-use Rattle.bz_hosts.specs.Words.{Class, Leaf, Kind}
-use Rattle.bz_token.specs.declared.class.Class.TheVariants as c
-use Rattle.bz_grammar.specs.declared.kind.Kind.TheVariants as k
-use Rattle.bz_grammar.specs.declared.tree.Part.{Part, Row_of-Part, end_of-Part, more_of-Part, Node', items-the_row-Part}
-use Rattle.bz_grammar.specs.declared.tree.Part.TheVariants as p
+use Rattle.bz_hosts.proofs.Words.{[], ◌&&◌, ◌∙◌, ◌∷◌, ◌≡◌, After, after_node, after_part, AllByRecursion, and_parts, ap, Bool, bytes_eq-Decides, bzl_shape, Class, Class as c, closes, end_of-Part, ends, false, Fits, following_token, frame, has_token, inl, inner_nonterminal, inr, is_binary, is_inner_frame, is_one_of, is_operator_class, is_terminal, IsNonterminal, items-the_row-Part, Kind, Kind as k, Leaf, leaves_at, LegalBy, LegalPart, LegalRow, LegalRowBy, line_shape, List, list_all, Listed, more_of-Part, no_such, Node', Nonterminal, nonterminal_has_kind, not, not-true, not_file, not_lines, onward, opens, or_cases, Part, Part as p, refl, Role, role, Row_of-Part, same_class, Several, Shape, shape, Spot, subst, sym, Terminal, true, whole_shape, Within, ℕ}
 use Rattle.bz_grammar.specs.Shapes as s
-use Rattle.bz_grammar.specs.Shapes.{Nonterminal, Terminal, Shape, Fits, Listed, After, Several, shape, bzl_shape, has_token, is_one_of, is_terminal, nonterminal_has_kind, leaves_at}
-use Rattle.bz_grammar.specs.Legal.{IsNonterminal, LegalPart, LegalRow}
-use Rattle.bz_grammar.specs.Spots.{Spot, Within, onward, Role, opens, closes, ends, plain, role, following_token, after_node, after_part}
-use Rattle.bz_grammar.proofs.Balance.{no_such, same_class, inner_nonterminal, not_file, not_lines}
-use Rattle.bz_value.specs.Frames.{frame, is_binary, is_inner_frame}
-use Rattle.bz_value.specs.LineShapes.{line_shape, whole_shape}
-use Rattle.bz_value.proofs.LegalBy.{LegalBy, LegalRowBy}
-use Rattle.bz_value.specs.Proper.{is_operator_class}
+use Rattle.bz_grammar.specs.Spots.{plain}
 use Rattle.bz_hosts.proofs.SeenParts.{all_mapped}
 
 -- ---- a test on shapes for a fact of all their parts

@@ -1,14 +1,7 @@
 -- The hosts and sequences in an expression, stated for lists.
-use Rattle.std.proofs.Common.{◌≡◌, Bool, not, ◌&&◌, ◌||◌, List, [], ◌∷◌, ◌++◌, refl, ap, ◌∙◌, map, if◌then◌else◌}
-use Rattle.std.specs.List.{flat_map}
-use Rattle.std.proofs.lemmas.List.Folds.{flat_map-map}
-use Rattle.bz_hosts.specs.Words.{Part, Node', Form, HostComments, no_comments, frame, has_newline, comments_of, is_operator}
-use Rattle.bz_grammar.specs.declared.tree.Part.TheVariants as p
-use Rattle.bz_value.specs.declared.value.Expr.{Expr, Row_of-Expr, end_of-Expr, more_of-Expr, items-the_row-Expr, items_hidden-the_row-Expr-0}
+use Rattle.bz_hosts.proofs.Words.{[], ◌&&◌, ◌++◌, ◌||◌, ◌∙◌, ◌∷◌, ◌≡◌, ap, begins_seen_operator, Bool, by_frame, comments_of, end_of-Expr, Expr, first_seen_gap, flat_map, flat_map-map, Form, frame, has_newline, HostComments, Hosted, hosted_by, if◌then◌else◌, inside_expr, inside_row, is_operator, items-the_row-Expr, items_hidden-the_row-Expr-0, List, map, more_of-Expr, no_comments, Node', not, Part, Part as p, parts_in, plain, refl, row_exprs, Row_of-Expr, seen}
 use Rattle.bz_value.specs.declared.value.Expr.TheVariants as e
-use Rattle.bz_value.proofs.FormParts.{parts_in, items_in}
-use Rattle.bz_hosts.specs.Seen.{seen, plain, first_seen_gap, begins_seen_operator, row_exprs}
-use Rattle.bz_hosts.specs.Hosts.{Hosted, hosted_by, by_frame, inside_expr, inside_row}
+use Rattle.bz_value.proofs.FormParts.{items_in}
 
 -- what an expression is as a host, and what is in it
 abbrev pub within : Expr → Hosted × List Hosted

@@ -1,22 +1,7 @@
 -- What a file says after another one, where either may have suites.
-use Rattle.std.proofs.Common.{◌≡◌, List, [], ◌∷◌, ◌++◌, refl, sym, ap, ap₂, ◌∙◌, subst, map, append_assoc}
-use Rattle.std.specs.List.{AllByRecursion, flat_map}
-use Rattle.std.proofs.lemmas.Grind.{flat_map-append}
-use Rattle.std.proofs.lemmas.List.{append-nil}
-use Rattle.bz_hosts.specs.Words.{Bytes, Leaf, Node, Part, Node', leaves_part, Expr, Item}
+use Rattle.bz_hosts.proofs.Words.{[], ◌++◌, ◌∙◌, ◌∷◌, ◌≡◌, all_but_last, all_in, AllByRecursion, ap, append-nil, append_assoc, ap₂, AreWholeLines, before_groups, BeginsBare, blocks, Bytes, BzlLinesJoin, comments_in, EndsInLine, EndsInNewline, EndsWithStatement, Expr, file_with, first_lines, first_seen_gap, flat_map, flat_map-append, groups_of, indented_lines_before, Item, Item as item, items_from, last_group, last_token, Leaf, leaves_Node, leaves_part, lines_after, lines_at_end, lines_of, List, map, Node, Node', Part, ReadStatements, refl, seen, stated, subst, SuitesJoin, sym, view_of}
 use Rattle.bz_grammar.specs.declared.tree.Part.TheVariants as p
-use Rattle.bz_grammar.proofs.Spells.{leaves_Node}
-use Rattle.bz_grammar.specs.Joined.{last_token, AreWholeLines, file_with, BzlLinesJoin}
-use Rattle.bz_value.specs.declared.value.Item.TheVariants as item
-use Rattle.bz_value.specs.Gaps.{before_groups, comments_in, all_in, groups_of, all_but_last, last_group, lines_of}
-use Rattle.bz_hosts.specs.Seen.{blocks, seen, first_seen_gap}
-use Rattle.bz_hosts.proofs.JoinedLines.{last_after, whole_both}
-use Rattle.bz_hosts.specs.SuitesJoined.{lines_after, lines_at_end, first_lines, EndsWithStatement, BeginsBare, EndsInNewline, EndsInLine, SuitesJoin}
-use Rattle.bz_hosts.specs.Suites.{ReadStatements, stated, indented_lines_before}
-use Rattle.bz_hosts.specs.View.{items_from, view_of}
-use Rattle.bz_hosts.proofs.BlankLines.{Blank, Alike, before_blank, none_blank}
-use Rattle.bz_hosts.proofs.Stated.{lines_first}
-use Rattle.bz_hosts.proofs.SuiteLines.{Lines}
+use Rattle.bz_hosts.proofs.{JoinedLines.last_after, JoinedLines.whole_both, BlankLines.Blank, BlankLines.Alike, BlankLines.before_blank, BlankLines.none_blank, Stated.lines_first, SuiteLines.Lines}
 
 -- ---- groups of blank lines
 

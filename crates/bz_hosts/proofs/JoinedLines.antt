@@ -1,27 +1,10 @@
 -- Views of lines after lines.
-use Rattle.std.proofs.Common.{◌≡◌, false, List, [], ◌∷◌, ◌++◌, inl, inr, refl, sym, ap, ◌∙◌, subst, append_assoc, append-nil, map, arith}
-use Rattle.std.specs.List.{AllByRecursion, flat_map}
-use Rattle.std.proofs.lemmas.Str.{IsUtf8-nil}
-use Rattle.std.proofs.lemmas.Grind.{flat_map-append}
-use Rattle.bz_token.specs.declared.class.Class.TheVariants as c
-use Rattle.bz_hosts.specs.Words.{Leaf, Node, Part, Node', leaves_part, Bytes, Item, GapLine, lines_of, after_first_line, groups_of, all_but_last, last_group}
-use Rattle.bz_lex.specs.Gaps.{nothing}
+use Rattle.bz_hosts.proofs.Words.{[], ◌++◌, ◌∙◌, ◌∷◌, ◌≡◌, after_first_line, all_but_last, AllByRecursion, ap, append-nil, append_assoc, AreWholeLines, arith, blocks, Bytes, Class as c, exprs_in, false, file_with, Fits, flat_map, flat_map-append, GapLine, groups_of, indented_lines_before, inl, inr, IsNonterminal, IsUtf8-nil, Item, Item as i, items_from, Kind as k, last_gap, last_group, last_token, Leaf, leaves_Node, leaves_part, LegalBuild, lines_of, LinesJoin, List, map, no_such, Node, Node', nothing, Part, refl, Seen, seen, seen_row, shape, stated, stated_row, statements_in, subst, sym, view_of}
 use Rattle.bz_grammar.specs.declared.tree.Part.TheVariants as p
-use Rattle.bz_grammar.specs.declared.kind.Kind.TheVariants as k
 use Rattle.bz_grammar.specs.Shapes as s
-use Rattle.bz_grammar.specs.Shapes.{Fits, shape}
-use Rattle.bz_grammar.specs.Legal.{IsNonterminal, LegalBuild}
-use Rattle.bz_grammar.proofs.Balance.{no_such}
 use Rattle.bz_grammar.proofs.Build.{file_lines}
-use Rattle.bz_grammar.specs.Joined.{last_token, AreWholeLines, file_with, LinesJoin}
-use Rattle.bz_grammar.proofs.Spells.{leaves_Node}
-use Rattle.bz_value.specs.declared.value.Item.TheVariants as i
-use Rattle.bz_hosts.specs.Seen.{Seen, seen, seen_row, last_gap, blocks, statements_in}
-use Rattle.bz_hosts.specs.Suites.{exprs_in, indented_lines_before, stated, stated_row}
-use Rattle.bz_hosts.specs.View.{items_from, view_of}
 use Rattle.bz_hosts.specs.Joined.{lines_left, EndsWithLine, ViewsJoin, EmptyReads}
-use Rattle.bz_hosts.proofs.NodeViews.{seen_parts}
-use Rattle.bz_hosts.proofs.Stated.{row_parts}
+use Rattle.bz_hosts.proofs.{NodeViews.seen_parts, Stated.row_parts}
 
 -- ---- items
 

@@ -1,17 +1,6 @@
 -- Right before a newline of a legal file is at most one comment.
-use Rattle.std.proofs.Common.{◌≡◌, Bool, true, false, [], Option, Some, None, inl, inr, refl, sym, ap, ◌∙◌, subst}
-use Rattle.std.proofs.lemmas.Bool.{or_cases}
-use Rattle.bz_hosts.specs.Words.{Class, Leaf, Part, Node', Bytes, as_list, all_in}
-use Rattle.bz_token.specs.declared.class.Class.TheVariants as c
-use Rattle.bz_lex.specs.Gaps.{IsGap}
-use Rattle.bz_grammar.specs.declared.tree.Part.TheVariants as p
+use Rattle.bz_hosts.proofs.Words.{[], ◌∙◌, ◌≡◌, after_part, all_in, Along, along, ap, as_list, AtLeaves, Begins, Bool, Bytes, Class, Class as c, colon_mark, false, following_token, GapStands, has_token, inl, inr, is_one_of, is_terminal, IsGap, Leaf, leaves_at, no_such, Node', None, Nonterminal, only_comment, Option, or_cases, Part, Part as p, refl, role, same_class, seen, Some, Spot, Stands, stated, subst, sym, Terminal, true}
 use Rattle.bz_grammar.specs.Shapes as s
-use Rattle.bz_grammar.specs.Shapes.{Nonterminal, Terminal, has_token, is_one_of, is_terminal, leaves_at, colon_mark}
-use Rattle.bz_grammar.specs.Spots.{Spot, Begins, Along, role, following_token, after_part, GapStands, Stands, AtLeaves}
-use Rattle.bz_grammar.proofs.Balance.{no_such, same_class}
-use Rattle.bz_value.proofs.AlongGaps.{along}
-use Rattle.bz_hosts.specs.Seen.{seen}
-use Rattle.bz_hosts.specs.Suites.{stated, only_comment}
 
 -- ---- right before a newline
 

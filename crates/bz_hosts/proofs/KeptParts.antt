@@ -1,22 +1,8 @@
 -- No comment of a part of a legal tree is lost or doubled: each is in the gap before the part, is loose in it, or is
 -- in what is made of it.
-use Rattle.std.proofs.Common.{◌≡◌, ℕ, zero, suc, ◌+◌, Bool, true, false, List, [], ◌∷◌, ◌++◌, Option, refl, ap, sym, ◌∙◌, map, take, drop, if◌then◌else◌, ◌&&◌, ◌||◌, not, arith}
-use Rattle.std.specs.List.{AllByRecursion}
-use Rattle.std.proofs.lemmas.List.{drop-map}
-use Rattle.bz_hosts.specs.Words.{Kind, no_comments, Frame, sequence, frame, lead, is_binary, Bytes, suffix_in, others_in, all_in, has_newline, is_operator}
-use Rattle.bz_grammar.specs.declared.tree.Part.{Part, Row_of-Part, end_of-Part, more_of-Part, Node', items-the_row-Part}
-use Rattle.bz_grammar.specs.declared.tree.Part.TheVariants as p
+use Rattle.bz_hosts.proofs.Words.{[], ◌&&◌, ◌++◌, ◌+◌, ◌||◌, ◌∙◌, ◌∷◌, ◌≡◌, all_in, AllByRecursion, amount, ap, append_total, arith, begins_seen_operator, Bool, Bytes, drop, drop-map, end_of-Part, false, first_seen_gap, form_of_frame, Frame, frame, has_newline, if◌then◌else◌, inner_amount, is_binary, is_operator, items-the_row-Part, items_in, Kind, lead, LegalBy, LegalRowBy, line_shape, List, loose_after, loose_in, loose_of, map, more_of-Part, no_comments, Node', not, Option, others_in, Part, Part as p, plain, refl, row_exprs, Row_of-Part, Seen, seen, seen_node, sequence, suc, suffix_amount, suffix_in, sym, take, total, true, values_wider, zero, ℕ}
 use Rattle.bz_grammar.specs.Shapes as s
-use Rattle.bz_value.specs.Counted.{total, suffix_amount, amount}
-use Rattle.bz_hosts.specs.Seen.{Seen, seen, seen_node, plain, first_seen_gap, begins_seen_operator, loose_in, loose_after, row_exprs, items_in, form_of_frame, loose_of}
-use Rattle.bz_hosts.proofs.Alternating.{Alternating}
-use Rattle.bz_hosts.proofs.Cuts.{is_token, mark_token, BracketAt, CutIn, kind_cut}
-use Rattle.bz_hosts.proofs.SeenParts.{seen_rows, all_cut}
-use Rattle.bz_hosts.proofs.Sums.{gap_amount, gap_parts, node_amount, made_amount, part_amount, leaf_amount, row_leaves}
-use Rattle.bz_value.proofs.Totals.{append_total, inner_amount}
-use Rattle.bz_value.specs.LineShapes.{line_shape}
-use Rattle.bz_value.proofs.LegalBy.{LegalBy, LegalRowBy}
-use Rattle.bz_value.proofs.Wider.{values_wider}
+use Rattle.bz_hosts.proofs.{Alternating.Alternating, Cuts.is_token, Cuts.mark_token, Cuts.BracketAt, Cuts.CutIn, Cuts.kind_cut, SeenParts.seen_rows, SeenParts.all_cut, Sums.gap_amount, Sums.gap_parts, Sums.node_amount, Sums.made_amount, Sums.part_amount, Sums.leaf_amount, Sums.row_leaves}
 
 module _ (number : Bytes → ℕ) where
   -- what is loose in a part, and what is in the expression made of it

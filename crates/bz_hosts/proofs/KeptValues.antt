@@ -1,16 +1,6 @@
 -- Sums of a number of each comment: of statements, and of lines.
-use Rattle.std.proofs.Common.{◌≡◌, ℕ, ◌+◌, List, [], ◌∷◌, refl, sym, ap, ◌∙◌, map, true, false, None, arith}
-use Rattle.bz_hosts.specs.Words.{Expr, Bytes, GapLine, comments_in, lines_of, after_first_line, suffix_in, Part}
-use Rattle.bz_value.specs.Counted.{total, amount, item_amount}
-use Rattle.bz_hosts.specs.Suites.{exprs_in}
-use Rattle.bz_hosts.specs.Seen.{Seen, statements_in, seen, last_gap}
-use Rattle.bz_hosts.proofs.Stated.{all_simple}
-use Rattle.bz_hosts.proofs.Alternating.{Alternating}
-use Rattle.bz_hosts.proofs.Cuts.{mark_token}
-use Rattle.bz_hosts.proofs.KeptParts.{AllKept, host_kept, token_part}
-use Rattle.bz_hosts.proofs.QuietGaps.{Quiet}
-use Rattle.bz_hosts.proofs.Sums.{gap_amount, gap_parts, part_amount}
-use Rattle.bz_value.specs.declared.value.Item.TheVariants as i
+use Rattle.bz_hosts.proofs.Words.{[], ◌+◌, ◌∙◌, ◌∷◌, ◌≡◌, after_first_line, amount, ap, arith, Bytes, comments_in, Expr, exprs_in, false, GapLine, Item as i, item_amount, last_gap, lines_of, List, map, None, Part, refl, Seen, seen, statements_in, suffix_in, sym, total, true, ℕ}
+use Rattle.bz_hosts.proofs.{Stated.all_simple, Alternating.Alternating, Cuts.mark_token, KeptParts.AllKept, KeptParts.host_kept, KeptParts.token_part, QuietGaps.Quiet, Sums.gap_amount, Sums.gap_parts, Sums.part_amount}
 use Rattle.bz_grammar.specs.Shapes as s
 
 module _ (number : Bytes → ℕ) where

@@ -50,3 +50,4 @@ pub mod SuiteReads
 pub mod Sums
 pub mod Texts
 pub mod UnsignedGaps
+mod Words

@@ -1,12 +1,6 @@
 -- Steps of the loops over the statements of a line.
-use Rattle.std.proofs.Common.{ℕ, zero, suc, false, ◌≡◌, List, [], ◌∷◌, ◌++◌, ◌<◌, ◌≤◌, ◌+◌, ◌-◌, refl, sym, ap, ◌∙◌, map, drop, length, get_or, append_assoc, append-nil, length-drop, arith}
-use Rattle.std.proofs.lemmas.List.{length-map}
-use Rattle.bz_hosts.specs.Words.{Part, Expr, Item, Bytes, suffix_in}
-use Rattle.bz_value.specs.declared.value.Item.TheVariants as i
-use Rattle.bz_hosts.specs.Seen.{Seen, seen, plain, last_gap, statement, statements_in}
-use Rattle.bz_hosts.specs.private.Walks.{line_gap}
-use Rattle.bz_hosts.proofs.HostSteps.{host_comments}
-use Rattle.bz_hosts.proofs.RowSteps.{seen_here, two_further}
+use Rattle.bz_hosts.proofs.Words.{[], ◌++◌, ◌+◌, ◌-◌, ◌<◌, ◌∙◌, ◌∷◌, ◌≡◌, ◌≤◌, ap, append-nil, append_assoc, arith, Bytes, drop, Expr, false, get_or, Item, Item as i, last_gap, length, length-drop, length-map, line_gap, List, map, Part, plain, refl, Seen, seen, statement, statements_in, suc, suffix_in, sym, zero, ℕ}
+use Rattle.bz_hosts.proofs.{HostSteps.host_comments, RowSteps.seen_here, RowSteps.two_further}
 
 -- ---- the suffix of a statement
 

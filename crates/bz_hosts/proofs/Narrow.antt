@@ -1,15 +1,5 @@
 -- What is proper by the grammar of values, and is in a line, is proper by the grammar of lines: it holds no suite.
-use Rattle.std.proofs.Common.{◌≡◌, Bool, true, List, [], ◌∷◌, ◌++◌}
-use Rattle.std.specs.List.{AllByRecursion}
-use Rattle.bz_hosts.specs.Words.{Part, Expr, Token, Form', Row_of-Expr, end_of-Expr, more_of-Expr}
-use Rattle.bz_grammar.specs.Shapes.{Fits, bzl_shape}
-use Rattle.bz_grammar.specs.Legal.{IsNonterminal}
-use Rattle.bz_grammar.specs.Spots.{Spot, Within}
-use Rattle.bz_grammar.proofs.Balance.{no_such}
-use Rattle.bz_value.specs.Frames.{Frame, row, sequence, compound, frame, is_binary, is_inner_frame}
-use Rattle.bz_value.specs.LineShapes.{line_shape, whole_shape}
-use Rattle.bz_value.specs.Proper.{after_expr, in_frame, roots, ProperBy, ProperRowBy, ProperHeadBy, ProperItemsBy}
-use Rattle.bz_value.specs.Roots.{root, row_in, each_with_comma}
+use Rattle.bz_hosts.proofs.Words.{[], ◌++◌, ◌∷◌, ◌≡◌, after_expr, AllByRecursion, Bool, bzl_shape, compound, each_with_comma, end_of-Expr, Expr, Fits, Form', Frame, frame, in_frame, is_binary, is_inner_frame, IsNonterminal, line_shape, List, more_of-Expr, no_such, Part, ProperBy, ProperHeadBy, ProperItemsBy, ProperRowBy, root, roots, row, row_in, Row_of-Expr, sequence, Spot, Token, true, whole_shape, Within}
 use Rattle.bz_hosts.proofs.InnerParts.{is_inner, inner_kind, inner_parts, inner_bzl, inner_line, inner_framed}
 use Rattle.bz_hosts.proofs.SeenParts.{all_parted}
 

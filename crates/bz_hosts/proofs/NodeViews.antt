@@ -1,13 +1,7 @@
 -- What is seen of a node, by the list of its parts.
-use Rattle.std.proofs.Common.{ℕ, zero, suc, Bool, true, false, ◌≡◌, List, [], ◌∷◌, ◌++◌, refl, sym, ap, ◌∙◌, map, take, drop, ◌+◌, add-one, true≢false}
-use Rattle.std.proofs.lemmas.List.{drop-map}
-use Rattle.bz_hosts.specs.Words.{Kind, Node, Part, Node', Expr, Form, Seq, HostComments, no_comments, Bytes, has_newline}
+use Rattle.bz_hosts.proofs.Words.{[], ◌++◌, ◌+◌, ◌∙◌, ◌∷◌, ◌≡◌, add-one, ap, Bool, Bytes, drop, drop-map, Expr, false, first_seen_gap, Form, form_of_frame, Frame, frame, has_brackets, has_newline, HostComments, is_split, items_of_row, Kind, lead, List, loose_of, map, no_comments, Node, Node', Part, plain, refl, row_of, seen, seen_node, seen_row, Seq, seq_in, sequence, suc, sym, take, true, true≢false, with_comments, zero, ℕ}
 use Rattle.bz_grammar.specs.declared.tree.Part.TheVariants as p
-use Rattle.bz_grammar.proofs.Nested.{row_of, items_of_row}
 use Rattle.bz_value.specs.declared.value.Expr.TheVariants as e
-use Rattle.bz_value.specs.Commented.{with_comments}
-use Rattle.bz_value.specs.Frames.{Frame, sequence, frame, has_brackets, lead}
-use Rattle.bz_hosts.specs.Seen.{seen, seen_row, seen_node, plain, first_seen_gap, is_split, form_of_frame, loose_of, seq_in}
 use Rattle.bz_hosts.proofs.SeenParts.{seen_rows}
 
 pub seen_parts : (n : Node) → seen_row (row_of n).1 ≡ map seen n.parts

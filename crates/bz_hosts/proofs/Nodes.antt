@@ -1,20 +1,7 @@
 -- The texts of a node of any kind, and so of each part of a legal tree.
-use Rattle.std.proofs.Common.{◌≡◌, ℕ, suc, ◌+◌, ◌≤◌, List, [], ◌∷◌, ◌++◌, inl, inr, Some, refl, sym, ap, ◌∙◌, subst, map, take, drop, append_assoc, append-nil, arith}
-use Rattle.std.specs.List.{AllByRecursion}
-use Rattle.std.proofs.lemmas.List.{take-map, drop-map}
-use Rattle.bz_hosts.specs.Words.{Leaf, Kind, Frame, sequence, frame, lead, Bytes, all_in}
-use Rattle.bz_grammar.specs.declared.tree.Part.{Part, Row_of-Part, end_of-Part, more_of-Part, Node', items-the_row-Part}
-use Rattle.bz_grammar.specs.declared.tree.Part.TheVariants as p
+use Rattle.bz_hosts.proofs.Words.{[], ◌++◌, ◌+◌, ◌∙◌, ◌∷◌, ◌≡◌, ◌≤◌, above, all_in, all_joined, AllByRecursion, ap, append-nil, append_assoc, arith, as_bzl, between, Bytes, Comment, CommentPlace, comments_at, drop, drop-map, each_legal, end_of-Part, ended, Fits, Frame, frame, host, Hosted, hosted_at, hosts_from, in_node, in_row, inl, inr, inside_expr, IsNonterminal, items-the_row-Part, items_in, Kind, lead, Leaf, LegalBy, LegalRowBy, line_shape, List, loose_in, map, Measured, measured, more_of-Part, Node', Part, Part as p, plain, refl, Region, Row_of-Part, Seen, seen, sequence, sizes, Some, subst, suc, sym, take, take-map, texts_at, values_wider, whole_shape, ℕ}
 use Rattle.bz_grammar.specs.Shapes as s
-use Rattle.bz_grammar.specs.Shapes.{Fits}
-use Rattle.bz_grammar.specs.Legal.{IsNonterminal}
-use Rattle.bz_value.specs.LineShapes.{line_shape, whole_shape}
-use Rattle.bz_value.proofs.LegalBy.{LegalBy, LegalRowBy, each_legal, as_bzl}
-use Rattle.bz_value.proofs.Wider.{values_wider}
-use Rattle.bz_value.proofs.GapComments.{all_joined}
-use Rattle.bz_hosts.specs.Seen.{Seen, seen, plain, loose_in, items_in}
 use Rattle.bz_hosts.proofs.SeenParts.{all_mapped, all_parted}
-use Rattle.bz_hosts.specs.Hosts.{Region, host, between, Comment, comments_at, Measured, sizes, measured, in_row, in_node, hosts_from, CommentPlace, above, texts_at, Hosted, ended, hosted_at, inside_expr}
 use Rattle.bz_hosts.proofs.Around.{AllInside, all_wider, Sees, SeesAt, sees_after, sees_before_bracket, sees_in_sequence}
 use Rattle.bz_hosts.proofs.Gathered.{key, pick, pick_other, pick_none, GapPlaces, texts_joined, gap_all}
 use Rattle.bz_hosts.proofs.Parts.{size, measured_rows, Solid, some_leaf, part_solid, inner, in_parts, after_parts}

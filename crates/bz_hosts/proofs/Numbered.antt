@@ -1,12 +1,6 @@
 -- Groups of comment lines, given by the numbers of the lines.
-use Rattle.std.proofs.Common.{◌≡◌, ℕ, zero, suc, Bool, true, false, ◌&&◌, List, [], ◌∷◌, ◌++◌, Option, None, Some, length, refl, sym, ap, ◌∙◌, map, get_or, append_assoc, if◌then◌else◌}
-use Rattle.std.proofs.Math.Bool.{and_assoc, and_comm}
-use Rattle.std.proofs.lemmas.List.{map-append}
-use Rattle.std.proofs.lemmas.Simd.{map-map}
-use Rattle.bz_items.specs.Characters.{Bytes}
-use Rattle.std.specs.Option.{option_map_or}
-use Rattle.bz_value.specs.Gaps.{GapLine, as_list, before_groups, groups_of, all_but_last, last_group}
-use Rattle.bz_hosts.specs.Hosts.{right_above, bare_lines}
+use Rattle.bz_hosts.proofs.Words.{[], ◌&&◌, ◌++◌, ◌∙◌, ◌∷◌, ◌≡◌, all_but_last, ap, append_assoc, as_list, bare_lines, before_groups, Bool, Bytes, false, GapLine, get_or, groups_of, if◌then◌else◌, last_group, length, List, map, map-append, None, Option, option_map_or, refl, right_above, Some, suc, sym, true, zero, ℕ}
+use Rattle.std.proofs.{Math.Bool.and_assoc, Math.Bool.and_comm, lemmas.Simd.map-map}
 
 -- ---- what one line more on top adds
 

@@ -1,14 +1,5 @@
 -- The comments in parts, by the leaves of each part.
-use Rattle.std.proofs.Common.{◌≡◌, ℕ, suc, ◌+◌, ◌<◌, List, [], ◌∷◌, ◌++◌, inl, inr, length, refl, sym, ap, ◌∙◌, map, append_assoc, length-append, arith}
-use Rattle.std.specs.List.{AllByRecursion, flat_map}
-use Rattle.bz_hosts.specs.Words.{Leaf, Kind, leaves_part, leaves_row, Bytes}
-use Rattle.bz_grammar.specs.declared.kind.Kind.TheVariants as k
-use Rattle.bz_grammar.specs.declared.tree.Part.{Part, Row_of-Part, end_of-Part, more_of-Part, Node', items-the_row-Part}
-use Rattle.bz_grammar.specs.declared.tree.Part.TheVariants as p
-use Rattle.bz_grammar.specs.Shapes.{Fits, bzl_shape}
-use Rattle.bz_grammar.specs.Legal.{IsNonterminal, LegalPart, LegalRow}
-use Rattle.bz_hosts.specs.Seen.{seen, seen_row, first_seen_gap}
-use Rattle.bz_hosts.specs.Hosts.{Comment, comments_at, comments_from, Measured, sizes, measured, measured_row}
+use Rattle.bz_hosts.proofs.Words.{[], ◌++◌, ◌+◌, ◌<◌, ◌∙◌, ◌∷◌, ◌≡◌, AllByRecursion, ap, append_assoc, arith, Bytes, bzl_shape, Comment, comments_at, comments_from, end_of-Part, first_seen_gap, Fits, flat_map, inl, inr, IsNonterminal, items-the_row-Part, Kind, Kind as k, Leaf, leaves_part, leaves_row, LegalPart, LegalRow, length, length-append, List, map, Measured, measured, measured_row, more_of-Part, Node', Part, Part as p, refl, Row_of-Part, seen, seen_row, sizes, suc, sym, ℕ}
 
 abbrev pub size : Part → ℕ
 size x = (measured x).size

@@ -1,44 +1,6 @@
 -- Headers of a legal file with their suites are proper, and no comment of them is lost or doubled.
-use Rattle.std.proofs.Common.{◌≡◌, ℕ, ◌+◌, Bool, true, false, List, [], ◌∷◌, ◌++◌, inl, inr, Option, refl, sym, ap, ◌∙◌, subst, map, codes, arith}
-use Rattle.std.specs.List.{AllByRecursion}
-use Rattle.std.proofs.lemmas.Bool.{and_parts, or_cases}
-use Rattle.std.proofs.lemmas.Slice.Eq.{bytes_eq-Decides}
-use Rattle.std.proofs.lemmas.List.Elements.{All-from_recursion}
-use Rattle.bz_hosts.specs.Words.{Bytes, Leaf, Kind, Part, Node', Expr, HostComments, no_comments, lines_of, comments_in}
-use Rattle.bz_grammar.specs.Shapes.{Fits, has_token}
-use Rattle.bz_grammar.specs.Legal.{IsNonterminal}
-use Rattle.bz_grammar.specs.Spots.{Begins, Along, Stands, AtLeaves, AtParts}
-use Rattle.bz_grammar.proofs.Balance.{no_such}
-use Rattle.bz_value.specs.Counted.{total, suffix_amount, amount}
-use Rattle.bz_value.specs.Frames.{frame, is_header, is_inner_frame}
-use Rattle.bz_value.specs.LineShapes.{whole_shape}
-use Rattle.bz_value.specs.Proper.{IsComment, MaybeComment, AreComments, ProperBy}
-use Rattle.bz_value.specs.Statements.{first_token_text, header_word, is_alternative, else_last, alternatives_fit}
-use Rattle.bz_value.proofs.FormParts.{AreLinesBy}
-use Rattle.bz_value.proofs.GapComments.{AreFine, Group, all_joined, fine_lines, fine_comments}
-use Rattle.bz_value.proofs.Rooted.{value_fits}
-use Rattle.bz_value.proofs.Totals.{append_total, form_amount}
-use Rattle.bz_hosts.specs.Suites.{ReadStatements, SuiteRead, stated, put_header, branches, indented_lines_before}
-use Rattle.bz_hosts.specs.Seen.{Seen, seen, seen_node, first_seen_gap, plain, form_of_frame}
-use Rattle.bz_hosts.proofs.Cuts.{token, kind_cut}
-use Rattle.bz_hosts.proofs.InnerParts.{is_inner, InLine, in_line, token_inner}
-use Rattle.bz_hosts.proofs.KeptParts.{KeptPart, AllKept, held, node_kept, token_part}
-use Rattle.bz_hosts.proofs.ProperParts.{node_proper}
-use Rattle.bz_hosts.proofs.QuietGaps.{Silent}
-use Rattle.bz_hosts.proofs.RowParts.{Fit, AllFit}
-use Rattle.bz_hosts.proofs.SeenParts.{Decoded, AllDecoded, all_mapped, node_decoded}
-use Rattle.bz_hosts.proofs.Sums.{gap_amount, part_amount}
-use Rattle.bz_hosts.proofs.Colons.{header_ends, InHeader}
-use Rattle.bz_hosts.proofs.Compounds.{First, function, loop, condition, Further, KnownOf, statement}
-use Rattle.bz_hosts.proofs.HeadParts.{BeginsWith, Headed}
-use Rattle.bz_hosts.proofs.KeptGaps.{colon_is}
-use Rattle.bz_hosts.proofs.KeptValues.{stated_amount, lines_amount}
-use Rattle.bz_hosts.proofs.Stated.{stated_part}
-use Rattle.bz_hosts.proofs.ProperValues.{AreSome, of_parts, branch_word, others_fit, last_further, suite, suite_line, suite_alternative, suite_begins, suite_proper}
-use Rattle.bz_hosts.proofs.SuiteLines.{Lines}
-use Rattle.bz_token.specs.declared.class.Class.TheVariants as c
-use Rattle.bz_grammar.specs.declared.kind.Kind.TheVariants as k
-use Rattle.bz_grammar.specs.declared.tree.Part.TheVariants as p
+use Rattle.bz_hosts.proofs.Words.{[], ◌++◌, ◌+◌, ◌∙◌, ◌∷◌, ◌≡◌, All-from_recursion, all_joined, AllByRecursion, Along, alternatives_fit, amount, and_parts, ap, append_total, AreComments, AreFine, AreLinesBy, arith, AtLeaves, AtParts, Begins, Bool, branches, Bytes, bytes_eq-Decides, Class as c, codes, comments_in, else_last, Expr, false, fine_comments, fine_lines, first_seen_gap, first_token_text, Fits, form_amount, form_of_frame, frame, Group, has_token, header_word, HostComments, indented_lines_before, inl, inr, is_alternative, is_header, is_inner_frame, IsComment, IsNonterminal, Kind, Kind as k, Leaf, lines_of, List, map, MaybeComment, no_comments, no_such, Node', Option, or_cases, Part, Part as p, plain, ProperBy, put_header, ReadStatements, refl, Seen, seen, seen_node, Stands, stated, subst, suffix_amount, SuiteRead, sym, total, true, value_fits, whole_shape, ℕ}
+use Rattle.bz_hosts.proofs.{Cuts.token, Cuts.kind_cut, InnerParts.is_inner, InnerParts.InLine, InnerParts.in_line, InnerParts.token_inner, KeptParts.KeptPart, KeptParts.AllKept, KeptParts.held, KeptParts.node_kept, KeptParts.token_part, ProperParts.node_proper, QuietGaps.Silent, RowParts.Fit, RowParts.AllFit, SeenParts.Decoded, SeenParts.AllDecoded, SeenParts.all_mapped, SeenParts.node_decoded, Sums.gap_amount, Sums.part_amount, Colons.header_ends, Colons.InHeader, Compounds.First, Compounds.function, Compounds.loop, Compounds.condition, Compounds.Further, Compounds.KnownOf, Compounds.statement, HeadParts.BeginsWith, HeadParts.Headed, KeptGaps.colon_is, KeptValues.stated_amount, KeptValues.lines_amount, Stated.stated_part, ProperValues.AreSome, ProperValues.of_parts, ProperValues.branch_word, ProperValues.others_fit, ProperValues.last_further, ProperValues.suite, ProperValues.suite_line, ProperValues.suite_alternative, ProperValues.suite_begins, ProperValues.suite_proper, SuiteLines.Lines}
 use Rattle.bz_grammar.specs.Shapes as s
 use Rattle.bz_value.specs.declared.value.Expr.TheVariants as e
 

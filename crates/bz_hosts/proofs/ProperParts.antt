@@ -1,29 +1,6 @@
 -- What is seen of a part of a legal tree is proper where the part is.
-use Rattle.std.proofs.Common.{◌≡◌, ℕ, suc, Bool, true, false, not, ◌&&◌, List, [], ◌∷◌, refl, sym, subst, map, take, drop, if◌then◌else◌}
-use Rattle.std.specs.List.{AllByRecursion}
-use Rattle.std.proofs.lemmas.Bool.{and_parts}
-use Rattle.std.proofs.lemmas.List.{drop-map}
-use Rattle.std.proofs.lemmas.List.Elements.{All-from_recursion}
-use Rattle.bz_token.specs.Lexemes.{IsLexeme}
-use Rattle.bz_hosts.specs.Words.{Leaf, Kind, leaves_part, leaves_row, Expr, Form, HostComments, no_comments, Bytes, all_in, has_newline}
-use Rattle.bz_lex.specs.Leaves.{IsCodedLeaf}
-use Rattle.bz_grammar.specs.declared.tree.Part.{Part, Row_of-Part, end_of-Part, more_of-Part, Node', items-the_row-Part}
-use Rattle.bz_grammar.specs.declared.tree.Part.TheVariants as p
+use Rattle.bz_hosts.proofs.Words.{[], ◌&&◌, ◌∷◌, ◌≡◌, All-from_recursion, all_fine, all_in, AllByRecursion, and_parts, AsCompoundBy, AsRowBy, AsSequenceBy, AtParts, Bool, Bytes, bzl_shape, compound, drop, drop-map, end_of-Part, Expr, false, first_seen_gap, Fits, fits_same, Form, form_proper_by, Frame, frame, has_newline, HostComments, if◌then◌else◌, in_frame, is_binary, is_comprehension, is_inner_frame, is_open, is_operator, is_split, IsCodedLeaf, IsComment, IsLexeme, IsNonterminal, IsWider, items-the_row-Part, items_in, kept_items, kept_parts, Kind, lead, Leaf, leaves_part, leaves_row, LegalBy, LegalPart, LegalRowBy, line_shape, List, map, more, more_of-Part, no_comments, no_such, Node', not, over, Part, Part as p, parts_of_row, places, plain, ProperBy, refl, root, row, row_exprs, row_in, Row_of-Part, row_same, Same, Seen, seen, seen_node, sequence, Shape, Spot, Stands, subst, suc, sym, take, true, value_fits, values_wider, whole_shape, wider_part, Within, ℕ}
 use Rattle.bz_grammar.specs.Shapes as s
-use Rattle.bz_grammar.specs.Shapes.{Shape, Fits, bzl_shape}
-use Rattle.bz_grammar.specs.Legal.{IsNonterminal, LegalPart}
-use Rattle.bz_grammar.specs.Spots.{Spot, Within, Stands, AtParts}
-use Rattle.bz_grammar.proofs.Balance.{no_such, parts_of_row}
-use Rattle.bz_value.specs.Frames.{Frame, row, sequence, compound, frame, lead, is_binary, is_comprehension, is_inner_frame}
-use Rattle.bz_value.specs.Roots.{root, row_in}
-use Rattle.bz_value.specs.LineShapes.{line_shape, whole_shape}
-use Rattle.bz_value.specs.Proper.{IsComment, is_operator, in_frame, ProperBy}
-use Rattle.bz_value.proofs.FormParts.{AsRowBy, AsSequenceBy, AsCompoundBy, form_proper_by}
-use Rattle.bz_value.proofs.GapComments.{all_fine}
-use Rattle.bz_value.proofs.Rooted.{Same, over, more, fits_same, row_same, places, kept_parts, kept_items, value_fits}
-use Rattle.bz_value.proofs.LegalBy.{LegalBy, LegalRowBy, wider_part}
-use Rattle.bz_value.proofs.Wider.{IsWider, values_wider}
-use Rattle.bz_hosts.specs.Seen.{Seen, seen, seen_node, plain, first_seen_gap, row_exprs, items_in, is_split, is_open}
 use Rattle.bz_hosts.proofs.Alternating.{Alternating}
 use Rattle.bz_hosts.proofs.Cuts.{Cut, sequence_cut}
 use Rattle.bz_hosts.proofs.InnerParts.{ends_line, is_inner, inner_parts, inner_bzl, inner_framed, in_line, inner_legal}

@@ -1,26 +1,6 @@
 -- Statements and suites of a legal file are proper, and no comment of them is lost or doubled.
-use Rattle.std.proofs.Common.{◌≡◌, ℕ, ◌+◌, Bool, true, false, List, [], ◌∷◌, ◌++◌, inl, inr, Option, None, refl, sym, ap, ◌∙◌, subst, map, append-nil, append_assoc, if◌then◌else◌, arith}
-use Rattle.std.specs.List.{AllByRecursion}
-use Rattle.std.proofs.lemmas.Bool.{or_left}
-use Rattle.std.proofs.lemmas.List.Elements.{All-from_recursion}
-use Rattle.bz_hosts.specs.Words.{Bytes, Kind, leaves_part, leaves_row, Expr, HostComments, is_empty, GapLine, as_list, suffix_in, all_in, lines_of, comments_in, after_first_line}
-use Rattle.bz_lex.specs.Leaves.{IsCodedLeaf}
-use Rattle.bz_grammar.specs.declared.tree.Part.{Part, Row_of-Part, end_of-Part, more_of-Part, Node', items-the_row-Part}
-use Rattle.bz_grammar.specs.Shapes.{Fits, Several, done, bzl_shape, nonterminal_has_kind}
-use Rattle.bz_grammar.specs.Legal.{IsNonterminal, LegalPart, LegalRow}
-use Rattle.bz_grammar.specs.Spots.{Spot, Begins, Along, onward, after_part, Stands, AtLeaves, AtParts}
-use Rattle.bz_grammar.proofs.Balance.{no_such, parts_of_row}
-use Rattle.bz_value.specs.Counted.{total, suffix_amount, amount}
-use Rattle.bz_value.specs.Frames.{is_simple}
-use Rattle.bz_value.specs.LineShapes.{whole_shape}
-use Rattle.bz_value.specs.Proper.{IsComment, MaybeComment, AreComments, ProperBy, comments_of}
-use Rattle.bz_value.specs.Statements.{has_simple_kind, is_whole_statement}
+use Rattle.bz_hosts.proofs.Words.{[], ◌++◌, ◌+◌, ◌∙◌, ◌∷◌, ◌≡◌, after_end, after_first_line, after_part, All-from_recursion, all_fine, all_in, all_joined, AllByRecursion, Along, amount, ap, append-nil, append_assoc, append_total, AreComments, AreFine, AreLinesBy, arith, as_list, AtLeaves, AtParts, Begins, Bool, Bytes, bzl_shape, comments_in, comments_of, done, end_comments, end_of-Part, Expr, exprs_in, false, fine_after, fine_comments, fine_lines, first_seen_gap, Fits, GapLine, Group, has_simple_kind, HostComments, if◌then◌else◌, indented_lines_before, inl, inr, is_empty, is_simple, is_taken_line, is_whole_statement, IsCodedLeaf, IsComment, IsNonterminal, IsUtf8, IsUtf8-nil, items-the_row-Part, Kind, Kind as k, last_gap, leaves_part, leaves_row, LegalPart, LegalRow, line_read, lines_of, List, map, margin_of, MaybeComment, more_of-Part, no_such, Node', None, nonterminal_has_kind, only_comment, onward, Option, or_left, Part, Part as p, parts_of_row, ProperBy, ReadStatements, refl, Row_of-Part, Seen, seen, Several, Spot, Stands, stated, statement_read, statements_in, subst, suffix_amount, suffix_before, suffix_fine, suffix_in, suite_in, suite_read, sym, total, true, walked, whole_shape, ℕ}
 use Rattle.bz_value.proofs.Begun.{moved_expr}
-use Rattle.bz_value.proofs.FormParts.{AreLinesBy}
-use Rattle.bz_value.proofs.GapComments.{AreFine, Group, all_joined, fine_lines, fine_comments, fine_after, suffix_fine, all_fine}
-use Rattle.bz_value.proofs.Totals.{append_total}
-use Rattle.bz_hosts.specs.Suites.{ReadStatements, stated, exprs_in, line_read, indented_lines_before, walked, margin_of, suite_read, suite_in, suffix_before, only_comment, statement_read, is_taken_line, end_comments, after_end}
-use Rattle.bz_hosts.specs.Seen.{seen, first_seen_gap, last_gap, statements_in, Seen}
 use Rattle.bz_hosts.proofs.Cuts.{token}
 use Rattle.bz_hosts.proofs.InnerParts.{inner_legal, nonterminal_inner, nonterminal_goes, token_goes}
 use Rattle.bz_hosts.proofs.KeptValues.{statements_kept, stated_amount, simple_amount, lines_amount}
@@ -36,10 +16,6 @@ use Rattle.bz_hosts.proofs.Stated.{stated_part, parts_seen, stated_rows}
 use Rattle.bz_hosts.proofs.ProperBranches.{Reads, Ends, Known, AllKnown, StatementOf, all_decoded, all_kept, before_lines, before_amount, header_statement}
 use Rattle.bz_hosts.proofs.ProperValues.{AreSome, some_joined}
 use Rattle.bz_hosts.proofs.SuiteLines.{Lines}
-use Rattle.std.specs.Str.{IsUtf8}
-use Rattle.std.proofs.lemmas.Str.{IsUtf8-nil}
-use Rattle.bz_grammar.specs.declared.kind.Kind.TheVariants as k
-use Rattle.bz_grammar.specs.declared.tree.Part.TheVariants as p
 use Rattle.bz_grammar.specs.Shapes as s
 
 -- ---- the last gap of a line

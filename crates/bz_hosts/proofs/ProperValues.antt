@@ -1,17 +1,7 @@
 -- A suite is a statement or an alternative by the word of its header, and proper where its header, its statements and its
 -- alternatives are.
-use Rattle.std.proofs.Common.{◌≡◌, Bool, true, false, not, ◌&&◌, ◌||◌, List, [], ◌∷◌, ◌++◌, refl, ap, ◌∙◌, codes, bytes_eq, if◌then◌else◌}
-use Rattle.std.specs.List.{All}
-use Rattle.std.proofs.lemmas.Bool.{or_right}
-use Rattle.bz_hosts.specs.Words.{Kind, Part, is_kind, Bytes, Form, HostComments, is_empty}
-use Rattle.bz_grammar.specs.declared.kind.Kind.TheVariants as k
-use Rattle.bz_grammar.specs.Spots.{Begins}
-use Rattle.bz_value.specs.declared.value.Expr.{Expr, items-the_row-Expr, items_hidden-the_row-Expr-0}
+use Rattle.bz_hosts.proofs.Words.{[], ◌&&◌, ◌++◌, ◌||◌, ◌∙◌, ◌∷◌, ◌≡◌, All, alternatives_fit, ap, AreHeaderBy, AreLinesBy, Begins, Bool, Bytes, bytes_eq, codes, else_last, Expr, false, Form, form_proper_by, headed_by, header_word, HostComments, if◌then◌else◌, is_alternative, is_branch, is_empty, is_headed_by, is_kind, is_whole_statement, IsComment, items-the_row-Expr, items_hidden-the_row-Expr-0, Kind, Kind as k, List, not, or_right, Part, parts_in, ProperBy, refl, true, whole_shape}
 use Rattle.bz_value.specs.declared.value.Expr.TheVariants as e
-use Rattle.bz_value.specs.LineShapes.{whole_shape}
-use Rattle.bz_value.specs.Proper.{IsComment, ProperBy}
-use Rattle.bz_value.specs.Statements.{header_word, headed_by, is_headed_by, is_branch, is_alternative, is_whole_statement, else_last, alternatives_fit}
-use Rattle.bz_value.proofs.FormParts.{AreLinesBy, AreHeaderBy, form_proper_by, parts_in}
 use Rattle.bz_hosts.proofs.Compounds.{First, function, loop, condition, Further, alternative, otherwise}
 
 -- ---- statements

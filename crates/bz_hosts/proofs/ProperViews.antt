@@ -1,40 +1,7 @@
 -- What a legal file says is proper, and no comment of the file is lost or doubled by it.
-use Rattle.std.proofs.Common.{◌≡◌, ℕ, ◌+◌, List, [], ◌∷◌, ◌++◌, inl, inr, subst, map, arith, true, not}
-use Rattle.std.specs.List.{AllByRecursion, flat_map}
-use Rattle.std.proofs.lemmas.List.Elements.{All-from_recursion}
-use Rattle.bz_hosts.specs.Words.{Bytes, Node, Part, Node', leaves_part, leaves_of, Expr, Item, groups_of, all_but_last, last_group, Class, Leaf}
-use Rattle.bz_lex.specs.Leaves.{IsCodedLeaf}
-use Rattle.bz_grammar.specs.Shapes.{Fits, Several, bzl_shape, tok, done}
-use Rattle.bz_grammar.specs.Legal.{IsNonterminal, Legal, LegalPart}
-use Rattle.bz_grammar.specs.Spots.{Begins, Stands, AtParts, TokenStands, AreTokens}
-use Rattle.bz_grammar.proofs.Balance.{no_such}
-use Rattle.bz_value.specs.Counted.{total, item_amount, one_if}
-use Rattle.bz_value.specs.LineShapes.{whole_shape}
-use Rattle.bz_value.specs.Statements.{is_whole_statement}
-use Rattle.bz_value.proofs.FormParts.{AreLinesBy}
-use Rattle.bz_value.proofs.GapComments.{AreFine, Groups, all_joined, groups_fine, groups_front, groups_last}
-use Rattle.bz_value.proofs.Totals.{append_total}
-use Rattle.bz_hosts.specs.Suites.{ReadStatements, stated, indented_lines_before}
-use Rattle.bz_hosts.specs.View.{items_from, view_of}
-use Rattle.bz_hosts.specs.Seen.{blocks}
-use Rattle.bz_value.specs.Proper.{IsProperItem, IsComment}
-use Rattle.bz_hosts.proofs.ProperParts.{IsLexed}
-use Rattle.bz_hosts.proofs.SeenParts.{all_parted}
-use Rattle.bz_hosts.proofs.Sums.{all_blocks, front_blocks, part_amount, leaf_amount, parts_leaves}
-use Rattle.bz_hosts.specs.Kept.{CommentsKept}
-use Rattle.bz_hosts.specs.Laws.{ViewsAreProper}
-use Rattle.bz_hosts.proofs.HeadParts.{after_stmt}
-use Rattle.bz_hosts.proofs.KeptValues.{lines_amount, statements_as_items}
-use Rattle.bz_hosts.proofs.ProperBranches.{AllKnown, before_lines, before_amount}
-use Rattle.bz_hosts.proofs.ProperSuites.{part_known}
-use Rattle.bz_hosts.proofs.SuiteLines.{Lines}
-use Rattle.bz_token.specs.Lexemes.{IsLexeme}
-use Rattle.bz_hosts.proofs.InnerParts.{ends_line}
-use Rattle.bz_grammar.specs.declared.kind.Kind.TheVariants as k
-use Rattle.bz_grammar.specs.declared.tree.Part.TheVariants as p
+use Rattle.bz_hosts.proofs.Words.{[], ◌++◌, ◌+◌, ◌∷◌, ◌≡◌, All-from_recursion, all_but_last, all_joined, AllByRecursion, append_total, AreFine, AreLinesBy, AreTokens, arith, AtParts, Begins, blocks, Bytes, bzl_shape, Class, Class as c, CommentsKept, done, Expr, Fits, flat_map, Groups, groups_fine, groups_front, groups_last, groups_of, indented_lines_before, inl, inr, is_whole_statement, IsCodedLeaf, IsComment, IsLexeme, IsNonterminal, IsProperItem, Item, Item as i, item_amount, items_from, Kind as k, last_group, Leaf, leaves_of, leaves_part, Legal, LegalPart, List, map, no_such, Node, Node', not, one_if, Part, Part as p, ReadStatements, Several, Stands, stated, subst, tok, TokenStands, total, true, view_of, ViewsAreProper, whole_shape, ℕ}
+use Rattle.bz_hosts.proofs.{ProperParts.IsLexed, SeenParts.all_parted, Sums.all_blocks, Sums.front_blocks, Sums.part_amount, Sums.leaf_amount, Sums.parts_leaves, HeadParts.after_stmt, KeptValues.lines_amount, KeptValues.statements_as_items, ProperBranches.AllKnown, ProperBranches.before_lines, ProperBranches.before_amount, ProperSuites.part_known, SuiteLines.Lines, InnerParts.ends_line}
 use Rattle.bz_grammar.specs.Shapes as s
-use Rattle.bz_value.specs.declared.value.Item.TheVariants as i
-use Rattle.bz_token.specs.declared.class.Class.TheVariants as c
 
 abbrev AreProper : List Item → Type 0
 AreProper items = AllByRecursion IsProperItem items

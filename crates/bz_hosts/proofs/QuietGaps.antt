@@ -1,20 +1,6 @@
 -- There are no comments between the statements of a line.
-use Rattle.std.proofs.Common.{◌≡◌, true, false, not, List, [], ◌∷◌, inl, inr, refl, ap, ◌∙◌, subst}
-use Rattle.std.specs.List.{AllByRecursion}
-use Rattle.bz_hosts.specs.Words.{Class, Bytes, as_list, all_in}
-use Rattle.bz_token.specs.declared.class.Class.TheVariants as c
-use Rattle.bz_lex.specs.Gaps.{IsGap}
-use Rattle.bz_grammar.specs.declared.tree.Part.{Part, Row_of-Part, end_of-Part, more_of-Part, Node', items-the_row-Part}
-use Rattle.bz_grammar.specs.declared.tree.Part.TheVariants as p
+use Rattle.bz_hosts.proofs.Words.{[], ◌∙◌, ◌∷◌, ◌≡◌, after_part, all_in, AllByRecursion, Along, along, ap, as_list, AtLeaves, AtParts, AtRow, Begins, Bytes, Class, Class as c, done, end_of-Part, false, first_seen_gap, Fits, GapStands, has_token, inl, inner_nonterminal, inr, IsGap, IsNonterminal, items-the_row-Part, LegalPart, LegalRow, LegalRowBy, line_shape, List, list, Listed, more_of-Part, no_such, Node', not, onward, Part, Part as p, refl, Row_of-Part, seen, seen_row, Spot, Stands, subst, Terminal, tok, true}
 use Rattle.bz_grammar.specs.Shapes as s
-use Rattle.bz_grammar.specs.Shapes.{Terminal, Fits, Listed, has_token, list, tok, done}
-use Rattle.bz_grammar.specs.Legal.{IsNonterminal, LegalPart, LegalRow}
-use Rattle.bz_grammar.specs.Spots.{Spot, Begins, Along, onward, after_part, GapStands, Stands, AtLeaves, AtRow, AtParts}
-use Rattle.bz_grammar.proofs.Balance.{inner_nonterminal, no_such}
-use Rattle.bz_value.specs.LineShapes.{line_shape}
-use Rattle.bz_value.proofs.AlongGaps.{along}
-use Rattle.bz_value.proofs.LegalBy.{LegalRowBy}
-use Rattle.bz_hosts.specs.Seen.{seen, seen_row, first_seen_gap}
 use Rattle.bz_hosts.proofs.Alternating.{Alternating}
 use Rattle.bz_hosts.proofs.Cuts.{listed_alternating}
 use Rattle.bz_hosts.proofs.InnerParts.{ends_line, is_inner, InLine, in_line, inner_row, every_part, token_inner, nonterminal_inner, inner_parts, nonterminal_goes, token_goes}

@@ -1,18 +1,5 @@
 -- The rows of nodes without a sequence: each part is proper where it is, and a break is inside brackets.
-use Rattle.std.proofs.Common.{◌≡◌, Bool, true, false, not, ◌&&◌, ◌||◌, List, [], ◌∷◌, inl, inr, refl, sym, ap, ◌∙◌, subst, map, if◌then◌else◌}
-use Rattle.std.specs.List.{AllByRecursion}
-use Rattle.std.proofs.lemmas.Bool.{and_parts, or_cases}
-use Rattle.bz_hosts.specs.Words.{Kind, Part, Node', HostComments, no_comments, is_binary, has_newline}
-use Rattle.bz_grammar.specs.declared.tree.Part.TheVariants as p
-use Rattle.bz_grammar.specs.Shapes.{Shape, Nonterminal, Fits}
-use Rattle.bz_grammar.specs.Legal.{IsNonterminal}
-use Rattle.bz_grammar.specs.Spots.{Spot, Begins, Within, Along, onward, after_part, Stands, AtLeaves, AtParts}
-use Rattle.bz_grammar.proofs.Balance.{no_such}
-use Rattle.bz_value.specs.LineShapes.{whole_shape}
-use Rattle.bz_value.specs.Proper.{is_operator, after_expr, ProperBy}
-use Rattle.bz_value.proofs.FormParts.{operator_first, ArePartsBy}
-use Rattle.bz_value.proofs.Wider.{IsWider}
-use Rattle.bz_hosts.specs.Seen.{seen, plain, first_seen_gap, begins_seen_operator, row_exprs}
+use Rattle.bz_hosts.proofs.Words.{[], ◌&&◌, ◌||◌, ◌∙◌, ◌∷◌, ◌≡◌, after_expr, after_part, AllByRecursion, Along, and_parts, ap, ArePartsBy, AtLeaves, AtParts, Begins, begins_seen_operator, Bool, false, first_seen_gap, Fits, has_newline, HostComments, if◌then◌else◌, inl, inr, is_binary, is_operator, IsNonterminal, IsWider, Kind, List, map, no_comments, no_such, Node', Nonterminal, not, onward, operator_first, or_cases, Part, Part as p, plain, ProperBy, refl, row_exprs, seen, Shape, Spot, Stands, subst, sym, true, whole_shape, Within}
 use Rattle.bz_hosts.proofs.InnerParts.{GoesOn, binary_goes, binary_begins, nonterminal_unsigned}
 use Rattle.bz_hosts.proofs.SeenParts.{comments_made, break_made, no_break_made, operator_made, after_made, part_along}
 

@@ -1,10 +1,6 @@
 -- Steps of the loops over the parts of a row.
-use Rattle.std.proofs.Common.{ℕ, zero, suc, Bool, true, false, not, ◌&&◌, ◌||◌, if◌then◌else◌, ◌≡◌, List, [], ◌∷◌, ◌++◌, ◌<◌, ◌≤◌, ◌+◌, refl, sym, ap, ◌∙◌, map, take, drop, length, get_or, append_assoc, append-nil, add-one, arith}
+use Rattle.bz_hosts.proofs.Words.{[], ◌&&◌, ◌++◌, ◌+◌, ◌<◌, ◌||◌, ◌∙◌, ◌∷◌, ◌≡◌, ◌≤◌, above_after, add-one, all_in, ap, append-nil, append_assoc, arith, begins_seen_operator, Bool, Bytes, drop, drop-drop, drop-map, drop_all, drop_more, Expr, false, first_seen_gap, get_or, has_newline, if◌then◌else◌, is_operator, item_gap, last_gap, length, List, loose_after, loose_in, map, no_comments, not, others_in, Part, plain, refl, row_exprs, Seen, seen, suc, sym, take, take-map, true, zero, ℕ}
 use denote.Param.Weighed.{most}
-use Rattle.std.proofs.lemmas.List.{drop_all, drop-drop, drop_more, drop-map, take-map}
-use Rattle.bz_hosts.specs.Words.{Part, Expr, no_comments, Bytes, others_in, all_in, has_newline, is_operator}
-use Rattle.bz_hosts.specs.Seen.{Seen, seen, plain, begins_seen_operator, row_exprs, first_seen_gap, last_gap, loose_in, loose_after}
-use Rattle.bz_hosts.specs.private.Walks.{above_after, item_gap}
 
 pub gap_of_last : (ps : List Part) (k : ℕ) (y : Part) → suc k ≡ length ps → y ≡ get_or ps k y → (seen y).gap ≡ last_gap (map seen ps)
 gap_of_last [] k y l i = absurd (omega arith)

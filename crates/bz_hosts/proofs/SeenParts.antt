@@ -1,23 +1,5 @@
 -- What is seen of a part, whatever its kind: its root, where what follows it is, its comments and its gap.
-use Rattle.std.proofs.lemmas.List.{take-append-drop}
-use Rattle.std.proofs.Common.{◌≡◌, ℕ, zero, suc, Bool, true, false, List, [], ◌∷◌, ◌++◌, refl, ap, map, take, drop, subst, sym}
-use Rattle.std.specs.List.{AllByRecursion}
-use Rattle.std.specs.Str.{IsUtf8}
-use Rattle.std.proofs.lemmas.Str.{IsUtf8-nil}
-use Rattle.bz_hosts.specs.Words.{Class, Kind, leaves_part, leaves_row, HostComments, Frame, sequence, frame, lead, Bytes, all_in, has_newline}
-use Rattle.bz_token.specs.declared.class.Class.TheVariants as c
-use Rattle.bz_lex.specs.Leaves.{IsCodedLeaf}
-use Rattle.bz_grammar.specs.declared.tree.Part.{Part, Row_of-Part, end_of-Part, more_of-Part, Node', items-the_row-Part}
-use Rattle.bz_grammar.specs.declared.tree.Part.TheVariants as p
-use Rattle.bz_grammar.specs.Shapes.{leaves_at}
-use Rattle.bz_grammar.specs.Spots.{Spot, Along, after_part, GapStands, Stands, AtLeaves, AtRow}
-use Rattle.bz_grammar.proofs.Balance.{no_such}
-use Rattle.bz_value.specs.Roots.{root}
-use Rattle.bz_value.specs.Proper.{IsComment, comments_of, has_break, is_operator, after_expr}
-use Rattle.bz_value.proofs.AlongGaps.{along}
-use Rattle.bz_value.proofs.GapComments.{Group, all_joined, all_fine}
-use Rattle.bz_value.proofs.Rooted.{SameRoot, one_of_same}
-use Rattle.bz_hosts.specs.Seen.{Seen, seen, seen_row, seen_node, plain, first_seen_gap, loose_in, loose_after}
+use Rattle.bz_hosts.proofs.Words.{[], ◌++◌, ◌∷◌, ◌≡◌, after_expr, after_part, all_fine, all_in, all_joined, AllByRecursion, Along, along, ap, AtLeaves, AtRow, Bool, Bytes, Class, Class as c, comments_of, drop, end_of-Part, false, first_seen_gap, Frame, frame, GapStands, Group, has_break, has_newline, HostComments, is_operator, IsCodedLeaf, IsComment, IsUtf8, IsUtf8-nil, items-the_row-Part, Kind, lead, leaves_at, leaves_part, leaves_row, List, loose_after, loose_in, map, more_of-Part, no_such, Node', one_of_same, Part, Part as p, plain, refl, root, Row_of-Part, SameRoot, Seen, seen, seen_node, seen_row, sequence, Spot, Stands, subst, suc, sym, take, take-append-drop, true, zero, ℕ}
 
 pub seen_rows : (m : _) (r : Row_of-Part m) → seen_row r ≡ map seen (items-the_row-Part m r)
 seen_rows m end_of-Part = refl

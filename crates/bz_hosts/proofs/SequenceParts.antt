@@ -1,22 +1,7 @@
 -- Sequences: what is before the bracket is proper where the node is, each item inside the brackets.
-use Rattle.std.proofs.Common.{◌≡◌, ℕ, zero, suc, Bool, true, false, List, [], ◌∷◌, ◌++◌, sym, ap, ◌∙◌, subst, map, take, drop, true≢false}
-use Rattle.std.specs.List.{AllByRecursion}
-use Rattle.std.proofs.lemmas.List.Elements.{All-from_recursion}
-use Rattle.bz_hosts.specs.Words.{Kind, Part, Node', Expr, HostComments, no_comments, lead, Bytes, suffix_in, others_in, all_in}
-use Rattle.bz_grammar.specs.declared.tree.Part.TheVariants as p
+use Rattle.bz_hosts.proofs.Words.{[], ◌++◌, ◌∙◌, ◌∷◌, ◌≡◌, after_part, All-from_recursion, all_fine, all_in, all_joined, AllByRecursion, ap, AreComments, AreHeadBy, AreItemsBy, AtLeaves, AtParts, Bool, Bytes, comments_of, drop, Expr, false, Group, HostComments, IsComment, items_in, Kind, lead, List, map, MaybeComment, more, no_comments, Node', others_fine, others_in, over, Part, Part as p, places, plain, ProperBy, root, Same, Seen, seen, Shape, Spot, Stands, subst, suc, suffix_fine, suffix_in, sym, take, true, true≢false, Within, zero, ℕ}
 use Rattle.bz_grammar.specs.Shapes as s
-use Rattle.bz_grammar.specs.Shapes.{Shape}
-use Rattle.bz_grammar.specs.Spots.{Spot, Within, after_part, Stands, AtLeaves, AtParts}
-use Rattle.bz_value.specs.Roots.{root}
-use Rattle.bz_value.specs.Proper.{IsComment, MaybeComment, AreComments, ProperBy, comments_of}
-use Rattle.bz_value.proofs.FormParts.{AreHeadBy, AreItemsBy}
-use Rattle.bz_value.proofs.GapComments.{Group, all_joined, suffix_fine, others_fine, all_fine}
-use Rattle.bz_value.proofs.Rooted.{Same, over, more, places}
-use Rattle.bz_hosts.specs.Seen.{Seen, seen, plain, items_in}
-use Rattle.bz_hosts.proofs.Alternating.{Alternating}
-use Rattle.bz_hosts.proofs.Cuts.{BracketAt, Cut, comma_goes, is_token, item_goes}
-use Rattle.bz_hosts.proofs.SeenParts.{Decoded, AllDecoded, comments_made, no_break_made, root_made}
-use Rattle.bz_hosts.proofs.RowParts.{AllFit}
+use Rattle.bz_hosts.proofs.{Alternating.Alternating, Cuts.BracketAt, Cuts.Cut, Cuts.comma_goes, Cuts.is_token, Cuts.item_goes, SeenParts.Decoded, SeenParts.AllDecoded, SeenParts.comments_made, SeenParts.no_break_made, SeenParts.root_made, RowParts.AllFit}
 
 -- ---- where the parts of a sequence are
 

@@ -1,21 +1,12 @@
 -- The texts after the opening bracket of a sequence: those above each item, its suffix, and those at the end.
-use Rattle.std.proofs.Common.{◌≡◌, ◌≢◌, ℕ, suc, ◌+◌, ◌<◌, ◌≤◌, true, false, ◌&&◌, List, [], ◌∷◌, ◌++◌, ◌⊎◌, inl, inr, Option, Some, refl, sym, ap, ◌∙◌, subst, map, append-nil, nat_lt, nat_le, arith}
-use Rattle.std.specs.List.{AllByRecursion}
-use Rattle.std.specs.Option.{option_map_or}
-use Rattle.std.proofs.lemmas.Bool.{lt-ltb}
-use Rattle.std.proofs.lemmas.Bool.Decides.{nat_tests}
-use Rattle.std.proofs.lemmas.List.{map-append}
-use Rattle.bz_hosts.specs.Words.{Leaf, Part, Node', Expr, HostComments, Bytes, as_list, suffix_in, others_in, all_in, comments_of}
-use Rattle.bz_hosts.specs.Seen.{seen, plain, items_in}
+use Rattle.bz_hosts.proofs.Words.{[], ◌&&◌, ◌++◌, ◌+◌, ◌<◌, ◌∙◌, ◌∷◌, ◌≡◌, ◌≢◌, ◌≤◌, ◌⊎◌, above, all_in, AllByRecursion, ap, append-nil, arith, as_list, beginning_in, between, Bytes, Comment, CommentPlace, comments_at, comments_of, end_of, Expr, false, host, HostComments, Hosted, hosted, hosted_at, hosted_by, hosts_from, inl, inr, inside_expr, items_in, Leaf, List, lt-ltb, map, map-append, measured, nat_le, nat_lt, nat_tests, Node', Option, option_map_or, others_in, Part, Part as p, plain, refl, Region, seen, sizes, Some, subst, suc, suffix_in, suffix_of, sym, texts_at, true, ℕ}
 use Rattle.bz_hosts.proofs.SeenParts.{comments_made}
-use Rattle.bz_hosts.specs.Hosts.{Region, host, between, beginning_in, Comment, comments_at, sizes, measured, hosts_from, CommentPlace, suffix_of, above, end_of, texts_at, Hosted, hosted, hosted_at, hosted_by, inside_expr}
 use Rattle.bz_hosts.proofs.Around.{AllInside, Sees, SeesAt, Ended, sees_after, sees_before, sees_in_host, sees_past_host, sees_ended}
 use Rattle.bz_hosts.proofs.Gathered.{key, pick, pick_same, pick_other, pick_joined, GapPlaces, texts_joined, gap_texts, gap_all, three_none, three_first, three_second, three_third, five_none, five_first, five_third, five_rest}
 use Rattle.bz_hosts.proofs.Parts.{size, inner, in_parts, after_parts}
 use Rattle.bz_hosts.proofs.Alternating.{IsItem, IsMark, Alternating, Regions, hosts_closed, hosts_last, hosts_more, hosts_inside}
 use Rattle.bz_hosts.proofs.Insides.{inside_list, inside_made}
 use Rattle.bz_hosts.proofs.Texts.{Inner, PartTexts, InHost}
-use Rattle.bz_grammar.specs.declared.tree.Part.TheVariants as p
 use Rattle.bz_grammar.specs.Shapes as s
 
 -- ---- places in a sequence

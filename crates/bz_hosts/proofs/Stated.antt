@@ -1,16 +1,7 @@
 -- What is read of a part that is a node, by the list of its parts; and of headers.
-use Rattle.std.proofs.Common.{true, false, ◌≡◌, List, [], ◌∷◌, refl, sym, ap, ◌∙◌, map, None, ℕ, zero, suc, ◌<◌, drop, length, get_or, arith}
-use Rattle.std.proofs.lemmas.Bool.{cond-true, cond-false}
-use Rattle.bz_hosts.specs.Words.{Node, is_kind, Bytes, is_header, GapLine, lines_of, all_in, indent}
-use Rattle.bz_grammar.specs.declared.tree.Part.{Part, Row_of-Part, end_of-Part, more_of-Part, Node', items-the_row-Part}
-use Rattle.bz_grammar.proofs.Nested.{row_of, items_of_row}
-use Rattle.bz_hosts.specs.Seen.{Seen, seen, seen_row, first_seen_gap, statement, statements_in}
-use Rattle.bz_hosts.specs.Suites.{stated, stated_row, indented_lines_before, exprs_in, statement_read, suite_in, suffix_before, line_read, branches, only_comment, margin_of, suite_read, SuiteRead}
-use Rattle.std.proofs.lemmas.List.{drop-map}
+use Rattle.bz_hosts.proofs.Words.{[], ◌<◌, ◌∙◌, ◌∷◌, ◌≡◌, all_in, ap, arith, branches, Bytes, cond-false, cond-true, drop, drop-map, end_of-Part, exprs_in, false, first_seen_gap, GapLine, get_or, indent, indented_lines_before, is_header, is_kind, Item as i, items-the_row-Part, items_of_row, Kind as k, length, line_read, lines_of, List, map, margin_of, more_of-Part, Node, Node', None, only_comment, Part, refl, row_of, Row_of-Part, Seen, seen, seen_row, stated, stated_row, statement, statement_read, statements_in, suc, suffix_before, suite_in, suite_read, SuiteRead, sym, true, zero, ℕ}
 use Rattle.bz_hosts.proofs.NodeViews.{seen_parts}
 use Rattle.bz_grammar.specs.declared.tree.Part.TheVariants as p
-use Rattle.bz_grammar.specs.declared.kind.Kind.TheVariants as k
-use Rattle.bz_value.specs.declared.value.Item.TheVariants as i
 
 pub stated_rows : (m : _) (r : Row_of-Part m) → stated_row r ≡ map stated (items-the_row-Part m r)
 stated_rows m end_of-Part = refl

@@ -1,17 +1,12 @@
 -- The texts of a line, after the gap of its first leaf.
-use Rattle.std.proofs.Common.{◌≡◌, ℕ, suc, ◌+◌, ◌<◌, ◌≤◌, true, false, List, [], ◌∷◌, ◌++◌, Option, Some, None, refl, sym, ap, ◌∙◌, subst, map, append-nil, arith}
-use Rattle.std.specs.List.{AllByRecursion, flat_map}
-use Rattle.bz_hosts.specs.Words.{Leaf, Part, Node', Item, Bytes, as_list, suffix_in, others_in, all_in}
-use Rattle.bz_hosts.specs.Seen.{seen, plain, statement, statements_in}
+use Rattle.bz_hosts.proofs.Words.{[], ◌++◌, ◌+◌, ◌<◌, ◌∙◌, ◌∷◌, ◌≡◌, ◌≤◌, above, all_in, AllByRecursion, ap, append-nil, arith, as_list, Bytes, Comment, CommentPlace, comments_at, false, flat_map, host, hosted_at, hosts_from, inside_expr, inside_item, Item, Leaf, List, map, measured, Node', None, Option, others_in, outside, Part, Part as p, plain, refl, Region, seen, sizes, Some, statement, statements_in, subst, suc, suffix_in, suffix_of, sym, texts_at, true, ℕ}
 use Rattle.bz_hosts.proofs.QuietGaps.{Quiet}
-use Rattle.bz_hosts.specs.Hosts.{Region, host, Comment, comments_at, sizes, measured, hosts_from, CommentPlace, suffix_of, above, outside, texts_at, hosted_at, inside_expr, inside_item}
 use Rattle.bz_hosts.proofs.Around.{AllInside, Sees, SeesAt, Ended, sees_after, sees_before, sees_in_host, sees_past_host, sees_ended}
 use Rattle.bz_hosts.proofs.Gathered.{key, pick, pick_same, pick_other, pick_none, GapPlaces, none_in, texts_joined, gap_texts, three_none, three_first, three_second, three_third}
 use Rattle.bz_hosts.proofs.Parts.{size, inner, in_parts, after_parts}
 use Rattle.bz_hosts.proofs.Alternating.{IsItem, IsMark, Alternating, Regions, hosts_closed, hosts_last, hosts_more, hosts_inside}
 use Rattle.bz_hosts.proofs.Texts.{PartTexts, InHost}
 use Rattle.bz_hosts.proofs.Sequences.{From, host_with}
-use Rattle.bz_grammar.specs.declared.tree.Part.TheVariants as p
 use Rattle.bz_grammar.specs.Shapes as s
 
 -- Comments of statements from the leaf n on: none has a place of other leaves; and where all comments have at these places no

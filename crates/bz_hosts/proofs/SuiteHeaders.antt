@@ -1,15 +1,6 @@
 -- Where a header and its suite are among the parts of a statement.
-use Rattle.std.proofs.Common.{◌≡◌, ℕ, suc, ◌+◌, true, false, List, [], ◌∷◌, ◌++◌, length, refl, sym, ap, ◌∙◌, map, append-nil, append_assoc, length-append, arith}
-use Rattle.std.specs.List.{AllByRecursion, flat_map}
-use Rattle.std.proofs.lemmas.Bool.{cond-false}
-use Rattle.std.proofs.lemmas.List.{map-append}
-use Rattle.bz_hosts.specs.Words.{Kind, Part, Node', has_token, leaves_part, frame}
-use Rattle.bz_hosts.specs.Hosts.{Measured, sizes, measured, in_node, header, in_compound, suite_there}
-use Rattle.bz_hosts.specs.Suites.{stated}
-use Rattle.bz_hosts.proofs.Parts.{size, size_leaves, measured_part}
-use Rattle.bz_hosts.proofs.KeptGaps.{colon_is}
-use Rattle.bz_hosts.proofs.Colons.{InHeader}
-use Rattle.bz_grammar.specs.declared.tree.Part.TheVariants as p
+use Rattle.bz_hosts.proofs.Words.{[], ◌++◌, ◌+◌, ◌∙◌, ◌∷◌, ◌≡◌, AllByRecursion, ap, append-nil, append_assoc, arith, cond-false, false, flat_map, frame, has_token, header, in_compound, in_node, Kind, leaves_part, length, length-append, List, map, map-append, Measured, measured, Node', Part, Part as p, refl, sizes, stated, suc, suite_there, sym, true, ℕ}
+use Rattle.bz_hosts.proofs.{Parts.size, Parts.size_leaves, Parts.measured_part, KeptGaps.colon_is, Colons.InHeader}
 use Rattle.bz_grammar.specs.Shapes as s
 
 -- ---- the parts of a header, up to its colon

@@ -1,10 +1,5 @@
 -- The lines before a leaf, those that suites leave of them, and what is read of leaves, by their numbers.
-use Rattle.std.proofs.Common.{◌≡◌, ◌≢◌, ℕ, zero, ◌<◌, ◌≤◌, ◌&&◌, List, [], ◌∷◌, ◌++◌, length, refl, sym, ap, ◌∙◌, nat_eq, nat_lt, if◌then◌else◌, arith, ◌+◌, append_assoc, length-append}
-use Rattle.std.specs.List.{AllByRecursion}
-use Rattle.std.proofs.lemmas.Bool.{and_right, cond-false, ne_eqb}
-use Rattle.bz_hosts.specs.Words.{Leaf, Bytes, GapLine, lines_of, after_first_line}
-use Rattle.bz_hosts.specs.Hosts.{leaf_gap, lines_before, Hosted, Suite, left_by, Page}
-use Rattle.bz_hosts.specs.Suites.{after_end}
+use Rattle.bz_hosts.proofs.Words.{[], ◌&&◌, ◌++◌, ◌+◌, ◌<◌, ◌∙◌, ◌∷◌, ◌≡◌, ◌≢◌, ◌≤◌, after_end, after_first_line, AllByRecursion, and_right, ap, append_assoc, arith, Bytes, cond-false, GapLine, Hosted, if◌then◌else◌, Leaf, leaf_gap, left_by, length, length-append, lines_before, lines_of, List, nat_eq, nat_lt, ne_eqb, Page, refl, Suite, sym, zero, ℕ}
 use Rattle.bz_hosts.proofs.SeenParts.{all_mapped}
 
 abbrev pub Lines : Type 0

@@ -1,20 +1,6 @@
 -- What is read of parts and of lines of statements, by their leaves: gaps, groups of comment lines, and what a line leaves.
-use Rattle.std.proofs.Common.{◌<◌, ◌≡◌, List, ◌∷◌, ◌++◌, length, refl, sym, ap, ◌∙◌, map, length-append, arith, ℕ, false, [], Option, None}
-use Rattle.std.specs.List.{AllByRecursion, flat_map}
-use Rattle.bz_hosts.specs.Words.{Leaf, Part, Node', leaves_part, Bytes, after_first_line, lines_of, HostComments}
-use Rattle.bz_hosts.specs.Hosts.{Region, comments_at, CommentPlace, outside, texts_at, Hosted, block, hosted_by, hosts_alone, with_group, inside_expr, inside_item}
-use Rattle.bz_hosts.proofs.Parts.{Solid}
-use Rattle.bz_hosts.proofs.QuietGaps.{Statements, line_alternating}
-use Rattle.bz_hosts.proofs.SuiteLines.{gap_of, last_leaf_gap, Lines, last_leaf_after}
-use Rattle.bz_hosts.specs.Suites.{stated, line_read}
-use Rattle.bz_hosts.proofs.Stated.{stated_part, parts_seen}
-use Rattle.bz_hosts.specs.Seen.{seen, blocks, statement, statements_in}
-use Rattle.bz_hosts.proofs.SeenParts.{comments_made}
-use Rattle.bz_hosts.proofs.Around.{Sees}
-use Rattle.bz_hosts.proofs.Gathered.{key, pick_other, GapPlaces, gap_all}
-use Rattle.bz_hosts.proofs.Alternating.{Alternating}
-use Rattle.bz_hosts.proofs.Insides.{inside_made}
-use Rattle.bz_grammar.specs.declared.tree.Part.TheVariants as p
+use Rattle.bz_hosts.proofs.Words.{[], ◌++◌, ◌<◌, ◌∙◌, ◌∷◌, ◌≡◌, after_first_line, AllByRecursion, ap, arith, block, blocks, Bytes, CommentPlace, comments_at, false, flat_map, HostComments, Hosted, hosted_by, hosts_alone, inside_expr, inside_item, Leaf, leaves_part, length, length-append, line_read, lines_of, List, map, Node', None, Option, outside, Part, Part as p, refl, Region, seen, stated, statement, statements_in, sym, texts_at, with_group, ℕ}
+use Rattle.bz_hosts.proofs.{Parts.Solid, QuietGaps.Statements, QuietGaps.line_alternating, SuiteLines.gap_of, SuiteLines.last_leaf_gap, SuiteLines.Lines, SuiteLines.last_leaf_after, Stated.stated_part, Stated.parts_seen, SeenParts.comments_made, Around.Sees, Gathered.key, Gathered.pick_other, Gathered.GapPlaces, Gathered.gap_all, Alternating.Alternating, Insides.inside_made}
 use Rattle.bz_grammar.specs.Shapes as s
 use Rattle.bz_hosts.specs.Seen as v
 

@@ -1,14 +1,5 @@
 -- Sums of a number of each comment: of gaps, of groups of lines, and of what is made of a part.
-use Rattle.std.proofs.Common.{◌≡◌, ℕ, ◌+◌, Bool, false, List, [], ◌∷◌, ◌++◌, Option, Some, None, refl, ap, ◌∙◌, arith}
-use Rattle.std.specs.List.{flat_map}
-use Rattle.std.proofs.lemmas.Grind.{flat_map-append}
-use Rattle.bz_hosts.specs.Words.{Leaf, Kind, leaves_part, leaves_row, HostComments, no_comments, Frame, frame, Bytes}
-use Rattle.bz_grammar.specs.declared.tree.Part.{Part, Row_of-Part, end_of-Part, more_of-Part, Node', items-the_row-Part}
-use Rattle.bz_grammar.specs.declared.tree.Part.TheVariants as p
-use Rattle.bz_value.proofs.Totals.{append_total, form_amount, inner_amount}
-use Rattle.bz_value.specs.Counted.{total, suffix_amount, host_amount, amount, item_amount}
-use Rattle.bz_value.specs.Gaps.{GapLine, lines_of, as_list, comments_in, first_comment, after_first_line, put_on_first, before_groups, groups_of, all_but_last, last_group, suffix_in, others_in, all_in}
-use Rattle.bz_hosts.specs.Seen.{Seen, seen, seen_row, seen_node, plain, blocks, form_of_frame}
+use Rattle.bz_hosts.proofs.Words.{[], ◌++◌, ◌+◌, ◌∙◌, ◌∷◌, ◌≡◌, after_first_line, all_but_last, all_in, amount, ap, append_total, arith, as_list, before_groups, blocks, Bool, Bytes, comments_in, end_of-Part, false, first_comment, flat_map, flat_map-append, form_amount, form_of_frame, Frame, frame, GapLine, groups_of, host_amount, HostComments, inner_amount, item_amount, items-the_row-Part, Kind, last_group, Leaf, leaves_part, leaves_row, lines_of, List, more_of-Part, no_comments, Node', None, Option, others_in, Part, Part as p, plain, put_on_first, refl, Row_of-Part, Seen, seen, seen_node, seen_row, Some, suffix_amount, suffix_in, total, ℕ}
 
 module _ (number : Bytes → ℕ) where
   -- ---- gaps

@@ -1,10 +1,5 @@
 -- The texts of parts inside a host: what is in no region of the parts goes to the host.
-use Rattle.std.proofs.Common.{◌≡◌, ℕ, suc, ◌+◌, ◌<◌, ◌≤◌, List, [], ◌∷◌, ◌++◌, Some, refl, sym, ap, ◌∙◌, subst, map, append_assoc, append-nil, arith}
-use Rattle.std.specs.List.{AllByRecursion}
-use Rattle.std.proofs.lemmas.List.{map-append}
-use Rattle.bz_hosts.specs.Words.{Part, Bytes, all_in}
-use Rattle.bz_hosts.specs.Seen.{seen, plain, loose_in, loose_after}
-use Rattle.bz_hosts.specs.Hosts.{Region, host, Comment, comments_at, sizes, measured, in_row, CommentPlace, above, texts_at, Hosted, hosted_at, inside_expr}
+use Rattle.bz_hosts.proofs.Words.{[], ◌++◌, ◌+◌, ◌<◌, ◌∙◌, ◌∷◌, ◌≡◌, ◌≤◌, above, all_in, AllByRecursion, ap, append-nil, append_assoc, arith, Bytes, Comment, CommentPlace, comments_at, host, Hosted, hosted_at, in_row, inside_expr, List, loose_after, loose_in, map, map-append, measured, Part, plain, refl, Region, seen, sizes, Some, subst, suc, sym, texts_at, ℕ}
 use Rattle.bz_hosts.proofs.Around.{AllInside, all_wider, Sees, SeesAt, sees_after, sees_before}
 use Rattle.bz_hosts.proofs.Gathered.{key, pick, pick_other, pick_none, pick_joined, GapPlaces, texts_joined, gap_all}
 use Rattle.bz_hosts.proofs.Parts.{size, inner, in_parts, after_parts}

@@ -1,14 +1,7 @@
 -- A gap without a number sign has no comment.
-use Rattle.std.proofs.Common.{◌≡◌, ◌⊎◌, ℕ, suc, zero, Bool, true, false, not, if◌then◌else◌, nat_eq, List, [], ◌∷◌, ◌++◌, ◌+◌, inl, inr, Option, None, Some, refl, sym, ap, ◌∙◌, subst, map, drop, get_or, replicate, append-nil, add-one}
-use Rattle.std.specs.List.{AllByRecursion}
-use Rattle.std.proofs.lemmas.Bool.{and_parts, cases_Bool, not-true}
-use Rattle.bz_grammar.specs.declared.tree.Part.{Part}
-use Rattle.bz_lex.specs.Gaps.{is_indent}
-use Rattle.bz_items.specs.Characters.{Bytes, backslash, line_feed, number_sign, space}
-use Rattle.bz_value.specs.Gaps.{GapLine, lines_from, rest_of_line, lines_of, as_list, comments_in, suffix_in, others_in, all_in, some_newline, has_newline}
-use Rattle.bz_hosts.specs.Seen.{Seen, seen, first_seen_gap}
+use Rattle.bz_hosts.proofs.Words.{[], ◌++◌, ◌+◌, ◌∙◌, ◌∷◌, ◌≡◌, ◌⊎◌, above_after, add-one, all_in, AllByRecursion, and_parts, ap, append-nil, as_list, Bool, Bytes, cases_Bool, comments_in, drop, false, first_seen_gap, GapLine, get_or, has_newline, if◌then◌else◌, inl, inr, is_indent, is_unsigned, item_gap, line_feed, lines_from, lines_of, List, map, nat_eq, None, not, not-true, number_sign, Option, others_in, Part, refl, replicate, rest_of_line, Seen, seen, Some, some_newline, subst, suc, suffix_in, sym, true, zero, ℕ}
+use Rattle.bz_items.specs.Characters.{backslash, space}
 use Rattle.bz_hosts.proofs.Gathered.{none_in}
-use Rattle.bz_hosts.specs.private.Walks.{above_after, is_unsigned, item_gap}
 
 -- ---- what is known of a gap
 

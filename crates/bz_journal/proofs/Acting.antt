@@ -1,17 +1,5 @@
 -- What a session's action does is what the history says.
-use Rattle.std.proofs.Common.{arith, nat_lt, Bool, false, ◌≡◌, ◌⊎◌, ◌≤◌, ◌<◌, length, inl, inr, true, Ok, Err, List, Option, None, refl, subst, ap}
-use Rattle.std.specs.Prelude.{IsOk, OnErr, OnOk}
-use Rattle.std.specs.Str.{bytes_eq}
-use Rattle.std.proofs.lemmas.Slice.Eq.{bytes_eq-Decides}
-use Rattle.bz_journal.specs.Clauses.{Action, Answer, Bytes, Do, Format, HasActed, History, IsSmall, Item, MakesOrWants, Means, Node, Refusal, Reply}
-use Rattle.bz_journal.specs.Clauses.{SessionState, after_meaning, after_text, gives, note_limit, present, printed, refuses}
-use Rattle.bz_journal.specs.Clauses.{EndsAt, changed, most_steps, session_history, session_trail, spell_node, unchanged, view_of, written}
-use Rattle.std.proofs.lemmas.Bool.Decides.{nat_tests}
-use Rattle.bz_journal.specs.declared.action.Reply.TheVariants.{Changed}
-use Rattle.bz_journal.specs.Words.{Memory, Operation, Reads, Target}
-use Rattle.bz_journal.specs.Meaning.{Meaning}
-use Rattle.bz_journal.specs.History.{IsFormat}
-use Rattle.bz_journal.specs.Shown.{IsOverEven}
+use Rattle.bz_journal.proofs.Words.{◌<◌, ◌≡◌, ◌≤◌, ◌⊎◌, Action, after_meaning, after_text, Answer, ap, arith, Bool, Bytes, bytes_eq, bytes_eq-Decides, Changed, changed, Do, EndsAt, Err, false, Format, gives, HasActed, History, inl, inr, IsFormat, IsOk, IsOverEven, IsSmall, Item, length, List, MakesOrWants, Meaning, Means, Memory, most_steps, nat_lt, nat_tests, Node, None, note_limit, Ok, OnErr, OnOk, Operation, Option, present, printed, Reads, refl, Refusal, refuses, Reply, session_history, session_trail, SessionState, spell_node, subst, Target, true, unchanged, view_of, written}
 
 -- ---- commands, in a history
 

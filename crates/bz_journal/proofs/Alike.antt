@@ -1,11 +1,5 @@
 -- Histories that differ at most in the number of the text that was present before.
-use Rattle.std.proofs.Common.{◌≡◌, ◌-◌, ◌+◌, ℕ, List, [], ◌∷◌, length, Bool, true, false, inl, inr, refl, sym, ap, ◌∙◌, subst, nat_lt, if◌then◌else◌}
-use Rattle.std.specs.Prelude.{◌==◌, bytes_eq}
-use Rattle.bz_journal.specs.Clauses.{Action, Acts, AlikeActs, AlikeGoesOn, Answer, Bytes, Do, Format, History, Redo, Runs, Undo, after_meaning, gives}
-use Rattle.bz_journal.specs.Clauses.{most_steps, present, refuses}
-use Rattle.bz_journal.specs.Meaning.{Meaning}
-use Rattle.bz_journal.specs.History.{IsFree, Makes, redone, undone}
-use Rattle.bz_journal.specs.Lasting.{AreAlike}
+use Rattle.bz_journal.proofs.Words.{[], ◌+◌, ◌-◌, ◌==◌, ◌∙◌, ◌∷◌, ◌≡◌, Action, Acts, after_meaning, AlikeActs, AlikeGoesOn, Answer, ap, AreAlike, Bool, Bytes, bytes_eq, Do, false, Format, gives, History, if◌then◌else◌, inl, inr, IsFree, length, List, Makes, Meaning, most_steps, nat_lt, present, Redo, redone, refl, refuses, Runs, subst, sym, true, Undo, undone, ℕ}
 
 -- the history with this number of the text that was present before
 abbrev after_at : History → ℕ → History

@@ -1,12 +1,5 @@
 -- What is answered at once, of a history that stays.
-use Rattle.std.proofs.Common.{◌≡◌, ◌≤◌, ◌<◌, ◌+◌, arith, ℕ, true, false, length, Some, Ok, Err, inl, inr, refl, sym, ap, nat_lt}
-use Rattle.std.proofs.lemmas.Bool.Decides.{nat_tests}
-use Rattle.std.specs.Prelude.{IsOk, OnOk}
-use Rattle.bz_journal.specs.Clauses.{Action, Acts, Answer, Bytes, Do, Format, HasActed, History, IsAtOnce, Redo, Refusal, SessionState, Undo, note_limit}
-use Rattle.bz_journal.specs.Clauses.{session_history, session_trail}
-use Rattle.bz_journal.specs.declared.action.Reply.TheVariants.{Moved}
-use Rattle.bz_journal.specs.History.{IsFormat, IsFree, Leads, redone, undone}
-use Rattle.bz_journal.specs.Shown.{IsOverEven}
+use Rattle.bz_journal.proofs.Words.{◌+◌, ◌<◌, ◌≡◌, ◌≤◌, Action, Acts, Answer, ap, arith, Bytes, Do, Err, false, Format, HasActed, History, inl, inr, IsAtOnce, IsFormat, IsFree, IsOk, IsOverEven, Leads, length, Moved, nat_lt, nat_tests, note_limit, Ok, OnOk, Redo, redone, refl, Refusal, session_history, session_trail, SessionState, Some, sym, true, Undo, undone, ℕ}
 use Rattle.bz_journal.proofs.Edited.{stays_put}
 
 -- ---- what that means of a session, and of texts alone

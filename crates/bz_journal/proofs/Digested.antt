@@ -1,9 +1,5 @@
 -- The digests of texts where one is put after the first ones, and those along a trail.
-use Rattle.std.proofs.Common.{◌≡◌, ◌∙◌, ◌+◌, ◌<◌, Ok, ℕ, zero, suc, List, [], ◌∷◌, ◌++◌, length, map, take, ap, arith, length-append, refl, subst, sym}
-use Rattle.std.specs.Prelude.{slice_index_or}
-use Rattle.std.proofs.lemmas.List.{length-map, map-append, take-map, take_all, take_more}
-use Rattle.bz_journal.specs.Clauses.{Answer, AreFirstDigests, Bytes, Edit, History, Node, present, sha256, texts_of, trail_at}
-use Rattle.bz_journal.specs.declared.action.Reply.TheVariants.{Changed}
+use Rattle.bz_journal.proofs.Words.{[], ◌++◌, ◌+◌, ◌<◌, ◌∙◌, ◌∷◌, ◌≡◌, Answer, ap, AreFirstDigests, arith, Bytes, Changed, Edit, History, length, length-append, length-map, List, map, map-append, Node, Ok, present, refl, sha256, slice_index_or, subst, suc, sym, take, take-map, take_all, take_more, texts_of, trail_at, zero, ℕ}
 use Rattle.bz_journal.proofs.Following.{Goes}
 
 pub put_one : (n : ℕ) (digests made texts : List Bytes) (text digest : Bytes) → digests ≡ map sha256 texts → digest ≡ sha256 text → made ≡ take n digests ++ digest ∷ []

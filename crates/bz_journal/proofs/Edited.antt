@@ -1,17 +1,7 @@
 -- What a command on the value beside a session does is what the history says.
-use Rattle.std.proofs.Common.{◌≡◌, [], ◌⊎◌, ◌<◌, ◌∙◌, ℕ, inl, inr, List, length, Result, Ok, Err, Option, refl, sym, subst, ap}
-use Rattle.std.specs.Prelude.{IfOk, OnErr}
+use Rattle.bz_journal.proofs.Words.{[], ◌<◌, ◌∙◌, ◌≡◌, ◌⊎◌, after_meaning, Answer, ap, AreBuild, build_grammar, BuildValuesAreProper, Bytes, Do, effect, EffectMeans, EndsAt, Err, gives, GivesAlike, History, IfOk, inl, inr, IsProper, IsProperBuild, IsProperCommand, IsTidyLayoutOf, Item, length, lines_of, List, MakesOrWants, Meaning, Means, Memory, Node, Ok, OnErr, Operation, Option, Overfills, present, printed, printed_answer, Ran, Reads, refl, Refusal, refuses, Reply, Result, RunsIn, session_history, SessionState, spell_node, subst, sym, Target, tidied, unchanged, view_of, written, written_too_large, WrittenIsLaidOut, ℕ}
 use Rattle.bz_command.specs.Laws.{EffectsStayProper}
-use Rattle.bz_command_syntax.specs.Proper.{IsProperCommand}
-use Rattle.bz_value.specs.BuildValues.{BuildValuesAreProper}
-use Rattle.bz_value.specs.LineShapes.{build_grammar}
-use Rattle.bz_journal.specs.Clauses.{Answer, AreBuild, Bytes, Do, EndsAt, GivesAlike, History, Item, MakesOrWants, Means, Node, Overfills, Refusal, Reply, RunsIn}
-use Rattle.bz_journal.specs.Clauses.{SessionState, WrittenIsLaidOut, after_meaning, effect, gives, lines_of, present, printed, printed_answer, refuses}
-use Rattle.bz_journal.specs.Clauses.{session_history, spell_node, tidied, unchanged, view_of, written}
-use Rattle.bz_journal.specs.Words.{IsProper, IsProperBuild, Memory, Operation, Ran, Reads, Target, TooLarge}
-use Rattle.bz_build_format.proofs.Writes.{written_too_large}
-use Rattle.bz_journal.specs.Meaning.{Meaning, EffectMeans}
-use Rattle.bz_journal.specs.Editing.{IsTidyLayoutOf}
+use Rattle.bz_journal.specs.Words.{TooLarge}
 use Rattle.bz_journal.proofs.Acting.{acts_by, acts_refused, acts_same}
 
 -- what a command that was read makes of the value of a BUILD file is one

@@ -1,15 +1,6 @@
 -- What an action leaves of a history, by what it answers.
-use Rattle.std.proofs.Common.{◌≡◌, ◌≢◌, ◌∙◌, ◌+◌, ◌-◌, ◌<◌, arith, ℕ, Bool, true, false, [], ◌∷◌, ◌++◌, length, take, refl, sym, ap, subst, inl, inr, Option, Some, None, Ok, Err, nat_lt, if◌then◌else◌}
-use Rattle.std.specs.Prelude.{◌==◌, bytes_eq}
-use Rattle.std.proofs.lemmas.List.{get_or-take, get_or_append_left, length-take-le}
-use Rattle.bz_resume.specs.Resuming.{FollowsKept}
-use Rattle.bz_journal.specs.Clauses.{Action, Acts, Answer, Bytes, Do, Format, History, Redo, Refusal, Undo, after_meaning, changed, gives, most_steps, present}
-use Rattle.bz_journal.specs.Clauses.{refuses, unchanged}
-use Rattle.bz_journal.specs.Words.{Full, Memory, NoteTooLong, TooFar}
-use Rattle.bz_journal.specs.declared.action.Reply.TheVariants.{Changed, Moved}
-use Rattle.bz_journal.specs.Meaning.{Meaning}
+use Rattle.bz_journal.proofs.Words.{[], ◌++◌, ◌+◌, ◌-◌, ◌<◌, ◌==◌, ◌∙◌, ◌∷◌, ◌≡◌, ◌≢◌, Action, Acts, after_meaning, Answer, ap, arith, Bool, Bytes, bytes_eq, Changed, changed, Do, Err, false, FollowsKept, Format, Full, get_or-take, get_or_append_left, gives, History, if◌then◌else◌, inl, inr, length, length-take-le, Makes, Meaning, Memory, most_steps, Moved, nat_lt, None, NoteTooLong, Ok, Option, present, Redo, refl, Refusal, refuses, Some, subst, sym, take, TooFar, true, unchanged, Undo, ℕ}
 use Rattle.bz_journal.proofs.Formatting.{present_changed}
-use Rattle.bz_journal.specs.History.{Makes}
 
 -- What an action leaves: after the answer Changed a new text is after the present one, and is present; else the texts stay. Where the
 -- present text has another number then, the history follows the one before.

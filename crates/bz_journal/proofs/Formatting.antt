@@ -1,15 +1,6 @@
 -- The present text after formatting.
-use Rattle.std.proofs.Common.{◌≡◌, ◌<◌, ◌+◌, ◌∙◌, ℕ, [], ◌∷◌, ◌++◌, length, take, get_or, Bool, true, false, refl, sym, ap, subst, inl, inr, arith, Option, None, Ok, Err, OnOk, nat_lt, if◌then◌else◌, length-take}
-use Rattle.std.specs.Str.{bytes_eq}
-use Rattle.std.proofs.lemmas.Slice.Eq.{bytes_eq-Decides}
-use Rattle.std.proofs.Math.Seq.{get_or-append_seam}
-use Rattle.bz_journal.specs.Clauses.{Answer, Bytes, Format, History, IsFormatted, MakesOrWants, Reply, after_meaning, after_text, changed, gives, most_steps}
-use Rattle.bz_journal.specs.Clauses.{present, refuses, unchanged, view_of}
-use Rattle.bz_journal.specs.Words.{Full}
-use Rattle.bz_journal.specs.declared.action.Reply.TheVariants.{Changed}
-use Rattle.bz_journal.specs.Meaning.{Meaning, Formats}
+use Rattle.bz_journal.proofs.Words.{[], ◌++◌, ◌+◌, ◌<◌, ◌∙◌, ◌∷◌, ◌≡◌, after_meaning, after_text, Answer, ap, arith, Bool, Bytes, bytes_eq, bytes_eq-Decides, Changed, changed, Err, false, Format, Formats, Full, get_or, get_or-append_seam, given, gives, History, if◌then◌else◌, inl, inr, IsFormatted, IsGiven, length, length-take, MakesOrWants, Meaning, most_steps, nat_lt, None, Ok, OnOk, Option, present, refl, refuses, Reply, subst, sym, take, true, unchanged, view_of, ℕ}
 use Rattle.bz_build_format.specs.Fixed.{FixedPoint}
-use Rattle.bz_build_format.proofs.Writes.{IsGiven, given}
 
 -- formatting prints nothing
 prints_none : (text formatted : Bytes) (printed : Option Bytes) → Formats text (gives formatted printed) → printed ≡ None

@@ -1,17 +1,6 @@
 -- What is known of items that a command is tried on one after the other.
-use Rattle.std.proofs.Common.{◌≡◌, ◌≢◌, ◌≤◌, ◌<◌, ◌+◌, ◌-◌, ℕ, Bool, true, false, ◌||◌, List, [], ◌∷◌, Option, Result, Ok, Err, refl, sym, ap, ◌∙◌, subst, arith, drop, get_or, length, true≢false}
-use Rattle.std.proofs.lemmas.List.{drop_more}
-use Rattle.std.proofs.lemmas.List.Elements.{All-weaker, recursion_from_All}
-use Rattle.std.specs.Prelude.{IfOk}
-use Rattle.bz_journal.specs.Clauses.{AreBuild, AreProperMade, Bytes, Grows, IsProperItem, Item, Overfills, Refusal, alone_length, limit, marked_places, meant}
-use Rattle.bz_journal.specs.Words.{Expr, IsProper, NewItem, Operation, on_meant}
+use Rattle.bz_journal.proofs.Words.{[], ◌+◌, ◌-◌, ◌<◌, ◌||◌, ◌∙◌, ◌∷◌, ◌≡◌, ◌≢◌, ◌≤◌, All-weaker, alone_length, ap, AreBuild, AreProperMade, arith, Bool, Bytes, drop, drop_more, Err, Expr, false, get_or, Grows, IfOk, IsProper, IsProperCommand, IsProperItem, Item, Item as i, item_made, length, limit, List, marked_places, meant, NewItem, Ok, on_each, on_meant, Operation, Option, Overfills, recursion_from_All, refl, Refusal, Result, source_of, subst, sym, total, true, true≢false, whole_grammar, with_item_first, ℕ}
 use Rattle.bz_label.specs.declared.target.Which.{Which}
-use Rattle.bz_command_syntax.specs.Proper.{IsProperCommand}
-use Rattle.bz_value.specs.Counted.{total}
-use Rattle.bz_value.specs.LineShapes.{whole_grammar}
-use Rattle.bz_value.specs.declared.value.Item.TheVariants as i
-use Rattle.bz_command.specs.Effect.{on_each, source_of, with_item_first}
-use Rattle.bz_journal.specs.private.Filling.{item_made}
 use Rattle.bz_command.proofs.ProperEffects.{each_keeps}
 use Rattle.bz_journal.proofs.HeldAlone.{held_alone}
 

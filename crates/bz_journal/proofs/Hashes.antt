@@ -1,7 +1,5 @@
 -- What is hashed of a tree.
-use Rattle.std.proofs.Common.{◌≡◌}
-use Rattle.std.specs.List.{flat_map}
-use Rattle.bz_journal.specs.Clauses.{Node, spell_part}
+use Rattle.bz_journal.proofs.Words.{◌≡◌, flat_map, Node, spell_part}
 use Rattle.bz_grammar.specs.declared.tree.Part as p
 use Rattle.bz_grammar.proofs.Spells as below
 

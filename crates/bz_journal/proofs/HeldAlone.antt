@@ -1,22 +1,10 @@
 -- What items have in files of their own they have in one file: of the passes only the one over loads looks at more than one item, and that
 -- one only moves them.
-use Rattle.std.proofs.Common.{ℕ, ◌+◌, ◌≡◌, ◌≤◌, List, [], ◌∷◌, length, map, refl, sym, ap, ap₂, ◌∙◌, subst, arith}
-use Rattle.std.proofs.lemmas.List.{append-nil}
-use Rattle.std.proofs.lemmas.List.Elements.{recursion_from_All}
-use Rattle.std.specs.List.{AllByRecursion}
-use Rattle.bz_value.specs.BuildValues.{AreBuild, IsBuildItem}
-use Rattle.bz_value.specs.declared.value.Item.{Item}
-use Rattle.bz_value.specs.Counted.{total}
-use Rattle.bz_layout.specs.Flags.{flags, item_with_flags}
-use Rattle.bz_layout.specs.Written.{item_text, layout}
+use Rattle.bz_journal.proofs.Words.{[], ◌+◌, ◌∙◌, ◌∷◌, ◌≡◌, ◌≤◌, AllByRecursion, alone_length, ap, append-nil, ap₂, AreBuild, arith, IsBuildItem, Item, layout, length, List, map, recursion_from_All, refl, subst, sym, tidied, total, ℕ}
+use Rattle.bz_layout.specs.{Flags.flags, Flags.item_with_flags, Written.item_text}
 use Rattle.bz_layout.proofs.Measured.{layout_first}
-use Rattle.bz_passes.specs.Changes.{after_passes}
-use Rattle.bz_passes.specs.Joined.{item_tidied}
-use Rattle.bz_passes.specs.Passes.{load_precedes, loads, on_statement, on_taken, passed, taken, tidied}
-use Rattle.bz_passes.proofs.Cases.{build_passed, tidied_alone}
-use Rattle.bz_passes.proofs.Composed.{five_composed}
-use Rattle.bz_passes.proofs.Sorting.{sort_total}
-use Rattle.bz_journal.specs.private.Filling.{alone_length}
+use Rattle.bz_passes.specs.{Changes.after_passes, Joined.item_tidied, Passes.load_precedes, Passes.loads, Passes.on_statement, Passes.on_taken, Passes.passed, Passes.taken}
+use Rattle.bz_passes.proofs.{Cases.build_passed, Cases.tidied_alone, Composed.five_composed, Sorting.sort_total}
 
 abbrev own_length : Item → ℕ
 own_length item = length (item_text item)

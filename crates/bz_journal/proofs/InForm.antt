@@ -1,11 +1,6 @@
 -- The course of what a run has of a file, and the last command on it.
-use Rattle.std.proofs.Common.{◌≡◌, ◌≤◌, length, ap, subst, sym, ◌∙◌, inr}
-use Rattle.bz_journal.specs.Clauses.{Action, Acts, Answer, Bytes, Do, History, MakesOrWants, SessionState, note_limit, session_history}
-use Rattle.bz_journal.specs.Words.{Operation, Target}
-use Rattle.bz_journal.specs.Forms.{past_history}
+use Rattle.bz_journal.proofs.Words.{◌∙◌, ◌≡◌, ◌≤◌, Action, Acts, Answer, ap, Bytes, Do, Form, Form as f, History, inr, length, MakesOrWants, note_limit, Operation, past_history, session_history, SessionState, subst, sym, Target}
 use Rattle.bz_journal.specs.private.Courses.{IsCourseOf, HasCourse}
-use Rattle.bz_journal.specs.declared.past.Form.{Form}
-use Rattle.bz_journal.specs.declared.past.Form.TheVariants as f
 
 pub made_as : (form made inside own : Form) → HasCourse form made → inside ≡ made → inside ≡ own → HasCourse form own
 made_as form made inside own is same here = subst (λ (f : Form). HasCourse form f) (sym same ∙ here) is

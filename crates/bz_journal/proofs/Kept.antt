@@ -1,13 +1,6 @@
 -- What the histories of sessions keep, and what a new text makes of a session.
-use Rattle.std.proofs.Common.{◌≡◌, ◌<◌, ◌+◌, ℕ, zero, suc, List, [], ◌∷◌, ◌++◌, length, take, sym, ap, subst, ◌∙◌, ◌≤◌, map, arith, length-append, length-take-le}
-use Rattle.std.specs.List.{AllByRecursion}
-use Rattle.std.proofs.lemmas.List.{length-map, take-map, take_at}
-use Rattle.bz_journal.specs.Clauses.{Bytes, Edit, IsKept, IsSession, IsTrail, Node, SessionState, most_steps, present, session_history}
-use Rattle.bz_journal.specs.Clauses.{session_trail, sha256, spell_node, texts_of, trail_at}
-use Rattle.bz_journal.specs.Words.{AreFirstLines, IsNote, KeptLines, Two}
-use Rattle.bz_edit.specs.Shown.{Moves, TakesUp, TrailsKeep}
+use Rattle.bz_journal.proofs.Words.{[], ◌++◌, ◌+◌, ◌<◌, ◌∙◌, ◌∷◌, ◌≡◌, ◌≤◌, AllByRecursion, ap, AreFirstLines, AreKeptOf, arith, Bytes, Edit, IsKept, IsNote, IsSession, IsTrail, KeptLines, length, length-append, length-map, length-take-le, List, map, most_steps, Moves, Node, present, session_history, session_trail, SessionState, sha256, spell_node, subst, suc, sym, take, take-map, take_at, TakesUp, texts_of, trail_at, TrailsKeep, Two, zero, ℕ}
 use Rattle.bz_journal_format.proofs.Beginnings.{lines_stay}
-use Rattle.bz_journal.specs.private.Kept.{AreKeptOf}
 
 pub session_kept : TrailsKeep → (s : SessionState) → IsSession s → IsKept (session_history s)
 session_kept keep s h =

@@ -1,9 +1,5 @@
 -- What is done to the texts of a file that are kept alone.
-use Rattle.std.proofs.Common.{◌≡◌, ◌∙◌, arith, ℕ, List, [], ◌∷◌, length, Option, Ok, refl, sym, ap, subst, inl}
-use Rattle.std.specs.Prelude.{slice_index_or}
-use Rattle.bz_journal.specs.Clauses.{Answer, Bytes, Do, History, IsKept, MakesOrWants, Means, Node, Reply, after_text, gives, opened, present, spell_node}
-use Rattle.bz_journal.specs.Clauses.{text_or}
-use Rattle.bz_journal.specs.Words.{Operation, Target}
+use Rattle.bz_journal.proofs.Words.{[], ◌∙◌, ◌∷◌, ◌≡◌, after_text, Answer, ap, arith, Bytes, Do, gives, History, inl, IsKept, length, List, MakesOrWants, Means, Node, Ok, opened, Operation, Option, present, refl, Reply, slice_index_or, spell_node, subst, sym, Target, text_or, ℕ}
 use Rattle.bz_journal.proofs.Acting.{acts_by}
 
 -- ---- one text

@@ -1,17 +1,8 @@
 -- The trees that commands leave: each is the layout of a tidy value.
-use Rattle.std.proofs.Common.{◌≡◌, ◌<◌, ◌∙◌, List, length, refl, sym, ap, subst, Option, Ok}
-use Rattle.bz_journal.specs.Clauses.{Answer, Bytes, History, Item, Node, Reply, WrittenIsLaidOut, after_meaning, gives, laid_out, present, printed, refuses}
-use Rattle.bz_journal.specs.Clauses.{tidied, view_of, written}
-use Rattle.bz_journal.specs.Words.{IsProperBuild, Reads}
-use Rattle.bz_grammar.specs.Laws.{OneReading}
-use Rattle.bz_value.specs.LineShapes.{whole_grammar}
-use Rattle.bz_layout.specs.Laws.{BuildLayoutIsBuild, LayoutIsAccepted, LayoutReadsBack}
+use Rattle.bz_journal.proofs.Words.{◌<◌, ◌∙◌, ◌≡◌, after_meaning, Answer, ap, BuildLayoutIsBuild, Bytes, given, gives, History, IsGiven, IsProperBuild, IsTidyLayoutOf, Item, laid_out, LayoutIsAccepted, LayoutReadsBack, length, List, Meaning, Node, Ok, OneReading, Option, present, printed, Reads, refl, refuses, Reply, subst, sym, tidied, view_of, whole_grammar, written, WrittenIsLaidOut}
 use Rattle.bz_passes.specs.Laws.{BuildStays, ProperStays, TidySettles, TidyStays}
-use Rattle.bz_journal.specs.Meaning.{Meaning}
-use Rattle.bz_journal.specs.Editing.{IsTidyLayoutOf}
 use Rattle.bz_journal.proofs.Formatting.{text_after}
 use Rattle.bz_build_format.proofs.Formatting.{read_back}
-use Rattle.bz_build_format.proofs.Writes.{IsGiven, given}
 
 -- by what the layers below promise: of reading, of the layout of a proper value, and of tidying
 module _ (one : OneReading) (accepted : LayoutIsAccepted) (build : BuildLayoutIsBuild) (back : LayoutReadsBack) (proper : ProperStays) (builds : BuildStays) (settled : TidySettles) (stays : TidyStays) where

@@ -21,3 +21,4 @@ pub mod Opening
 pub mod Persisting
 pub mod Running
 pub mod Stopped
+mod Words

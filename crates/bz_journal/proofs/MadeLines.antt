@@ -1,14 +1,7 @@
 -- The lines of a value that are other ones than in a tree: with them the tree is that of its layout.
-use Rattle.std.proofs.Common.{◌≡◌, ◌↔◌, ◌≤◌, ◌∙◌, List, [], ◌∷◌, Option, length, refl, sym, ap, subst}
-use Rattle.bz_journal.specs.Clauses.{AreLinesOf, AreOver, Bytes, IsTree, Item, Node, depth_limit, depth_of, laid_out, layout, limit, spell_node, tidied}
-use Rattle.bz_journal.specs.Clauses.{with_windows}
-use Rattle.bz_journal.specs.Words.{IsProperBuild, Part, PartWindow, Reads, Window}
+use Rattle.bz_journal.proofs.Words.{[], ◌↔◌, ◌∙◌, ◌∷◌, ◌≡◌, ◌≤◌, ap, AreLinesOf, AreOver, BuildLayoutIsBuild, Bytes, depth_limit, depth_of, gives, IsProperBuild, IsTree, Item, laid_out, layout, LayoutIsAccepted, length, limit, List, Node, OneReading, Option, Part, PartWindow, Reads, refl, spell_node, subst, sym, tidied, Window, with_windows, written, written_given}
 use Rattle.bz_grammar.specs.declared.kind.Kind.{Kind}
-use Rattle.bz_grammar.specs.Laws.{OneReading}
 use Rattle.bz_value.specs.Windows.{AreWithin}
-use Rattle.bz_layout.specs.Laws.{BuildLayoutIsBuild, LayoutIsAccepted}
-use Rattle.bz_build_format.specs.Meaning.{gives, written}
-use Rattle.bz_build_format.proofs.Writes.{written_given}
 
 same_node : (a b : Node) → a.kind ≡ b.kind → a.parts ≡ b.parts → a ≡ b
 same_node a b kind parts =

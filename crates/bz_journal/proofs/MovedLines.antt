@@ -1,22 +1,10 @@
 -- The lines on which statements begin, where one part of a file takes the place of another.
-use Rattle.std.proofs.Common.{◌≡◌, ◌<◌, ◌≤◌, ◌+◌, ◌∙◌, ℕ, suc, true, false, not, List, [], ◌∷◌, ◌++◌, None, Some, length, map, take, drop, get_or, slice_get, refl, sym, ap, subst, arith, append_assoc}
-use Rattle.std.specs.List.{AllByRecursion, flat_map}
-use Rattle.std.proofs.lemmas.Bool.{and_parts, both_ways, not-true}
-use Rattle.std.proofs.Math.Seq.{drop-append_seam, take-append_seam}
-use Rattle.std.proofs.lemmas.Grind.{flat_map-append}
-use Rattle.std.proofs.lemmas.List.{append-nil, drop_more, length-map, length-take-le, map-append, take-append-drop, take_more}
+use Rattle.bz_journal.proofs.Words.{[], ◌++◌, ◌+◌, ◌<◌, ◌∙◌, ◌∷◌, ◌≡◌, ◌≤◌, AllByRecursion, and_parts, ap, append-nil, append_assoc, AreThere, arith, both_ways, drop, drop-append_seam, drop_more, false, first_gap, flat_map, flat_map-append, fronts, fronts_part, get_or, has_statements, is_lone_statement, is_node, is_statement_kind, IsLike, IsLineOfOne, leaves_part, length, length-map, length-take-le, lines_of, List, map, map-append, moved, moved_from, newlines, Node, None, not, not-true, Part, PartWindow, refl, slice_get, Some, spell_node, spell_part, subst, suc, sym, take, take-append-drop, take-append_seam, take_more, true, window_parts, with_windows, ℕ}
 use Rattle.bz_lex.specs.declared.leaf.Leaf.{Leaf}
-use Rattle.bz_journal.specs.Clauses.{AreThere, IsLike, IsLineOfOne, Node, fronts, fronts_part, is_node, is_lone_statement, lines_of, moved, moved_from, newlines}
-use Rattle.bz_journal.specs.Clauses.{spell_node, spell_part, with_windows}
 use Rattle.bz_journal.specs.private.Making.{HasOne}
-use Rattle.bz_journal.specs.Words.{Part, PartWindow, first_gap, has_statements, is_statement_kind, leaves_part}
-use Rattle.bz_grammar.specs.declared.tree.Part.{Node'}
+use Rattle.bz_grammar.specs.{declared.tree.Part.Node', Statements.gap_of, Statements.line_following}
 use Rattle.bz_grammar.specs.declared.tree.Part.TheVariants as p
-use Rattle.bz_grammar.specs.Statements.{gap_of, line_following}
-use Rattle.bz_grammar.proofs.AllLines.{fronts_Node, fronts_further, lines_among}
-use Rattle.bz_grammar.proofs.Spells.{spell_Node}
-use Rattle.bz_grammar.proofs.Statements.{newlines_append}
-use Rattle.bz_edit.specs.Windows.{window_parts}
+use Rattle.bz_grammar.proofs.{AllLines.fronts_Node, AllLines.fronts_further, AllLines.lines_among, Spells.spell_Node, Statements.newlines_append}
 
 pub spelled : (n : Node) → spell_part (p.Node n) ≡ spell_node n
 spelled n = spell_Node n

@@ -1,11 +1,5 @@
 -- An index of names is that of other items too, where each that changed has the name which is listed at its place.
-use Rattle.std.proofs.Common.{arith, ◌≡◌, ◌+◌, ◌++◌, ◌∷◌, ◌∙◌, ◌⊎◌, ◌||◌, ◌==◌, inl, inr, ℕ, zero, suc, [], List, Bool, true, false, true≢false, Option, Some, None, map, take, drop, length, refl, sym, ap, ap₂, subst, eqb-true}
-use Rattle.std.specs.List.{list_any}
-use Rattle.std.proofs.lemmas.List.{drop-drop, length-drop, length-take-le, map-append, take-append-drop}
-use Rattle.std.proofs.lemmas.Slice.Eq.{bytes_eq-Decides}
-use Rattle.bz_journal.specs.Clauses.{AreOver, Bytes, HasListedName, HaveListedNames, HaveListedNamesIn, IsIndexOf, Item}
-use Rattle.bz_journal.specs.Words.{Index, Window, held_name, places_from}
-use Rattle.bz_rule.specs.Index.{marked_places}
+use Rattle.bz_journal.proofs.Words.{[], ◌++◌, ◌+◌, ◌==◌, ◌||◌, ◌∙◌, ◌∷◌, ◌≡◌, ◌⊎◌, ap, ap₂, AreOver, arith, Bool, Bytes, bytes_eq-Decides, drop, drop-drop, eqb-true, false, HasListedName, HaveListedNames, HaveListedNamesIn, held_name, Index, inl, inr, IsIndexOf, Item, length, length-drop, length-take-le, List, list_any, map, map-append, marked_places, None, Option, places_from, refl, Some, subst, suc, sym, take, take-append-drop, true, true≢false, Window, zero, ℕ}
 use Rattle.bz_rule.specs.Rules.{has_name, is_text}
 
 -- ---- a place that is listed

@@ -1,9 +1,6 @@
 -- What opening a text gives, by what reading it gave.
-use Rattle.std.proofs.Common.{◌≡◌, ◌≤◌, ◌<◌, ◌↔◌, ℕ, true, [], length, Result, Ok, Err}
-use Rattle.std.specs.Prelude.{◌≢◌}
+use Rattle.bz_journal.proofs.Words.{[], ◌<◌, ◌↔◌, ◌≡◌, ◌≢◌, ◌≤◌, Accepted, Bytes, Err, is_of_leaves, IsFaultAt, IsOfText, IsSmall, length, limit, Ok, opened, OpensText, ReadFault, Result, session_history, session_trail, SessionState, true, ℕ}
 use Rattle.std.specs.Str.{IsValidUpTo}
-use Rattle.bz_journal.specs.Clauses.{Bytes, IsSmall, OpensText, SessionState, limit, opened, session_history, session_trail}
-use Rattle.bz_journal.specs.Words.{Accepted, IsFaultAt, IsOfText, ReadFault, is_of_leaves}
 use Rattle.bz_lex.specs.declared.fault.ReadFault.TheVariants.{NotUtf8, TooLarge, Memory}
 
 abbrev AnswersLength : (A : Type 0) → Bytes → Result A ReadFault → Type 0

@@ -1,9 +1,5 @@
 -- Windows over parts: whether these stay the same.
-use Rattle.std.proofs.Common.{◌≡◌, ◌↔◌, ◌<◌, ◌≤◌, ◌+◌, ◌∙◌, ℕ, List, ◌∷◌, ◌++◌, length, take, drop, get_or, refl, sym, ap, subst, arith, length-drop, length-take, length-take-le}
-use Rattle.std.proofs.lemmas.List.{drop-drop, drop_all, drop_at, drop_more, take-append-drop, take_at}
-use Rattle.bz_grammar.specs.declared.tree.Part.{Part}
-use Rattle.bz_edit.specs.Windows.{AreThere, window_parts}
-use Rattle.bz_edit.specs.declared.part_windows.PartWindow.{PartWindow}
+use Rattle.bz_journal.proofs.Words.{◌++◌, ◌+◌, ◌<◌, ◌↔◌, ◌∙◌, ◌∷◌, ◌≡◌, ◌≤◌, ap, AreThere, arith, drop, drop-drop, drop_all, drop_at, drop_more, get_or, length, length-drop, length-take, length-take-le, List, Part, PartWindow, refl, subst, sym, take, take-append-drop, take_at, window_parts, ℕ}
 
 -- a list that begins with two others
 begun : (a b c all : List Part) → a ++ (b ++ c) ≡ all → (take (length a) all ≡ a) × (take (length b) (drop (length a) all) ≡ b) × (c ≡ drop (length b) (drop (length a) all))

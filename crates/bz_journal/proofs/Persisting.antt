@@ -1,25 +1,10 @@
 -- What keeping an action leaves, by its ways out.
-use Rattle.std.proofs.Common.{◌≡◌, ◌≢◌, ◌⊎◌, ◌∙◌, inl, inr, ℕ, List, [], Option, Result, None, Some, Ok, Err, refl, sym, ap, arith}
-use Rattle.std.specs.Prelude.{IfSome, IsErrOf, Vec}
-use Rattle.std.specs.Option.{option_flatten, option_map}
-use Rattle.std.specs.Result.{IsErrAnd, MatchResult, result_ok}
+use Rattle.bz_journal.proofs.Words.{[], ◌∙◌, ◌≡◌, ◌≢◌, ◌⊎◌, Action, Answer, ap, arith, Bytes, Edit, Err, err_from_is_err_and, false≢true, Folder, get, HasActed, History, IfSome, inl, inr, IsErrAnd, IsErrOf, IsSavedSession, IsWrittenSince, Journal, journal_name, journal_text, KeepsFile, KeepsHeld, KeepsPair, List, MatchResult, MayResume, None, Ok, Option, option_flatten, option_map, PairFault, PairFault as p, present, refl, Refusal, Reply, Result, result_ok, Resumes, saved, session_history, SessionState, Some, sym, Vec, Written, ℕ}
 use Rattle.std.specs.declared.alloc.Global.{Global}
-use Rattle.std.proofs.lemmas.Result.{err_from_is_err_and}
-use Rattle.std.specs.FinMap.{get}
-use Rattle.std.proofs.lemmas.Bool.{false≢true}
-use Rattle.bz_journal.specs.Clauses.{Action, Answer, Bytes, Edit, HasActed, History, IsSavedSession, IsWrittenSince, KeepsFile, KeepsPair, PairFault, Refusal, Reply}
-use Rattle.bz_journal.specs.Clauses.{SessionState, present, saved, session_history}
-use Rattle.bz_journal.specs.Words.{Folder, Journal, Resumes, journal_name, journal_text}
 use Rattle.bz_files.specs.declared.files.Files.{Ghosts as FilesOf}
-use Rattle.bz_files.proofs.Elapsing.{stays}
-use Rattle.bz_files.proofs.Orders.{none_read}
+use Rattle.bz_files.proofs.{Elapsing.stays, Orders.none_read}
 use Rattle.bz_resume.proofs.Checking.{never_err}
-use Rattle.bz_resume.specs.Resuming.{KeepsHeld, MayResume}
-use Rattle.bz_resume.specs.declared.pair_fault.PairFault.TheVariants as p
-use Rattle.bz_journal.specs.declared.keeping.KeepFault.{KeepFault}
-use Rattle.bz_journal.specs.declared.keeping.KeepFault.TheVariants.{Pair, Refused}
-use Rattle.bz_journal.specs.Keeping.{IsWriteOrOpen}
-use Rattle.bz_journal.specs.declared.keeping.Written.{Written}
+use Rattle.bz_journal.specs.{declared.keeping.KeepFault.KeepFault, declared.keeping.KeepFault.TheVariants.Pair, declared.keeping.KeepFault.TheVariants.Refused, Keeping.IsWriteOrOpen}
 use Rattle.bz_journal.proofs.Following.{Goes, goes}
 
 abbrev Both : PairFault → Type 0

@@ -1,16 +1,7 @@
 -- What is saved of a session, and what is resumed of a journal.
-use Rattle.std.proofs.Common.{◌≡◌, ◌≤◌, ℕ, List, [], length, map, IsUtf8, refl, sym, ap, subst, ◌∙◌, arith}
-use Rattle.std.specs.Prelude.{slice_index_or, Result, Ok, Err, IfOk, IfErr}
-use Rattle.bz_journal.specs.Clauses.{AreSmall, Bytes, Edit, GoesOn, History, HoldsState, IsKept, IsKnownSession, IsResumedSession, IsSession, IsSmall, Node}
-use Rattle.bz_journal.specs.Clauses.{SessionState, StandsFor, limit, session_history, session_trail, sha256, spell_node, texts_of, trail_at}
-use Rattle.bz_journal.specs.Words.{Reads, ResumeFault, Trail}
-use Rattle.bz_grammar.specs.Laws.{OneReading}
-use Rattle.bz_edit.specs.Shown.{SmallIsBetween, SmallIsLeast, TrailsKeep, TrailsLead}
-use Rattle.bz_resume.specs.declared.fault.ResumeFault.TheVariants as f
+use Rattle.bz_journal.proofs.Words.{[], ◌∙◌, ◌≡◌, ◌≤◌, ap, AreSmall, arith, Bytes, Edit, Err, GoesOn, History, HoldsState, IfErr, IfOk, is_saved, IsKept, IsKnownSession, IsResumedSession, IsSession, IsSmall, IsUtf8, length, limit, List, map, MaySave, Node, Ok, OneReading, Reads, refl, Result, ResumeFault, ResumeFault as f, session_history, session_trail, SessionState, sha256, slice_index_or, SmallIsBetween, SmallIsLeast, spell_node, StandsFor, subst, sym, texts_of, Trail, trail_at, TrailsKeep, TrailsLead, ℕ}
 use Rattle.bz_resume.specs.declared.resumed.Resumed.{Resumed}
-use Rattle.bz_resume.specs.Journals.{MaySave}
 use Rattle.bz_resume.specs.Resumed as r
-use Rattle.bz_resume.proofs.Saves.{is_saved}
 use Rattle.bz_journal.proofs.Kept.{session_kept}
 
 -- ---- states

@@ -1,7 +1,5 @@
 -- A run that goes on.
-use Rattle.std.proofs.Common.{ℕ, ◌≡◌, ◌+◌, ◌<◌, ◌++◌, ◌∷◌, [], List, length, map, take, get_or, refl, sym, ap, subst, ◌∙◌}
-use Rattle.std.proofs.lemmas.List.{map-append, take_more}
-use Rattle.bz_journal.specs.Clauses.{Action, Acts, Answer, History, Runs, action_in}
+use Rattle.bz_journal.proofs.Words.{[], ◌++◌, ◌+◌, ◌<◌, ◌∙◌, ◌∷◌, ◌≡◌, Action, action_in, Acts, Answer, ap, get_or, History, length, List, map, map-append, refl, Runs, subst, sym, take, take_more, ℕ}
 use Rattle.bz_journal.specs.declared.action.Action as d
 
 -- by one action

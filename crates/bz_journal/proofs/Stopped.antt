@@ -1,14 +1,5 @@
 -- What is resumed where a pair was stopped while an action was kept.
-use Rattle.std.proofs.Common.{◌≡◌, ◌⊎◌, ◌∙◌, inl, inr, ℕ, List, Bool, true, false, Option, Some, None, Result, Ok, Err, refl, sym, ap, subst, if◌then◌else◌}
-use Rattle.std.specs.FinMap.{get}
-use Rattle.std.specs.Str.{bytes_eq}
-use Rattle.std.proofs.lemmas.Slice.Eq.{bytes_eq-Decides}
-use Rattle.bz_journal.specs.Clauses.{Bytes, Edit, History, IsKnownSession, Journal, SessionState, StoppedIsResumed, present}
-use Rattle.bz_journal.specs.Words.{Folder, Holds, ResumeFault, journal_name, stands}
-use Rattle.bz_resume.specs.Resuming.{IsRecordedBy}
-use Rattle.bz_resume.specs.declared.fault.ResumeFault.TheVariants as f
-use Rattle.bz_resume.specs.Journals.{text_at}
-use Rattle.bz_journal.specs.Lasting.{ResumesAt}
+use Rattle.bz_journal.proofs.Words.{◌∙◌, ◌≡◌, ◌⊎◌, ap, Bool, Bytes, bytes_eq, bytes_eq-Decides, Edit, Err, false, Folder, get, History, Holds, if◌then◌else◌, inl, inr, IsKnownSession, IsRecordedBy, Journal, journal_name, List, None, Ok, Option, present, refl, Result, ResumeFault, ResumeFault as f, ResumesAt, SessionState, Some, stands, StoppedIsResumed, subst, sym, text_at, true, ℕ}
 
 some_same : {X : Type 0} (a b : X) → Some a ≡ Some b → a ≡ b
 some_same a b e = cc

@@ -1,17 +1,6 @@
 -- The bytes of the undone session: its held line first, then all at once.
-use Rattle.std.proofs.Common.{refl, ap, ◌∙◌, ◌≡◌, ℕ, List, [], ◌∷◌, ◌++◌}
-use Rattle.std.specs.Prelude.{codes}
-use Rattle.std.specs.Fmt.{digits}
-use Rattle.std.specs.List.{flat_map}
-use Rattle.hex.specs.Hex.{encode_with}
-use Rattle.sha2.specs.Sha256.{first_words, schedule, rounds, compress, hash_after, digest_bytes, sha256}
-use Rattle.bz_grammar.specs.declared.kind.Kind.TheVariants as k
-use Rattle.bz_token.specs.declared.class.Class.TheVariants as c
-use Rattle.bz_grammar.specs.declared.tree.Part.{Part}
+use Rattle.bz_journal_format.proofs.Words.{[], ◌++◌, ◌∙◌, ◌∷◌, ◌≡◌, ap, Class as c, codes, compress, digest_bytes, digest_text, digits, encode_with, end_line, first_words, flat_map, hash_after, Kind as k, List, node_line, note_line, One, Part, part_text, record_text, refl, rounds, schedule, sha256, Two, Version, version_line, ℕ}
 use Rattle.bz_grammar.specs.declared.tree.Part.TheVariants as p
-use Rattle.bz_journal_format.specs.declared.content.Version.{Version}
-use Rattle.bz_journal_format.specs.declared.content.Version.TheVariants.{One, Two}
-use Rattle.bz_journal_format.specs.Texts.{digest_text, end_line, node_line, note_line, part_text, record_text, version_line}
 use Rattle.bz_journal_format.specs.Worked.{added_argument, added_call, added_line, added_note, added_statement, leaf_part, rule_text, undone_bytes, undone_record}
 use Rattle.bz_journal_format.proofs.Held.{text_Node}
 

@@ -1,13 +1,7 @@
 -- Texts appended one after_mark the other.
-use Rattle.std.proofs.Common.{◌≡◌, ℕ, List, ◌++◌, append_assoc, length, sym, ap, ◌∙◌}
-use Rattle.std.specs.Prelude.{codes}
-use Rattle.std.specs.List.{flat_map}
-use Rattle.bz_grammar.specs.declared.tree.Node.{Node}
-use Rattle.bz_grammar.specs.declared.tree.Part.{Part}
+use Rattle.bz_journal_format.proofs.Words.{◌++◌, ◌∙◌, ◌≡◌, ap, append_assoc, codes, flat_map, kind_number, last_number, length, List, Node, Part, part_text, spaced_number, sym, ℕ}
 use Rattle.bz_grammar.specs.declared.tree.Part.TheVariants as p
-use Rattle.bz_grammar.specs.Kinds.{kind_number}
 use Rattle.bz_journal_format.proofs.Held.{text_Node}
-use Rattle.bz_journal_format.specs.Texts.{last_number, part_text, spaced_number}
 
 pub leaf_pushed : (o m a b c d e f o1 o2 o3 o4 o5 o6 o7 : List ℕ) → o1 ≡ o ++ m → o2 ≡ o1 ++ a → o3 ≡ o2 ++ b → o4 ≡ o3 ++ c → o5 ≡ o4 ++ d → o6 ≡ o5 ++ e → o7 ≡ o6 ++ f → o7 ≡ o ++ (m ++ a ++ b ++ c ++ d ++ e ++ f)
 leaf_pushed o m a b c d e f o1 o2 o3 o4 o5 o6 o7 h1 h2 h3 h4 h5 h6 h7 = rw (h7, h6, h5, h4, h3, h2, h1) (simp append_assoc)

@@ -1,16 +1,7 @@
 -- The lines of the first digests and steps, those that follow, and those of lists that begin alike.
-use Rattle.std.proofs.Common.{◌≡◌, ◌≤◌, ◌+◌, ℕ, zero, suc, List, [], ◌∷◌, ◌++◌, length, take, drop, refl, sym, ap, subst, ◌∙◌, arith}
-use Rattle.std.specs.List.{flat_map}
-use Rattle.std.proofs.lemmas.List.{take_all, take-take}
+use Rattle.bz_journal_format.proofs.Words.{[], ◌++◌, ◌+◌, ◌∙◌, ◌∷◌, ◌≡◌, ◌≤◌, ap, arith, Bytes, digest_text, drop, Edit, entries_of, entry_of, entry_text, flat_map, length, List, RecordedStep, refl, subst, suc, sym, take, take-take, take_all, Version, zero, ℕ}
 use Rattle.std.proofs.lemmas.List.Concat.{flat_map-append}
-use Rattle.bz_edit.specs.declared.edit.Edit.{Edit}
-use Rattle.bz_items.specs.Characters.{Bytes}
-use Rattle.bz_journal_format.specs.Contents.{entries_of, entry_of}
-use Rattle.bz_journal_format.specs.FirstLines.{AreAllLines, AreFirstLines}
-use Rattle.bz_journal_format.specs.Texts.{digest_text, entry_text}
-use Rattle.bz_journal_format.specs.declared.content.RecordedStep.{RecordedStep}
-use Rattle.bz_journal_format.specs.declared.content.Version.{Version}
-use Rattle.bz_journal_format.specs.declared.kept.KeptLines.{KeptLines}
+use Rattle.bz_journal_format.specs.{FirstLines.AreAllLines, FirstLines.AreFirstLines, declared.kept.KeptLines.KeptLines}
 
 -- ---- those that follow
 

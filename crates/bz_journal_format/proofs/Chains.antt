@@ -1,12 +1,5 @@
 -- Readers that are exact: what they read is spelled so and fits, and what fits is read from its spelling, whatever follows it.
-use Rattle.std.proofs.Common.{◌≡◌, ℕ, zero, suc, List, [], ◌∷◌, ◌++◌, length, take, drop, true, Option, Some, None, refl, sym, ap, subst, ◌∙◌, append_assoc, arith}
-use Rattle.std.specs.List.{flat_map, AllByRecursion}
-use Rattle.std.specs.Str.{bytes_eq}
-use Rattle.std.proofs.lemmas.Option.{same_Some, cond_some}
-use Rattle.std.proofs.lemmas.List.{append-nil, take_at, drop_at, take-append-drop}
-use Rattle.std.proofs.lemmas.Slice.Eq.{bytes_eq-Decides}
-use Rattle.bz_journal_format.specs.Laws.{IsExact}
-use Rattle.bz_journal_format.specs.Readers.{◌>>=◌, Reader, after_mark, repeated}
+use Rattle.bz_journal_format.proofs.Words.{[], ◌++◌, ◌>>=◌, ◌∙◌, ◌∷◌, ◌≡◌, after_mark, AllByRecursion, ap, append-nil, append_assoc, arith, bytes_eq, bytes_eq-Decides, cond_some, drop, drop_at, flat_map, IsExact, length, List, None, Option, Reader, refl, repeated, same_Some, Some, subst, suc, sym, take, take-append-drop, take_at, true, zero, ℕ}
 
 -- ---- what a chain of steps gives
 

@@ -1,17 +1,6 @@
 -- The reader of numbers is exact.
-use Rattle.std.proofs.Common.{◌≡◌, ℕ, zero, suc, ◌+◌, ◌-◌, ◌*◌, ◌/◌, ◌%◌, ◌<◌, ◌≤◌, List, [], ◌∷◌, ◌++◌, Bool, true, false, cond, ◌&&◌, nat_eq, nat_lt, nat_le, Option, Some, None, refl, sym, ap, subst, ◌∙◌, append_assoc, arith, inl, inr}
-use Rattle.std.specs.Fmt.{decimal}
+use Rattle.bz_journal_format.proofs.Words.{[], ◌%◌, ◌&&◌, ◌*◌, ◌++◌, ◌+◌, ◌-◌, ◌/◌, ◌<◌, ◌>>=◌, ◌∙◌, ◌∷◌, ◌≡◌, ◌≤◌, after_mark, and_parts, ap, append-nil, append_assoc, arith, Bool, cases_Bool, cond, decimal, digits_at, eqb-true, false, inl, inr, is_digit, IsExact, IsUnread, le-leb, leb-true, List, lt-leb, lt-ltb, ltb-true, nat_eq, nat_le, nat_lt, nat_tests, None, number_at, number_limit, numeral, Option, refl, Some, subst, suc, sym, tested, true, Unread, Unread as u, up_to, zero, ℕ}
 use Rattle.std.proofs.lemmas.Fmt.{decimal_digit, decimal_step, decimal_by_steps}
-use Rattle.std.proofs.lemmas.Bool.{cases_Bool, and_parts, eqb-true, leb-true, le-leb, lt-leb, ltb-true, lt-ltb}
-use Rattle.std.proofs.lemmas.Bool.Decides.{nat_tests}
-use Rattle.std.proofs.lemmas.List.{append-nil}
-use Rattle.bz_token.specs.Bytes.{is_digit}
-use Rattle.bz_journal_format.specs.Spellings.{number_limit, numeral}
-use Rattle.bz_journal_format.specs.Laws.{IsExact}
-use Rattle.bz_journal_format.specs.Outcomes.{IsUnread}
-use Rattle.bz_journal_format.specs.Readers.{◌>>=◌, after_mark, digits_at, number_at, tested, up_to}
-use Rattle.bz_journal_format.specs.declared.unread.Unread.{Unread}
-use Rattle.bz_journal_format.specs.declared.unread.Unread.TheVariants as u
 use Rattle.bz_journal_format.proofs.Chains.{bind_some, same_read, after_own, after_answered}
 
 -- the digits of a number, whatever follows them

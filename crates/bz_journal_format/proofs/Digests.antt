@@ -1,11 +1,8 @@
 -- A digest has 32 bytes.
-use Rattle.std.proofs.Common.{ℕ, zero, suc, ◌<◌, List, [], ◌∷◌, ◌++◌, arith}
-use Rattle.std.specs.Int.{w32, to_be_bytes}
-use Rattle.std.specs.Prelude.{slice_index}
-use Rattle.hex.specs.Hex.{IsBytes}
-use Rattle.sha2.specs.Sha256.{sha256, digest_bytes, final_hash, initial_hash_256}
+use Rattle.bz_journal_format.proofs.Words.{[], ◌++◌, ◌<◌, ◌∷◌, arith, digest_bytes, IsBytes, IsDigest, List, sha256, slice_index, suc, w32, zero, ℕ}
+use Rattle.std.specs.Int.{to_be_bytes}
+use Rattle.sha2.specs.Sha256.{final_hash, initial_hash_256}
 use Rattle.sha2.proofs.Facts256.{length-sha256}
-use Rattle.bz_journal_format.specs.Spellings.{IsDigest}
 
 word_fits : (n : ℕ) → IsBytes (to_be_bytes w32 n)
 word_fits n zero = omega arith

@@ -1,12 +1,6 @@
 -- What the reader of records gives, as a theorem on texts.
-use Rattle.std.proofs.Common.{◌≡◌, ℕ, List, Some, None, sym, ap, ◌∙◌}
-use Rattle.bz_grammar.specs.Spell.{depth_limit}
-use Rattle.bz_journal_format.specs.declared.content.Record.{Record}
-use Rattle.bz_journal_format.specs.declared.content.Version.{Version}
-use Rattle.bz_journal_format.specs.declared.content.Version.TheVariants.{One, Two}
+use Rattle.bz_journal_format.proofs.Words.{◌∙◌, ◌≡◌, ap, depth_limit, IsRead, IsRecord, List, None, One, Record, record_at, record_text, Some, sym, Two, Version, ℕ}
 use Rattle.bz_journal_format.proofs.Whole.{record_sound, record_complete}
-use Rattle.bz_journal_format.specs.private.Reading.{record_at}
-use Rattle.bz_journal_format.specs.Texts.{IsRead, IsRecord, record_text}
 
 pub found : (v : Version) (s : List ℕ) (r : Record) → record_at v depth_limit s ≡ Some r → IsRead s r
 found v s r e = let p = record_sound v depth_limit s r e in (v, p.0, p.1)

@@ -1,21 +1,7 @@
 -- The readers of fields and digests are exact, and so is what is counted and listed.
-use Rattle.std.proofs.Common.{◌≡◌, ℕ, ◌*◌, ◌<◌, ◌≤◌, List, [], ◌∷◌, ◌++◌, length, take, drop, Bool, true, false, cond, ltb, Some, None, Result, Ok, Err, refl, sym, ap, subst, ◌∙◌, append_assoc, arith}
-use Rattle.std.specs.List.{flat_map, AllByRecursion}
-use Rattle.std.specs.Str.{bytes_eq}
-use Rattle.std.proofs.lemmas.Bool.{ltb-false, le-ltb}
-use Rattle.std.proofs.lemmas.Option.{same_Some, cond_some}
-use Rattle.std.proofs.lemmas.List.{take_at, drop_at, take-append-drop, length-append, length-take}
-use Rattle.std.proofs.lemmas.Slice.Eq.{bytes_eq-Decides}
-use Rattle.hex.specs.Hex.{encode_lower, decode_sized}
+use Rattle.bz_journal_format.proofs.Words.{[], ◌*◌, ◌++◌, ◌<◌, ◌>>=◌, ◌∙◌, ◌∷◌, ◌≡◌, ◌≤◌, after_mark, AllByRecursion, ap, append_assoc, arith, Bool, bytes_eq, bytes_eq-Decides, cond, cond_some, counted_at, counted_text, decode_sized, digest_at, drop, drop_at, encode_lower, Err, false, field_at, flat_map, is_digit, IsDigest, IsExact, le-ltb, length, length-append, length-take, line_feed, List, listed_at, lower_digits, ltb, ltb-false, nat_le, None, number_at, number_limit, numeral, Ok, ok_value, Reader, refl, repeated, Result, same_Some, Some, subst, sym, take, take-append-drop, take_at, tested, true, up_to, ℕ}
 use Rattle.hex.specs.declared.error.FromHexError.{FromHexError}
 use Rattle.hex.proofs.HexLemmas.{decode_of-ok, decode_sized-twice, decode_sized-encode_lower, length-encode_with}
-use Rattle.hex.specs.Hex.{lower_digits}
-use Rattle.bz_items.specs.Characters.{line_feed}
-use Rattle.bz_token.specs.Bytes.{is_digit}
-use Rattle.bz_journal_format.specs.Spellings.{counted_text, IsDigest, number_limit, numeral}
-use Rattle.bz_journal_format.specs.Laws.{IsExact}
-use Rattle.bz_journal_format.specs.Readers.{◌>>=◌, Reader, after_mark, field_at, number_at, ok_value, digest_at, repeated, counted_at, listed_at, tested, up_to}
-use Rattle.std.specs.Prelude.{nat_le}
 use Rattle.bz_journal_format.proofs.Chains.{bind_some, same_read, after_own, after_answered, AreAll, repeated_exact, then_exact, so}
 use Rattle.bz_journal_format.proofs.Counting.{number_exact}
 

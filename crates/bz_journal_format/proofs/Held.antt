@@ -1,29 +1,9 @@
 -- The readers of leaves, nodes and parts are exact.
-use Rattle.std.proofs.Common.{◌≡◌, ℕ, zero, suc, ◌<◌, ◌≤◌, List, [], ◌∷◌, ◌++◌, length, Option, Some, None, refl, sym, ap, subst, ◌∙◌, append_assoc, arith, ◌⊎◌, inl, inr, ◌↔◌}
-use Rattle.std.specs.Prelude.{codes}
-use Rattle.std.specs.List.{flat_map, AllByRecursion}
-use Rattle.std.proofs.lemmas.List.{append-nil}
-use Rattle.bz_token.specs.declared.class.Class.{Class}
-use Rattle.bz_token.specs.Classes.{class_number}
+use Rattle.bz_journal_format.proofs.Words.{[], ◌++◌, ◌<◌, ◌>>=◌, ◌↔◌, ◌∙◌, ◌∷◌, ◌≡◌, ◌≤◌, ◌⊎◌, after_mark, AllByRecursion, ap, append-nil, append_assoc, AreSmallParts, arith, choice, Class, class_number, codes, deepest, either, end_of-Part, field_at, flat_map, held_at, held_row_text, inl, inr, IsExact, IsHeld, IsSmallPart, items-the_row-Part, Kind, kind_number, last_number, leaf_at, leaf_read, length, line_feed, List, listed_at, more_of-Part, Node, node_at, node_line, node_read, nodes_at, None, number_at, number_limit, numbered_class_at, numbered_kind_at, Option, Part, part_text, Reader, refl, row_length, Row_of-Part, Some, space, spaced_number, subst, suc, sym, zero, ℕ}
 use Rattle.bz_lex.specs.declared.leaf.Leaf.{Leaf}
-use Rattle.bz_grammar.specs.declared.kind.Kind.{Kind}
-use Rattle.bz_grammar.specs.Kinds.{kind_number}
-use Rattle.bz_grammar.specs.Spell.{deepest}
-use Rattle.bz_grammar.specs.declared.tree.Node.{Node}
-use Rattle.bz_grammar.specs.declared.tree.Part.{Part, Row_of-Part, end_of-Part, more_of-Part, items-the_row-Part}
 use Rattle.bz_grammar.specs.declared.tree.Part.TheVariants as p
-use Rattle.bz_grammar.proofs.Nested.{row_of, items_of_row, leaf_or_node}
-use Rattle.bz_grammar.proofs.Spells.{depth_Node}
-use Rattle.bz_journal_format.proofs.Numbers.{numbered_class_exact, numbered_kind_exact}
-use Rattle.bz_journal_format.proofs.Chains.{after_own, after_answered, bind_some, done_exact, last_exact, same_read, so, then_exact}
-use Rattle.bz_journal_format.proofs.Counting.{number_exact}
-use Rattle.bz_journal_format.proofs.Formats.{field_exact, listed_exact}
-use Rattle.bz_journal_format.specs.Laws.{IsExact}
-use Rattle.bz_journal_format.specs.Readers.{Reader, after_mark, field_at, listed_at, number_at, ◌>>=◌}
-use Rattle.bz_journal_format.specs.Spellings.{number_limit}
-use Rattle.bz_items.specs.Characters.{line_feed, space}
-use Rattle.bz_journal_format.specs.private.Reading.{leaf_read, node_read, choice, either, held_at, leaf_at, node_at, nodes_at, numbered_class_at, numbered_kind_at}
-use Rattle.bz_journal_format.specs.Texts.{AreSmallParts, IsHeld, IsSmallPart, held_row_text, last_number, node_line, part_text, row_length, spaced_number}
+use Rattle.bz_grammar.proofs.{Nested.row_of, Nested.items_of_row, Nested.leaf_or_node, Spells.depth_Node}
+use Rattle.bz_journal_format.proofs.{Numbers.numbered_class_exact, Numbers.numbered_kind_exact, Chains.after_own, Chains.after_answered, Chains.bind_some, Chains.done_exact, Chains.last_exact, Chains.same_read, Chains.so, Chains.then_exact, Counting.number_exact, Formats.field_exact, Formats.listed_exact}
 
 -- ---- leaves
 

@@ -1,6 +1,5 @@
 -- Reading parts.
-use Rattle.std.proofs.Common.{◌≡◌, ℕ, zero, suc, ◌-◌, ◌<◌, List, refl, arith}
-use Rattle.bz_journal_format.specs.private.Reading.{held_at, node_at, nodes_at}
+use Rattle.bz_journal_format.proofs.Words.{◌-◌, ◌<◌, ◌≡◌, arith, held_at, List, node_at, nodes_at, refl, suc, zero, ℕ}
 
 pub one_less : (d : ℕ) (s : List ℕ) → 0 < d → nodes_at d s ≡ node_at (held_at (d - 1)) s
 unfolding nodes_at

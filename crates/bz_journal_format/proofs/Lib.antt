@@ -16,3 +16,4 @@ pub mod Own
 pub mod Paired
 pub mod Versions
 pub mod Whole
+mod Words

@@ -1,10 +1,5 @@
 -- Reading several things in a loop.
-use Rattle.std.proofs.Common.{◌≡◌, ℕ, suc, ◌+◌, ◌-◌, ◌<◌, ◌≤◌, List, [], ◌∷◌, ◌++◌, Option, Some, None, refl, sym, ap, ◌∙◌, append_assoc, arith}
-use Rattle.std.proofs.lemmas.List.{append-nil}
-use Rattle.bz_journal_format.specs.declared.unread.Unread.{Unread}
-use Rattle.bz_journal_format.specs.declared.unread.Unread.TheVariants as u
-use Rattle.bz_journal_format.specs.Outcomes.{IsUnread}
-use Rattle.bz_journal_format.specs.Readers.{◌>>=◌, Reader, repeated}
+use Rattle.bz_journal_format.proofs.Words.{[], ◌++◌, ◌+◌, ◌-◌, ◌<◌, ◌>>=◌, ◌∙◌, ◌∷◌, ◌≡◌, ◌≤◌, ap, append-nil, append_assoc, arith, IsUnread, List, None, Option, Reader, refl, repeated, Some, suc, sym, Unread, Unread as u, ℕ}
 
 -- what was read before, and what is still read
 abbrev pub with_front : {X : Type 0} → List X → Option (List X × List ℕ) → Option (List X × List ℕ)

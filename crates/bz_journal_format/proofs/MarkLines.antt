@@ -1,15 +1,6 @@
 -- The reader of lines is exact, and where a line ends.
-use Rattle.std.proofs.Common.{◌≡◌, ℕ, zero, suc, ◌+◌, ◌<◌, ◌≤◌, List, [], ◌∷◌, ◌++◌, length, take, drop, get_or, Bool, cond, nat_lt, true, false, Some, None, refl, ap, subst, ◌∙◌, arith, inl, inr, position}
-use Rattle.std.specs.Prelude.{◌≢◌, nat_eq}
-use Rattle.std.specs.List.{position_or_len}
-use Rattle.std.proofs.lemmas.Bool.{cases_Bool, eqb-true}
-use Rattle.std.proofs.lemmas.Bool.Decides.{nat_tests}
-use Rattle.std.proofs.lemmas.List.Quantifiers.{position-Some}
-use Rattle.std.proofs.lemmas.List.Sums.{fails_before_first}
-use Rattle.bz_items.specs.Characters.{line_feed}
-use Rattle.bz_journal_format.specs.Laws.{IsExact}
-use Rattle.bz_journal_format.specs.Spellings.{IsLine}
-use Rattle.bz_journal_format.specs.Readers.{ended_line_at}
+use Rattle.bz_journal_format.proofs.Words.{[], ◌++◌, ◌+◌, ◌<◌, ◌∙◌, ◌∷◌, ◌≡◌, ◌≢◌, ◌≤◌, ap, arith, Bool, cases_Bool, cond, drop, ended_line_at, eqb-true, false, get_or, inl, inr, IsExact, IsLine, length, line_feed, List, nat_eq, nat_lt, nat_tests, None, position, position_or_len, refl, Some, subst, suc, take, true, zero, ℕ}
+use Rattle.std.proofs.{lemmas.List.Quantifiers.position-Some, lemmas.List.Sums.fails_before_first}
 use Rattle.bz_journal_format.proofs.Chains.{bind_some, same_read}
 
 abbrev pub ends_line : ℕ → Bool

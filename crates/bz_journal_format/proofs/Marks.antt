@@ -1,13 +1,6 @@
 -- Marks, tests of texts, and the last line.
-use Rattle.std.proofs.Common.{◌≡◌, ℕ, List, ◌++◌, Bool, true, false, Option, Some, None, sym, ap, ◌∙◌, append_assoc}
-use Rattle.std.specs.Prelude.{IsTrue}
-use Rattle.std.proofs.lemmas.Option.{same_Some}
-use Rattle.std.specs.Str.{bytes_eq, IsUtf8, is_utf8}
-use Rattle.std.proofs.lemmas.Str.{is_utf8-from_IsUtf8, IsUtf8-from_is_utf8}
-use Rattle.std.proofs.lemmas.Bool.{false_from_ne_true}
-use Rattle.std.proofs.lemmas.Slice.Eq.{bytes_eq-Decides}
+use Rattle.bz_journal_format.proofs.Words.{◌++◌, ◌∙◌, ◌≡◌, after_mark, ap, append_assoc, Bool, bytes_eq, bytes_eq-Decides, false, false_from_ne_true, is_utf8, is_utf8-from_IsUtf8, IsTrue, IsUtf8, IsUtf8-from_is_utf8, List, None, Option, same_Some, Some, sym, true, ℕ}
 use Rattle.bz_journal_format.proofs.Chains.{after_own, after_answered}
-use Rattle.bz_journal_format.specs.Readers.{after_mark}
 
 pub is_text : (bs : List ℕ) → IsUtf8 bs → is_utf8 bs ≡ true
 is_text bs h = is_utf8-from_IsUtf8 bs h

@@ -1,23 +1,8 @@
 -- Numbers of classes and kinds: which has none, and that they are read exactly.
-use Rattle.std.proofs.Common.{◌≡◌, ℕ, zero, suc, ◌+◌, ◌-◌, ◌<◌, ◌≤◌, List, [], ◌∷◌, ◌++◌, length, Bool, true, false, cond, ◌&&◌, nat_eq, Option, Some, None, refl, sym, ap, ◌∙◌, arith, lit<}
-use Rattle.std.specs.List.{slice_get}
-use Rattle.std.proofs.lemmas.Bool.{and_parts, eqb-true}
-use Rattle.std.proofs.lemmas.Option.{same_Some, slice_get_past}
-use Rattle.bz_token.specs.declared.class.Class.{Class}
-use Rattle.bz_token.specs.declared.class.Class.TheVariants as c
-use Rattle.bz_token.specs.Classes.{class_number, class_list, class_of}
-use Rattle.bz_grammar.specs.declared.kind.Kind.{Kind}
+use Rattle.bz_journal_format.proofs.Words.{[], ◌&&◌, ◌++◌, ◌+◌, ◌-◌, ◌<◌, ◌>>=◌, ◌∙◌, ◌∷◌, ◌≡◌, ◌≤◌, and_parts, ap, arith, Bool, Class, Class as c, class_list, class_number, class_of, cond, eqb-true, false, IsExact, Kind, kind_list, kind_number, kind_of, length, List, lit<, nat_eq, None, number_at, number_limit, numbered_class_at, numbered_kind_at, Option, refl, same_Some, slice_get, slice_get_past, Some, space, spaced_number, suc, sym, true, zero, ℕ}
 use Rattle.bz_grammar.specs.declared.kind.Kind.TheVariants as k
-use Rattle.bz_grammar.specs.Kinds.{kind_number, kind_list, kind_of}
 use Rattle.bz_grammar.proofs.Numbers.{of_number}
-use Rattle.bz_journal_format.proofs.Chains.{bind_some, same_read}
-use Rattle.bz_journal_format.proofs.Counting.{number_exact}
-use Rattle.bz_journal_format.specs.Laws.{IsExact}
-use Rattle.bz_journal_format.specs.Readers.{number_at, ◌>>=◌}
-use Rattle.bz_journal_format.specs.Spellings.{number_limit}
-use Rattle.bz_items.specs.Characters.{space}
-use Rattle.bz_journal_format.specs.private.Reading.{numbered_class_at, numbered_kind_at}
-use Rattle.bz_journal_format.specs.Texts.{spaced_number}
+use Rattle.bz_journal_format.proofs.{Chains.bind_some, Chains.same_read, Counting.number_exact}
 
 past_end : (n : ℕ) → 255 < n → length kind_list ≤ n - 1
 past_end n h = omega arith

@@ -1,17 +1,6 @@
 -- The bytes of a record are not of another version.
-use Rattle.std.proofs.Common.{◌≡◌, ℕ, List, [], ◌∷◌, ◌++◌, refl, sym, ap, ◌∙◌, append_assoc}
-use Rattle.std.specs.Prelude.{codes}
-use Rattle.std.proofs.lemmas.Option.{same_Some}
-use Rattle.bz_journal_format.specs.declared.content.Record.{Record}
-use Rattle.bz_journal_format.specs.declared.content.Version.{Version}
-use Rattle.bz_journal_format.specs.declared.content.Version.TheVariants.{One, Two}
-use Rattle.bz_journal_format.proofs.Versions.{digits_in_line, one_line}
-use Rattle.bz_journal_format.proofs.Whole.{begins}
-use Rattle.bz_journal_format.proofs.Chains.{after_own}
-use Rattle.bz_journal_format.specs.Readers.{after_mark}
-use Rattle.bz_journal_format.specs.Spellings.{IsLine}
-use Rattle.bz_journal_format.specs.Texts.{IsOtherNumber, IsOtherVersion, record_text, version_line}
-use Rattle.bz_items.specs.Characters.{line_feed}
+use Rattle.bz_journal_format.proofs.Words.{[], ◌++◌, ◌∙◌, ◌∷◌, ◌≡◌, after_mark, ap, append_assoc, codes, IsLine, IsOtherNumber, IsOtherVersion, line_feed, List, One, Record, record_text, refl, same_Some, sym, Two, Version, version_line, ℕ}
+use Rattle.bz_journal_format.proofs.{Versions.digits_in_line, Versions.one_line, Whole.begins, Chains.after_own}
 
 -- the digits in a first line
 line_of : (digits bytes begun ds rest : List ℕ) → bytes ≡ (codes "bzjournal " ++ (digits ++ line_feed ∷ [])) ++ begun → bytes ≡ codes "bzjournal " ++ ds ++ line_feed ∷ rest → digits ++ line_feed ∷ begun ≡ ds ++ line_feed ∷ rest

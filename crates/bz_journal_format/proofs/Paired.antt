@@ -1,7 +1,5 @@
 -- Notes and steps side by side.
-use Rattle.std.proofs.Common.{ℕ, suc, ◌≡◌, List, [], ◌∷◌, length, refl, ap, arith}
-use Rattle.bz_edit.specs.declared.edit.Edit.{Edit}
-use Rattle.bz_journal_format.specs.Contents.{entries_of}
+use Rattle.bz_journal_format.proofs.Words.{[], ◌∷◌, ◌≡◌, ap, arith, Edit, entries_of, length, List, refl, suc, ℕ}
 
 pub entries_length : (ns : List (List ℕ)) (es : List (List Edit)) → length ns ≡ length es → length (entries_of ns es) ≡ length es
 entries_length [] [] same = refl

@@ -1,17 +1,6 @@
 -- The first line of another version.
-use Rattle.std.proofs.Common.{◌≡◌, ℕ, List, [], ◌∷◌, ◌++◌, Bool, true, false, Option, Some, None, sym, ap, subst, ◌∙◌, append_assoc, arith}
-use Rattle.std.specs.Prelude.{◌≢◌, IsTrue}
-use Rattle.std.specs.List.{list_all}
-use Rattle.std.proofs.lemmas.Bool.{and_parts}
-use Rattle.std.proofs.lemmas.Bool.Decides.{nat_tests}
-use Rattle.std.proofs.lemmas.Option.{same_Some}
-use Rattle.bz_journal_format.proofs.Chains.{after_own, after_answered, none_there, one_reading}
-use Rattle.bz_journal_format.proofs.MarkLines.{line_exact}
-use Rattle.bz_journal_format.specs.Readers.{after_mark, ended_line_at}
-use Rattle.bz_journal_format.specs.Spellings.{IsLine}
-use Rattle.bz_journal_format.specs.Texts.{IsOtherNumber}
-use Rattle.bz_items.specs.Characters.{line_feed}
-use Rattle.bz_token.specs.Bytes.{is_digit}
+use Rattle.bz_journal_format.proofs.Words.{[], ◌++◌, ◌∙◌, ◌∷◌, ◌≡◌, ◌≢◌, after_mark, and_parts, ap, append_assoc, arith, Bool, ended_line_at, false, is_digit, IsLine, IsOtherNumber, IsTrue, line_feed, List, list_all, nat_tests, None, Option, same_Some, Some, subst, sym, true, ℕ}
+use Rattle.bz_journal_format.proofs.{Chains.after_own, Chains.after_answered, Chains.none_there, Chains.one_reading, MarkLines.line_exact}
 
 no_line_feed : (b : ℕ) → is_digit b ≡ true → b ≢ line_feed
 no_line_feed b h = λ e. grind (arith, nat_tests)

@@ -1,31 +1,7 @@
 -- The readers of edits, steps and records are exact.
-use Rattle.std.proofs.Common.{◌≡◌, ℕ, ◌+◌, ◌-◌, ◌<◌, ◌≤◌, List, [], ◌∷◌, ◌++◌, length, take, get_or, true, cond, Some, None, refl, sym, ap, subst, ◌∙◌, append_assoc, arith}
-use Rattle.std.specs.Prelude.{codes, nat_le}
-use Rattle.std.specs.List.{flat_map, AllByRecursion}
-use Rattle.std.specs.Str.{bytes_eq, is_utf8}
-use Rattle.std.proofs.lemmas.Str.{is_utf8-from_IsUtf8, IsUtf8-from_is_utf8}
-use Rattle.std.proofs.lemmas.Bool.{and_parts, leb-true, le-leb}
-use Rattle.std.proofs.lemmas.Option.{cond_some, same_Some}
-use Rattle.std.proofs.lemmas.List.{append-nil, length-append, take_at}
-use Rattle.std.proofs.lemmas.Slice.Eq.{bytes_eq-Decides}
+use Rattle.bz_journal_format.proofs.Words.{[], ◌++◌, ◌+◌, ◌-◌, ◌<◌, ◌>>=◌, ◌∙◌, ◌∷◌, ◌≡◌, ◌≤◌, after_mark, AllByRecursion, and_parts, ap, append-nil, append_assoc, arith, bytes_eq, bytes_eq-Decides, codes, cond, cond_some, counted_at, counted_lines_at, counted_text, counts_text, digest_at, digest_line_at, digest_text, Edit, edit_at, edit_text, encode_lower, end_line, entry_at, entry_text, flat_map, get_or, held_at, is_short_text, is_utf8, is_utf8-from_IsUtf8, IsDigest, IsEdit, IsExact, IsHeld, IsNote, IsNotedStep, IsRecord, IsUtf8-from_is_utf8, last_number, le-leb, leb-true, length, length-append, line_feed, lines_at, lines_text, List, listed_at, nat_le, None, note_at, note_line, number_at, number_limit, One, Part, part_text, Record, record_at, record_made, record_text, RecordedStep, refl, repeated, same_Some, short_limit, Some, space, spaced_number, step_limit, subst, sym, take, take_at, tested, true, Two, up_to, Version, version_line, ℕ}
 use Rattle.std.specs.Cmp.Derive.{both_true}
-use Rattle.hex.specs.Hex.{encode_lower}
-use Rattle.bz_grammar.specs.declared.tree.Part.{Part}
-use Rattle.bz_edit.specs.declared.edit.Edit.{Edit}
-use Rattle.bz_journal_format.specs.declared.content.RecordedStep.{RecordedStep}
-use Rattle.bz_journal_format.specs.declared.content.Record.{Record}
-use Rattle.bz_journal_format.specs.declared.content.Version.{Version}
-use Rattle.bz_journal_format.specs.declared.content.Version.TheVariants.{One, Two}
-use Rattle.bz_journal_format.proofs.Held.{held_exact_at}
-use Rattle.bz_journal_format.proofs.Chains.{AreAll, bind_some, done_exact, last_exact, mark_exact, repeated_exact, so, then_exact}
-use Rattle.bz_journal_format.proofs.Counting.{number_exact}
-use Rattle.bz_journal_format.proofs.Formats.{counted_exact, digest_exact, listed_exact, tested_exact, up_to_exact}
-use Rattle.bz_journal_format.specs.Laws.{IsExact}
-use Rattle.bz_journal_format.specs.Readers.{after_mark, counted_at, digest_at, listed_at, number_at, repeated, tested, up_to, ◌>>=◌}
-use Rattle.bz_journal_format.specs.Spellings.{IsDigest, counted_text, number_limit}
-use Rattle.bz_items.specs.Characters.{line_feed, space}
-use Rattle.bz_journal_format.specs.private.Reading.{digest_line_at, edit_at, entry_at, held_at, is_short_text, counted_lines_at, lines_at, note_at, record_at, record_made}
-use Rattle.bz_journal_format.specs.Texts.{IsEdit, IsNotedStep, IsHeld, IsNote, IsRecord, counts_text, digest_text, edit_text, end_line, entry_text, last_number, lines_text, note_line, part_text, record_text, short_limit, spaced_number, step_limit, version_line}
+use Rattle.bz_journal_format.proofs.{Held.held_exact_at, Chains.AreAll, Chains.bind_some, Chains.done_exact, Chains.last_exact, Chains.mark_exact, Chains.repeated_exact, Chains.so, Chains.then_exact, Counting.number_exact, Formats.counted_exact, Formats.digest_exact, Formats.listed_exact, Formats.tested_exact, Formats.up_to_exact}
 
 abbrev IsPath : List ℕ → Type 0
 IsPath ns = (length ns < number_limit) × AllByRecursion (λ n. n < number_limit) ns

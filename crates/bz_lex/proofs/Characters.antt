@@ -1,16 +1,6 @@
 -- A text of characters may be cut after each gap and each token.
-use Rattle.std.proofs.Common.{◌≡◌, ℕ, ◌+◌, ◌≤◌, ◌<◌, Bool, true, false, List, [], ◌∷◌, ◌++◌, ◌⊎◌, inl, inr, length, get_or, take, drop, refl, sym, ap, ◌∙◌, subst, arith, length-append, length-drop, append_assoc}
-use Rattle.std.proofs.Math.Seq.{get_or-append_seam}
-use Rattle.std.proofs.lemmas.Bool.{both_ways}
+use Rattle.bz_lex.proofs.Words.{[], ◌++◌, ◌+◌, ◌<◌, ◌∙◌, ◌∷◌, ◌≡◌, ◌≤◌, ◌⊎◌, ap, append_assoc, arith, blank, Bool, both_ways, boundary_at, comment, drop, escaped, escaped_return, false, Front, get_or, get_or-append_seam, inl, inr, is_blank, IsCharBoundary, IsCharBoundary-after_ascii, IsCharBoundary-from_rest, IsCharBoundary-start, IsGap, IsLexemeFront, IsUtf8, IsUtf8-drop, last_comment, length, length-append, length-drop, length-take-le, List, nothing, refl, subst, sym, take, take-append-drop, true, unescaped, ℕ}
 use Rattle.std.proofs.lemmas.Bool.Decides.{nat_tests}
-use Rattle.std.proofs.lemmas.List.{take-append-drop, length-take-le}
-use Rattle.std.proofs.lemmas.Str.{IsCharBoundary-start, IsCharBoundary-after_ascii, IsCharBoundary-from_rest, IsUtf8-drop}
-use Rattle.std.specs.Str.{IsUtf8, IsCharBoundary}
-use Rattle.bz_token.specs.Bytes.{is_blank}
-use Rattle.bz_token.proofs.Boundaries.{boundary_at}
-use Rattle.bz_lex.specs.declared.front.Front.{Front}
-use Rattle.bz_lex.specs.Gaps.{IsGap, nothing, blank, escaped, escaped_return, unescaped, comment, last_comment}
-use Rattle.bz_lex.specs.Fronts.{IsLexemeFront}
 
 -- the text's last byte is ASCII
 abbrev EndsInAscii : List ℕ → Type 0

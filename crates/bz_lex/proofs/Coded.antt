@@ -1,16 +1,5 @@
 -- Leaves and texts of characters: one leaf of such a text after another is cut off.
-use Rattle.std.proofs.Common.{ℕ, Bool, true, false, List, [], ◌∷◌, ◌++◌, length, refl, subst, arith, length-append, append-nil}
-use Rattle.std.proofs.Math.Seq.{get_or-append_seam, take_at, drop_at}
-use Rattle.std.proofs.lemmas.Str.{IsUtf8-nil, IsUtf8-append, IsUtf8-take, IsUtf8-drop, IsCharBoundary-before_ascii, IsCharBoundary-after_ascii}
-use Rattle.std.specs.Str.{IsUtf8, IsCharBoundary}
-use Rattle.bz_token.specs.declared.class.Class.{Class}
-use Rattle.bz_token.specs.Tokens.{IsToken}
-use Rattle.bz_token.proofs.Boundaries.{boundary}
-use Rattle.bz_lex.specs.declared.leaf.Leaf.{Leaf}
-use Rattle.bz_lex.specs.Gaps.{IsGap}
-use Rattle.bz_lex.specs.Places.{Place, Fresh, next, May, first, later, inner, newline, no_newline, end, end_at_once}
-use Rattle.bz_lex.specs.Leaves.{spell_leaves, Stand, IsCodedLeaf, AreCoded, AreLeaves}
-use Rattle.bz_lex.specs.Laws.{CodedLeaves}
+use Rattle.bz_lex.proofs.Words.{[], ◌++◌, ◌∷◌, append-nil, AreCoded, AreLeaves, arith, Bool, boundary, Class, CodedLeaves, drop_at, end, end_at_once, false, first, Fresh, get_or-append_seam, inner, IsCharBoundary, IsCharBoundary-after_ascii, IsCharBoundary-before_ascii, IsCodedLeaf, IsGap, IsToken, IsUtf8, IsUtf8-append, IsUtf8-drop, IsUtf8-nil, IsUtf8-take, later, Leaf, length, length-append, List, May, newline, next, no_newline, Place, refl, spell_leaves, Stand, subst, take_at, true, ℕ}
 use Rattle.bz_lex.proofs.Characters.{cut, gap_sealed}
 
 -- both parts of a text that is cut where a character ends

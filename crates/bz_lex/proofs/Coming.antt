@@ -1,17 +1,6 @@
 -- The leaves that a text has from a place on, up to where no leaf is.
-use Rattle.std.proofs.Common.{◌≡◌, ◌≢◌, ℕ, zero, suc, ◌≤◌, ◌<◌, Bool, true, false, ◌||◌, List, [], ◌∷◌, ◌⊎◌, inl, inr, refl, sym, ap, subst, ◌∙◌, arith}
-use Rattle.std.proofs.lemmas.Bool.{both_ways}
-use Rattle.bz_token.specs.declared.class.Class.{Class}
-use Rattle.bz_token.specs.declared.class.Class.TheVariants as c
-use Rattle.bz_token.specs.Tokens.{IsToken}
-use Rattle.bz_lex.specs.declared.leaf.Leaf.{Leaf}
-use Rattle.bz_lex.specs.declared.front.Front.{Front}
-use Rattle.bz_lex.specs.Places.{Place, Fresh, After, Inside, Last, Over, next, May}
-use Rattle.bz_lex.specs.Leaves.{spell_leaves, Stand, AreLeaves, NoLeaves}
-use Rattle.bz_lex.specs.Fronts.{IsFront, NoLeaf, front_leaf, after_front}
-use Rattle.bz_lex.proofs.Deciding.{Decided, leaf_found}
-use Rattle.bz_lex.proofs.Lists.{left, smaller, front_text, over_rest}
-use Rattle.bz_lex.proofs.Unique.{one_leaf, not_over}
+use Rattle.bz_lex.proofs.Words.{[], ◌<◌, ◌||◌, ◌∙◌, ◌∷◌, ◌≡◌, ◌≢◌, ◌≤◌, ◌⊎◌, After, after_front, ap, AreLeaves, arith, Bool, both_ways, Class, Class as c, false, Fresh, Front, front_leaf, inl, inr, Inside, IsFront, IsToken, Last, Leaf, List, May, next, NoLeaf, NoLeaves, Over, Place, refl, spell_leaves, Stand, subst, suc, sym, true, zero, ℕ}
+use Rattle.bz_lex.proofs.{Deciding.Decided, Deciding.leaf_found, Lists.left, Lists.smaller, Lists.front_text, Lists.over_rest, Unique.one_leaf, Unique.not_over}
 
 abbrev coming_by : (p : Place) (s : List ℕ) → Decided p s → (Place → List ℕ → List Leaf) → List Leaf
 coming_by p s (inl w) more = front_leaf w.0 s ∷ more (next p (front_leaf w.0 s)) (after_front w.0 s)

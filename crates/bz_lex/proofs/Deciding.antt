@@ -1,19 +1,7 @@
 -- Which leaf is at the front of a text is decided.
-use Rattle.std.proofs.Common.{◌≡◌, ℕ, suc, ◌≤◌, Bool, true, false, eqb, List, [], ◌∷◌, ◌⊎◌, inl, inr, Option, Some, None, length, take, drop, slice_get, refl, arith}
-use Rattle.std.proofs.lemmas.Bool.{cases_Bool, eqb-true, eqb-false}
-use Rattle.bz_token.specs.declared.class.Class.{Class}
-use Rattle.bz_token.specs.declared.class.Class.TheVariants.{Newline, End}
+use Rattle.bz_lex.proofs.Words.{[], ◌∷◌, ◌≡◌, ◌≤◌, ◌⊎◌, After, arith, Bool, cases_Bool, Class, drop, End, eqb, eqb-false, eqb-true, false, Fresh, Front, gap_move, gap_state_after, GapFront, GapState, inl, inr, Inside, is_end, IsFront, IsGapFront, Last, length, List, Newline, newlines_at, no_class, NoLeaf, None, none_token, NoToken, Open, Option, Over, Place, refl, slice_get, Some, some_token, Stops, suc, take, third_token, TokenAt, true, ℕ}
 use Rattle.bz_token.specs.declared.state.State.{State}
-use Rattle.bz_token.specs.Tokens.{NoToken, TokenAt}
 use Rattle.bz_token.specs.private.Scanner.{ends, keyword_or_name, before_third, longest_front}
-use Rattle.bz_token.proofs.Tokens.{none_token, no_class, third_token, some_token}
-use Rattle.bz_lex.specs.declared.gap.GapFront.{GapFront}
-use Rattle.bz_lex.specs.declared.gap.GapState.{GapState}
-use Rattle.bz_lex.specs.declared.gap.GapState.TheVariants.{Open}
-use Rattle.bz_lex.specs.declared.front.Front.{Front}
-use Rattle.bz_lex.specs.private.GapStates.{gap_move, gap_state_after, Stops, is_end}
-use Rattle.bz_lex.specs.Places.{Place, Fresh, After, Inside, Last, Over, newlines_at}
-use Rattle.bz_lex.specs.Fronts.{IsGapFront, IsFront, NoLeaf}
 use Rattle.bz_lex.proofs.Forms.{form}
 use Rattle.bz_lex.proofs.Fronts.{fresh_token, fresh_no_token, fresh_end, following_token, after_end, after_line, inside_token, inside_end, last_end, last_more, broken_front}
 

@@ -1,16 +1,6 @@
 -- Which leaf is at a place, by the state in which its gap ends.
-use Rattle.std.proofs.Common.{◌≡◌, ℕ, Bool, true, false, List, [], ◌∷◌, ◌++◌, ◌⊎◌, inl, inr, Some, None, refl, ap, ◌∙◌}
-use Rattle.std.proofs.lemmas.Bool.{both_ways}
-use Rattle.bz_token.specs.declared.class.Class.{Class}
-use Rattle.bz_token.specs.declared.class.Class.TheVariants.{Newline, End}
-use Rattle.bz_token.specs.Tokens.{IsToken}
-use Rattle.bz_lex.specs.declared.leaf.Leaf.{Leaf}
-use Rattle.bz_lex.specs.declared.gap.GapState.{GapState}
-use Rattle.bz_lex.specs.declared.gap.GapState.TheVariants.{Open, Escape, EscapeReturn, Comment}
-use Rattle.bz_lex.specs.private.GapStates.{gap_move, gap_state_after, Stops, is_end}
-use Rattle.bz_lex.specs.Places.{Place, Fresh, After, Inside, Last, Over, newlines_at, May, first, later, inner, newline, no_newline, end, end_at_once}
-use Rattle.bz_lex.proofs.Gaps.{gap_after, gap_from}
-use Rattle.bz_lex.proofs.Tokens.{token_stops}
+use Rattle.bz_lex.proofs.Words.{[], ◌++◌, ◌∙◌, ◌∷◌, ◌≡◌, ◌⊎◌, After, ap, Bool, both_ways, Class, Comment, End, end, end_at_once, Escape, EscapeReturn, false, first, Fresh, gap_move, gap_state_after, GapState, inl, inner, inr, Inside, is_end, IsToken, Last, later, Leaf, List, May, Newline, newline, newlines_at, no_newline, None, Open, Over, Place, refl, Some, Stops, true, ℕ}
+use Rattle.bz_lex.proofs.{Gaps.gap_after, Gaps.gap_from, Tokens.token_stops}
 
 -- a token after a gap that ends between two pieces
 pub record ByToken (q : GapState) (l : Leaf) (s : List ℕ) : Type 0 where

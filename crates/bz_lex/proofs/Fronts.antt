@@ -1,23 +1,6 @@
 -- Reading the leaf at the front of a text.
-use Rattle.std.proofs.Common.{◌≡◌, ◌≢◌, ℕ, suc, ◌+◌, ◌-◌, ◌≤◌, ◌<◌, Bool, true, false, List, [], ◌∷◌, ◌++◌, inl, inr, Option, Some, None, MatchOption, length, take, drop, slice_get, get_or, eqb, if◌then◌else◌, ◌==◌, refl, sym, ap, ◌∙◌, subst, arith, length-drop, drop-cons}
-use Rattle.std.proofs.lemmas.Bool.{both_ways, cases_lt, ne_eqb, eqb-true}
-use Rattle.std.proofs.lemmas.Option.{slice_get-get_or, slice_get_within, slice_get_past, get_or_from_slice_get}
-use Rattle.std.proofs.lemmas.List.{take-append-drop}
-use Rattle.std.proofs.Math.ListN.{drop_of_length-le}
-use Rattle.bz_token.specs.declared.class.Class.{Class}
-use Rattle.bz_token.specs.declared.class.Class.TheVariants.{Newline, End}
-use Rattle.bz_token.specs.Tokens.{IsToken, NoToken, TokenAt}
-use Rattle.bz_lex.specs.declared.leaf.Leaf.{Leaf}
-use Rattle.bz_lex.specs.declared.gap.GapFront.{GapFront}
-use Rattle.bz_lex.specs.declared.gap.GapState.{GapState}
-use Rattle.bz_lex.specs.declared.gap.GapState.TheVariants.{Open, Escape, EscapeReturn, Comment}
-use Rattle.bz_lex.specs.declared.front.Front.{Front}
-use Rattle.bz_lex.specs.private.GapStates.{gap_state_after, Stops, is_end}
-use Rattle.bz_lex.specs.Places.{Place, Fresh, After, Inside, Last, Over, newlines_at, end_at_once}
-use Rattle.bz_lex.specs.Fronts.{IsGapFront, front_leaf, after_front, IsFront, NoLeaf, AnswersFront}
-use Rattle.bz_lex.proofs.Gaps.{one_stop}
-use Rattle.bz_lex.proofs.Tokens.{token_holds}
-use Rattle.bz_lex.proofs.Forms.{Empty, Form, form, may}
+use Rattle.bz_lex.proofs.Words.{[], ◌++◌, ◌+◌, ◌-◌, ◌<◌, ◌==◌, ◌∙◌, ◌∷◌, ◌≡◌, ◌≢◌, ◌≤◌, After, after_front, AnswersFront, ap, arith, Bool, both_ways, cases_lt, Class, Comment, drop, drop-cons, drop_of_length-le, End, end_at_once, eqb, eqb-true, Escape, EscapeReturn, false, Fresh, Front, front_leaf, gap_state_after, GapFront, GapState, get_or, get_or_from_slice_get, if◌then◌else◌, inl, inr, Inside, is_end, IsFront, IsGapFront, IsToken, Last, Leaf, length, length-drop, List, MatchOption, ne_eqb, Newline, newlines_at, NoLeaf, None, NoToken, Open, Option, Over, Place, refl, slice_get, slice_get-get_or, slice_get_past, slice_get_within, Some, Stops, subst, suc, sym, take, take-append-drop, TokenAt, true, ℕ}
+use Rattle.bz_lex.proofs.{Gaps.one_stop, Tokens.token_holds, Forms.Empty, Forms.Form, Forms.form, Forms.may}
 
 -- what the byte at n says of the text from there on
 pub rest_none : (s : List ℕ) (n : ℕ) → slice_get s n ≡ None → drop n s ≡ []

@@ -1,14 +1,5 @@
 -- The states of a gap take just the gaps, and a gap ends at one place.
-use Rattle.std.proofs.Common.{◌≡◌, ◌≢◌, ℕ, zero, suc, ◌≤◌, ◌-◌, arith, Bool, true, false, eqb, List, [], ◌∷◌, ◌++◌, ◌&&◌, inl, inr, Option, Some, None, refl, sym, ap, ◌∙◌, subst, append_assoc, ◌<◌, ◌+◌, length, take, get_or, add-one}
-use Rattle.std.proofs.Math.Seq.{take-suc}
-use Rattle.std.proofs.lemmas.Bool.{both_ways, cases_Bool, eqb-true, eqb-false, ne_eqb, and_parts}
-use Rattle.std.proofs.lemmas.List.{append-nil}
-use Rattle.std.proofs.lemmas.Option.{same_Some}
-use Rattle.bz_lex.specs.declared.gap.GapState.{GapState}
-use Rattle.bz_lex.specs.declared.gap.GapState.TheVariants.{Open, Escape, EscapeReturn, Comment}
-use Rattle.bz_token.specs.Bytes.{is_blank}
-use Rattle.bz_lex.specs.Gaps.{IsOneLine, IsGap, nothing, blank, escaped, escaped_return, unescaped, comment, last_comment}
-use Rattle.bz_lex.specs.private.GapStates.{gap_move, and_then, gap_state_after, Stops, is_end}
+use Rattle.bz_lex.proofs.Words.{[], ◌&&◌, ◌++◌, ◌+◌, ◌-◌, ◌<◌, ◌∙◌, ◌∷◌, ◌≡◌, ◌≢◌, ◌≤◌, add-one, and_parts, and_then, ap, append-nil, append_assoc, arith, blank, Bool, both_ways, cases_Bool, Comment, comment, eqb, eqb-false, eqb-true, Escape, escaped, escaped_return, EscapeReturn, false, gap_move, gap_state_after, GapState, get_or, inl, inr, is_blank, is_end, IsGap, IsOneLine, last_comment, length, List, ne_eqb, None, nothing, Open, Option, refl, same_Some, Some, Stops, subst, suc, sym, take, take-suc, true, unescaped, zero, ℕ}
 
 abbrev holds : Bool → Option GapState → Bool
 holds u None = false

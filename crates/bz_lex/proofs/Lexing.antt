@@ -1,24 +1,6 @@
 -- The tokens of a text without lines.
-use Rattle.std.proofs.Common.{◌≡◌, ◌≢◌, ℕ, suc, ◌+◌, ◌-◌, ◌≤◌, ◌<◌, true, false, List, [], ◌∷◌, ◌++◌, ◌⊎◌, inl, inr, Some, length, take, drop, slice_get, refl, sym, ap, ◌∙◌, subst, arith, append_assoc, length-append, length-drop}
-use Rattle.std.proofs.lemmas.Bool.{both_ways}
-use Rattle.std.proofs.Math.Seq.{take-length}
-use Rattle.std.proofs.lemmas.List.{take-append-drop, append-nil, append_cancel_left}
-use Rattle.bz_token.specs.declared.class.Class.{Class}
-use Rattle.bz_token.specs.Tokens.{IsToken, NoToken, OpensString, TokenAt}
-use Rattle.bz_lex.specs.declared.gap.GapFront.{GapFront}
-use Rattle.bz_lex.specs.declared.gap.GapState.{GapState}
-use Rattle.bz_lex.specs.declared.gap.GapState.TheVariants.{Open}
-use Rattle.bz_lex.specs.declared.front.Front.{Front}
-use Rattle.bz_lex.specs.Gaps.{IsGap}
-use Rattle.bz_lex.specs.private.GapStates.{gap_state_after, Stops, is_end}
-use Rattle.bz_lex.specs.Fronts.{IsLexemeFront, front_token, after_front}
-use Rattle.bz_lex.specs.Lexing.{AreLexemes, NoLexemes}
-use Rattle.bz_lex.specs.Stops.{LexedTo, no_token, token_more}
-use Rattle.bz_lex.proofs.Gaps.{gap_after, gap_from, one_stop}
-use Rattle.bz_lex.proofs.Tokens.{one_token, token_stops, token_holds}
-use Rattle.bz_lex.proofs.Lists.{token_length}
-use Rattle.bz_lex.proofs.Forms.{closed_is}
-use Rattle.bz_lex.proofs.Fronts.{open_true, rest_some, token_within}
+use Rattle.bz_lex.proofs.Words.{[], ◌++◌, ◌+◌, ◌-◌, ◌<◌, ◌∙◌, ◌∷◌, ◌≡◌, ◌≢◌, ◌≤◌, ◌⊎◌, after_front, ap, append-nil, append_assoc, append_cancel_left, AreLexemes, arith, both_ways, Class, drop, false, Front, front_token, gap_state_after, GapFront, GapState, inl, inr, is_end, IsGap, IsLexemeFront, IsToken, length, length-append, length-drop, LexedTo, List, no_token, NoLexemes, NoToken, Open, OpensString, refl, slice_get, Some, Stops, subst, suc, sym, take, take-append-drop, take-length, token_more, TokenAt, true, ℕ}
+use Rattle.bz_lex.proofs.{Gaps.gap_after, Gaps.gap_from, Gaps.one_stop, Tokens.one_token, Tokens.token_stops, Tokens.token_holds, Lists.token_length, Forms.closed_is, Fronts.open_true, Fronts.rest_some, Fronts.token_within}
 
 -- what is after the first gap of a text that has tokens: nothing, or a token
 abbrev Begun : GapState → List ℕ → Type 0

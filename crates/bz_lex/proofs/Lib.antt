@@ -10,3 +10,4 @@ pub mod Coded
 pub mod Deciding
 pub mod Coming
 pub mod Stopping
+mod Words

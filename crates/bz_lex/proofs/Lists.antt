@@ -1,14 +1,5 @@
 -- Reading leaves one after the other.
-use Rattle.std.proofs.Common.{◌≡◌, ◌≢◌, ℕ, zero, suc, ◌+◌, ◌*◌, ◌≤◌, ◌<◌, Bool, true, false, if◌then◌else◌, List, [], ◌∷◌, ◌++◌, length, drop, refl, arith, length-append, append_assoc}
-use Rattle.std.proofs.lemmas.List.{take-append-drop}
-use Rattle.bz_token.specs.declared.class.Class.{Class}
-use Rattle.bz_token.specs.declared.class.Class.TheVariants.{Name, Keyword, Number, String, Mark, Newline, End}
-use Rattle.bz_token.specs.Tokens.{IsToken}
-use Rattle.bz_lex.specs.declared.leaf.Leaf.{Leaf}
-use Rattle.bz_lex.specs.Places.{Place, Fresh, After, Inside, Last, Over, is_opening, is_closing, same_depth, deeper, shallower, after_token, next, May, first, later, inner, newline, no_newline, end, end_at_once}
-use Rattle.bz_lex.specs.Leaves.{spell_leaves}
-use Rattle.bz_lex.specs.declared.front.Front.{Front}
-use Rattle.bz_lex.specs.Fronts.{front_leaf, after_front}
+use Rattle.bz_lex.proofs.Words.{[], ◌*◌, ◌++◌, ◌+◌, ◌<◌, ◌∷◌, ◌≡◌, ◌≢◌, ◌≤◌, After, after_front, after_token, append_assoc, arith, Bool, Class, deeper, drop, End, end, end_at_once, false, first, Fresh, Front, front_leaf, if◌then◌else◌, inner, Inside, is_closing, is_opening, IsToken, Keyword, Last, later, Leaf, length, length-append, List, Mark, May, Name, Newline, newline, next, no_newline, Number, Over, Place, refl, same_depth, shallower, spell_leaves, String, suc, take-append-drop, true, zero, ℕ}
 use Rattle.bz_lex.proofs.Tokens.{begins}
 
 pub spell_leaves-append : (ls ms : List Leaf) → spell_leaves (ls ++ ms) ≡ spell_leaves ls ++ spell_leaves ms

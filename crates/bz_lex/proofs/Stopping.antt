@@ -1,33 +1,10 @@
 -- Where the tokens of a text stop, and why.
-use Rattle.std.proofs.Common.{◌≡◌, ◌≢◌, ℕ, suc, ◌+◌, ◌-◌, ◌≤◌, Bool, true, false, eqb, List, [], ◌∷◌, ◌++◌, ◌⊎◌, inl, inr, Option, Some, None, length, take, drop, min, slice_get, refl, sym, ap, ◌∙◌, subst, arith, append_assoc, length-append, length-drop}
-use Rattle.std.specs.Prelude.{nat_eq}
-use Rattle.std.proofs.lemmas.Bool.{both_ways, cases_Bool, or_cases, eqb-true, ne_eqb}
-use Rattle.std.proofs.lemmas.List.{take-append-drop, length-take-le}
-use Rattle.std.proofs.lemmas.Option.{none-some, same_Some}
-use Rattle.std.proofs.Math.Seq.{take-append_seam, drop-append_seam}
-use Rattle.bz_token.specs.Bytes.{is_blank, is_quote, is_solid}
+use Rattle.bz_lex.proofs.Words.{[], ◌++◌, ◌+◌, ◌-◌, ◌∙◌, ◌∷◌, ◌≡◌, ◌≢◌, ◌≤◌, ◌⊎◌, after_front, and_then, ap, append_assoc, arith, Bool, both_ways, broken_off, cases_Bool, Comment, drop, drop-append_seam, eqb, eqb-true, Escape, EscapeReturn, false, Front, front_token, gap_move, gap_state_after, GapFront, GapState, inl, inr, is_blank, is_end, is_quote, is_solid, IsFaultAt, IsGap, IsLexemeStop, IsToken, length, length-append, length-drop, length-take-le, LexedTo, List, min, nat_eq, ne_eqb, no_token, NoLexemes, None, none-some, NothingBegins, NoToken, NoTokenFor, Open, OpensString, Option, or_cases, refl, same_Some, slice_get, Some, Stops, StopsAt, StopsFor, subst, suc, sym, take, take-append-drop, take-append_seam, token_more, TokenAt, true, ℕ}
 use Rattle.bz_token.specs.Lexemes.{is_prefix}
-use Rattle.bz_token.specs.Tokens.{IsToken, NoToken, OpensString, TokenAt}
 use Rattle.bz_token.proofs.Opening.{opens_after_prefix}
-use Rattle.bz_lex.specs.declared.fault.ReadFault.{ReadFault}
-use Rattle.bz_lex.specs.declared.front.Front.{Front}
-use Rattle.bz_lex.specs.declared.front.Reason.{Reason}
+use Rattle.bz_lex.specs.{declared.fault.ReadFault.ReadFault, declared.front.Reason.Reason, declared.front.Stop.Stop, Faults.fault_of, Faults.is_lexical, Positions.line_at, Positions.column_of}
 use Rattle.bz_lex.specs.declared.front.Reason.TheVariants as r
-use Rattle.bz_lex.specs.declared.front.Stop.{Stop}
-use Rattle.bz_lex.specs.declared.gap.GapFront.{GapFront}
-use Rattle.bz_lex.specs.declared.gap.GapState.{GapState}
-use Rattle.bz_lex.specs.declared.gap.GapState.TheVariants.{Open, Escape, EscapeReturn, Comment}
-use Rattle.bz_lex.specs.Faults.{fault_of, is_lexical}
-use Rattle.bz_lex.specs.Fronts.{IsLexemeStop, NoTokenFor, front_token, after_front}
-use Rattle.bz_lex.specs.Gaps.{IsGap}
-use Rattle.bz_lex.specs.private.GapStates.{gap_move, gap_state_after, Stops, is_end, broken_off, and_then}
-use Rattle.bz_lex.specs.Lexing.{NoLexemes}
-use Rattle.bz_lex.specs.Positions.{line_at, column_of}
-use Rattle.bz_lex.specs.Stops.{NothingBegins, StopsFor, LexedTo, no_token, token_more, StopsAt, IsFaultAt}
-use Rattle.bz_lex.proofs.Fronts.{open_true, rest_none, rest_some}
-use Rattle.bz_lex.proofs.Gaps.{gap_after, gap_from}
-use Rattle.bz_lex.proofs.Lexing.{no_rest}
-use Rattle.bz_lex.proofs.Tokens.{begins}
+use Rattle.bz_lex.proofs.{Fronts.open_true, Fronts.rest_none, Fronts.rest_some, Gaps.gap_after, Gaps.gap_from, Lexing.no_rest, Tokens.begins}
 
 -- ---- no gap begins where one stops
 

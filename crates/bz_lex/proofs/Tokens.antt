@@ -1,12 +1,6 @@
 -- What the laws of tokens say of the text after a gap.
-use Rattle.std.proofs.Common.{◌≡◌, ◌≢◌, ℕ, Bool, true, false, cond, eqb, List, [], ◌∷◌, ◌++◌, ◌||◌, None, refl, sym, subst}
-use Rattle.std.proofs.lemmas.Bool.{both_ways, or_parts, eqb-false, and_right}
-use Rattle.bz_token.specs.declared.class.Class.{Class}
-use Rattle.bz_token.specs.Bytes.{is_blank, is_solid}
-use Rattle.bz_token.specs.Tokens.{IsToken}
+use Rattle.bz_lex.proofs.Words.{[], ◌++◌, ◌||◌, ◌∷◌, ◌≡◌, ◌≢◌, and_right, Bool, both_ways, Class, cond, eqb, eqb-false, false, gap_move, is_blank, is_solid, IsToken, List, None, Open, or_parts, refl, Stops, subst, sym, true, ℕ}
 pub use Rattle.bz_token.proofs.Laws.{one_token, begins}
-use Rattle.bz_lex.specs.declared.gap.GapState.TheVariants.{Open}
-use Rattle.bz_lex.specs.private.GapStates.{gap_move, Stops}
 
 flipped : (b : Bool) → cond b false true ≡ true → b ≡ false
 flipped true h = absurd (both_ways false refl h)

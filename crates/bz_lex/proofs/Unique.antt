@@ -1,18 +1,6 @@
 -- No text has two lists of leaves.
-use Rattle.std.proofs.Common.{◌≡◌, ℕ, List, [], ◌∷◌, ◌++◌, inl, inr, refl, sym, ap, ◌∙◌, subst}
-use Rattle.std.proofs.lemmas.List.{append_cancel_left}
-use Rattle.bz_token.specs.declared.class.Class.{Class}
-use Rattle.bz_token.specs.declared.class.Class.TheVariants.{Newline, End}
-use Rattle.bz_token.specs.Tokens.{IsToken}
-use Rattle.bz_lex.specs.declared.leaf.Leaf.{Leaf}
-use Rattle.bz_lex.specs.declared.gap.GapState.{GapState}
-use Rattle.bz_lex.specs.declared.gap.GapState.TheVariants.{Open}
-use Rattle.bz_lex.specs.Places.{Place, Fresh, After, Inside, Last, Over, next, newlines_at, May}
-use Rattle.bz_lex.specs.Leaves.{spell_leaves, Stand}
-use Rattle.bz_lex.specs.Laws.{OneLexing}
-use Rattle.bz_lex.proofs.Gaps.{one_stop}
-use Rattle.bz_lex.proofs.Tokens.{one_token, token_holds, token_no_newline}
-use Rattle.bz_lex.proofs.Forms.{ByToken, ByNewline, Empty, Form, form, same_leaf}
+use Rattle.bz_lex.proofs.Words.{[], ◌++◌, ◌∙◌, ◌∷◌, ◌≡◌, After, ap, append_cancel_left, Class, End, Fresh, GapState, inl, inr, Inside, IsToken, Last, Leaf, List, May, Newline, newlines_at, next, OneLexing, Open, Over, Place, refl, spell_leaves, Stand, subst, sym, ℕ}
+use Rattle.bz_lex.proofs.{Gaps.one_stop, Tokens.one_token, Tokens.token_holds, Tokens.token_no_newline, Forms.ByToken, Forms.ByNewline, Forms.Empty, Forms.Form, Forms.form, Forms.same_leaf}
 
 empty_text : (k : Class) (q : GapState) (l : Leaf) (s : List ℕ) → Empty k q l s → l.token ++ s ≡ []
 empty_text k q l s h = rw (h.token, h.rest) refl

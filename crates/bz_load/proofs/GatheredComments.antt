@@ -1,10 +1,5 @@
 -- Comments that are joined, in the steps of the code.
-use Rattle.std.proofs.Common.{◌≡◌, ◌∙◌, true, false, List, [], ◌∷◌, ◌++◌, ap, refl, sym, true≢false}
-use Rattle.std.specs.Prelude.{None, Option, Some, is_some}
-use Rattle.std.specs.Option.{option_map_or}
-use Rattle.std.proofs.lemmas.List.{append-nil, append_assoc}
-use Rattle.bz_load.specs.Words.{Bytes, HostComments, no_comments}
-use Rattle.bz_load.specs.ReplaceLoad.{above, all_comments_joined, comments_joined, suffix_alone}
+use Rattle.bz_load.proofs.Words.{[], ◌++◌, ◌∙◌, ◌∷◌, ◌≡◌, above, all_comments_joined, ap, append-nil, append_assoc, Bytes, comments_joined, false, HostComments, is_some, List, no_comments, None, Option, option_map_or, refl, Some, suffix_alone, sym, true, true≢false}
 
 joined_none : (before : List Bytes) (own : Option Bytes) → comments_joined (record { before = before; suffix = own }) (suffix_alone None) ≡ record { before = before; suffix = own }
 joined_none before None = ap (λ (lines : List Bytes). record { before = lines; suffix = None }) (append-nil before)
@@ -41,7 +36,7 @@ pub all_joined_more : (own : HostComments) (xs ys : List HostComments) → all_c
 all_joined_more own [] ys = refl
 all_joined_more own (x ∷ xs) ys = all_joined_more (comments_joined own x) xs ys
 
-pub joined_last : (own : HostComments) (xs : List HostComments) (last : HostComments) → comments_joined (all_comments_joined own xs) last ≡ all_comments_joined own (xs ++ last ∷ [])
+joined_last : (own : HostComments) (xs : List HostComments) (last : HostComments) → comments_joined (all_comments_joined own xs) last ≡ all_comments_joined own (xs ++ last ∷ [])
 joined_last own xs last = sym (all_joined_more own xs (last ∷ []))
 
 -- lines above, whatever the suffix is

@@ -1,18 +1,5 @@
 -- Places of what is put among arguments and among items.
-use Rattle.std.proofs.Common.{◌≡◌, ℕ, zero, suc, ◌+◌, ◌<◌, ◌≤◌, Bool, true, false, List, [], ◌∷◌, ◌++◌, length, get_or, take, drop, refl, sym, ap, ◌∙◌, arith, cond, nat_lt, ◌||◌, ◌-◌, append_assoc}
-use Rattle.std.specs.Prelude.{Some, None, codes, not, slice_get, slice_set}
-use Rattle.std.specs.List.{insert, list_any, position, position_or_len}
-use Rattle.std.specs.Option.{unwrap_or}
-use Rattle.std.proofs.lemmas.Bool.{ltb-false, or_parts}
-use Rattle.std.proofs.Math.Bool.{or-true}
-use Rattle.std.proofs.lemmas.Option.{get_or_from_slice_get}
-use Rattle.bz_attribute.proofs.FormsAgain.{both, if_false, if_true}
-use Rattle.bz_load.specs.Words.{Bytes, Expr, Item, Symbol, name, node, sequence}
-use Rattle.bz_grammar.specs.declared.kind.Kind.TheVariants as k
-use Rattle.bz_value.specs.declared.value.Item.TheVariants as i
-use Rattle.bz_load.specs.Usages.{call_made, is_statement_of, is_use_of, on_call_arguments, on_last, with_import, with_repo}
-use Rattle.bz_load.specs.private.Imports.{IsLastAt}
-use Rattle.std.proofs.lemmas.List.{drop_more, get_or_default, set_split, take_more}
+use Rattle.bz_load.proofs.Words.{[], ◌++◌, ◌+◌, ◌-◌, ◌<◌, ◌||◌, ◌∙◌, ◌∷◌, ◌≡◌, ◌≤◌, ap, append_assoc, arith, Bool, both, Bytes, call_made, codes, cond, drop, drop_more, Expr, false, get_or, get_or_default, get_or_from_slice_get, if_false, if_true, insert, is_statement_of, is_use_of, IsLastAt, Item, Item as i, Kind as k, length, List, list_any, ltb-false, name, nat_lt, node, None, not, on_call_arguments, on_last, or-true, or_parts, position, position_or_len, refl, sequence, set_split, slice_get, slice_set, Some, suc, sym, Symbol, take, take_more, true, unwrap_or, with_import, with_repo, zero, ℕ}
 use Rattle.std.proofs.lemmas.List.Sums.{prefix_len-le-length}
 
 place_given : (b : Bool) (n all : ℕ) → nat_lt n all ≡ b → n ≤ all → unwrap_or (cond b (Some n) None) all ≡ n

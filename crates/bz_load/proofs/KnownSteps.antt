@@ -1,25 +1,9 @@
 -- The sets of the code: the symbols that are loaded already, what is found among them, what they are with one more, and the
 -- symbols that are none of them; and the names that are used.
-use Rattle.std.proofs.Common.{◌≡◌, ◌≤◌, ℕ, length, drop, Bool, true, false, ◌||◌, ◌&&◌, List, [], ◌∷◌, ◌++◌, refl, sym, ap, ◌∙◌, arith}
-use Rattle.std.specs.Prelude.{bytes_eq, not, None, Vec}
-use Rattle.std.specs.List.{list_any, position}
-use Rattle.std.proofs.lemmas.Bool.{and_parts, not-false, not-true}
-use Rattle.std.proofs.Math.Path.{fun_ext}
-use Rattle.std.proofs.lemmas.List.{at_drop_all}
+use Rattle.bz_load.proofs.Words.{[], ◌&&◌, ◌++◌, ◌||◌, ◌∙◌, ◌∷◌, ◌≡◌, ◌≤◌, and_parts, and_symbol, ap, arith, at_drop_all, Bool, BTreeSet, by_case, Bytes, bytes_eq, drop, equal_texts, false, fun_ext, if_false, if_true, is_load_from, is_loaded, is_symbol, is_used, Item, knows, knows_name, length, List, list_any, Loaded, loads_symbol, new_symbols, None, none_later, none_passes, NonePasses, not, not-false, not-true, or_none, or_turn, position, refl, sym, Symbol, symbol_of_key, symbols_of, true, Vec, ℕ}
 use Rattle.indexmap.specs.IndexSet.{insert_key}
-use Rattle.bz_load.specs.Words.{Bytes, Symbol, Item}
-use Rattle.bz_attribute.proofs.KeySets.{or_turn, equal_texts, or_none}
-use Rattle.bz_attribute.proofs.FormsAgain.{if_true, if_false}
-use Rattle.bz_load.specs.declared.readings.Loaded.{Loaded}
 use Rattle.bz_load.specs.contracts.readings.LoadedPartialEq.TheImpl as loaded_eq
-use Rattle.bz_load.specs.NewLoad.{and_symbol, new_symbols}
-use Rattle.bz_load.specs.private.Known.{knows, symbol_of_key, knows_name}
-use Rattle.bz_load.specs.Fixes.{is_used}
-use Rattle.std.specs.BTreeSet.{BTreeSet}
 use Rattle.std.specs.declared.alloc.Global.{Global}
-use Rattle.bz_rule.proofs.ProperChanges.{by_case}
-use Rattle.bz_attribute.proofs.ArgumentPlaces.{NonePasses, none_later, none_passes}
-use Rattle.bz_load.specs.Loads.{is_symbol, loads_symbol, is_load_from, symbols_of, is_loaded}
 
 pub same_symbol : (one other : Symbol) → is_symbol one other ≡ true → one ≡ other
 same_symbol one other h =

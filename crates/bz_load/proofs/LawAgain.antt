@@ -1,35 +1,6 @@
 -- The same symbols loaded once more, and a file mended twice: symbols that nothing uses, and the package.
-use Rattle.std.proofs.Common.{◌≡◌, ℕ, Bool, true, false, ◌&&◌, ◌||◌, List, [], ◌∷◌, ◌++◌, map, refl, sym, ap, ◌∙◌, subst, true≢false, inl, inr, not, suc, ◌+◌}
-use Rattle.std.specs.Prelude.{bytes_eq, codes, if◌then◌else◌, Option, option_map, Some, None, IfSome}
-use Rattle.std.specs.Option.{option_map_or}
-use Rattle.std.specs.List.{AllByRecursion, list_any, list_all, filter, insert, find}
-use Rattle.std.proofs.lemmas.Bool.{cases_Bool, and_parts, and_from, or_cases, not-true, or_left, or_right, or_parts, not-false}
-use Rattle.std.proofs.lemmas.List.Folds.{list_any-append}
-use Rattle.std.proofs.Math.Bool.{or_assoc, or_comm, and-false}
-use Rattle.bz_attribute.proofs.KeySets.{or_turn}
-use Rattle.bz_token.specs.declared.class.Class.TheVariants as c
-use Rattle.bz_grammar.specs.declared.kind.Kind.TheVariants as k
-use Rattle.bz_value.specs.declared.value.Expr.{Expr, items_hidden-the_row-Expr-0, Token, Form'}
-use Rattle.bz_load.specs.Words.{Item, Bytes, is_escaped, quoted_of, Symbol, is_text, token, node, mark, name, on_first_that, without_first, body_of, is_empty}
-use Rattle.bz_value.specs.declared.value.Item.TheVariants as i
-use Rattle.bz_rule.specs.Values.{has_kind, items_of, with_items, on_items, on_rest}
-use Rattle.bz_rule.proofs.ProperChanges.{by_case, by_test}
-use Rattle.bz_attribute.proofs.FormsAgain.{both, if_true, items_kind, items_filled, if_false, items_twice}
-use Rattle.bz_attribute.proofs.PlainWords.{IsPlain, equal_self, body_quoted}
-use Rattle.bz_load.specs.Loads.{path_in, is_load_from, symbol_named, is_symbol, alias_in, loads_symbol, after_path, symbols_of, is_loaded, leading_blocks, loads_end, after_loads, is_load_item, is_block}
-use Rattle.bz_load.specs.NewLoad.{and_symbol, new_symbols, symbol_made, load_made, with_symbols, new_load}
-use Rattle.bz_load.specs.Laws.{becomes_plain, LoadedAgain, UnusedAgain, has_second_package, MovedAgain, loses_load, FixedAgain}
-use Rattle.bz_load.proofs.KnownSteps.{same_symbol}
-use Rattle.bz_load.proofs.PlaceSteps.{any_put, found_put, left_put, ends_other, ends_alike, map_put, next_end}
-use Rattle.bz_load.proofs.PutSteps.{with_none}
-use Rattle.std.proofs.Math.Path.{fun_ext}
-use Rattle.std.proofs.lemmas.List.Elements.{recursion_from_All}
-use Rattle.bz_grammar.specs.Spots.{Begins}
-use Rattle.bz_value.specs.Proper.{IsProperItem, IsProper}
-use Rattle.bz_value.specs.LineShapes.{whole_grammar}
-use Rattle.bz_load.specs.Fixes.{uses, is_used, is_commented, path_comments, has_own_comments, symbol_stays, with_used, is_emptied, used_alone, unused_loads, is_package_call, package_moved, move_package_to_top, fix}
-use Rattle.bz_load.proofs.LawReplaced.{loads_stay_proper}
-use Rattle.bz_load.proofs.ProperLoads.{used_statement, load_none}
+use Rattle.bz_load.proofs.Words.{[], ◌&&◌, ◌++◌, ◌+◌, ◌||◌, ◌∙◌, ◌∷◌, ◌≡◌, after_loads, after_path, alias_in, AllByRecursion, and-false, and_from, and_parts, and_symbol, ap, becomes_plain, Begins, body_of, body_quoted, Bool, both, by_case, by_test, Bytes, bytes_eq, cases_Bool, Class as c, codes, equal_self, Expr, false, filter, find, fix, FixedAgain, Form', fun_ext, has_kind, has_own_comments, has_second_package, if_false, if_true, IfSome, if◌then◌else◌, inl, inr, insert, is_block, is_commented, is_emptied, is_empty, is_escaped, is_load_from, is_load_item, is_loaded, is_package_call, is_symbol, is_text, is_used, IsPlain, IsProper, IsProperItem, Item, Item as i, items_filled, items_hidden-the_row-Expr-0, items_kind, items_of, items_twice, Kind as k, leading_blocks, List, list_all, list_any, list_any-append, load_made, LoadedAgain, loads_end, loads_symbol, loses_load, map, mark, move_package_to_top, MovedAgain, name, new_load, new_symbols, node, None, not, not-false, not-true, on_first_that, on_items, on_rest, Option, option_map, option_map_or, or_assoc, or_cases, or_comm, or_left, or_parts, or_right, or_turn, package_moved, path_comments, path_in, quoted_of, recursion_from_All, refl, Some, subst, suc, sym, Symbol, symbol_made, symbol_named, symbol_stays, symbols_of, Token, token, true, true≢false, unused_loads, UnusedAgain, used_alone, uses, whole_grammar, with_items, with_symbols, with_used, without_first, ℕ}
+use Rattle.bz_load.proofs.{KnownSteps.same_symbol, PlaceSteps.any_put, PlaceSteps.found_put, PlaceSteps.left_put, PlaceSteps.ends_other, PlaceSteps.ends_alike, PlaceSteps.map_put, PlaceSteps.next_end, PutSteps.with_none, LawReplaced.loads_stay_proper, ProperLoads.used_statement, ProperLoads.load_none}
 
 -- ---- a new symbol is loaded
 

@@ -1,22 +1,5 @@
 -- Repositories that are added where there was no call, and removed again, leave what there was.
-use Rattle.std.proofs.Common.{◌≡◌, ◌⊎◌, ℕ, suc, ◌+◌, Bool, true, false, not, ◌&&◌, ◌||◌, List, [], ◌∷◌, ◌++◌, inl, inr, refl, sym, ap, ◌∙◌, subst, arith, true≢false, cond}
-use Rattle.std.specs.Prelude.{IfOk, Option, Result, Ok, Err, bytes_eq, if◌then◌else◌}
-use Rattle.std.specs.List.{AllByRecursion, insert, list_any, position_or_len}
-use Rattle.std.specs.Option.{option_map_or}
-use Rattle.std.proofs.lemmas.Bool.{and_from, cases_Bool, or_left, or_parts, or_right}
-use Rattle.std.proofs.lemmas.List.Folds.{list_any-append}
-use Rattle.std.proofs.Math.Bool.{or-false, or_comm}
-use Rattle.bz_token.specs.declared.class.Class.TheVariants as c
-use Rattle.bz_value.specs.declared.value.Expr.{Expr, Token, Form'}
-use Rattle.bz_value.specs.declared.refusal.Refusal.TheVariants.{NameTaken}
-use Rattle.bz_command_syntax.specs.declared.command.Repo.TheVariants as rp
-use Rattle.bz_rule.proofs.ProperChanges.{by_test}
-use Rattle.bz_attribute.proofs.FormsAgain.{both, if_false, if_true}
-use Rattle.bz_attribute.proofs.PlainWords.{IsPlain, equal_self}
-use Rattle.bz_load.specs.Words.{Item, Bytes, Refusal, Repo, Symbol, argument_of, is_empty, name, quoted_of, token}
-use Rattle.bz_load.specs.Loads.{after_path}
-use Rattle.bz_load.specs.Usages.{with_all_repos, argument_stays, use_arguments, begins_with_name, call_made, ends_positional, imports_as, imports_repo, is_imported, is_repo, is_statement_of, is_use, is_use_of, loses_last, on_call_arguments, on_last, removed_from, repos_added, repos_removed, use_repo_remove, variables, with_import, with_repo, word_import}
-use Rattle.bz_load.specs.UsageLaws.{ReposThereAndBack}
+use Rattle.bz_load.proofs.Words.{[], ◌&&◌, ◌++◌, ◌+◌, ◌||◌, ◌∙◌, ◌∷◌, ◌≡◌, ◌⊎◌, after_path, AllByRecursion, and_from, ap, argument_of, argument_stays, arith, begins_with_name, Bool, both, by_test, Bytes, bytes_eq, call_made, cases_Bool, Class as c, cond, ends_positional, equal_self, Err, Expr, false, Form', if_false, if_true, IfOk, if◌then◌else◌, imports_as, imports_repo, inl, inr, insert, is_empty, is_imported, is_repo, is_statement_of, is_use, is_use_of, IsPlain, Item, List, list_any, list_any-append, loses_last, name, NameTaken, not, Ok, on_call_arguments, on_last, Option, option_map_or, or-false, or_comm, or_left, or_parts, or_right, position_or_len, quoted_of, refl, Refusal, removed_from, Repo, Repo as rp, repos_added, repos_removed, ReposThereAndBack, Result, subst, suc, sym, Symbol, Token, token, true, true≢false, use_arguments, use_repo_remove, variables, with_all_repos, with_import, with_repo, word_import, ℕ}
 use Rattle.bz_load.proofs.PlaceSteps.{any_put}
 use Rattle.bz_load.proofs.LawUsages.{if_ok}
 use Rattle.bz_load.proofs.LawRepos.{Added, all_added, arguments_with, begins_kept, call_with, changed_with, comes_last, each_plain, first_statement, import_back, import_made, own_uses, use_with}

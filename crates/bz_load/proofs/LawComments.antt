@@ -1,30 +1,6 @@
 -- new_load, fix and substitute_load keep each comment as often as it occurred there.
-use Rattle.std.proofs.Common.{◌≡◌, ℕ, zero, suc, ◌+◌, Bool, true, false, not, ◌&&◌, ◌||◌, List, [], ◌∷◌, ◌++◌, Option, Some, None, refl, sym, ap, ◌∙◌, map, codes, arith, true≢false}
-use Rattle.std.specs.Prelude.{IfSome, bytes_eq, if◌then◌else◌}
-use Rattle.std.specs.List.{AllByRecursion, list_any, filter, insert, find}
-use Rattle.std.specs.Option.{option_map_or}
-use Rattle.std.proofs.lemmas.Bool.{and_parts, or_parts, not-true, not-false}
-use Rattle.bz_token.specs.declared.class.Class.TheVariants as c
-use Rattle.bz_grammar.specs.declared.kind.Kind.TheVariants as k
+use Rattle.bz_load.proofs.Words.{[], ◌&&◌, ◌++◌, ◌+◌, ◌||◌, ◌∙◌, ◌∷◌, ◌≡◌, after_loads, after_path, AllByRecursion, and_parts, ap, append_total, AreOf, arith, Begins, body_of, Bool, by_case, by_test, Bytes, bytes_eq, Class as c, codes, comments_of, end_of, Expr, false, filter, find, fix, Form', form_amount, has_kind, has_own_comments, host_amount, HostComments, if_false, IfSome, if◌then◌else◌, insert, is_commented, is_emptied, is_empty, is_load_from, is_loaded, is_none, is_package_call, is_used, IsItem, IsProperItem, Item, Item as i, item_amount, items-the_row-Expr, items_of, Kind, Kind as k, leading_blocks, List, list_any, load_made, loads_end, made, map, mark, move_package_to_top, name, new_load, new_symbols, no_comments, node, None, not, not-false, not-true, on_first, on_first_that, on_items, on_rest, Option, option_map_or, or_parts, own_parts, package_moved, parts_of, path_comments, path_substituted, quoted_of, refl, row_amount, row_total, Some, string_substituted, substitute_load, substituted, suc, suffix_amount, sym, Symbol, symbol_made, symbol_stays, Token, token, total, true, true≢false, used_alone, whole, whole_grammar, with_items, with_string_body, with_symbols, with_text, without_first, zero, ℕ}
 use Rattle.bz_grammar.specs.Shapes as s
-use Rattle.bz_grammar.specs.Spots.{Begins}
-use Rattle.bz_value.specs.declared.value.Expr.{Expr, Token, Form', items-the_row-Expr}
-use Rattle.bz_load.specs.Words.{Item, Bytes, Kind, body_of, is_empty, is_none, quoted_of, substituted, Symbol, token, node, mark, name, on_first_that, without_first}
-use Rattle.bz_value.specs.declared.value.Item.TheVariants as i
-use Rattle.bz_value.specs.Comments.{HostComments, no_comments}
-use Rattle.bz_value.specs.Counted.{total, suffix_amount, host_amount, row_amount, item_amount}
-use Rattle.bz_value.specs.Proper.{comments_of, IsProperItem}
-use Rattle.bz_value.specs.LineShapes.{whole_grammar}
-use Rattle.bz_value.proofs.Totals.{append_total, form_amount}
-use Rattle.bz_rule.specs.Values.{has_kind, parts_of, items_of, with_items, with_text, on_first, on_items, on_rest}
-use Rattle.bz_rule.proofs.ProperChanges.{by_test, by_case}
-use Rattle.bz_rule.proofs.ProperSequences.{IsItem, AreOf}
-use Rattle.bz_attribute.proofs.FormsAgain.{if_false, made, own_parts}
-use Rattle.bz_attribute.proofs.GrownArguments.{whole, row_total}
-use Rattle.bz_load.specs.Loads.{is_load_from, is_loaded, after_path, leading_blocks, loads_end, after_loads}
-use Rattle.bz_load.specs.NewLoad.{new_symbols, symbol_made, load_made, with_symbols, new_load}
-use Rattle.bz_load.specs.SubstituteLoad.{path_substituted, string_substituted, substitute_load, with_string_body}
-use Rattle.bz_load.specs.Fixes.{is_used, is_commented, path_comments, end_of, has_own_comments, symbol_stays, is_emptied, used_alone, is_package_call, package_moved, move_package_to_top, fix}
 use Rattle.bz_load.proofs.ProperLoads.{fix_keeps, IsAlias, alias_parts, load_parts, token_amount}
 
 -- ---- lists

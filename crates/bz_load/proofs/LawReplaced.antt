@@ -1,35 +1,6 @@
 -- What replace_load makes of proper items is proper and has each comment as often; so do the other commands on loads.
-use Rattle.std.proofs.Common.{◌≡◌, ◌∙◌, ◌+◌, ℕ, zero, suc, Bool, true, false, ◌||◌, List, [], ◌∷◌, ◌++◌, ap, refl, sym, subst, true≢false, take, drop, map, arith, inl, inr}
-use Rattle.std.specs.Prelude.{All, IfSome, IsUtf8, None, Option, Some, bytes_eq, if◌then◌else◌}
-use Rattle.std.specs.List.{AllByRecursion, flat_map, list_any}
-use Rattle.std.specs.Option.{option_map_or}
-use Rattle.std.proofs.lemmas.Bool.{and_parts, cases_Bool}
-use Rattle.std.proofs.lemmas.List.{take-append-drop}
-use Rattle.std.proofs.lemmas.List.Elements.{All-append, All-cons, All-from_recursion, All-nil, recursion_from_All}
-use Rattle.bz_grammar.specs.declared.kind.Kind.TheVariants as k
+use Rattle.bz_load.proofs.Words.{[], ◌++◌, ◌+◌, ◌||◌, ◌∙◌, ◌∷◌, ◌≡◌, after_path, All, All-append, All-cons, All-from_recursion, All-nil, all_comments, all_comments_joined, all_joined as joined_all, AllByRecursion, and_parts, ap, append_total, AreComments, AreOf, AreSome, arith, Begins, Bool, by_case, by_test, Bytes, bytes_eq, cases_Bool, comments_above, comments_around, comments_joined, comments_of, comments_without, cut_of_first, drop, each_replaced, EachIs, end_of, Expr, false, fix, flat_map, Form', further, goes, gone_comments, gone_from, Grammar, has_kind, host_amount, HostComments, if_false, if_true, IfSome, if◌then◌else◌, inl, inr, is_load_from, is_load_item, is_lost, IsComment, IsItem, IsProperItem, IsProperItemIn, IsSymbol, IsUtf8, Item, Item as i, item_amount, ItemCut, items_of, joined_beside, Kind as k, last_of_each, leading_blocks, left_symbols, List, list_any, load_in_place, load_made, loads_end, loads_symbol, LoadsKeepComments, LoadsStayProper, map, may_have, MaybeComment, new_around, new_load, no_comments, None, on_first_that, on_items, on_rest, on_symbols, one_if, Option, option_map_or, own_lines, path_lines, put_symbol, recursion_from_All, refl, replace_load, replace_symbol, replaced_around, Some, statement_in_place, subst, substitute_load, suc, suffix_alone, suffix_amount, suffix_host, sym, Symbol, symbol_made, symbols_of, take, take-append-drop, Token, total, true, true≢false, whole, with_comments, with_items, with_joined, without_symbol, zero, ℕ}
 use Rattle.bz_grammar.specs.Shapes as s
-use Rattle.bz_grammar.specs.Spots.{Begins}
-use Rattle.bz_value.specs.declared.value.Expr.{Expr, Token, Form'}
-use Rattle.bz_value.specs.declared.value.Item.TheVariants as i
-use Rattle.bz_value.specs.Counted.{total, host_amount, item_amount, one_if, suffix_amount}
-use Rattle.bz_value.specs.LineShapes.{Grammar}
-use Rattle.bz_value.specs.Proper.{AreComments, IsComment, IsProperItem, IsProperItemIn, MaybeComment}
-use Rattle.bz_value.proofs.Totals.{append_total}
-use Rattle.bz_command_syntax.specs.Proper.{AreSome, EachIs, IsSymbol}
-use Rattle.bz_rule.specs.Values.{with_items}
-use Rattle.bz_rule.proofs.ProperChanges.{by_case, by_test}
-use Rattle.bz_rule.proofs.ProperItems.{all_joined as joined_all}
-use Rattle.bz_rule.proofs.ProperRules.{statement_in_place}
-use Rattle.bz_rule.proofs.ProperSequences.{AreOf, IsItem, load_in_place}
-use Rattle.bz_attribute.proofs.FormsAgain.{if_false, if_true}
-use Rattle.bz_attribute.proofs.GrownArguments.{whole}
-use Rattle.bz_load.specs.Words.{Bytes, HostComments, Item, Symbol, comments_of, has_kind, items_of, no_comments, on_first_that, on_items, on_rest, with_comments}
-use Rattle.bz_load.specs.Fixes.{end_of, fix}
-use Rattle.bz_load.specs.Laws.{LoadsKeepComments, LoadsStayProper}
-use Rattle.bz_load.specs.Loads.{after_path, is_load_from, is_load_item, leading_blocks, loads_end, loads_symbol, symbols_of}
-use Rattle.bz_load.specs.NewLoad.{load_made, new_load, symbol_made}
-use Rattle.bz_load.specs.SubstituteLoad.{substitute_load}
-use Rattle.bz_load.specs.ReplaceLoad.{ItemCut, all_comments, all_comments_joined, comments_above, comments_around, comments_without, cut_of_first, each_replaced, further, goes, gone_comments, gone_from, is_lost, comments_joined, joined_beside, last_of_each, left_symbols, on_symbols, own_lines, may_have, new_around, path_lines, put_symbol, replace_load, replace_symbol, replaced_around, suffix_alone, suffix_host, with_joined, without_symbol}
 use Rattle.bz_load.proofs.LawComments.{amount_answered, by_fixes, items_put, load_none, new_load_same, substitute_load_same, symbol_none}
 use Rattle.bz_load.proofs.ProperLoads.{alias_parts, fix_keeps, load_parts, load_proper, new_load_keeps, substitute_load_keeps, symbol_item, token_amount}
 use Rattle.bz_load.proofs.OtherItems.{cut_from, is_load_by, stays_load}

@@ -1,33 +1,7 @@
 -- Repositories that are added once more change nothing, and removed again they leave what there was.
-use Rattle.std.proofs.Common.{◌≡◌, ◌⊎◌, ℕ, suc, ◌+◌, Bool, true, false, not, ◌&&◌, ◌||◌, List, [], ◌∷◌, ◌++◌, inl, inr, refl, sym, ap, ◌∙◌, subst, arith, true≢false, cond}
-use Rattle.std.specs.Prelude.{IfOk, Option, Some, None, Result, Ok, Err, bytes_eq, codes, if◌then◌else◌, option_map}
-use Rattle.std.specs.List.{AllByRecursion, cons_option, filter_map, insert, list_all, list_any, position_or_len}
-use Rattle.std.specs.Option.{option_map_or}
-use Rattle.std.proofs.lemmas.Bool.{and_from, and_parts, cases_Bool, eqb-true, not-true, or_left, or_right}
-use Rattle.std.proofs.lemmas.List.Folds.{list_any-append}
-use Rattle.std.proofs.Math.Bool.{or-false, or-true, or_comm}
-use Rattle.bz_token.specs.declared.class.Class.TheVariants as c
-use Rattle.bz_grammar.specs.declared.kind.Kind.{Kind}
-use Rattle.bz_grammar.specs.declared.kind.Kind.TheVariants as k
-use Rattle.bz_grammar.specs.Shapes.{is_kind}
-use Rattle.bz_grammar.proofs.Numbers.{same_kind}
-use Rattle.bz_value.specs.declared.value.Expr.{Expr, Token, Form', items-the_row-Expr, items_hidden-the_row-Expr-0}
+use Rattle.bz_load.proofs.Words.{[], ◌&&◌, ◌++◌, ◌+◌, ◌||◌, ◌∙◌, ◌∷◌, ◌≡◌, ◌⊎◌, alias_in, AllByRecursion, and_from, and_parts, ap, are_plain, argument_of, arith, assigns_to, becomes_plain, begins_with_name, body_quoted, Bool, both, by_case, by_test, Bytes, bytes_eq, call_arguments, call_made, cases_Bool, Class as c, codes, cond, cons_option, ends_positional, eqb-true, equal_self, equal_texts, Err, Expr, false, filter_map, first_text, Form', found_if, has_kind, if_false, if_true, IfOk, if◌then◌else◌, import_in, imports_as, imports_repo, inl, inr, insert, is_call_to, is_escaped, is_imported, is_kind, is_meant_usage, is_statement_of, is_tag_of, is_text, is_use, is_use_of, is_use_row, IsPlain, Item, Item as i, items-the_row-Expr, items_filled, items_hidden-the_row-Expr-0, items_kind, items_of, Kind, Kind as k, List, list_all, list_any, list_any-append, made, mark, name, NameTaken, no_comments, node, None, not, not-true, Ok, on_call_arguments, on_first, on_items, on_last, Option, option_map, option_map_or, or-false, or-true, or_comm, or_left, or_right, parts_filled, parts_kind, parts_of, position_or_len, quoted_of, refl, Refusal, Repo, repos_added, ReposAddedAgain, Result, row_of, same_kind, sequence, Some, subst, suc, sym, Symbol, symbol_named, text_in, text_of, Token, token, true, true≢false, usage, usage_of_row, Usages, use_arguments, use_repo_add, variables, with_all_repos, with_import, with_items, with_repo, word_import, ℕ}
 use Rattle.bz_value.specs.declared.value.Expr.TheVariants as e
-use Rattle.bz_value.specs.declared.value.Item.TheVariants as i
-use Rattle.bz_value.specs.declared.refusal.Refusal.TheVariants.{NameTaken}
-use Rattle.bz_value.specs.Comments.{no_comments}
-use Rattle.bz_rule.specs.Values.{with_items}
-use Rattle.bz_rule.proofs.ProperChanges.{by_test, by_case}
-use Rattle.bz_attribute.proofs.FormsAgain.{both, found_if, if_false, if_true, items_filled, items_kind, made, parts_filled, parts_kind}
-use Rattle.bz_attribute.proofs.KeySets.{equal_texts}
-use Rattle.bz_attribute.proofs.PlainWords.{IsPlain, body_quoted, equal_self}
-use Rattle.bz_load.specs.Words.{Item, Bytes, Refusal, Repo, Symbol, Usages, argument_of, first_text, has_kind, is_escaped, is_text, items_of, mark, name, node, on_first, on_items, parts_of, quoted_of, sequence, text_in, text_of, token}
-use Rattle.bz_load.specs.Loads.{alias_in, symbol_named}
-use Rattle.bz_load.specs.Laws.{becomes_plain}
-use Rattle.bz_load.specs.Usages.{with_all_repos, use_arguments, assigns_to, begins_with_name, call_arguments, call_made, is_call_to, ends_positional, import_in, imports_as, imports_repo, is_imported, is_meant_usage, is_statement_of, is_tag_of, is_use, is_use_of, is_use_row, on_call_arguments, on_last, repos_added, row_of, usage, usage_of_row, use_repo_add, variables, with_import, with_repo, word_import}
-use Rattle.bz_load.specs.UsageLaws.{ReposAddedAgain, are_plain}
-use Rattle.bz_load.proofs.PlaceSteps.{any_put}
-use Rattle.bz_load.proofs.LawUsages.{if_ok}
+use Rattle.bz_load.proofs.{PlaceSteps.any_put, LawUsages.if_ok}
 
 -- ---- lists
 

@@ -1,22 +1,5 @@
 -- Repositories that are added lose no comment; added once more they change nothing, and removed again they leave what there was.
-use Rattle.std.proofs.Common.{◌≡◌, ℕ, zero, suc, ◌+◌, Bool, false, List, [], ◌∷◌, ◌++◌, refl, sym, ap, ◌∙◌, subst, arith}
-use Rattle.std.specs.Prelude.{IfOk, Result, Ok, Err, bytes_eq, codes, if◌then◌else◌}
-use Rattle.std.specs.List.{insert, list_any, position_or_len}
-use Rattle.bz_token.specs.declared.class.Class.TheVariants as c
-use Rattle.bz_grammar.specs.declared.kind.Kind.TheVariants as k
-use Rattle.bz_value.specs.declared.value.Expr.{Expr, Token, Form', items-the_row-Expr}
-use Rattle.bz_value.specs.declared.value.Item.TheVariants as i
-use Rattle.bz_value.specs.declared.refusal.Refusal.TheVariants.{NameTaken}
-use Rattle.bz_value.specs.Comments.{no_comments}
-use Rattle.bz_value.specs.Counted.{host_amount, item_amount, one_if, total}
-use Rattle.bz_value.proofs.Totals.{append_total, form_amount}
-use Rattle.bz_rule.specs.Values.{with_items, with_parts}
-use Rattle.bz_rule.proofs.ProperChanges.{by_test}
-use Rattle.bz_attribute.proofs.FormsAgain.{made}
-use Rattle.bz_attribute.proofs.GrownArguments.{whole}
-use Rattle.bz_load.specs.Words.{Item, Bytes, Refusal, Repo, Symbol, Usages, argument_of, has_kind, items_of, mark, name, on_first, on_items, parts_of, quoted_of, sequence, token}
-use Rattle.bz_load.specs.Usages.{with_all_repos, call_made, ends_positional, imports_as, imports_repo, is_imported, is_statement_of, is_use_of, on_call_arguments, on_last, repos_added, use_repo_add, variables, with_import, with_repo, word_import}
-use Rattle.bz_load.specs.UsageLaws.{ReposKeepComments}
+use Rattle.bz_load.proofs.Words.{[], ◌++◌, ◌+◌, ◌∙◌, ◌∷◌, ◌≡◌, ap, append_total, argument_of, arith, Bool, by_test, Bytes, bytes_eq, call_made, Class as c, codes, ends_positional, Err, Expr, false, Form', form_amount, has_kind, host_amount, IfOk, if◌then◌else◌, imports_as, imports_repo, insert, is_imported, is_statement_of, is_use_of, Item, Item as i, item_amount, items-the_row-Expr, items_of, Kind as k, List, list_any, made, mark, name, NameTaken, no_comments, Ok, on_call_arguments, on_first, on_items, on_last, one_if, parts_of, position_or_len, quoted_of, refl, Refusal, Repo, repos_added, ReposKeepComments, Result, sequence, subst, suc, sym, Symbol, Token, token, total, Usages, use_repo_add, variables, whole, with_all_repos, with_import, with_items, with_parts, with_repo, word_import, zero, ℕ}
 use Rattle.bz_load.proofs.LawComments.{amount_answered, items_same}
 
 -- ---- results and lists

@@ -19,3 +19,4 @@ pub mod PutSteps
 pub mod RenamedPaths
 pub mod ReplacedAgain
 pub mod ReplacedSymbols
+mod Words

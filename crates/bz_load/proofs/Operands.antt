@@ -1,17 +1,8 @@
 -- The operands of a form, by its kind, its parts and its items.
-use Rattle.std.proofs.Common.{◌≡◌, ℕ, ◌+◌, length, Bool, ◌||◌, List, ◌∷◌, [], refl, ap, ◌∙◌, true, false, sym, true≢false}
-use Rattle.std.specs.List.{AllByRecursion}
-use Rattle.std.proofs.Math.Bool.{or_assoc, or_comm}
-use Rattle.std.proofs.lemmas.Bool.{eqb-true}
-use Rattle.bz_load.specs.Words.{Kind, Bytes, has_kind, items_of, parts_of}
-use Rattle.bz_grammar.proofs.Numbers.{same_kind}
-use Rattle.bz_value.specs.declared.value.Expr.{Expr, Token, Form', Row_of-Expr, end_of-Expr, more_of-Expr, items-the_row-Expr}
+use Rattle.bz_load.proofs.Words.{[], ◌+◌, ◌||◌, ◌∙◌, ◌∷◌, ◌≡◌, AllByRecursion, ap, Bool, both, Bytes, end_of-Expr, eqb-true, Expr, false, Form', has_kind, has_operand, is_operand_at, items-the_row-Expr, items_of, Kind, length, List, more_of-Expr, operand_among, operand_from, operand_in, or_assoc, or_comm, parts_of, refl, Row_of-Expr, same_kind, sym, Token, true, true≢false, ℕ}
 use Rattle.bz_value.specs.declared.value.Expr.TheVariants as e
 use Rattle.bz_value.specs.declared.value.Form.{Form}
-use Rattle.bz_attribute.proofs.FormsAgain.{both}
 use Rattle.bz_attribute.proofs.MakingForms.{part_row, part_list, item_row, item_list}
-use Rattle.bz_load.specs.Fixes.{has_operand, is_operand_at, operand_from}
-use Rattle.bz_load.specs.private.Known.{operand_among, operand_in}
 
 abbrev pub operand_by : Bytes → Kind → List Expr → List Expr → Bool
 operand_by text kind ps xs = operand_in kind text ps || operand_in kind text xs

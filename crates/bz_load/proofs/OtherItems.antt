@@ -1,19 +1,5 @@
 -- Items that a symbol is not about, and the load that is to have it.
-use Rattle.std.proofs.Common.{◌≡◌, ◌∙◌, Bool, true, false, ◌||◌, ◌&&◌, not, List, [], ◌∷◌, ◌++◌, ap, refl, sym, true≢false, inl, inr, ◌⊎◌}
-use Rattle.std.specs.Prelude.{IfSome, None, Option, Some, if◌then◌else◌}
-use Rattle.std.specs.List.{flat_map, list_all, list_any}
-use Rattle.std.specs.Option.{option_map_or}
-use Rattle.std.proofs.lemmas.Bool.{and_parts, cases_Bool, or_parts}
-use Rattle.std.proofs.Math.Bool.{and-true}
-use Rattle.std.proofs.Math.Path.{fun_ext}
-use Rattle.std.proofs.lemmas.List.{append_assoc}
-use Rattle.bz_grammar.specs.declared.kind.Kind.TheVariants as k
-use Rattle.bz_value.specs.declared.value.Item.TheVariants as i
-use Rattle.bz_load.specs.Words.{Bytes, Expr, HostComments, Item, Symbol, has_kind, is_empty, is_text, items_of, on_rest}
-use Rattle.bz_attribute.proofs.FormsAgain.{both, if_false, if_true, items_changed, items_filled, items_kind, items_same}
-use Rattle.bz_load.specs.Loads.{after_path, is_load_from, is_load_item, is_loaded, loads_symbol, path_in, symbols_of}
-use Rattle.bz_load.specs.Paths.{has_local}
-use Rattle.bz_load.specs.ReplaceLoad.{ItemCut, comments_without, cut_of_first, further, gone_comments, gone_from, is_local, is_lost, left_symbols, may_have, on_symbols, without_symbol}
+use Rattle.bz_load.proofs.Words.{[], ◌&&◌, ◌++◌, ◌||◌, ◌∙◌, ◌∷◌, ◌≡◌, ◌⊎◌, after_path, and-true, and_parts, ap, append_assoc, Bool, both, Bytes, cases_Bool, comments_without, cut_of_first, Expr, false, flat_map, fun_ext, further, gone_comments, gone_from, has_kind, has_local, HostComments, if_false, if_true, IfSome, if◌then◌else◌, inl, inr, is_empty, is_load_from, is_load_item, is_loaded, is_local, is_lost, is_text, Item, Item as i, ItemCut, items_changed, items_filled, items_kind, items_of, items_same, Kind as k, left_symbols, List, list_all, list_any, loads_symbol, may_have, None, not, on_rest, on_symbols, Option, option_map_or, or_parts, path_in, refl, Some, sym, Symbol, symbols_of, true, true≢false, without_symbol}
 
 -- ---- items that a symbol is not about
 

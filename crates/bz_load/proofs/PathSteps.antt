@@ -1,17 +1,5 @@
 -- Paths and local names that are listed: no item has another one, also where items came in the place of others.
-use Rattle.std.proofs.Common.{◌≡◌, ◌+◌, ◌∙◌, ℕ, Bool, true, false, ◌&&◌, ◌||◌, List, [], ◌∷◌, take, drop, refl, sym, ap, subst, true≢false}
-use Rattle.std.specs.Prelude.{Option, None, Some, bytes_eq}
-use Rattle.std.specs.List.{list_any, position}
-use Rattle.std.proofs.lemmas.Bool.{or_parts}
-use Rattle.std.proofs.lemmas.List.{drop-drop, take-append-drop}
-use Rattle.std.proofs.lemmas.List.Folds.{list_any-append}
-use Rattle.bz_load.specs.Words.{Bytes, AreOver, Item, Window, is_text, items_of, local_name}
-use Rattle.bz_value.specs.declared.value.Item.TheVariants as i
-use Rattle.bz_attribute.proofs.ArgumentPlaces.{is_first}
-use Rattle.bz_attribute.proofs.FormsAgain.{both}
-use Rattle.bz_load.specs.Loads.{is_load_from, is_load_item, path_in, symbols_of}
-use Rattle.bz_load.specs.Paths.{has_local}
-use Rattle.bz_load.specs.private.Known.{come_with, mentions}
+use Rattle.bz_load.proofs.Words.{[], ◌&&◌, ◌+◌, ◌||◌, ◌∙◌, ◌∷◌, ◌≡◌, ap, AreOver, Bool, both, Bytes, bytes_eq, come_with, drop, drop-drop, false, has_local, is_first, is_load_from, is_load_item, is_text, Item, Item as i, items_of, List, list_any, list_any-append, local_name, mentions, None, Option, or_parts, path_in, position, refl, Some, subst, sym, symbols_of, take, take-append-drop, true, true≢false, Window, ℕ}
 use Rattle.bz_load.proofs.PlaceSteps.{first_at}
 
 -- ---- what none passes

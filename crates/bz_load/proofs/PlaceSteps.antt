@@ -1,16 +1,5 @@
 -- Places by their numbers, and an item that is put in.
-use Rattle.std.proofs.Common.{◌≡◌, ℕ, zero, suc, ◌+◌, ◌-◌, ◌≤◌, ◌<◌, Bool, true, false, ◌||◌, List, [], ◌∷◌, length, drop, get_or, map, refl, sym, ap, ◌∙◌, subst, arith, true≢false, inl, inr}
-use Rattle.std.specs.Prelude.{Some, None, if◌then◌else◌}
-use Rattle.std.specs.List.{AllByRecursion, list_any, insert, remove, find}
-use Rattle.std.specs.Option.{option_map_or}
-use Rattle.std.proofs.lemmas.Bool.{cases_Bool, or_parts}
-use Rattle.std.proofs.lemmas.List.Edits.{length-remove}
-use Rattle.bz_load.specs.Words.{Item, without_first}
-use Rattle.bz_value.specs.declared.value.Item.TheVariants as i
-use Rattle.bz_attribute.proofs.ArgumentPlaces.{IsFirst, NonePasses, removed_at, later, none_later}
-use Rattle.bz_attribute.proofs.KeySets.{or_turn}
-use Rattle.bz_load.specs.Loads.{is_load_item, leading_blocks, loads_end}
-use Rattle.bz_load.specs.Fixes.{is_package_call, package_moved, move_package_to_top}
+use Rattle.bz_load.proofs.Words.{[], ◌+◌, ◌-◌, ◌<◌, ◌||◌, ◌∙◌, ◌∷◌, ◌≡◌, ◌≤◌, AllByRecursion, ap, arith, Bool, cases_Bool, drop, false, find, get_or, if◌then◌else◌, inl, inr, insert, is_load_item, is_package_call, IsFirst, Item, Item as i, later, leading_blocks, length, length-remove, List, list_any, loads_end, map, move_package_to_top, None, none_later, NonePasses, option_map_or, or_parts, or_turn, package_moved, refl, remove, removed_at, Some, subst, suc, sym, true, true≢false, without_first, zero, ℕ}
 
 -- ---- an item that is put in
 

@@ -1,49 +1,13 @@
 -- What the commands on loads make of proper items is proper, and what a proper load is made of.
-use Rattle.std.proofs.Common.{◌≡◌, Bool, true, false, not, List, [], ◌∷◌, ◌++◌, inr, refl, sym, subst, map, arith, true≢false, ◌||◌, ◌&&◌, inl, ap, ◌∙◌, ℕ, length}
-use Rattle.std.specs.Prelude.{All, IsUtf8, IfSome, Option, Some, None, codes, bytes_eq, if◌then◌else◌}
-use Rattle.std.specs.List.{AllByRecursion, filter, list_any, find}
-use Rattle.std.specs.Option.{option_map_or}
-use Rattle.std.proofs.lemmas.Bool.{and_parts, eqb-true}
-use Rattle.std.proofs.Math.Bool.{and-false}
-use Rattle.std.proofs.lemmas.List.Elements.{All-nil}
-use Rattle.bz_token.specs.declared.class.Class.TheVariants as c
-use Rattle.bz_grammar.specs.declared.kind.Kind.TheVariants as k
+use Rattle.bz_load.proofs.Words.{[], ◌&&◌, ◌++◌, ◌||◌, ◌∙◌, ◌∷◌, ◌≡◌, after_loads, All, All-nil, all_changed, all_joined, all_kept, AllByRecursion, amount, and-false, and_parts, and_symbol, ap, AreComments, AreOf, ArePartsBy, AreSome, arith, AsForm, Begins, body_of, Bool, both, by_case, by_test, Bytes, bytes_eq, Class, Class as c, codes, comments_of, each_item, EachIs, end_of, eqb-true, Expr, false, filter, find, first_stays, fix, Fixes, Form', form_proper_by, Grammar, has_kind, has_operand, has_own_comments, host_amount, identifiers_are_names, IfSome, if◌then◌else◌, inl, InPlace, inr, is_class, is_emptied, is_kind, is_load_from, is_loaded, is_package_call, is_text, is_used, IsAttribute, IsComment, IsItem, IsNew, IsProperItemIn, IsSymbol, IsUtf8, Item, items-the_row-Expr, items_again, items_apart, items_of, items_stay, itself, Kind, Kind as k, leading_blocks, length, List, list_any, load_in_place, load_made, loads_end, map, mark, move_package_to_top, name, new_load, new_part, new_symbols, no_comments, node, None, none_there, not, on_first, on_first_that, on_items, on_rest, one_ascii, opened, operand_in, Option, option_map_or, package_moved, parts_of, path_in, path_substituted, ProperExpr, quoted_of, quoted_string, refl, row_proper, same_kind, Some, Spot, statement_in_place, string_in_place, string_substituted, subst, substitute_load, substituted, sym, Symbol, symbol_made, symbol_stays, Token, token, token_new, total, true, true≢false, unused_loads, used_alone, value_shape, with_items, with_string_body, with_symbols, with_text, with_used, Within, without_first, ℕ}
 use Rattle.bz_grammar.specs.Shapes as s
-use Rattle.bz_grammar.specs.Spots.{Begins, Within, Spot}
-use Rattle.bz_value.specs.declared.value.Expr.{Expr, Token, Form', items-the_row-Expr}
-use Rattle.bz_load.specs.Words.{Item, Bytes, body_of, quoted_of, substituted, Symbol, Fixes, is_text, token, node, mark, name, on_first_that, without_first, Kind}
 use Rattle.bz_value.specs.declared.value.Item.TheVariants as i
-use Rattle.bz_value.specs.Comments.{no_comments}
-use Rattle.bz_value.specs.Proper.{AreComments, IsComment, IsProperItemIn, comments_of, ProperExpr}
-use Rattle.bz_value.specs.LineShapes.{Grammar, value_shape}
 use Rattle.bz_value.specs.Roots as r
-use Rattle.bz_value.proofs.FormParts.{ArePartsBy, form_proper_by}
-use Rattle.bz_command_syntax.specs.Proper.{IsSymbol, IsAttribute, EachIs, AreSome}
-use Rattle.bz_command_syntax.proofs.NameTests.{identifiers_are_names}
 use Rattle.bz_command_syntax.proofs.PlainTexts.{substituted_utf8}
-use Rattle.bz_rule.specs.Values.{has_kind, items_of, with_items, with_text, on_first, on_items, on_rest, parts_of}
-use Rattle.bz_rule.proofs.ProperChanges.{by_test, by_case, first_stays, items_stay, string_in_place}
-use Rattle.bz_rule.proofs.ProperRules.{statement_in_place}
-use Rattle.bz_rule.proofs.ProperForms.{InPlace, itself, AsForm, opened}
-use Rattle.bz_rule.proofs.ProperItems.{all_joined, all_kept, all_changed}
-use Rattle.bz_rule.proofs.ProperSequences.{IsItem, AreOf, items_again, each_item, load_in_place, items_apart}
-use Rattle.bz_attribute.proofs.ProperTexts.{one_ascii}
-use Rattle.bz_attribute.proofs.ProperMade.{IsNew, none_there, new_part, row_proper, token_new, quoted_string}
-use Rattle.bz_load.specs.Loads.{path_in, is_load_from, is_loaded, leading_blocks, loads_end, after_loads}
-use Rattle.bz_load.specs.NewLoad.{and_symbol, new_symbols, symbol_made, load_made, with_symbols, new_load}
-use Rattle.bz_load.specs.SubstituteLoad.{path_substituted, string_substituted, substitute_load, with_string_body}
-use Rattle.bz_load.proofs.RenamedPaths.{string_body}
-use Rattle.bz_load.specs.Fixes.{is_used, has_own_comments, symbol_stays, with_used, is_emptied, used_alone, unused_loads, is_package_call, package_moved, move_package_to_top, fix, has_operand, end_of}
-use Rattle.bz_load.specs.private.Known.{operand_in}
-use Rattle.bz_load.proofs.Operands.{none_among, operands_answered}
-use Rattle.bz_load.proofs.PlaceSteps.{all_put}
-use Rattle.bz_token.specs.declared.class.Class.{Class}
-use Rattle.bz_grammar.specs.Shapes.{Terminal, has_token, is_one_of, is_class, is_kind}
-use Rattle.bz_grammar.proofs.Numbers.{same_kind}
-use Rattle.bz_attribute.proofs.FormsAgain.{both}
+use Rattle.bz_load.proofs.{RenamedPaths.string_body, Operands.none_among, Operands.operands_answered, PlaceSteps.all_put}
+use Rattle.bz_grammar.specs.Shapes.{Terminal, has_token, is_one_of}
 use Rattle.bz_value.specs.Roots.{root, mark_leaf}
 use Rattle.bz_value.proofs.LeadParts.{lead_before}
-use Rattle.bz_value.specs.Counted.{total, amount, host_amount}
 
 chosen_symbols : (is_known : Symbol → Bool) (symbols : List Symbol) → EachIs IsSymbol symbols → EachIs IsSymbol (new_symbols is_known symbols)
 chosen_symbols is_known [] h = tt

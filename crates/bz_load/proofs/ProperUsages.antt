@@ -1,38 +1,9 @@
 -- What the commands on repositories make of proper items is proper.
-use Rattle.std.proofs.Common.{◌≡◌, ◌&&◌, Bool, false, not, List, [], ◌∷◌, ◌++◌, refl, sym, true≢false, ◌∙◌}
-use Rattle.std.specs.Prelude.{IsUtf8, IfOk, IfSome, Option, Some, None, Result, Ok, Err, codes, bytes_eq, if◌then◌else◌}
-use Rattle.std.specs.List.{AllByRecursion, cons_option, filter, insert, list_any, position_or_len}
-use Rattle.std.proofs.lemmas.List.Elements.{All-nil, All-from_recursion, recursion_from_All}
-use Rattle.bz_token.specs.declared.class.Class.{Class}
-use Rattle.bz_token.specs.declared.class.Class.TheVariants as c
+use Rattle.bz_load.proofs.Words.{[], ◌&&◌, ◌++◌, ◌∙◌, ◌∷◌, ◌≡◌, All-from_recursion, All-nil, all_changed, all_joined, all_kept, AllByRecursion, AreOf, AreSome, argument_item, argument_of, argument_stays, AsForm, Begins, Bool, by_case, by_test, Bytes, bytes_eq, call_in_place, call_made, Class, Class as c, codes, cons_option, each_item, EachIs, ends_positional, equal_self, Err, Expr, false, filter, first_stays, Form', form_proper_by, Grammar, has_kind, identifiers_are_names, IfOk, IfSome, if◌then◌else◌, imports_as, imports_repo, insert, is_call_to, is_class, is_imported, is_meant_usage, is_statement_of, is_use, is_use_of, IsAttribute, IsComment, IsItem, IsNew, IsProperIn, IsProperItemIn, IsRepo, IsUtf8, Item, Item as i, items_again, items_of, Keeps, Kind as k, List, list_any, loses_last, name, NameTaken, new_part, no_comments, None, none_there, not, Ok, on_call_arguments, on_first, on_items, on_last, on_row, Option, parts_of, position_or_len, ProperExpr, quoted_of, quoted_string, recursion_from_All, refl, Refusal, removed_from, Repo, Repo as rp, repos_added, Result, row_proper, row_stays, sequence, Some, statement_in_place, string_value, sym, Symbol, text_in, text_of, Token, token, token_new, true≢false, usage, usage_of_row, Usages, UsagesStayProper, use_repo_add, use_repo_remove, value_shape, variables, with_all_repos, with_import, with_repo, Within, without_repos, word_import}
 use Rattle.bz_token.specs.Lexemes.{IsLexeme}
-use Rattle.bz_grammar.specs.declared.kind.Kind.TheVariants as k
 use Rattle.bz_grammar.specs.Shapes as s
-use Rattle.bz_grammar.specs.Shapes.{is_class}
-use Rattle.bz_grammar.specs.Spots.{Begins, Within}
-use Rattle.bz_value.specs.declared.value.Expr.{Expr, Token, Form'}
-use Rattle.bz_value.specs.declared.refusal.Refusal.TheVariants.{NameTaken}
-use Rattle.bz_load.specs.Words.{Item, Bytes, Refusal, Repo, Symbol, Usages, argument_of, has_kind, items_of, name, on_first, on_items, on_row, parts_of, quoted_of, sequence, text_in, text_of, token}
-use Rattle.bz_value.specs.declared.value.Item.TheVariants as i
-use Rattle.bz_value.specs.Comments.{no_comments}
-use Rattle.bz_value.specs.Proper.{IsComment, IsProperIn, IsProperItemIn, ProperExpr}
-use Rattle.bz_value.specs.LineShapes.{Grammar, value_shape}
 use Rattle.bz_value.specs.Roots as r
-use Rattle.bz_value.proofs.FormParts.{form_proper_by}
-use Rattle.bz_command_syntax.specs.declared.command.Repo.TheVariants as rp
-use Rattle.bz_command_syntax.specs.Proper.{AreSome, EachIs, IsAttribute, IsRepo}
-use Rattle.bz_command_syntax.proofs.NameTests.{identifiers_are_names}
-use Rattle.bz_rule.proofs.ProperChanges.{by_test, by_case, first_stays, row_stays}
-use Rattle.bz_rule.proofs.ProperForms.{AsForm}
-use Rattle.bz_rule.proofs.ProperRules.{statement_in_place}
-use Rattle.bz_rule.proofs.ProperItems.{all_joined, all_kept, all_changed}
-use Rattle.bz_rule.proofs.ProperSequences.{AreOf, IsItem, Keeps, call_in_place, each_item, items_again}
-use Rattle.bz_attribute.proofs.PlainWords.{equal_self}
-use Rattle.bz_attribute.proofs.ProperMade.{IsNew, argument_item, new_part, none_there, quoted_string, row_proper, string_value, token_new}
-use Rattle.bz_load.specs.Usages.{with_all_repos, argument_stays, call_made, is_call_to, ends_positional, imports_as, imports_repo, is_imported, is_meant_usage, is_statement_of, is_use, is_use_of, loses_last, on_call_arguments, on_last, removed_from, repos_added, usage, usage_of_row, use_repo_add, use_repo_remove, variables, with_import, with_repo, without_repos, word_import}
-use Rattle.bz_load.specs.UsageLaws.{UsagesStayProper}
-use Rattle.bz_load.proofs.PlaceSteps.{all_put}
-use Rattle.bz_load.proofs.ProperLoads.{of_kind}
+use Rattle.bz_load.proofs.{PlaceSteps.all_put, ProperLoads.of_kind}
 
 use_repo_coded : IsUtf8 (codes "use_repo")
 unfolding lib.Utf8.encode

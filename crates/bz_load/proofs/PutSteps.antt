@@ -1,23 +1,5 @@
 -- Items put in the place of others that were adjacent.
-use Rattle.std.proofs.Common.{◌≡◌, ◌≢◌, ◌≤◌, ◌<◌, ◌+◌, ◌∙◌, ℕ, suc, List, [], ◌∷◌, ◌++◌, length, take, drop, set, refl, sym, ap, subst, arith, ◌↔◌, Bool, true, false, true≢false, get_or}
-use Rattle.std.specs.List.{insert, list_any, position}
-use Rattle.std.proofs.lemmas.List.{take_at, drop_at, drop-drop, length-append, length-take-le, set_split, append-nil, get_or-set_same, get_or_default, append_cancel_left, set-get_or}
-use Rattle.std.proofs.lemmas.List.Edits.{length-insert}
-use Rattle.bz_load.specs.Words.{Item, IsSpliced, Expr, has_kind, items_of, on_items}
-use Rattle.std.specs.Prelude.{◌==◌, ◌&&◌, ◌||◌, Option, Some, None, IsTrue, bytes_eq, slice_get, slice_set}
-use Rattle.std.proofs.lemmas.Option.{get_or_from_slice_get}
-use Rattle.std.proofs.Math.Bool.{and_self, and-false}
-use Rattle.std.proofs.lemmas.Bool.{and_parts, eqb-true}
-use Rattle.bz_grammar.specs.declared.kind.Kind.TheVariants as k
-use Rattle.bz_value.specs.declared.value.Item.TheVariants as i
-use Rattle.bz_items.specs.Characters.{Bytes, apostrophe, quotation_mark}
-use Rattle.bz_rule.specs.Rules.{body, inner, is_plain_in, is_text}
-use Rattle.bz_rule.specs.QuoteMarks.{inside}
-use Rattle.bz_rule.proofs.ProperChanges.{by_test}
-use Rattle.bz_attribute.proofs.ArgumentPlaces.{IsFirst, is_first, none_passes, changed_there}
-use Rattle.bz_attribute.proofs.FormsAgain.{if_true, if_false, items_changed, items_filled, items_same}
-use Rattle.bz_load.specs.Loads.{is_load_from, path_in, after_loads}
-use Rattle.bz_load.specs.NewLoad.{with_symbols, load_made, with_load}
+use Rattle.bz_load.proofs.Words.{[], ◌&&◌, ◌++◌, ◌+◌, ◌<◌, ◌==◌, ◌||◌, ◌↔◌, ◌∙◌, ◌∷◌, ◌≡◌, ◌≢◌, ◌≤◌, after_loads, and-false, and_parts, and_self, ap, apostrophe, append-nil, append_cancel_left, arith, body, Bool, by_test, Bytes, bytes_eq, changed_there, drop, drop-drop, drop_at, eqb-true, Expr, false, get_or, get_or-set_same, get_or_default, get_or_from_slice_get, has_kind, if_false, if_true, inner, insert, inside, is_first, is_load_from, is_plain_in, is_text, IsFirst, IsSpliced, IsTrue, Item, Item as i, items_changed, items_filled, items_of, items_same, Kind as k, length, length-append, length-insert, length-take-le, List, list_any, load_made, None, none_passes, on_items, Option, path_in, position, quotation_mark, refl, set, set-get_or, set_split, slice_get, slice_set, Some, subst, suc, sym, take, take_at, true, true≢false, with_load, with_symbols, ℕ}
 use Rattle.bz_load.proofs.PlaceSteps.{first_at, none_any}
 
 -- what is in front of the first place, what came, and what is from the last place on

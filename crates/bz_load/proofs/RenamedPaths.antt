@@ -1,16 +1,5 @@
 -- Strings that may be paths of loads: what has no body stays, and what has one is a string.
-use Rattle.std.proofs.Common.{◌≡◌, true, refl, ap, subst}
-use Rattle.std.specs.Prelude.{IfSome, IsUtf8, None, Some, Option, if◌then◌else◌}
-use Rattle.std.specs.Option.{option_and_then, option_map_or}
-use Rattle.bz_token.specs.declared.class.Class.{Class}
-use Rattle.bz_token.specs.declared.class.Class.TheVariants as c
-use Rattle.bz_grammar.specs.Shapes.{is_class}
-use Rattle.bz_value.specs.declared.value.Expr.{Expr, Token, Form'}
-use Rattle.bz_load.specs.Words.{Bytes, body_of, substituted, text_of}
-use Rattle.bz_rule.specs.Rules.{body}
-use Rattle.bz_rule.specs.Values.{has_class}
-use Rattle.bz_attribute.proofs.ProperTexts.{body_utf8}
-use Rattle.bz_load.specs.SubstituteLoad.{string_substituted, with_string_body}
+use Rattle.bz_load.proofs.Words.{◌≡◌, ap, body, body_of, body_utf8, Bytes, Class, Class as c, Expr, Form', has_class, IfSome, if◌then◌else◌, is_class, IsUtf8, None, Option, option_and_then, option_map_or, refl, Some, string_substituted, subst, substituted, text_of, Token, true, with_string_body}
 
 pub no_body : (pattern template : Bytes) (x : Expr) → None ≡ body_of x → x ≡ string_substituted pattern template x
 no_body pattern template x e = ap (λ found. option_map_or (λ inside. with_string_body inside (substituted pattern template inside) x) found x) e

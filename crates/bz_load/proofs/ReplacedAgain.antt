@@ -1,30 +1,6 @@
 -- Afterwards one symbol has each local name, and the same symbols replaced once more change nothing.
-use Rattle.std.proofs.Common.{◌≡◌, ◌∙◌, ◌+◌, ◌≤◌, ℕ, suc, Bool, true, false, ◌||◌, ◌&&◌, not, List, [], ◌∷◌, ◌++◌, ap, refl, sym, subst, true≢false, ◌⊎◌, take, drop, length, nat_eq, arith, inl, inr}
-use Rattle.std.specs.Prelude.{IfSome, None, Option, Some, bytes_eq, if◌then◌else◌, is_some, nat_le, option_map}
-use Rattle.std.specs.List.{AllByRecursion, filter, flat_map, list_all, list_any}
-use Rattle.std.specs.Option.{option_and_then, option_map_or}
-use Rattle.std.proofs.lemmas.Bool.{and_from, and_parts, cases_Bool, eq-eqb, eqb-true, not-true, or_left, or_parts, or_right}
-use Rattle.std.proofs.Math.Bool.{and-false, and-true}
-use Rattle.std.proofs.lemmas.List.{append-nil, length-append, take-append-drop}
-use Rattle.std.proofs.lemmas.List.Elements.{All-from_recursion, filter-append}
-use Rattle.std.proofs.lemmas.List.Folds.{list_any-append}
+use Rattle.bz_load.proofs.Words.{[], ◌&&◌, ◌++◌, ◌+◌, ◌||◌, ◌∙◌, ◌∷◌, ◌≡◌, ◌≤◌, ◌⊎◌, after_path, alias_in, All-from_recursion, all_comments_joined, AllByRecursion, and-false, and-true, and_from, and_parts, ap, apostrophe, append-nil, arith, backslash, becomes_plain, begins_thrice, between, body, body_of, Bool, both, by_case, Bytes, bytes_eq, cases_Bool, Class as c, comments_around, comments_joined, comments_of, cut_of_first, drop, each_replaced, eq-eqb, eqb-true, Expr, false, filter, filter-append, first_text, flat_map, Form', further, goes, gone_comments, has_kind, HostComments, if_false, if_true, IfSome, if◌then◌else◌, inl, inner, inr, inside, is_class, is_empty, is_escaped, is_load_from, is_load_item, is_loaded, is_local, is_lost, is_plain_in, is_quote_mark, is_some, is_symbol, is_text, IsLoadedAlone, IsPlain, Item, Item as i, ItemCut, items_changed, items_filled, items_of, Kind as k, last_of_each, leading_blocks, left_symbols, length, length-append, List, list_all, list_any, list_any-append, load_made, loads_end, loads_symbol, local_name, marks_of, may_have, nat_eq, nat_le, new_around, no_comments, None, not, not-true, on_first_that, on_rest, on_symbols, Option, option_and_then, option_map, option_map_or, or_left, or_parts, or_right, parts_of, path_in, put_symbol, quotation_mark, refl, replace_load, replace_symbol, replaced_around, ReplacedAgain, ReplacedAlone, Some, subst, suc, sym, Symbol, symbol_made, symbol_named, symbols_of, take, take-append-drop, text_of, Token, true, true≢false, unprefixed, with_comments, with_joined, without_symbol, ℕ}
 use Rattle.std.proofs.lemmas.Slice.Eq.{bytes_eq-Decides}
-use Rattle.bz_token.specs.declared.class.Class.TheVariants as c
-use Rattle.bz_grammar.specs.declared.kind.Kind.TheVariants as k
-use Rattle.bz_items.specs.Characters.{apostrophe, backslash, quotation_mark}
-use Rattle.bz_value.specs.declared.value.Expr.{Expr, Form', Token}
-use Rattle.bz_value.specs.declared.value.Item.TheVariants as i
-use Rattle.bz_rule.specs.Values.{first_text}
-use Rattle.bz_rule.specs.QuoteMarks.{begins_thrice, between, inside, is_quote_mark, marks_of, unprefixed}
-use Rattle.bz_rule.specs.Rules.{body, inner, is_plain_in}
-use Rattle.bz_rule.proofs.ProperChanges.{by_case}
-use Rattle.bz_attribute.proofs.FormsAgain.{both, if_false, if_true, items_changed, items_filled}
-use Rattle.bz_attribute.proofs.PlainWords.{IsPlain}
-use Rattle.bz_load.specs.Words.{Bytes, HostComments, Item, Symbol, body_of, comments_of, has_kind, is_class, is_empty, is_escaped, is_text, items_of, local_name, no_comments, on_first_that, on_rest, parts_of, text_of, with_comments}
-use Rattle.bz_load.specs.Laws.{IsLoadedAlone, ReplacedAgain, ReplacedAlone, becomes_plain}
-use Rattle.bz_load.specs.Loads.{after_path, alias_in, is_load_from, is_load_item, is_loaded, is_symbol, leading_blocks, loads_end, loads_symbol, path_in, symbol_named, symbols_of}
-use Rattle.bz_load.specs.NewLoad.{load_made, symbol_made}
-use Rattle.bz_load.specs.ReplaceLoad.{ItemCut, all_comments_joined, comments_around, comments_joined, cut_of_first, each_replaced, further, goes, gone_comments, is_local, is_lost, last_of_each, left_symbols, may_have, new_around, on_symbols, put_symbol, replace_load, replace_symbol, replaced_around, with_joined, without_symbol}
 use Rattle.bz_load.proofs.ReplacedSymbols.{none_made, nothing_joined}
 use Rattle.bz_load.proofs.LawAgain.{made_loads, new_from}
 use Rattle.bz_load.proofs.OtherItems.{AreOther, all_without, any_may, cut_from, cut_passes, gone_none, is_load_by, left_all, mapped_joined, none_said, some_cut, stays_from, stays_load, symbols_stay}

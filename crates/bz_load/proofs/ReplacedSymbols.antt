@@ -1,28 +1,6 @@
 -- Symbols that go from loads, and their comments, in the steps of the code.
-use Rattle.std.proofs.Common.{◌≡◌, ◌∙◌, ◌+◌, ℕ, zero, suc, Bool, true, false, not, ◌||◌, ◌&&◌, List, [], ◌∷◌, ◌++◌, ap, refl, subst, sym, true≢false, arith, drop, get_or, take}
-use Rattle.std.specs.Prelude.{None, Option, Some, bytes_eq, codes, if◌then◌else◌, is_some, slice_get, slice_set}
-use Rattle.std.specs.List.{AllByRecursion, flat_map, list_any, position, remove}
-use Rattle.std.specs.Option.{option_map_or}
-use Rattle.bz_token.specs.declared.class.Class.TheVariants as c
-use Rattle.bz_grammar.specs.declared.kind.Kind.TheVariants as k
-use Rattle.bz_value.specs.declared.value.Expr.{Form', Token, items_hidden-the_row-Expr-0}
-use Rattle.bz_value.specs.declared.value.Item.TheVariants as i
-use Rattle.std.proofs.lemmas.Bool.{and_parts, or_parts}
-use Rattle.std.proofs.lemmas.List.{append-nil, append_assoc, drop_more, take-append-drop}
-use Rattle.std.proofs.Math.Bool.{and-true}
-use Rattle.std.proofs.Math.Path.{fun_ext}
-use Rattle.bz_attribute.proofs.ArgumentPlaces.{IsFirst, changed_there, is_first, later, none_passes}
-use Rattle.bz_attribute.proofs.FormsAgain.{both, if_false, if_true}
-use Rattle.bz_load.specs.Words.{Bytes, Expr, HostComments, Item, Symbol, comments_of, no_comments, on_rest, quoted_of, sequence, token}
-use Rattle.bz_load.specs.Loads.{after_loads, after_path, is_load_from, is_load_item, is_loaded, leading_blocks, loads_end, loads_symbol, symbols_of}
-use Rattle.bz_load.specs.NewLoad.{load_made, symbol_made}
-use Rattle.bz_load.specs.ReplaceLoad.{all_comments, all_comments_joined, comments_around, comments_without, cut_of_first, each_replaced, further, goes, gone_comments, gone_from, is_local, is_lost, last_of_each, left_symbols, may_have, new_around, on_symbols, put_symbol, replace_load, replace_symbol, replaced_around, with_joined, without_symbol}
-use Rattle.bz_load.specs.private.Replacing.{IsUnknown, has_symbol}
-use Rattle.bz_load.specs.Paths.{has_local}
-use Rattle.bz_load.proofs.GatheredComments.{none_taken}
-use Rattle.bz_load.proofs.OtherItems.{all_without, none_cut, none_gone, none_said, silent_without, stays_without}
-use Rattle.bz_load.proofs.PathSteps.{none_parts, nowhere}
-use Rattle.bz_load.proofs.PlaceSteps.{first_at, none_any}
+use Rattle.bz_load.proofs.Words.{[], ◌&&◌, ◌++◌, ◌+◌, ◌||◌, ◌∙◌, ◌∷◌, ◌≡◌, after_loads, after_path, all_comments, all_comments_joined, AllByRecursion, and-true, and_parts, ap, append-nil, append_assoc, arith, Bool, both, Bytes, bytes_eq, changed_there, Class as c, codes, comments_around, comments_of, comments_without, cut_of_first, drop, drop_more, each_replaced, Expr, false, flat_map, Form', fun_ext, further, get_or, goes, gone_comments, gone_from, has_local, has_symbol, HostComments, if_false, if_true, if◌then◌else◌, is_first, is_load_from, is_load_item, is_loaded, is_local, is_lost, is_some, IsFirst, IsUnknown, Item, Item as i, items_hidden-the_row-Expr-0, Kind as k, last_of_each, later, leading_blocks, left_symbols, List, list_any, load_made, loads_end, loads_symbol, may_have, new_around, no_comments, None, none_passes, not, on_rest, on_symbols, Option, option_map_or, or_parts, position, put_symbol, quoted_of, refl, remove, replace_load, replace_symbol, replaced_around, sequence, slice_get, slice_set, Some, subst, suc, sym, Symbol, symbol_made, symbols_of, take, take-append-drop, Token, token, true, true≢false, with_joined, without_symbol, zero, ℕ}
+use Rattle.bz_load.proofs.{GatheredComments.none_taken, OtherItems.all_without, OtherItems.none_cut, OtherItems.none_gone, OtherItems.none_said, OtherItems.silent_without, OtherItems.stays_without, PathSteps.none_parts, PathSteps.nowhere, PlaceSteps.first_at, PlaceSteps.none_any}
 
 -- ---- one symbol more
 

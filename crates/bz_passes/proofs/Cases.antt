@@ -1,27 +1,6 @@
 -- Each law of tidying is that of flags, of a value with newer kinds, and else that of the passes.
-use Rattle.std.proofs.Common.{true, false, List, [], ◌∷◌, ◌++◌, ◌≡◌, sym, ap, ap₂, ◌∙◌, subst, inl, inr}
-use Rattle.std.proofs.lemmas.Bool.{cases_Bool, cond-true, cond-false}
-use Rattle.std.proofs.lemmas.List.Elements.{All-append, All-from_recursion}
-use Rattle.bz_passes.specs.Words.{Item, times, Bytes, Window, IsProperIn, AreOver, flags, IsSettled, AreBuild, IsBuildItem}
-use Rattle.bz_value.specs.LineShapes.{Grammar, build_grammar, whole_grammar}
-use Rattle.bz_value.proofs.BuildValues.{build_values_proper}
-use Rattle.bz_layout.proofs.FlaggedProper.{flags_proper}
-use Rattle.bz_rule.proofs.ProperChanges.{by_case, by_test}
-use Rattle.bz_passes.specs.Joined.{TidiedAlone, TidiedApart}
-use Rattle.bz_passes.specs.Laws.{BuildStays, ProperStays, TidySettles, TidyStays, TidyingKeepsComments}
-use Rattle.bz_passes.specs.Newer.{has_newer}
-use Rattle.bz_passes.specs.Passes.{passed, tidied}
-use Rattle.bz_passes.specs.Programs.{KeepsProgram, PassesKeepProgram, TidyingKeepsProgram}
-use Rattle.bz_passes.specs.Syntax.{program}
-use Rattle.bz_passes.specs.private.Borders.{AreTidied}
-use Rattle.bz_passes.proofs.Counts.{flags_comments, passed_comments}
-use Rattle.bz_passes.proofs.Inner.{flags_settled}
-use Rattle.bz_passes.proofs.NewerNodes.{are_build, flags_newer, has_none, passed_newer}
-use Rattle.bz_passes.proofs.Pieces.{cut_first, passed_alone}
-use Rattle.bz_passes.proofs.ProperPasses.{passed_proper}
-use Rattle.bz_passes.proofs.SameLists.{passed_program}
-use Rattle.bz_passes.proofs.SameSyntax.{flags_program}
-use Rattle.bz_passes.proofs.Settling.{passed_stays}
+use Rattle.bz_passes.proofs.Words.{[], ◌++◌, ◌∙◌, ◌∷◌, ◌≡◌, All-append, All-from_recursion, ap, ap₂, AreBuild, AreOver, AreTidied, build_grammar, build_values_proper, BuildStays, by_case, by_test, Bytes, cases_Bool, cond-false, cond-true, false, flags, flags_proper, Grammar, has_newer, inl, inr, IsBuildItem, IsProperIn, IsSettled, Item, KeepsProgram, List, passed, PassesKeepProgram, program, ProperStays, subst, sym, tidied, TidiedAlone, TidiedApart, TidyingKeepsComments, TidyingKeepsProgram, TidySettles, TidyStays, times, true, whole_grammar, Window}
+use Rattle.bz_passes.proofs.{Counts.flags_comments, Counts.passed_comments, Inner.flags_settled, NewerNodes.are_build, NewerNodes.flags_newer, NewerNodes.has_none, NewerNodes.passed_newer, Pieces.cut_first, Pieces.passed_alone, ProperPasses.passed_proper, SameLists.passed_program, SameSyntax.flags_program, Settling.passed_stays}
 
 by_newer : (P : List Item → Type 0) (items : List Item) → P (flags items) → P (passed items) → P (tidied items)
 by_newer P items f p = by_test P (has_newer items) (flags items) (passed items) f p

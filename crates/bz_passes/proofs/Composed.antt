@@ -1,18 +1,6 @@
 -- The changes of single statements leave the comments above them as they are: so passes in turn are one pass.
-use Rattle.std.proofs.Common.{List, [], ◌∷◌, ◌≡◌, refl, ap, ◌∙◌, false, map, inl, inr}
-use Rattle.std.proofs.lemmas.Bool.{cases_Bool}
-use Rattle.bz_passes.specs.Words.{Kind, Expr, Item, Bytes}
-use Rattle.bz_grammar.specs.declared.kind.Kind.TheVariants as k
-use Rattle.bz_value.specs.declared.value.Item.TheVariants as i
-use Rattle.bz_rule.proofs.ProperChanges.{by_test}
-use Rattle.bz_rule.specs.Values.{has_kind, above, parts_of, items_of, with_parts, with_items, on_first, on_third, on_rest, on_lists}
-use Rattle.bz_passes.specs.Changes.{after_passes}
-use Rattle.bz_passes.specs.Sorting.{sort_by}
-use Rattle.bz_passes.specs.Lists.{settled_list, any_marked}
-use Rattle.bz_passes.specs.Passes.{on_statement, taken, on_taken, on_call, on_rule_arguments, on_attribute, on_assigned, on_label_value, on_list_value, quotes_in, labels_in, lists_in, argument_precedes, arguments_in, symbol_precedes, symbols_in, leave_alone, shorter_string}
-use Rattle.bz_passes.proofs.Keeping.{both}
-use Rattle.bz_passes.proofs.Parts.{the_parts, the_items, above_quoted, items_kind, kind_quoted, parts_kind}
-use Rattle.bz_passes.proofs.Places.{above_put, within}
+use Rattle.bz_passes.proofs.Words.{[], ◌∙◌, ◌∷◌, ◌≡◌, above, after_passes, any_marked, ap, argument_precedes, arguments_in, by_test, Bytes, cases_Bool, Expr, false, has_kind, inl, inr, Item, Item as i, items_of, Kind, Kind as k, labels_in, leave_alone, List, lists_in, map, on_assigned, on_attribute, on_call, on_first, on_label_value, on_list_value, on_lists, on_rest, on_rule_arguments, on_statement, on_taken, on_third, parts_of, quotes_in, refl, settled_list, shorter_string, sort_by, symbol_precedes, symbols_in, taken, with_items, with_parts}
+use Rattle.bz_passes.proofs.{Keeping.both, Parts.the_parts, Parts.the_items, Parts.above_quoted, Parts.items_kind, Parts.kind_quoted, Parts.parts_kind, Places.above_put, Places.within}
 
 -- ---- what the passes do not change
 

@@ -1,30 +1,8 @@
 -- A number of each expression that its lists add up to stays where the sums stay at the places where the passes go: so does that of each comment.
-use Rattle.std.proofs.Common.{ℕ, ◌+◌, Bool, true, false, List, [], ◌∷◌, ◌≡◌, refl, sym, ap, ◌∙◌, subst, map, inl, inr, Option, Some, None, not, ◌&&◌, ◌++◌, arith}
-use Rattle.std.proofs.lemmas.Bool.{cases_Bool, and_parts, true≢false}
-use Rattle.bz_token.specs.declared.class.Class.TheVariants as c
-use Rattle.bz_passes.specs.Words.{Kind, is_class, is_sorted, is_label_attribute, Item, Bytes, has_kind, has_class, text_of, parts_of, with_text, above, on_items, on_row, on_first, on_third, on_rest, first_text, on_lists, with_above, comments_of, is_empty, is_none}
-use Rattle.bz_grammar.specs.declared.kind.Kind.TheVariants as k
-use Rattle.bz_value.specs.declared.value.Form.{Form}
-use Rattle.bz_value.specs.declared.value.Expr.{Expr, Token, Form', Row_of-Expr, end_of-Expr, more_of-Expr, items-the_row-Expr}
+use Rattle.bz_passes.proofs.Words.{[], ◌&&◌, ◌++◌, ◌+◌, ◌∙◌, ◌∷◌, ◌≡◌, above, AllByRecursion, and_parts, any_marked, ap, append_total, argument_precedes, arguments_in, arith, Bool, by_case, by_test, Bytes, bytes_eq, cases_Bool, Class as c, comments_of, each_on_strings, each_with_flags, end_of-Expr, Expr, false, first_text, flags, Form, Form', form_amount, frame, has_class, has_kind, has_no_comment, in_order, inl, inr, is_class, is_empty, is_label_attribute, is_marked, is_none, is_sorted, is_taken, IsPermutation-filter_both, Item, Item as i, item_with_flags, items-the_row-Expr, keep_marks, keep_sorted, Kind, Kind as k, labels_in, leave_alone, List, list_any, lists_in, load_precedes, loads, map, more_of-Expr, MovesMarks, None, not, of_rule, on_assigned, on_attribute, on_call, on_first, on_items, on_label_value, on_labels, on_list_value, on_list_values, on_lists, on_rest, on_row, on_rule_arguments, on_statement, on_string, on_strings, on_taken, on_third, Option, other_comments, parts_of, passed, precedes, quotes_in, refl, Row_of-Expr, rule_kind, settled_list, settled_split, shorter_string, Some, sort_by, sorted, subst, sym, symbol_precedes, symbols_in, taken, text_of, times, Token, total, true, true≢false, with_above, with_double, with_flags, with_marks_moved, with_text, without_marks, without_repeats, ℕ}
 use Rattle.bz_value.specs.declared.value.Expr.TheVariants as e
-use Rattle.bz_value.specs.declared.value.Item.TheVariants as i
-use Rattle.bz_value.specs.Counted.{total, suffix_amount, host_amount, amount, item_amount, one_if, times}
-use Rattle.bz_value.specs.Frames.{frame}
-use Rattle.bz_layout.specs.Flags.{settled_split, with_flags, each_with_flags, item_with_flags, flags}
-use Rattle.bz_rule.proofs.ProperChanges.{by_case, by_test}
-use Rattle.bz_passes.specs.Passes.{on_statement, taken, on_taken, rule_kind, of_rule, on_call, on_rule_arguments, on_attribute, on_strings, each_on_strings, on_string, on_label_value, on_labels, on_list_value, on_assigned, on_list_values, quotes_in, labels_in, lists_in, argument_precedes, arguments_in, symbol_precedes, symbols_in, load_precedes, loads, passed, leave_alone, shorter_string, with_double}
-use Rattle.bz_passes.proofs.Parts.{in_form, Place, the_parts, the_items, made, own_parts}
-use Rattle.bz_passes.proofs.Keeping.{both, third_is}
-use Rattle.bz_passes.proofs.Places.{within}
-use Rattle.std.specs.List.{list_any, AllByRecursion}
-use Rattle.std.specs.Prelude.{bytes_eq}
-use Rattle.std.proofs.lemmas.List.Sorted.{IsPermutation-filter_both}
-use Rattle.bz_value.proofs.Totals.{append_total, form_amount}
-use Rattle.bz_passes.specs.Sorting.{sort_by}
-use Rattle.bz_passes.specs.Lists.{is_taken, precedes, has_no_comment, without_repeats, in_order, without_marks, sorted, settled_list, MovesMarks, with_marks_moved, any_marked, is_marked, keep_sorted, keep_marks, other_comments}
-use Rattle.bz_passes.proofs.Listed.{unrepeated_all, marks_move}
-use Rattle.bz_passes.proofs.SameLists.{IsText, taken_texts}
-use Rattle.bz_passes.proofs.Sorting.{permuted_total, sort_all, sort_total}
+use Rattle.bz_value.specs.Counted.{suffix_amount, host_amount, amount, item_amount, one_if}
+use Rattle.bz_passes.proofs.{Parts.in_form, Parts.Place, Parts.the_parts, Parts.the_items, Parts.made, Parts.own_parts, Keeping.both, Keeping.third_is, Places.within, Listed.unrepeated_all, Listed.marks_move, SameLists.IsText, SameLists.taken_texts, Sorting.permuted_total, Sorting.sort_all, Sorting.sort_total}
 
 -- ---- sums over lists
 

@@ -1,20 +1,9 @@
 -- Turns of the loop that drops repeats.
-use Rattle.std.proofs.Common.{ℕ, zero, suc, ◌+◌, ◌-◌, ◌<◌, Bool, true, false, ◌&&◌, ◌||◌, List, [], ◌∷◌, ◌++◌, ◌≡◌, refl, sym, ap, ◌∙◌, subst, arith, length, length-append, append_assoc, Option, Some, None, slice_get, if◌then◌else◌}
-use Rattle.std.specs.List.{AllByRecursion, list_any}
-use Rattle.std.specs.Option.{option_map_or}
-use Rattle.std.specs.Str.{bytes_eq}
-use Rattle.std.specs.Ordering.{is_lt, ordering_reverse}
-use Rattle.std.specs.declared.cmp.Ordering.{Ordering}
+use Rattle.bz_passes.proofs.Words.{[], ◌&&◌, ◌++◌, ◌+◌, ◌-◌, ◌<◌, ◌||◌, ◌∙◌, ◌∷◌, ◌≡◌, AllByRecursion, and_parts, and_right, ap, append_assoc, AreKept, arith, between, Bool, Bytes, bytes_eq, bytes_eq-Decides, Expr, false, has_no_comment, if◌then◌else◌, is_lt, is_text_at, key_order, key_ties, key_total, last_of, length, length-append, List, list_any, list_any-append, None, NoneBefore, Option, option_map_or, Ordering, precedes, refl, repeats_at, slice_get, Some, sort_key, subst, suc, sym, text_of, tied_places, ties_last, true, without_repeats, zero, ℕ}
+use Rattle.std.specs.Ordering.{ordering_reverse}
 use Rattle.std.specs.declared.cmp.Ordering.TheVariants.{Less, Equal, Greater}
 use Rattle.std.proofs.Math.Bool.{or_comm}
-use Rattle.std.proofs.lemmas.Bool.{and_parts, and_right}
-use Rattle.std.proofs.lemmas.List.Folds.{list_any-append}
-use Rattle.std.proofs.lemmas.Slice.Eq.{bytes_eq-Decides}
-use Rattle.bz_passes.specs.Words.{key_order, Expr, Bytes, text_of, between}
-use Rattle.bz_label.proofs.Orders.{key_total, key_ties}
-use Rattle.bz_passes.specs.Lists.{precedes, without_repeats, has_no_comment}
-use Rattle.bz_passes.specs.private.Repeats.{AreKept, sort_key, last_of, ties_last, precedes_last, is_text_at, repeats_at, tied_places}
-use Rattle.bz_passes.specs.Sorting.{NoneBefore}
+use Rattle.bz_passes.specs.private.Repeats.{precedes_last}
 use Rattle.bz_passes.proofs.Keeping.{all_joined}
 
 -- ---- keys of which none comes before the other

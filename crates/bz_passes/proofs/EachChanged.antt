@@ -1,7 +1,5 @@
 -- Lists that are changed in their place: one turn of a loop over the items, of which those before are changed and the others are as they were; and all.
-use Rattle.std.proofs.Common.{ℕ, ◌≡◌, ◌<◌, ◌≤◌, ◌+◌, List, [], ◌∷◌, ◌++◌, length, get_or, take, drop, set, map, sym, ap, ap₂, ◌∙◌, arith, append_assoc, append-nil, length-set, drop-set-lt, get_or-set_other}
-use Rattle.std.proofs.Math.Seq.{take-append_seam}
-use Rattle.std.proofs.lemmas.List.{drop_all, drop_more, take_all, take_more_set}
+use Rattle.bz_passes.proofs.Words.{[], ◌++◌, ◌+◌, ◌<◌, ◌∙◌, ◌∷◌, ◌≡◌, ◌≤◌, ap, append-nil, append_assoc, ap₂, arith, drop, drop-set-lt, drop_all, drop_more, get_or, get_or-set_other, length, length-set, List, map, set, sym, take, take-append_seam, take_all, take_more_set, ℕ}
 
 module _ {A : Type 0} (f : A → A) where
   -- before the turn and after it, the list is changed to the same

@@ -1,19 +1,8 @@
 -- The passes on single expressions: double quote marks everywhere, a shorter label, settled flags.
-use Rattle.std.proofs.Common.{Bool, not, ◌&&◌, ◌||◌, List, [], ◌∷◌, ◌≡◌, refl, sym, ap, ◌∙◌, map, inl, inr}
-use Rattle.std.specs.Prelude.{length, nat_le}
-use Rattle.std.proofs.lemmas.Bool.{cases_Bool}
-use Rattle.std.proofs.lemmas.List.{length-map}
-use Rattle.bz_token.specs.declared.class.Class.TheVariants as c
-use Rattle.bz_passes.specs.Words.{Kind, is_class, Bytes, is_empty, is_none, text_of, parts_of, items_of, with_above}
-use Rattle.bz_value.specs.declared.value.Expr.{Expr, Token, Form', Row_of-Expr, end_of-Expr, more_of-Expr, items-the_row-Expr}
+use Rattle.bz_passes.proofs.Words.{[], ◌&&◌, ◌||◌, ◌∙◌, ◌∷◌, ◌≡◌, ap, Bool, Bytes, cases_Bool, Class as c, each_on_strings, each_with_flags, end_of-Expr, Expr, flags, Form', Frame, frame, HostComments, inl, inr, is_class, is_empty, is_none, Item as i, item_with_flags, items-the_row-Expr, items_of, Kind, labelled, length, length-map, List, map, more_of-Expr, nat_le, not, parts_of, quotes_in, refl, Row_of-Expr, sequence, settled_split, sym, text_of, Token, with_above, with_double, with_flags}
 use Rattle.bz_value.specs.declared.value.Expr.TheVariants as e
-use Rattle.bz_value.specs.declared.value.Item.TheVariants as i
-use Rattle.bz_value.specs.Comments.{HostComments}
-use Rattle.bz_value.specs.Frames.{Frame, sequence, frame}
 use Rattle.bz_layout.specs.Layout.{has_comments, has_named, is_listed, is_call}
-use Rattle.bz_layout.specs.Flags.{settled_split, with_flags, each_with_flags, item_with_flags, flags}
 use Rattle.bz_layout.proofs.Flagged.{same_named, settled}
-use Rattle.bz_passes.specs.Passes.{quotes_in, each_on_strings, labelled, with_double}
 use Rattle.bz_passes.proofs.Keeping.{Keeps, Settles, both, map_settles, same_after, same_first}
 use Rattle.bz_passes.proofs.Parts.{made, flags_row, flags_Form, quoted_Form, parts_quoted, items_quoted, comments_flags}
 use Rattle.bz_passes.proofs.Strung.{double_settles, string_settles, string_keeps}

@@ -1,16 +1,6 @@
 -- Windows joined, and made wider by the loads that reach into them, hold all that they held; and what walks over windows have seen and done.
-use Rattle.std.proofs.Common.{◌||◌, ℕ, zero, suc, true, ◌+◌, ◌-◌, ◌≤◌, false, List, [], ◌∷◌, ◌≡◌, length, take, drop, refl, sym, ap, ◌∙◌, subst, arith, drop-drop, length-drop, length-take-le, take-take, ◌<◌, ◌++◌, get_or, slice_range, append_assoc, drop_at, length-append, take_at}
-use Rattle.std.proofs.lemmas.Bool.{and_left, and_right, or_from}
-use Rattle.bz_passes.specs.Words.{Item, Window, AreOver, AreWithin}
-use Rattle.bz_passes.specs.Joined.{begins_with_load}
-use Rattle.bz_passes.specs.private.Borders.{AreLoads, AreSetApart, ends_with_load, all_joined, touches, any_touched, tidied_over}
-use borrow.Rule.Slice.PartMut.{put_mid}
-use Rattle.std.proofs.Math.Seq.{take-add}
-use Rattle.std.proofs.lemmas.List.{drop_more}
-use Rattle.bz_passes.specs.Passes.{passed}
-use Rattle.bz_passes.proofs.Sorting.{put_there}
-use Rattle.bz_passes.proofs.Keeping.{both}
-use Rattle.bz_passes.proofs.Pieces.{both_length}
+use Rattle.bz_passes.proofs.Words.{[], ◌++◌, ◌+◌, ◌-◌, ◌<◌, ◌||◌, ◌∙◌, ◌∷◌, ◌≡◌, ◌≤◌, all_joined, and_left, and_right, any_touched, ap, append_assoc, AreLoads, AreOver, AreSetApart, AreWithin, arith, begins_with_load, drop, drop-drop, drop_at, drop_more, ends_with_load, false, get_or, Item, length, length-append, length-drop, length-take-le, List, or_from, passed, put_mid, refl, slice_range, subst, suc, sym, take, take-add, take-take, take_at, tidied_over, touches, true, Window, zero, ℕ}
+use Rattle.bz_passes.proofs.{Sorting.put_there, Keeping.both, Pieces.both_length}
 
 -- the items after both windows
 both_dropped : (n from more : ℕ) (sum : ℕ) (xs : List Item) → n + (from + more) ≡ sum → drop (from + more) (drop n xs) ≡ drop sum xs

@@ -1,10 +1,5 @@
 -- Changes that keep what a pass leaves as it is. A pass stays where a later change keeps it: so passes in turn settle.
-use Rattle.std.proofs.Common.{Bool, List, [], ◌∷◌, ◌++◌, ◌≡◌, refl, sym, ap, ◌∙◌, subst, map, if◌then◌else◌, inl, inr}
-use Rattle.std.proofs.Math.Path.{fun_ext}
-use Rattle.std.proofs.lemmas.Bool.{cases_Bool}
-use Rattle.std.specs.List.{AllByRecursion}
-use Rattle.bz_rule.proofs.ProperChanges.{by_test}
-use Rattle.bz_rule.specs.Values.{on_first, on_third, on_rest}
+use Rattle.bz_passes.proofs.Words.{[], ◌++◌, ◌∙◌, ◌∷◌, ◌≡◌, AllByRecursion, ap, Bool, by_test, cases_Bool, fun_ext, if◌then◌else◌, inl, inr, List, map, on_first, on_rest, on_third, refl, subst, sym}
 
 abbrev pub Keeps : {X : Type 0} → (X → X) → (X → X) → Type 0
 Keeps {X} change pass = (x : X) → pass x ≡ x → pass (change x) ≡ change x

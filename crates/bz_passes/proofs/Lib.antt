@@ -22,3 +22,4 @@ pub mod ProperStrings
 pub mod SameLists
 pub mod SameSyntax
 pub mod TokensKept
+mod Words

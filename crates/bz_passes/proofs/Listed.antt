@@ -1,28 +1,10 @@
 -- The items of one list, sorted: sorted again they stay; what is kept of them; flags are not seen; where its old first item and the marks go.
-use Rattle.std.proofs.Common.{Bool, true, false, not, ◌&&◌, ◌||◌, List, [], ◌∷◌, ◌++◌, ◌≡◌, ℕ, codes, refl, sym, ap, subst, ◌∙◌, map, if◌then◌else◌, inl, inr, suc, zero}
-use Rattle.std.proofs.lemmas.Bool.{cases_Bool, and_right, false_from_ne_true, true_from_ne_false, true≢false, or_from, or_parts, and_from}
-use Rattle.std.proofs.lemmas.Slice.Eq.{bytes_eq-Decides}
-use Rattle.std.proofs.Math.Path.{fun_ext}
-use Rattle.std.specs.Bool.{beq}
-use Rattle.std.specs.List.{filter, list_any, list_all, AllByRecursion, insert}
-use Rattle.std.specs.Ordering.{is_lt}
-use Rattle.bz_passes.specs.Words.{key_order, is_empty, is_none, Expr, Token, Form', Bytes, comments_of, has_class, text_of, above, with_above, between}
-use Rattle.std.specs.Cmp.{IsStrictWeakOrder}
-use Rattle.std.specs.Prelude.{bytes_eq}
-use Rattle.std.proofs.lemmas.List.MinMax.{ranks_by}
-use Rattle.bz_label.proofs.Orders.{key_total}
+use Rattle.bz_passes.proofs.Words.{[], ◌&&◌, ◌++◌, ◌||◌, ◌∙◌, ◌∷◌, ◌≡◌, above, above_first, all_kept, AllByRecursion, and_from, and_right, any_marked, ap, beq, between, Bool, by_case, by_test, Bytes, bytes_eq, bytes_eq-Decides, cases_Bool, Climbs, codes, comments_of, Expr, false, false_from_ne_true, filter, Form', fun_ext, has_class, has_no_comment, HostComments, if◌then◌else◌, in_order, inl, inr, insert, insert_by, is_empty, is_lt, is_marked, is_none, is_passed, is_taken, IsStrictWeakOrder, keep_marks, keep_sorted, key_order, key_total, List, list_all, list_any, list_any-IsPermutation, map, marked_by, MovesMarks, NoneBefore, not, or_from, or_parts, other_comments, precedes, ranks_by, refl, Rises, settled_list, sort_by, sorted, subst, suc, sym, text_of, Token, true, true_from_ne_false, true≢false, with_above, without_marks, without_repeats, zero, ℕ}
 use Rattle.bz_token.specs.declared.class.Class.TheVariants as c
-use Rattle.bz_value.specs.Comments.{HostComments}
-use Rattle.bz_passes.specs.Sorting.{insert_by, sort_by, NoneBefore, Rises}
-use Rattle.bz_passes.specs.Lists.{above_first, is_taken, precedes, has_no_comment, without_repeats, in_order, without_marks, marked_by, sorted, settled_list, MovesMarks, any_marked, is_marked, keep_marks, keep_sorted, other_comments}
 use Rattle.bz_passes.proofs.Ranks.{item_ranks}
-use Rattle.bz_passes.specs.private.Repeats.{Climbs, is_passed}
 use Rattle.bz_passes.proofs.Keeping.{Keeps, Settles, all_joined, both, same_first, same_after}
-use Rattle.bz_rule.proofs.ProperChanges.{by_case, by_test}
-use Rattle.bz_rule.proofs.ProperItems.{all_kept}
 use Rattle.bz_passes.proofs.Sorting.{sort_all, Ordered, Starts, insert_starts, ordered_stays, sort_map, sort_same}
 use Rattle.bz_passes.proofs.Stable.{after_too, sort_rises}
-use Rattle.std.proofs.lemmas.List.Sorted.{list_any-IsPermutation}
 
 -- ---- no later item precedes an earlier one
 

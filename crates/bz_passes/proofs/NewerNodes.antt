@@ -1,24 +1,7 @@
 -- How many nodes of the newer kinds a value has, the passes and flags keep; a BUILD file's value is one that has none.
-use Rattle.std.proofs.Common.{ℕ, ◌+◌, ◌||◌, Bool, true, false, List, [], ◌∷◌, ◌≡◌, refl, sym, ap, ap₂, ◌∙◌, inl, inr, arith, if◌then◌else◌, true≢false}
-use Rattle.std.specs.Prelude.{nat_lt}
-use Rattle.std.specs.List.{AllByRecursion, list_any}
-use Rattle.std.proofs.lemmas.Bool.{cases_Bool, or_parts}
-use Rattle.std.proofs.lemmas.Bool.Decides.{nat_tests}
-use Rattle.std.proofs.lemmas.List.Elements.{All-from_recursion, recursion_from_All}
-use Rattle.bz_grammar.specs.declared.kind.Kind.TheVariants as k
-use Rattle.bz_value.specs.declared.value.Form.{Form}
-use Rattle.bz_value.specs.declared.value.Expr.{Expr, Token, Form', Row_of-Expr, end_of-Expr, more_of-Expr, items-the_row-Expr}
+use Rattle.bz_passes.proofs.Words.{[], ◌+◌, ◌||◌, ◌∙◌, ◌∷◌, ◌≡◌, All-from_recursion, AllByRecursion, ap, ap₂, AreBuild, AreBuildExprs, arith, Bool, Bytes, cases_Bool, end_of-Expr, Expr, false, flags, Form, Form', has_newer, has_newer_node, if◌then◌else◌, inl, inr, is_newer_kind, is_taken, IsBuildExpr, IsBuildItem, Item, Item as i, item_newer, items-the_row-Expr, Kind as k, List, list_any, more_of-Expr, nat_lt, nat_tests, newer, or_parts, passed, recursion_from_All, refl, row_newer, Row_of-Expr, settled_list, sym, Token, total, true, true≢false, with_text, ℕ}
 use Rattle.bz_value.specs.declared.value.Expr.TheVariants as e
-use Rattle.bz_passes.specs.Words.{Item, total, Bytes, flags, with_text}
-use Rattle.bz_value.specs.declared.value.Item.TheVariants as i
-use Rattle.bz_value.specs.BuildValues.{AreBuild, AreBuildExprs, IsBuildExpr, IsBuildItem}
-use Rattle.bz_passes.specs.Lists.{is_taken, settled_list}
-use Rattle.bz_passes.specs.Newer.{has_newer, has_newer_node, is_newer_kind, item_newer, newer, row_newer}
-use Rattle.bz_passes.specs.Passes.{passed}
-use Rattle.bz_passes.proofs.Counts.{Weighs, SameTotal, flags_total, passed_total}
-use Rattle.bz_passes.proofs.Listed.{settled_anyway}
-use Rattle.bz_passes.proofs.Parts.{made, items_after, items_are, parts_after, parts_are}
-use Rattle.bz_passes.proofs.SameLists.{IsText, class_above, taken_texts}
+use Rattle.bz_passes.proofs.{Counts.Weighs, Counts.SameTotal, Counts.flags_total, Counts.passed_total, Listed.settled_anyway, Parts.made, Parts.items_after, Parts.items_are, Parts.parts_after, Parts.parts_are, SameLists.IsText, SameLists.class_above, SameLists.taken_texts}
 
 -- ---- a form by its lists
 

@@ -1,18 +1,9 @@
 -- Reading what was changed: the parts of expressions, by lists; and what the definitions make of a form, said of its lists.
-use Rattle.std.proofs.Common.{true, List, ◌∷◌, ◌≡◌, refl, sym, ap, ◌∙◌, map, true≢false, suc, Bool, [], if◌then◌else◌}
+use Rattle.bz_passes.proofs.Words.{[], ◌∙◌, ◌∷◌, ◌≡◌, above, ap, Bool, Bytes, Class, comments_of, each_on_strings, each_with_flags, end_of-Expr, Expr, Form, Form', Frame, frame, fronts, fronts_among, fronts_Form, has_brackets, has_class, has_kind, if◌then◌else◌, is_broken, items-the_row-Expr, items_hidden-the_row-Expr-0, items_of, Kind, Kind as k, List, map, more_of-Expr, parts_of, quotes_in, refl, Row_of-Expr, sequence, settled_split, suc, sym, text_of, Token, true, true≢false, with_above, with_double, with_flags, with_items, with_parts}
 use mathlib.Core.Former.{Count}
-use Rattle.bz_passes.specs.Words.{Class, Kind, Bytes, comments_of, is_broken, fronts, fronts_among}
-use Rattle.bz_value.specs.declared.value.Form.{Form}
-use Rattle.bz_value.specs.declared.value.Expr.{Expr, Token, Form', Row_of-Expr, end_of-Expr, more_of-Expr, items-the_row-Expr, items_hidden-the_row-Expr-0}
 use Rattle.bz_value.specs.declared.value.Expr.TheVariants as e
-use Rattle.bz_value.specs.Frames.{frame, Frame, sequence, has_brackets}
-use Rattle.bz_layout.specs.Flags.{settled_split, with_flags, each_with_flags}
-use Rattle.bz_rule.specs.Values.{has_kind, has_class, text_of, parts_of, items_of, with_parts, with_items, above, with_above}
 pub use Rattle.bz_rule.proofs.Opened.{made, own_parts, own_items}
-use Rattle.bz_passes.specs.Passes.{quotes_in, each_on_strings, with_double}
 use Rattle.bz_passes.proofs.Keeping.{both}
-use Rattle.bz_grammar.specs.declared.kind.Kind.TheVariants as k
-use Rattle.bz_rule.proofs.Forms.{fronts_Form}
 
 -- ---- the rows of a form
 

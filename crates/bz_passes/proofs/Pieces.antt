@@ -1,18 +1,5 @@
 -- Pieces of a file that no load is sorted across are tidied apart, and windows of a tidy file by themselves.
-use Rattle.std.proofs.Common.{◌||◌, ℕ, zero, suc, ◌+◌, ◌-◌, ◌<◌, ◌≤◌, get_or, Bool, true, false, ◌&&◌, inl, inr, List, [], ◌∷◌, ◌++◌, ◌≡◌, length, take, drop, refl, sym, ap, ◌∙◌, subst, arith, append_assoc, append-nil, drop_at, length-append, length-drop, length-take-le, take-append-drop, take_at}
-use Rattle.std.proofs.Math.Seq.{take-add}
-use Rattle.std.proofs.lemmas.Bool.{cases_Bool, or_parts}
-use Rattle.std.proofs.lemmas.List.{drop-map, length-map, map-append, take-map}
-use Rattle.std.proofs.lemmas.List.Elements.{All-append, All-drop, All-take}
-use Rattle.std.specs.Option.{option_map_or}
-use Rattle.std.specs.Prelude.{All, slice_get}
-use Rattle.bz_grammar.specs.declared.kind.Kind.TheVariants as k
-use Rattle.bz_passes.specs.Words.{is_empty, Item, Window, AreOver, AreWithin, above, has_kind}
-use Rattle.bz_value.specs.declared.value.Item.TheVariants as i
-use Rattle.bz_passes.specs.Changes.{after_passes}
-use Rattle.bz_passes.specs.Joined.{begins_with_load, item_tidied}
-use Rattle.bz_passes.specs.Passes.{is_run_load, load_precedes, loads, path_precedes, taken, passed}
-use Rattle.bz_passes.specs.private.Borders.{AreSetApart, AreTidied, any_touched, ends_with_load, last_passes, tidied_over, touches}
+use Rattle.bz_passes.proofs.Words.{[], ◌&&◌, ◌++◌, ◌+◌, ◌-◌, ◌<◌, ◌||◌, ◌∙◌, ◌∷◌, ◌≡◌, ◌≤◌, above, after_passes, All, All-append, All-drop, All-take, any_touched, ap, append-nil, append_assoc, AreOver, AreSetApart, AreTidied, AreWithin, arith, begins_with_load, Bool, cases_Bool, drop, drop-map, drop_at, ends_with_load, false, get_or, has_kind, inl, inr, is_empty, is_run_load, Item, Item as i, item_tidied, Kind as k, last_passes, length, length-append, length-drop, length-map, length-take-le, List, load_precedes, loads, map-append, option_map_or, or_parts, passed, path_precedes, refl, slice_get, subst, suc, sym, take, take-add, take-append-drop, take-map, take_at, taken, tidied_over, touches, true, Window, zero, ℕ}
 use Rattle.bz_passes.proofs.Composed.{above_outside, kind_outside, taken_stays}
 use Rattle.bz_passes.proofs.Sorting.{cut_at, Starts, Ordered, ordered_stays, sort_length, sort_ordered}
 use Rattle.bz_passes.proofs.Keeping.{both}

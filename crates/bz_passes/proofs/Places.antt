@@ -1,22 +1,9 @@
 -- Changes at one place of the nodes of one kind, and where the passes go: in the calls of rules, in attributes, in the lists of values. Changes
 -- there keep what a pass leaves.
-use Rattle.std.proofs.Common.{true, false, List, ◌≡◌, refl, sym, ap, ◌∙◌, map, inl, inr, if◌then◌else◌, [], ◌∷◌, nat_eq, None, Option, Some}
-use Rattle.std.proofs.lemmas.Bool.{cases_Bool}
-use Rattle.bz_passes.specs.Words.{Kind, kind_number, Bytes}
-use Rattle.bz_value.specs.declared.value.Expr.{Expr, Token, Form', Row_of-Expr, end_of-Expr, more_of-Expr, items-the_row-Expr}
-use Rattle.bz_value.specs.Comments.{HostComments}
-use Rattle.bz_layout.specs.Flags.{with_flags, settled_split, each_with_flags}
-use Rattle.bz_rule.proofs.ProperChanges.{by_case, by_test}
-use Rattle.bz_rule.specs.Values.{has_kind, above, parts_of, items_of, with_items, with_parts, on_items, on_row, on_first, on_third, first_text, on_lists}
-use Rattle.bz_passes.specs.Passes.{quotes_in, rule_kind, of_rule, on_call, on_rule_arguments, on_attribute}
+use Rattle.bz_passes.proofs.Words.{[], ◌∙◌, ◌∷◌, ◌≡◌, above, ap, by_case, by_test, Bytes, cases_Bool, Class as c, dotted_name, dotted_name_Form, each_with_flags, end_of-Expr, Expr, false, first_text, Form', frame, has_kind, HostComments, if◌then◌else◌, inl, inr, items-the_row-Expr, items_of, Kind, Kind as k, kind_number, List, map, more_of-Expr, nat_eq, None, of_rule, on_attribute, on_call, on_first, on_items, on_lists, on_row, on_rule_arguments, on_third, Option, parts_of, quotes_in, refl, Row_of-Expr, rule_kind, settled_split, Some, sym, Token, true, with_flags, with_items, with_parts}
 use Rattle.bz_passes.proofs.Keeping.{Keeps, Settles, both, first_composed, maps_composed, test_composed, third_composed, map_keeps, map_settles, first_settles, first_keeps_map, map_keeps_first, third_settles, third_keeps_map, map_keeps_third, test_settles, keeps_tested, tested_keeps}
 use Rattle.bz_passes.proofs.Parts.{Place, kind_flags, made, the_parts, the_items, text_flags, above_flags, parts_flags, parts_filled, parts_with_items}
-use Rattle.bz_token.specs.declared.class.Class.TheVariants as c
-use Rattle.bz_grammar.specs.declared.kind.Kind.TheVariants as k
-use Rattle.bz_value.specs.Frames.{frame}
-use Rattle.bz_rule.specs.Rules.{text_in, dotted, joined, dotted_name, with_names}
-use Rattle.bz_rule.specs.private.Named.{each_named}
-use Rattle.bz_rule.proofs.Forms.{dotted_name_Form}
+use Rattle.bz_rule.specs.{Rules.text_in, Rules.dotted, Rules.joined, Rules.with_names, private.Named.each_named}
 use Rattle.std.proofs.lemmas.Map.Views.{exact_unsigned_eq}
 
 module _ (place : Place) where

@@ -1,30 +1,11 @@
 -- Each pass keeps the values of BUILD files proper.
-use Rattle.std.specs.Prelude.{All, Option, Some, None}
-use Rattle.std.proofs.Common.{Bool, List, true, false, ◌≡◌, refl, inl, inr, map, subst}
-use Rattle.std.proofs.lemmas.List.Elements.{All-from_recursion, recursion_from_All, All-map, All-weaker}
-use Rattle.bz_grammar.specs.Shapes.{Nonterminal, is_class}
-use Rattle.bz_value.specs.declared.value.Expr.{Expr, Token, Form', Row_of-Expr, end_of-Expr, more_of-Expr, items-the_row-Expr}
-use Rattle.bz_value.specs.Comments.{HostComments}
+use Rattle.bz_passes.proofs.Words.{◌≡◌, above, All, All-from_recursion, All-map, All-weaker, any_marked, AreComments, argument_precedes, arguments_in, Bool, build_grammar as build, by_test, Bytes, cases_Bool, Class as c, comments_of, each_on_strings, EachStays, end_of-Expr, Expr, false, first_stays, first_text, flags_proper, Form', has_class, has_kind, HostComments, inl, inr, is_class, is_label_attribute, is_sorted, IsComment, IsProperIn, IsProperItemIn, Item, Item as i, items-the_row-Expr, items_stay, Kind as k, labelled, labels_in, leave_alone, List, lists_in, lists_stay, load_precedes, loads, map, more_of-Expr, None, of_rule, on_assigned, on_attribute, on_call, on_first, on_items, on_label_value, on_list_value, on_lists, on_rule_arguments, on_statement, on_taken, on_third, Option, parts_of, passed, quotes_in, recursion_from_All, refl, Row_of-Expr, row_stays, rule_kind, settled_list, shorter_string, Some, sort_by, Stays, string_in_place, subst, symbol_precedes, symbols_in, taken, text_of, third_stays, Token, true, with_above, with_double, with_text}
+use Rattle.bz_grammar.specs.{Shapes.Nonterminal, Spots.Begins}
 use Rattle.bz_value.specs.Commented.{with_comments}
-use Rattle.bz_passes.specs.Words.{Bytes, above, with_above, has_kind, has_class, text_of, parts_of, with_text, on_items, on_first, on_third, first_text, on_lists, is_sorted, is_label_attribute, Item}
-use Rattle.bz_value.specs.LineShapes.{build_grammar as build}
-use Rattle.bz_value.specs.Proper.{IsComment, AreComments, comments_of, IsProperItemIn, IsProperIn}
-use Rattle.bz_passes.specs.Lists.{settled_list, any_marked}
 use Rattle.bz_rule.proofs.ProperSequences.{IsItem, Keeps, where_true, list_in_place, call_in_place, load_in_place}
-use Rattle.bz_passes.proofs.Listed.{settled_all}
-use Rattle.std.proofs.lemmas.Bool.{cases_Bool}
-use Rattle.bz_token.specs.declared.class.Class.TheVariants as c
-use Rattle.bz_grammar.specs.declared.kind.Kind.TheVariants as k
+use Rattle.bz_passes.proofs.{Listed.settled_all, ProperStrings.double_string, ProperStrings.shorter_is_string, Sorting.sort_all}
 use Rattle.bz_grammar.specs.Shapes as s
-use Rattle.bz_grammar.specs.Spots.{Begins}
-use Rattle.bz_value.specs.declared.value.Item.TheVariants as i
-use Rattle.bz_layout.proofs.FlaggedProper.{flags_proper}
-use Rattle.bz_passes.specs.Sorting.{sort_by}
-use Rattle.bz_passes.specs.Passes.{on_statement, taken, on_taken, rule_kind, of_rule, on_call, on_rule_arguments, on_attribute, quotes_in, each_on_strings, labelled, labels_in, on_label_value, on_list_value, on_assigned, lists_in, argument_precedes, arguments_in, symbol_precedes, symbols_in, load_precedes, loads, passed, with_double, shorter_string, leave_alone}
 use Rattle.bz_rule.proofs.ProperForms.{InPlace, itself, EachInPlace, none, both, all_itself, each_mapped, lists_in_place, build_plain}
-use Rattle.bz_rule.proofs.ProperChanges.{by_test, Stays, EachStays, row_stays, items_stay, first_stays, third_stays, lists_stay, string_in_place}
-use Rattle.bz_passes.proofs.ProperStrings.{double_string, shorter_is_string}
-use Rattle.bz_passes.proofs.Sorting.{sort_all}
 
 -- an item with other comments
 with_item : (nonterminal : Nonterminal) (x : Expr) (comments : HostComments) → AreComments comments → IsItem build nonterminal x → IsItem build nonterminal (with_comments x comments)

@@ -1,27 +1,8 @@
 -- A string with double quote marks is the same string, and one with a shorter label means the same label; both are strings again.
-use Rattle.std.proofs.Common.{suc, ◌+◌, ◌-◌, ◌*◌, true, false, not, ◌&&◌, ◌||◌, [], ◌∷◌, ◌++◌, ◌≡◌, refl, sym, ap, ◌∙◌, subst, if◌then◌else◌, inl, inr, length, take, drop, replicate, arith, length-append, ℕ, zero, get_or, ◌<◌, Bool, append_assoc, append-nil, true≢false}
-use Rattle.std.specs.Prelude.{ℕ, nat_eq, nat_le, bytes_eq}
-use Rattle.std.proofs.Math.Seq.{take-append_seam, get_or-append_seam, take_at}
-use Rattle.std.proofs.lemmas.Bool.{cases_Bool, and_parts, not-true, or_parts, true≢false, or_from}
-use Rattle.std.proofs.lemmas.Bool.Decides.{nat_tests}
-use Rattle.std.proofs.lemmas.List.Folds.{list_any-append}
-use Rattle.std.proofs.lemmas.Slice.Eq.{bytes_eq-Decides}
-use Rattle.bz_token.specs.Lexemes.{IsShort, short_plain, short_taken, short_line, IsLong, IsQuoted, single, triple, IsString, is_prefix, short_end, long_end, long_plain}
-use Rattle.bz_label.specs.Shorter.{unrepeated, before_colon, after_colon, is_repeated}
-use Rattle.bz_label.proofs.Repeats.{is_unrepeated}
-use Rattle.bz_label.proofs.Shorter.{unrepeated_same}
-use Rattle.bz_passes.specs.Words.{Bytes, apostrophe, backslash, quotation_mark, inner, is_plain_in}
-use Rattle.bz_rule.specs.QuoteMarks.{begins_thrice, is_quote_mark, inside, marks_of}
-use Rattle.bz_passes.specs.Programs.{IsSameString, IsUnescaped, itself, turned, turned_thrice, IsSameLabel, unchanged, renamed}
-use Rattle.std.specs.List.{list_any}
-use Rattle.std.specs.Str.{IsUtf8}
-use Rattle.std.proofs.lemmas.List.{append_cancel_right}
+use Rattle.bz_passes.proofs.Words.{[], ◌&&◌, ◌*◌, ◌++◌, ◌+◌, ◌-◌, ◌<◌, ◌||◌, ◌∙◌, ◌∷◌, ◌≡◌, after_colon, and_parts, ap, apostrophe, append-nil, append_assoc, append_cancel_right, arith, backslash, before_colon, begins_single, begins_thrice, Bool, by_case, by_test, Bytes, bytes_eq, bytes_eq-Decides, cases_Bool, drop, false, get_or, get_or-append_seam, has_character, if◌then◌else◌, in_double, inl, inner, inr, inside, is_colon, is_plain_in, is_prefix, is_quote_mark, is_repeated, is_unrepeated, IsLong, IsQuoted, IsSameLabel, IsSameString, IsShort, IsString, IsUnescaped, IsUtf8, itself, length, length-append, list_any, list_any-append, long_end, long_plain, marks_of, nat_eq, nat_le, nat_tests, not, not-true, or_from, or_parts, quotation_mark, refl, renamed, replicate, short_end, short_line, short_plain, short_taken, shorter_string, single, Strung, subst, suc, sym, take, take-append_seam, take_at, triple, true, true≢false, turned, turned_thrice, unchanged, unrepeated, unrepeated_same, with_double, zero, ℕ}
 use Rattle.std.proofs.lemmas.Str.{IsUtf8-append, IsUtf8-from_ascii, IsUtf8-take, IsUtf8-drop, IsCharBoundary-before_ascii, IsCharBoundary-after_ascii}
 use Rattle.bz_token.specs.Bytes.{is_quote}
-use Rattle.bz_label.specs.Pieces.{is_colon}
 use Rattle.bz_passes.proofs.Keeping.{same_first, same_after}
-use Rattle.bz_rule.proofs.ProperChanges.{Strung, by_case, by_test}
-use Rattle.bz_passes.specs.Passes.{begins_single, has_character, in_double, with_double, shorter_string}
 
 -- ---- texts without double marks and backslashes
 

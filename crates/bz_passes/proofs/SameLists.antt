@@ -1,25 +1,6 @@
 -- A list that is sorted holds the strings that it held, and each pass changes no more of a program than it may.
-use Rattle.std.proofs.Common.{suc, Bool, true, ◌&&◌, List, [], ◌∷◌, ◌++◌, ◌≡◌, ◌⊎◌, refl, sym, ap, map, subst, inl, inr, arith}
-use Rattle.std.specs.Prelude.{Contains, bytes_eq}
-use Rattle.std.specs.List.{list_any, list_all, AllByRecursion}
-use Rattle.std.specs.List.Sorted.{IsPermutation}
-use Rattle.std.proofs.lemmas.Bool.{cases_Bool, and_parts}
-use Rattle.std.proofs.lemmas.List.Elements.{All-from_recursion}
-use Rattle.std.proofs.lemmas.List.Sorted.{IsPermutation-refl, IsPermutation-cons, IsPermutation-map, IsPermutation-middle, IsPermutation-sym, IsPermutation-trans}
-use Rattle.std.proofs.lemmas.Slice.Eq.{bytes_eq-Decides}
-use Rattle.bz_token.specs.declared.class.Class.TheVariants as c
-use Rattle.bz_passes.specs.Words.{Expr, Token, Form', Bytes, has_class, text_of, above, with_above, has_kind, Item}
-use Rattle.bz_rule.proofs.ProperChanges.{by_case}
-use Rattle.bz_passes.specs.Sorting.{sort_by, IsSorting, IsSortingByRuns}
-use Rattle.bz_passes.specs.Lists.{is_taken, precedes, has_no_comment, without_repeats, in_order, without_marks, marked_by, sorted, settled_list, keep_marks, other_comments}
-use Rattle.bz_passes.specs.Programs.{HoldsTheStrings, IsSameList, PassesKeepProgram}
-use Rattle.bz_passes.proofs.Listed.{text_above, settled_anyway}
-use Rattle.bz_passes.proofs.Sorting.{sort_same}
-use Rattle.bz_grammar.specs.declared.kind.Kind.TheVariants as k
-use Rattle.bz_passes.specs.Passes.{argument_precedes, is_run_load, loads, name_precedes, path_precedes, symbol_precedes, on_taken, quotes_in, labels_in, lists_in, arguments_in, symbols_in, passed, shorter_string, with_double}
-use Rattle.bz_passes.proofs.SameSyntax.{flags_program}
-use Rattle.bz_passes.proofs.ProperStrings.{double_same, shorter_same}
-use Rattle.bz_passes.proofs.Stable.{sorting_is_the_one}
+use Rattle.bz_passes.proofs.Words.{[], ◌&&◌, ◌++◌, ◌∷◌, ◌≡◌, ◌⊎◌, above, All-from_recursion, AllByRecursion, and_parts, ap, argument_precedes, arguments_in, arith, Bool, by_case, Bytes, bytes_eq, bytes_eq-Decides, cases_Bool, Class as c, Contains, Expr, Form', has_class, has_kind, has_no_comment, HoldsTheStrings, in_order, inl, inr, is_run_load, is_taken, IsPermutation, IsPermutation-cons, IsPermutation-map, IsPermutation-middle, IsPermutation-refl, IsPermutation-sym, IsPermutation-trans, IsSameList, IsSorting, IsSortingByRuns, Item, keep_marks, Kind as k, labels_in, List, list_all, list_any, lists_in, loads, map, marked_by, name_precedes, on_taken, other_comments, passed, PassesKeepProgram, path_precedes, precedes, quotes_in, refl, settled_list, shorter_string, sort_by, sorted, subst, suc, sym, symbol_precedes, symbols_in, text_of, Token, true, with_above, with_double, without_marks, without_repeats}
+use Rattle.bz_passes.proofs.{Listed.text_above, Listed.settled_anyway, Sorting.sort_same, SameSyntax.flags_program, ProperStrings.double_same, ProperStrings.shorter_same, Stable.sorting_is_the_one}
 
 abbrev texts : List Expr → List Bytes
 texts xs = map text_of xs

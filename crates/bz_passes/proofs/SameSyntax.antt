@@ -1,15 +1,7 @@
 -- Settled flags change nothing that a compiler reads.
-use Rattle.std.proofs.Common.{false, List, [], ◌∷◌, ◌≡◌, refl, ap, ◌∙◌, map}
-use Rattle.bz_value.specs.declared.value.Form.{Form}
-use Rattle.bz_value.specs.declared.value.Expr.{Expr, Token, Form', Row_of-Expr, end_of-Expr, more_of-Expr, items-the_row-Expr}
+use Rattle.bz_passes.proofs.Words.{[], ◌∙◌, ◌∷◌, ◌≡◌, ap, each_syntax, each_with_flags, end_of-Expr, Expr, false, flags, Form, Form', frame, Item, Item as i, items-the_row-Expr, List, map, more_of-Expr, no_comments, program, refl, Row_of-Expr, settled_split, syntax_of, Token, with_flags}
 use Rattle.bz_value.specs.declared.value.Expr.TheVariants as e
-use Rattle.bz_passes.specs.Words.{Item, no_comments}
-use Rattle.bz_value.specs.declared.value.Item.TheVariants as i
-use Rattle.bz_value.specs.Frames.{frame}
-use Rattle.bz_layout.specs.Flags.{settled_split, with_flags, each_with_flags, flags}
-use Rattle.bz_passes.specs.Syntax.{syntax_of, each_syntax, program}
-use Rattle.bz_passes.proofs.Keeping.{both}
-use Rattle.bz_passes.proofs.Parts.{made, parts_after, items_after, parts_are, items_are}
+use Rattle.bz_passes.proofs.{Keeping.both, Parts.made, Parts.parts_after, Parts.items_after, Parts.parts_are, Parts.items_are}
 
 syntax_row : (m : _) (r : Row_of-Expr m) → each_syntax r ≡ map syntax_of (items-the_row-Expr m r)
 syntax_row m end_of-Expr = refl

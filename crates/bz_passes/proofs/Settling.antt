@@ -1,26 +1,12 @@
 -- Labels, lists and arguments are changed in one walk. The passes settle: each leaves what it left as it is, and later ones keep that. So
 -- tidying settles.
-use Rattle.std.proofs.Common.{Bool, true, false, not, ◌&&◌, Option, Some, None, bytes_eq, codes, is_some, true≢false, List, ◌≡◌, refl, sym, ap, ◌∙◌, map, inl, inr, if◌then◌else◌, subst}
-use Rattle.std.proofs.lemmas.Bool.{cases_Bool}
-use Rattle.bz_grammar.specs.declared.kind.Kind.TheVariants as k
-use Rattle.bz_label.specs.Tables.{is_in, is_label_attribute, is_sorted, sorted_attributes}
-use Rattle.bz_passes.specs.Words.{Expr, Bytes, is_text, bytes_order, Item, is_empty, with_flags, item_with_flags, flags, between, local_name}
-use Rattle.bz_rule.specs.Values.{above, has_kind, on_first, on_lists, on_third, text_of, parts_of, items_of, with_parts, on_rest, first_text}
-use Rattle.bz_passes.specs.Changes.{after_passes, arguments_changed, attribute_changed, labels_changed, list_changed, lists_and_arguments}
-use Rattle.bz_passes.specs.Sorting.{sort_by}
-use Rattle.bz_passes.specs.Lists.{settled_list, any_marked}
-use Rattle.bz_passes.specs.Passes.{argument_precedes, arguments_in, labelled, labels_in, lists_in, of_rule, on_assigned, on_attribute, on_call, on_label_value, on_list_value, on_rule_arguments, quotes_in, symbols_in, taken, on_statement, on_taken, argument_order, name_precedes, symbol_precedes, path_order, path_precedes, is_run_load, load_path, load_precedes, loads, passed, leave_alone, shorter_string}
+use Rattle.bz_passes.proofs.Words.{◌&&◌, ◌∙◌, ◌≡◌, above, after_passes, any_marked, ap, argument_order, argument_precedes, arguments_changed, arguments_in, attribute_changed, between, Bool, Bytes, bytes_eq, bytes_order, cases_Bool, Class as c, codes, Expr, false, first_text, flags, fun_ext, has_kind, if◌then◌else◌, inl, inr, is_empty, is_label_attribute, is_lt, is_run_load, is_some, is_sorted, is_text, Item, Item as i, item_tidied, item_with_flags, items_of, Kind as k, labelled, labels_changed, labels_in, leave_alone, List, list_changed, lists_and_arguments, lists_in, load_path, load_precedes, loads, local_name, map, name_precedes, name_ranks, None, not, of_rule, on_assigned, on_attribute, on_call, on_first, on_label_value, on_list_value, on_lists, on_rest, on_rule_arguments, on_statement, on_taken, on_third, Option, parts_of, passed, path_order, path_precedes, path_ranks, quotes_in, refl, settled_list, shorter_string, Some, sort_by, subst, sym, symbol_precedes, symbols_in, taken, text_of, true, true≢false, with_flags, with_parts}
+use Rattle.bz_label.specs.Tables.{is_in, sorted_attributes}
 use Rattle.bz_passes.proofs.Composed.{kind_outside, labels_stay, above_outside, five_composed, passes_stay}
 use Rattle.bz_passes.proofs.Keeping.{maps_composed, Keeps, Settles, both, map_keeps, map_settles, third_settles, third_keeps_map, map_keeps_third, after_settles, after_keeps_map, map_keeps_after, test_settles, keeps_tested, tested_keeps}
 use Rattle.bz_passes.proofs.Places.{at_other, kind_within, above_put, within_settles, within_quoted, flags_within, within_other, attribute_composed, differ, lists_composed, rule_composed, rule_settles, rule_quoted, rule_flags, attribute_settles, attribute_quoted, attribute_flags, first_flags, first_part_flags, lists_settle, lists_quoted, lists_flags}
 use Rattle.bz_passes.proofs.Parts.{the_parts, the_items, kind_flags, class_flags, text_flags, comments_flags, above_flags, under_flags, under_quoted, items_flags}
 use mathlib.Core.List.{map-map}
-use Rattle.std.proofs.Math.Path.{fun_ext}
-use Rattle.std.specs.Ordering.{is_lt}
-use Rattle.bz_token.specs.declared.class.Class.TheVariants as c
-use Rattle.bz_value.specs.declared.value.Item.TheVariants as i
-use Rattle.bz_passes.specs.Joined.{item_tidied}
-use Rattle.bz_passes.specs.private.Ranks.{name_ranks, path_ranks}
 use Rattle.bz_passes.proofs.Ranks.{symbol_ranks}
 use Rattle.bz_passes.proofs.Sorting.{compared_one_way, sort_settles, sort_keeps, sort_map, map_keeps_sort}
 use Rattle.bz_passes.proofs.Listed.{list_settles, list_keeps, keeps_list}

@@ -1,17 +1,5 @@
 -- One item that came in a tidy file, tidied by itself and moved to its place among the loads, makes the whole tidy.
-use Rattle.std.proofs.Common.{ℕ, zero, suc, ◌+◌, ◌-◌, ◌≤◌, ◌<◌, ◌⊎◌, ◌&&◌, inl, inr, true, false, not, get_or, List, [], ◌∷◌, ◌++◌, ◌≡◌, length, take, drop, refl, sym, ap, ◌∙◌, subst, arith, append_assoc, append-nil, drop-drop, drop_at, length-append, length-drop, length-take-le, take-append-drop, take-take, take_at}
-use Rattle.std.proofs.lemmas.Bool.{and_left, and_parts, and_right, cases_Bool, not-false, not-true, true_from_ne_false, true≢false}
-use Rattle.std.proofs.lemmas.List.{drop-append-le, get_or-drop, take_more}
-use Rattle.std.proofs.lemmas.List.Elements.{All-append, All-drop, All-from_recursion, All-take, recursion_from_All}
-use Rattle.std.specs.List.{AllByRecursion, AllWithin}
-use Rattle.std.specs.List.Sorted.{IsPartitionPoint, IsPartitionedBy}
-use Rattle.bz_passes.specs.Words.{Item, Window, AreOver, AreWithin}
-use Rattle.bz_value.specs.Proper.{IsProper, IsProperItem}
-use Rattle.bz_passes.specs.Joined.{item_tidied}
-use Rattle.bz_passes.specs.Sorting.{insert_by, sort_by}
-use Rattle.bz_passes.specs.Passes.{is_run_load, load_precedes, loads, path_precedes, passed}
-use Rattle.bz_passes.specs.private.Ranks.{path_ranks}
-use Rattle.bz_passes.specs.private.Borders.{AreLoads, AreTidied, IsStillToTidy, ends_with_load, tidied_over, AreInOrder, IsMoved, IsPlaceBack, IsPlaceOf, first_precedes, one_at, precedes_last}
+use Rattle.bz_passes.proofs.Words.{[], ◌&&◌, ◌++◌, ◌+◌, ◌-◌, ◌<◌, ◌∙◌, ◌∷◌, ◌≡◌, ◌≤◌, ◌⊎◌, All-append, All-drop, All-from_recursion, All-take, AllByRecursion, AllWithin, and_left, and_parts, and_right, ap, append-nil, append_assoc, AreInOrder, AreLoads, AreOver, AreTidied, AreWithin, arith, cases_Bool, drop, drop-append-le, drop-drop, drop_at, ends_with_load, false, first_precedes, get_or, get_or-drop, inl, inr, insert_by, is_run_load, IsMoved, IsPartitionedBy, IsPartitionPoint, IsPlaceBack, IsPlaceOf, IsProper, IsProperItem, IsStillToTidy, Item, item_tidied, length, length-append, length-drop, length-take-le, List, load_precedes, loads, not, not-false, not-true, one_at, passed, path_precedes, path_ranks, precedes_last, recursion_from_All, refl, sort_by, subst, suc, sym, take, take-append-drop, take-take, take_at, take_more, tidied_over, true, true_from_ne_false, true≢false, Window, zero, ℕ}
 use Rattle.bz_passes.proofs.Keeping.{both}
 use Rattle.bz_passes.proofs.Pieces.{InOrder, IsTidy, back_stays, each_between, front_stays, last_of_more, ordered_drop, ordered_take, over_still, over_within, passed_alone, tidy_is}
 use Rattle.bz_passes.proofs.Settling.{by_items, each, item_settles}

@@ -1,21 +1,7 @@
 -- What stable sorting leaves, keeps and passes on; and what no item passes cuts a list, and each piece is sorted by itself.
-use Rattle.std.proofs.Common.{ℕ, ◌+◌, ◌&&◌, Bool, true, false, not, List, [], ◌∷◌, ◌≡◌, refl, sym, ap, ◌∙◌, length, map, inl, inr, ◌-◌, ◌<◌, ◌≤◌, ◌++◌, ap₂, subst, if◌then◌else◌, arith, take, drop, get_or, slice_range, append_assoc, append-nil, drop-drop, drop_at, length-append, length-take-le, take-append-drop, take_at}
-use Rattle.std.proofs.lemmas.Bool.{and_parts, and_right, cases_Bool, not-true, and_left}
-use Rattle.std.proofs.lemmas.List.Elements.{All-from_recursion, recursion_from_All}
-use Rattle.std.proofs.lemmas.List.Sorted.{All-permutation, IsPermutation-cons, IsPermutation-middle, IsPermutation-refl, IsPermutation-trans, length_permutation, sum_by-IsPermutation}
-use Rattle.std.proofs.lemmas.List.Sums.{sum_by-cons}
-use Rattle.std.specs.Cmp.{IsStrictWeakOrder}
-use Rattle.std.specs.List.{AllByRecursion}
-use Rattle.std.specs.List.Sorted.{IsPermutation}
-use Rattle.std.specs.Prelude.{sum_by}
-use Rattle.bz_passes.specs.Words.{total, on_rest}
-use Rattle.bz_rule.proofs.ProperChanges.{by_case, by_test}
-use Rattle.bz_passes.specs.Sorting.{insert_by, sort_by}
-use Rattle.bz_passes.specs.private.Repeats.{Climbs}
+use Rattle.bz_passes.proofs.Words.{[], ◌&&◌, ◌++◌, ◌+◌, ◌-◌, ◌<◌, ◌∙◌, ◌∷◌, ◌≡◌, ◌≤◌, All-from_recursion, All-permutation, AllByRecursion, and_left, and_parts, and_right, ap, append-nil, append_assoc, ap₂, arith, Bool, by_case, by_test, cases_Bool, Climbs, drop, drop-drop, drop_all, drop_at, drop_more, false, get_or, if◌then◌else◌, inl, inr, insert_by, IsPermutation, IsPermutation-cons, IsPermutation-middle, IsPermutation-refl, IsPermutation-trans, IsStrictWeakOrder, length, length-append, length-take-le, length_permutation, List, map, not, not-true, on_rest, put_mid, recursion_from_All, refl, slice_range, sort_by, subst, sum_by, sum_by-IsPermutation, sym, take, take-append-drop, take_all, take_at, total, true, ℕ}
+use Rattle.std.proofs.{lemmas.List.Sums.sum_by-cons, lemmas.List.Edits.length-between}
 use Rattle.bz_passes.proofs.Keeping.{Keeps, Settles, both, same_first, same_after}
-use borrow.Rule.Slice.PartMut.{put_mid}
-use Rattle.std.proofs.lemmas.List.{drop_all, drop_more, take_all}
-use Rattle.std.proofs.lemmas.List.Edits.{length-between}
 
 -- ---- items that change places
 

@@ -1,27 +1,9 @@
 -- The sorted list is the one that is in order and stable: so whatever sorts stably gives it; insertion does, and goes run by run.
-use Rattle.std.proofs.Common.{suc, ◌+◌, Bool, true, false, not, List, [], ◌∷◌, ◌≡◌, refl, sym, ap, ◌∙◌, subst, inl, inr, arith, get_or, length, if◌then◌else◌, ◌++◌, append_assoc}
-use Rattle.std.proofs.lemmas.Bool.{and_parts, cases_Bool, false_from_ne_true, not-true, true≢false}
-use Rattle.std.specs.List.{filter, AllAdjacentBelow, AllByRecursion, IsAllAdjacentAnswer}
-use Rattle.std.specs.List.Sorted.{IsSortedBy, IsStableBy, ties}
-use Rattle.std.specs.Cmp.{IsStrictWeakOrder}
+use Rattle.bz_passes.proofs.Words.{[], ◌++◌, ◌+◌, ◌∙◌, ◌∷◌, ◌≡◌, all_kept, AllAdjacentBelow, AllByRecursion, and_parts, answers_always, ap, append_assoc, arith, Bool, Bor, by_case, cases_Bool, Climbs, false, false_from_ne_true, filter, get_or, GivesTheOne, has_kind, if◌then◌else◌, inl, inr, insert_by, is_lt, is_run_load, IsAllAdjacentAnswer, IsSortedBy, IsSorting, IsSortingByRuns, IsStableBy, IsStrictWeakOrder, Kind as k, length, List, name_precedes, name_ranks, next_run, NoneBefore, not, not-true, one_run, Ordering, path_precedes, path_ranks, precedes, refl, Rises, sort_by, SortingIsTheOne, subst, suc, sym, symbol_precedes, ties, true, true≢false}
 use Rattle.std.specs.Fn.{Called, ComparesAs, ComputesOnPairs}
-use Rattle.std.specs.Ordering.{is_lt}
-use Rattle.std.specs.declared.cmp.Ordering.{Ordering}
-use denote.Ref.{Bor}
 use denote.Param.Members.{Mut}
-use Rattle.std.proofs.lemmas.List.Sorted.{answers_always}
-use Rattle.bz_passes.specs.Sorting.{insert_by, sort_by, NoneBefore, Rises, IsSorting, IsSortingByRuns, one_run, next_run, GivesTheOne}
-use Rattle.bz_passes.specs.private.Repeats.{Climbs}
-use Rattle.bz_rule.proofs.ProperChanges.{by_case}
-use Rattle.bz_rule.proofs.ProperItems.{all_kept}
 use Rattle.bz_passes.proofs.Keeping.{both, same_first, same_after, all_joined}
 use Rattle.bz_passes.proofs.Sorting.{insert_all, cut_at, run_sorted, compared, sort_same}
-use Rattle.bz_grammar.specs.declared.kind.Kind.TheVariants as k
-use Rattle.bz_rule.specs.Values.{has_kind}
-use Rattle.bz_passes.specs.Laws.{SortingIsTheOne}
-use Rattle.bz_passes.specs.Lists.{precedes}
-use Rattle.bz_passes.specs.Passes.{is_run_load, name_precedes, path_precedes, symbol_precedes}
-use Rattle.bz_passes.specs.private.Ranks.{name_ranks, path_ranks}
 use Rattle.bz_passes.proofs.Ranks.{item_ranks, symbol_ranks}
 
 module _ {X : Type 0} (lt : X → X → Bool) (o : IsStrictWeakOrder lt) where

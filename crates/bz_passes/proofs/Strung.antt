@@ -1,24 +1,8 @@
 -- Double quote marks and labels without a repeated name: given again they change nothing, and a shorter label keeps its quote marks.
-use Rattle.std.proofs.Common.{ℕ, Bool, true, false, not, ◌&&◌, ◌||◌, [], ◌∷◌, ◌++◌, ◌≡◌, refl, sym, ap, ◌∙◌, inl, inr, Option, Some, None, length, codes, if◌then◌else◌, take, zero, suc, ◌≤◌, arith, replicate}
-use Rattle.std.specs.Prelude.{nat_eq, nat_le, bytes_eq}
-use Rattle.std.specs.Option.{option_map_or}
-use Rattle.std.proofs.lemmas.Bool.{cases_Bool, or_from, or_parts, true≢false, and_from, and_parts}
+use Rattle.bz_passes.proofs.Words.{[], ◌&&◌, ◌++◌, ◌||◌, ◌∙◌, ◌∷◌, ◌≡◌, ◌≤◌, after_colon, after_slashes, and_from, and_parts, ap, apostrophe, append_cancel_right, arith, backslash, before_colon, before_slashes, begins_single, begins_thrice, body, Bool, Bytes, bytes_eq, bytes_eq-Decides, cases_Bool, codes, false, has_character, has_slash, if◌then◌else◌, in_double, inl, inner, inr, is_at, is_colon, is_joined, is_plain_in, is_present, is_repeated, is_unrepeated, last_piece, length, list_any-append, marks_of, nat_eq, nat_le, None, not, Option, option_map_or, or_from, or_parts, quotation_mark, refl, replicate, shorter_string, Some, suc, sym, take, the_unrepeated, true, true≢false, unrepeated, unrepeated_stays, with_double, zero, ℕ}
 use Rattle.std.proofs.lemmas.Option.{same_Some}
-use Rattle.std.proofs.lemmas.Slice.Eq.{bytes_eq-Decides}
-use Rattle.std.proofs.lemmas.List.{append_cancel_right}
-use Rattle.std.proofs.lemmas.List.Folds.{list_any-append}
-use Rattle.bz_passes.specs.Words.{Bytes, apostrophe, backslash, quotation_mark, inner, is_plain_in, body}
-use Rattle.bz_label.specs.Pieces.{is_empty, last_piece, is_joined, is_present, has_slash, is_at, is_colon}
-use Rattle.bz_label.specs.Labels.{is_barred, is_plain, is_path, is_repository_name}
-use Rattle.bz_label.specs.Forms.{is_repository, are_whole}
-use Rattle.bz_label.proofs.Repeats.{is_unrepeated, the_unrepeated}
-use Rattle.bz_label.proofs.Shorter.{unrepeated_stays}
-use Rattle.bz_label.specs.Shorter.{before_colon, after_colon, before_slashes, after_slashes, is_repeated, unrepeated}
-use Rattle.bz_rule.specs.QuoteMarks.{begins_thrice, marks_of}
-use Rattle.bz_passes.proofs.Keeping.{Keeps, Settles, same_first, same_after}
-use Rattle.bz_passes.proofs.ProperStrings.{same_byte}
-use Rattle.std.specs.Str.{bytes_eq}
-use Rattle.bz_passes.specs.Passes.{has_character, begins_single, in_double, with_double, shorter_string}
+use Rattle.bz_label.specs.{Pieces.is_empty, Labels.is_barred, Labels.is_plain, Labels.is_path, Labels.is_repository_name, Forms.is_repository, Forms.are_whole}
+use Rattle.bz_passes.proofs.{Keeping.Keeps, Keeping.Settles, Keeping.same_first, Keeping.same_after, ProperStrings.same_byte}
 
 same_text : (one other : Bytes) → bytes_eq one other ≡ true → one ≡ other
 same_text one other e = (bytes_eq-Decides one other).0 e

@@ -1,31 +1,7 @@
 -- Where a program is kept, each token that is no string occurs as often; and a value that no pass may change leads to no other program.
-use Rattle.std.proofs.Common.{ℕ, ◌+◌, Bool, true, false, ◌&&◌, List, [], ◌∷◌, ◌≡◌, refl, sym, ap, ◌∙◌, if◌then◌else◌, arith, true≢false, codes, inl, inr}
-use Rattle.std.proofs.lemmas.Bool.{cases_Bool}
-use Rattle.std.specs.Prelude.{bytes_eq}
-use Rattle.std.specs.List.{AllByRecursion}
-use Rattle.std.proofs.lemmas.List.Elements.{recursion_from_All}
-use Rattle.bz_passes.specs.Words.{Class, is_class, Item, no_comments, total, Bytes, with_text, on_rest, items_of, on_items, parts_of, text_of}
-use Rattle.bz_token.specs.declared.class.Class.TheVariants as c
-use Rattle.bz_value.specs.declared.value.Form.{Form}
-use Rattle.bz_value.specs.declared.value.Expr.{Expr, Token, Form', Row_of-Expr, end_of-Expr, more_of-Expr, items-the_row-Expr}
+use Rattle.bz_passes.proofs.Words.{[], ◌&&◌, ◌+◌, ◌∙◌, ◌∷◌, ◌≡◌, AllByRecursion, ap, append_total, argument_precedes, arguments_in, arith, Bool, Bytes, bytes_eq, cases_Bool, Class, Class as c, codes, each_syntax, end_of-Expr, Expr, false, Form, Form', fun_ext, has_newer, if◌then◌else◌, inl, inr, is_class, is_taken, IsSameList, IsSameString, IsSortingByRuns, Item, Item as i, items-the_row-Expr, items_of, itself, KeptProgramsKeepTokens, Kind as k, List, loads, more_of-Expr, next_run, no_comments, on_items, on_labels, on_list_values, on_rest, on_rule_arguments, on_taken, one_if_token, one_run, parts_of, PassesKeepProgram, program, recursion_from_All, refl, Row_of-Expr, row_token_sum, short_end, short_plain, single, sort_by, sym, symbol_precedes, symbols_in, syntax_of, text_of, Token, token_sum, token_times, total, true, true≢false, turned, turned_thrice, with_text, ℕ}
 use Rattle.bz_value.specs.declared.value.Expr.TheVariants as e
-use Rattle.bz_value.specs.declared.value.Item.TheVariants as i
-use Rattle.bz_value.proofs.Totals.{append_total}
-use Rattle.bz_passes.specs.Lists.{is_taken}
-use Rattle.bz_passes.specs.Newer.{has_newer}
-use Rattle.bz_passes.specs.Passes.{on_taken, argument_precedes, arguments_in, loads, on_labels, on_list_values, on_rule_arguments, symbol_precedes, symbols_in}
-use Rattle.bz_passes.specs.Programs.{KeptProgramsKeepTokens, PassesKeepProgram, IsSameList, IsSameString, itself, turned, turned_thrice}
-use Rattle.bz_passes.specs.Sorting.{IsSortingByRuns, one_run, next_run, sort_by}
-use Rattle.bz_passes.specs.Syntax.{syntax_of, each_syntax, program, token_sum, row_token_sum, one_if_token, token_times}
-use Rattle.bz_passes.proofs.Keeping.{both, same_after, same_first}
-use Rattle.bz_passes.proofs.Parts.{made, parts_after, items_after, parts_are, items_are}
-use Rattle.bz_passes.proofs.SameLists.{IsText, taken_texts}
-use Rattle.bz_passes.proofs.Sorting.{permuted_total}
-use Rattle.bz_passes.proofs.Counts.{Same, Weighs, strings_same, rule_same, labels_same, list_values_same, symbols_same, taken_total}
-use Rattle.std.proofs.Math.Path.{fun_ext}
-use Rattle.bz_token.specs.Lexemes.{short_end, short_plain, single}
-use Rattle.bz_grammar.specs.declared.kind.Kind.TheVariants as k
-use Rattle.bz_passes.proofs.Stable.{sorting_is_the_one}
+use Rattle.bz_passes.proofs.{Keeping.both, Keeping.same_after, Keeping.same_first, Parts.made, Parts.parts_after, Parts.items_after, Parts.parts_are, Parts.items_are, SameLists.IsText, SameLists.taken_texts, Sorting.permuted_total, Counts.Same, Counts.Weighs, Counts.strings_same, Counts.rule_same, Counts.labels_same, Counts.list_values_same, Counts.symbols_same, Counts.taken_total, Stable.sorting_is_the_one}
 
 -- ---- items that change places
 

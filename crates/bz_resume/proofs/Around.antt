@@ -1,11 +1,5 @@
 -- What is tested on the two sides of a tree is that the record's steps are a trail to texts with the record's digests.
-use Rattle.std.proofs.Common.{ℕ, ◌≡◌, ◌+◌, ◌<◌, List, [], ◌∷◌, ◌++◌, length, map, reverse, take, drop, get_or, refl, sym, ap, ◌∙◌, subst, arith, length-append, length-take-le}
-use Rattle.std.proofs.lemmas.List.{append_assoc, length-map, length-reverse, map-append, reverse-reverse, take_at, drop_at, get_or_at, drop_more, take-append-drop}
-use Rattle.std.proofs.lemmas.Grind.{reverse_onto}
-use Rattle.bz_resume.specs.Words.{sha256, Node, spell_node, Edit, swap_node, Record}
-use Rattle.bz_edit.specs.Trails.{IsTree, LeadOn, steps_back, steps_forward, trees}
-use Rattle.bz_edit.proofs.Keeps.{trees_length}
-use Rattle.bz_resume.specs.private.Agreement.{StepsAgree, StepsAgreeAround, IsCounted, RecordAgrees, edits_of, recorded_trail}
+use Rattle.bz_resume.proofs.Words.{[], ◌++◌, ◌+◌, ◌<◌, ◌∙◌, ◌∷◌, ◌≡◌, ap, append_assoc, arith, drop, drop_at, drop_more, Edit, edits_of, get_or, get_or_at, IsCounted, IsTree, LeadOn, length, length-append, length-map, length-reverse, length-take-le, List, map, map-append, Node, Record, RecordAgrees, recorded_trail, refl, reverse, reverse-reverse, reverse_onto, sha256, spell_node, steps_back, steps_forward, StepsAgree, StepsAgreeAround, subst, swap_node, sym, take, take-append-drop, take_at, trees, trees_length, ℕ}
 
 abbrev digest_of : Node → List ℕ
 digest_of n = sha256 (spell_node n)

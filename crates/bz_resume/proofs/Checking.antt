@@ -1,22 +1,8 @@
 -- A keeping that reads the file first.
-use Rattle.std.proofs.Common.{◌≡◌, ◌≢◌, ◌∙◌, ◌⊎◌, ⊎_elim, ◌≤◌, inl, inr, refl, ap, true, List, ℕ, Some, subst}
-use Rattle.std.proofs.lemmas.Bool.{false≢true}
-use Rattle.std.proofs.lemmas.Result.{on_ok_weaker}
-use Rattle.std.specs.Prelude.{Result, Ok, Err, IsOk, IsErr, IfErr, OnOk, IsErrOf}
-use Rattle.std.specs.FinMap.{get}
-use Rattle.bz_resume.specs.Words.{FileFault, FileStamp, KeepsOrder, Read, Rises, pair_acts, with_act, with_acts, Ghosts as FilesOf}
-use Rattle.bz_files.specs.Folder.{Folder, Text, Elapses, IsUntouched, with_file}
-use Rattle.bz_files.specs.Pair.{AreReplaced, IsChecking, RewritesHeld}
-use Rattle.bz_files.specs.declared.files.FileFault.TheVariants as q
+use Rattle.bz_resume.proofs.Words.{⊎_elim, ◌∙◌, ◌≡◌, ◌≢◌, ◌≤◌, ◌⊎◌, ap, AreReplaced, Elapses, Err, false≢true, FileFault, FileFault as q, FileStamp, Folder, get, Ghosts as FilesOf, IfErr, inl, inr, IsChecking, IsErr, IsErrOf, IsOk, IsUntouched, journal_name, KeepsHeld, KeepsOrder, List, Ok, on_ok_weaker, OnOk, other_stays, pair_acts, PairFault, PairFault as p, Read, reads_back, refl, Result, RewritesHeld, Rises, Some, subst, Survives, true, WhereResuming, with_act, with_acts, with_file, ℕ}
+use Rattle.bz_files.specs.Folder.{Text}
 use Rattle.bz_files.specs.declared.files.FileKind.TheVariants as k
-use Rattle.bz_files.proofs.Acts.{Do, after_look, each}
-use Rattle.bz_files.proofs.Elapsing.{weakened, each_since}
-use Rattle.bz_files.proofs.Folders.{reads_back, other_stays}
-use Rattle.bz_files.proofs.Orders.{Acts, pair_reads, reads_on, reads_one}
-use Rattle.bz_resume.specs.declared.pair_fault.PairFault.{PairFault}
-use Rattle.bz_resume.specs.declared.pair_fault.PairFault.TheVariants as p
-use Rattle.bz_resume.specs.Pair.{journal_name}
-use Rattle.bz_resume.specs.Resuming.{KeepsHeld, Survives, WhereResuming}
+use Rattle.bz_files.proofs.{Acts.Do, Acts.after_look, Acts.each, Elapsing.weakened, Elapsing.each_since, Orders.Acts, Orders.pair_reads, Orders.reads_on, Orders.reads_one}
 use Rattle.bz_resume.proofs.Names.{journal_file, journal_is_old}
 use Rattle.bz_resume.proofs.Surviving.{checked, kept, others_kept, goes_on}
 

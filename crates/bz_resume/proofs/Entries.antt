@@ -1,7 +1,5 @@
 -- Notes and steps side by side, and apart again.
-use Rattle.std.proofs.Common.{◌≡◌, List, [], ◌∷◌, length, refl, ap, arith}
-use Rattle.bz_resume.specs.Words.{Edit, Text, RecordedStep, entries_of}
-use Rattle.bz_resume.specs.private.Agreement.{edits_of, notes_of}
+use Rattle.bz_resume.proofs.Words.{[], ◌∷◌, ◌≡◌, ap, arith, Edit, edits_of, entries_of, length, List, notes_of, RecordedStep, refl, Text}
 
 pub entries_back : (es : List RecordedStep) → entries_of (notes_of es) (edits_of es) ≡ es
 entries_back [] = refl

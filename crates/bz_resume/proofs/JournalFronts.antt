@@ -1,10 +1,5 @@
 -- Each journal, and each that names another version, begins with the same bytes.
-use Rattle.std.proofs.Common.{◌≡◌, ◌∙◌, ◌≤◌, ◌∷◌, ◌++◌, length, take, codes, refl, sym, ap}
-use Rattle.std.proofs.lemmas.List.{take-append-le}
-use Rattle.bz_items.specs.Characters.{line_feed}
-use Rattle.bz_journal_format.specs.declared.content.Version.TheVariants.{One, Two}
-use Rattle.bz_resume.specs.Words.{IsOtherVersion, Record, Text, Version, record_text}
-use Rattle.bz_resume.specs.Journals.{BeginsNoJournal, record_of}
+use Rattle.bz_resume.proofs.Words.{◌++◌, ◌∙◌, ◌∷◌, ◌≡◌, ◌≤◌, ap, BeginsNoJournal, codes, IsOtherVersion, length, line_feed, One, Record, record_of, record_text, refl, sym, take, take-append-le, Text, Two, Version}
 
 marked : (v : Version) (r : Record) → take 10 (record_text v r) ≡ codes "bzjournal "
 marked One r = refl

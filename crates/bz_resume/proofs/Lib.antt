@@ -15,3 +15,4 @@ pub mod Slots
 pub mod Stands
 pub mod Surviving
 pub mod Touched
+mod Words

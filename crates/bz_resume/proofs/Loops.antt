@@ -1,12 +1,5 @@
 -- The loops over steps, and the test of a tree by its spelling.
-use Rattle.std.proofs.Common.{ℕ, ◌≡◌, ◌≤◌, ◌↔◌, Bool, List, [], ◌∷◌, length, sym, ap, ◌∙◌, subst}
-use Rattle.std.specs.Prelude.{IsTrue, MatchOption, Option, Some, None}
-use Rattle.std.specs.Str.{bytes_eq}
-use Rattle.std.proofs.lemmas.Slice.Eq.{bytes_eq-Decides}
-use Rattle.bz_resume.specs.Words.{Node, Reads, spell_node, limit, Edit, swap_node, IsTree}
-use Rattle.bz_grammar.proofs.Unique.{one_tree}
-use Rattle.bz_resume.specs.private.Outlines.{outline_node}
-use Rattle.bz_resume.specs.private.Agreement.{StepAgrees, StepsAgree}
+use Rattle.bz_resume.proofs.Words.{[], ◌↔◌, ◌∙◌, ◌∷◌, ◌≡◌, ◌≤◌, ap, Bool, bytes_eq, bytes_eq-Decides, Edit, IsTree, IsTrue, length, limit, List, MatchOption, Node, None, one_tree, Option, outline_node, Reads, Some, spell_node, StepAgrees, StepsAgree, subst, swap_node, sym, ℕ}
 use Rattle.bz_resume.proofs.Outlined.{one_outline}
 
 -- what was found, or that nothing was

@@ -1,8 +1,6 @@
 -- The names of a file, of its journal, and those under which they are written first, are four.
-use Rattle.std.proofs.Common.{◌≡◌, ◌≢◌, ◌+◌, ap, sym, inl, inr, length, codes, arith, length-append}
-use Rattle.bz_files.specs.Folder.{Text, new_name}
-use Rattle.bz_files.specs.Pair.{IsNew}
-use Rattle.bz_resume.specs.Pair.{journal_name}
+use Rattle.bz_resume.proofs.Words.{◌+◌, ◌≡◌, ◌≢◌, ap, arith, codes, inl, inr, IsNew, journal_name, length, length-append, new_name, sym}
+use Rattle.bz_files.specs.Folder.{Text}
 
 new_length : (name : Text) → length (new_name name) ≡ length name + 6
 new_length name = length-append name (codes ".bznew")

@@ -1,10 +1,6 @@
 -- A record opened, as the code has it.
-use Rattle.std.proofs.Common.{ℕ, ◌≡◌, ◌≤◌, List, length, refl, sym, ◌∙◌, subst}
-use Rattle.std.specs.List.{AllByRecursion}
-use Rattle.bz_resume.specs.Words.{Node, Reads, limit, Edit, IsTree, Text, Record}
-use Rattle.bz_resume.specs.private.Agreement.{StepsAgreeAround, IsCounted, IsOpened, RecordAgrees, MayLead, NoneAgrees, edits_of, notes_of, recorded_trail}
-use Rattle.bz_resume.proofs.Around.{to_whole, from_whole}
-use Rattle.bz_resume.proofs.Paths.{may_lead, trail_all}
+use Rattle.bz_resume.proofs.Words.{◌∙◌, ◌≡◌, ◌≤◌, AllByRecursion, Edit, edits_of, IsCounted, IsOpened, IsTree, length, limit, List, MayLead, Node, NoneAgrees, notes_of, Reads, Record, RecordAgrees, recorded_trail, refl, StepsAgreeAround, subst, sym, Text, ℕ}
+use Rattle.bz_resume.proofs.{Around.to_whole, Around.from_whole, Paths.may_lead, Paths.trail_all}
 
 pub split_none : (r : Record) → (AllByRecursion MayLead (edits_of r.steps) → ⊥) → NoneAgrees r
 split_none r none n reads agrees = none (trail_all MayLead may_lead (recorded_trail r n) agrees.0)

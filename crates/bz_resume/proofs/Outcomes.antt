@@ -1,19 +1,6 @@
 -- What each outcome says of the journals that the bytes may be.
-use Rattle.std.proofs.Common.{ℕ, ◌≡◌, ◌≤◌, List, ◌∷◌, length, map, refl, sym, ap, ◌∙◌, subst, arith, Some, None}
-use Rattle.std.proofs.lemmas.List.{length-map}
-use Rattle.std.specs.Prelude.{IsUtf8, slice_index_or, []}
-use Rattle.std.specs.List.{AllByRecursion}
-use Rattle.bz_resume.specs.Words.{sha256, Node, Reads, spell_node, limit, depth_limit, Edit, Trail, IsTrail, IsSmall, trail_at, Moves, Text, texts_of, RecordedStep, Record, Version, entries_of}
-use Rattle.bz_grammar.proofs.Unique.{one_tree}
-use Rattle.bz_edit.proofs.Keeps.{present_text, texts_length}
-use Rattle.bz_journal_format.specs.declared.content.Version.TheVariants.{One, Two}
-use Rattle.bz_journal_format.specs.Texts.{record_text, short_limit, IsNotedStep, IsNote, IsRecord, IsRead, IsOtherVersion}
-use Rattle.bz_journal_format.proofs.Whole.{one_record}
-use Rattle.bz_journal_format.proofs.Own.{own_version}
-use Rattle.bz_resume.specs.declared.resumed.Resumed.{Resumed}
-use Rattle.bz_resume.specs.Journals.{History, Journal, NoJournal, AreSmall, record_of, stands, text_at}
-use Rattle.bz_resume.specs.private.Agreement.{IsOpened, RecordAgrees, NoneAgrees, edits_of, notes_of, standing_place, recorded_trail}
-use Rattle.bz_resume.specs.Resumed.{IsResumed, IsStale, StandsFor, trail_of}
+use Rattle.bz_resume.proofs.Words.{[], ◌∙◌, ◌∷◌, ◌≡◌, ◌≤◌, AllByRecursion, ap, AreSmall, arith, depth_limit, Edit, edits_of, entries_of, History, IsNote, IsNotedStep, IsOpened, IsOtherVersion, IsRead, IsRecord, IsResumed, IsSmall, IsStale, IsTrail, IsUtf8, Journal, length, length-map, limit, List, map, Moves, Node, NoJournal, None, NoneAgrees, notes_of, One, one_tree, present_text, Reads, Record, record_of, record_text, RecordAgrees, recorded_trail, RecordedStep, refl, Resumed, sha256, short_limit, slice_index_or, Some, spell_node, standing_place, stands, StandsFor, subst, sym, Text, text_at, texts_length, texts_of, Trail, trail_at, trail_of, Two, Version, ℕ}
+use Rattle.bz_journal_format.proofs.{Whole.one_record, Own.own_version}
 use Rattle.bz_resume.proofs.Entries.{entries_back, entries_apart}
 
 -- ---- a record and the journal that it is

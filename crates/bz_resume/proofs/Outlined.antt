@@ -1,17 +1,9 @@
 -- No two nodes have one outline.
-use Rattle.std.proofs.Common.{◌≡◌, ℕ, List, [], ◌∷◌, ◌++◌, Some, refl, sym, ap, ◌∙◌, append_assoc, inl, inr}
-use Rattle.std.specs.List.{flat_map, AllByRecursion}
-use Rattle.std.proofs.lemmas.Option.{same_Some}
-use Rattle.bz_token.specs.declared.class.Class.{Class}
+use Rattle.bz_resume.proofs.Words.{[], ◌++◌, ◌∙◌, ◌∷◌, ◌≡◌, AllByRecursion, ap, append_assoc, class_number, end_of-Part, flat_map, inl, inr, items-the_row-Part, items_of_row, Kind, kind_number, Leaf, leaf_or_node, List, marked, more_of-Part, Node, outline_leaf, outline_list, outline_node, outline_part, outline_row, Part, part_ind, refl, row_of, Row_of-Part, same_Some, Some, sym, ℕ}
+use Rattle.bz_token.specs.{declared.class.Class.Class, Classes.class_of}
 use Rattle.bz_token.specs.declared.class.Class.TheVariants as c
-use Rattle.bz_token.specs.Classes.{class_number, class_of}
-use Rattle.bz_resume.specs.Words.{Leaf, Node, kind_number}
-use Rattle.bz_grammar.specs.declared.kind.Kind.{Kind}
-use Rattle.bz_grammar.specs.declared.tree.Part.{Part, Row_of-Part, end_of-Part, more_of-Part, items-the_row-Part}
 use Rattle.bz_grammar.specs.declared.tree.Part.TheVariants as p
-use Rattle.bz_grammar.proofs.Nested.{row_of, items_of_row, part_ind, leaf_or_node}
 use Rattle.bz_grammar.proofs.Numbers.{same_kind}
-use Rattle.bz_resume.specs.private.Outlines.{outline_list, marked, outline_leaf, outline_node, outline_part, outline_row}
 
 -- ---- a node by the list of its parts
 

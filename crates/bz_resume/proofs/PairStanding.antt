@@ -1,10 +1,6 @@
 -- Where a history is.
-use Rattle.std.proofs.Common.{◌≡◌, sym, refl, true≢false, ℕ, Bool, true, false, Some, None, if◌then◌else◌}
-use Rattle.std.specs.Str.{bytes_eq}
-use Rattle.std.proofs.lemmas.Slice.Eq.{bytes_eq-Decides}
+use Rattle.bz_resume.proofs.Words.{◌≡◌, Bool, bytes_eq, bytes_eq-Decides, false, History, if◌then◌else◌, None, present, refl, Some, stands, sym, text_at, true, true≢false, ℕ}
 use Rattle.bz_files.specs.Folder.{Text}
-use Rattle.bz_resume.specs.Journals.{History, stands, text_at}
-use Rattle.bz_resume.specs.Resuming.{present}
 
 -- the choice by its two tests
 chosen : (now was : Bool) (here there : ℕ) → was ≡ true → (place : ℕ) × ((if now then Some here else (if was then Some there else None)) ≡ Some place)

@@ -1,20 +1,6 @@
 -- A place in a tree is no deeper than the tree, so the steps of a trail have short paths.
-use Rattle.std.proofs.Common.{ℕ, zero, suc, ◌≡◌, ◌≤◌, ◌<◌, true, List, [], ◌∷◌, length, reverse, take, drop, Some, refl, sym, ap, subst, arith}
-use Rattle.std.specs.Prelude.{slice_get, nat_lt, Bool, ◌&&◌}
-use Rattle.std.specs.List.{AllByRecursion, list_all}
-use Rattle.std.proofs.lemmas.Bool.{and_parts, lt-ltb}
-use Rattle.std.proofs.lemmas.Option.{same_Some}
-use Rattle.std.proofs.lemmas.List.{reverse-reverse, take-append-drop}
-use Rattle.std.proofs.lemmas.Grind.{reverse_onto}
-use Rattle.bz_resume.specs.Words.{Node, Part, Edit, all_there, swap_node}
+use Rattle.bz_resume.proofs.Words.{[], ◌&&◌, ◌<◌, ◌∷◌, ◌≡◌, ◌≤◌, all_both, all_there, AllByRecursion, and_parts, ap, arith, Bool, child_found, deepest, depth_limit, depth_Node, depth_part, drop, Edit, has_place, IsTrail, IsTree, LeadOn, length, List, list_all, lt-ltb, MayLead, nat_lt, Node, Part, refl, reverse, reverse-reverse, reverse_onto, same_Some, slice_get, Some, StepLeads, subst, suc, swap_node, sym, take, take-append-drop, Trail, true, zero, ℕ}
 use Rattle.bz_grammar.specs.declared.tree.Part.TheVariants as p
-use Rattle.bz_grammar.specs.Spell.{depth_part, deepest, depth_limit}
-use Rattle.bz_grammar.proofs.Spells.{depth_Node}
-use Rattle.bz_grammar.proofs.Split.{all_both}
-use Rattle.bz_edit.specs.Places.{has_place}
-use Rattle.bz_edit.proofs.Puts.{child_found}
-use Rattle.bz_edit.specs.Trails.{Trail, IsTrail, IsTree, StepLeads, LeadOn}
-use Rattle.bz_resume.specs.private.Agreement.{MayLead}
 
 item_depth : (xs : List Part) (i : ℕ) (x : Part) → slice_get xs i ≡ Some x → depth_part x ≤ deepest xs
 item_depth [] i x e = cc

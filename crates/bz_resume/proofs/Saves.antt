@@ -1,19 +1,7 @@
 -- A history whose numbers fit has a journal.
-use Rattle.std.proofs.Common.{◌≡◌, ◌<◌, List, [], ◌∷◌, length, map, refl, sym, ap, ◌∙◌, arith}
-use Rattle.std.specs.Prelude.{slice_index_or}
-use Rattle.std.specs.List.{AllByRecursion}
-use Rattle.std.proofs.lemmas.List.{length-map}
-use Rattle.bz_resume.specs.Words.{sha256, Node, spell_node, depth_limit, Edit, Trail, IsTrail, trail_at, Text, texts_of, Record, entries_of}
-use Rattle.bz_edit.proofs.Keeps.{present_text, texts_length}
-use Rattle.bz_journal_format.specs.declared.content.Version.TheVariants.{Two}
-use Rattle.bz_journal_format.specs.Spellings.{number_limit, IsDigest}
-use Rattle.bz_journal_format.specs.Texts.{IsEdit, IsNotedStep, IsNote, IsRecord}
-use Rattle.bz_journal_format.proofs.Digests.{digest_fits}
-use Rattle.bz_resume.specs.Journals.{History, Journal, MaySave, journal_text, record_of, text_at}
-use Rattle.bz_journal_format.proofs.Paired.{entries_length}
-use Rattle.bz_resume.proofs.Paths.{trail_all}
-use Rattle.bz_resume.proofs.Sized.{step_fits}
-use Rattle.bz_resume.proofs.Slots.{few_edits}
+use Rattle.bz_resume.proofs.Words.{[], ◌<◌, ◌∙◌, ◌∷◌, ◌≡◌, AllByRecursion, ap, arith, depth_limit, Edit, entries_of, History, IsDigest, IsEdit, IsNote, IsNotedStep, IsRecord, IsTrail, Journal, journal_text, length, length-map, List, map, MaySave, Node, number_limit, present_text, Record, record_of, refl, sha256, slice_index_or, spell_node, sym, Text, text_at, texts_length, texts_of, Trail, trail_at, Two}
+use Rattle.bz_journal_format.proofs.{Digests.digest_fits, Paired.entries_length}
+use Rattle.bz_resume.proofs.{Paths.trail_all, Sized.step_fits, Slots.few_edits}
 
 -- ---- the steps of a trail fit
 

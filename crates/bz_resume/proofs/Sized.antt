@@ -1,29 +1,8 @@
 -- What a step of a trail holds is part of a legal tree, so its numbers fit a record.
-use Rattle.std.proofs.Common.{ℕ, zero, suc, ◌≡◌, ◌+◌, ◌<◌, ◌≤◌, true, List, [], ◌∷◌, length, take, drop, Some, refl, sym, ap, ◌∙◌, subst, arith, length-append}
-use Rattle.std.specs.Prelude.{slice_get}
-use Rattle.std.specs.List.{AllByRecursion, flat_map}
-use Rattle.std.proofs.lemmas.Bool.{and_parts, leb-true}
-use Rattle.std.proofs.lemmas.List.{take-append-drop}
-use Rattle.std.proofs.lemmas.Option.{same_Some, slice_get_within}
-use Rattle.bz_resume.specs.Words.{Node, Edit, IsTree, StepLeads}
-use Rattle.bz_grammar.specs.declared.tree.Part.{Part, Row_of-Part, end_of-Part, more_of-Part, items-the_row-Part}
+use Rattle.bz_resume.proofs.Words.{[], ◌+◌, ◌<◌, ◌∙◌, ◌∷◌, ◌≡◌, ◌≤◌, all_back, all_front, all_there, AllByRecursion, and_parts, ap, AreSmallParts, arith, child_found, counted, CountsFit, covered, deepest, depth_limit, depth_Node, drop, Edit, end_of-Part, flat_map, has_place, if_node, IsEdit, IsHeld, IsSmallPart, IsTree, items-the_row-Part, items_of_row, leb-true, length, length-append, length_total, limit, List, more_of-Part, Node, node_in, number_limit, opened_node, outs-Node, Part, part_ind, parts_in, parts_Node, refl, row_length, row_of, Row_of-Part, same_Some, slice_get, slice_get_within, Some, spell_Node, spell_part, StepLeads, subst, suc, swap_node, sym, take, take-append-drop, total_length, true, turned_all, zero, ℕ}
 use Rattle.bz_grammar.specs.declared.tree.Part.TheVariants as p
-use Rattle.bz_grammar.specs.declared.tree.Part.TheViews.{outs-Node}
-use Rattle.bz_grammar.specs.Spell.{deepest, spell_part, depth_limit, limit}
-use Rattle.bz_grammar.proofs.Nested.{part_ind, row_of, items_of_row}
-use Rattle.bz_grammar.proofs.Spells.{depth_Node, spell_Node}
-use Rattle.bz_grammar.proofs.Split.{all_back, all_front}
-use Rattle.bz_edit.specs.Places.{has_place, covered, if_node, node_in, opened_node}
-use Rattle.bz_edit.specs.private.Plans.{parts_in, total_length}
-use Rattle.bz_edit.specs.Steps.{CountsFit, all_there, swap_node, turned_all}
-use Rattle.bz_edit.proofs.Planning.{parts_Node, length_total}
-use Rattle.bz_edit.proofs.Puts.{child_found}
-use Rattle.bz_edit.proofs.Sizes.{counted}
-use Rattle.bz_edit.proofs.Turns.{apart_of}
-use Rattle.bz_edit.proofs.Twice.{twice}
+use Rattle.bz_edit.proofs.{Turns.apart_of, Twice.twice}
 use Rattle.bz_resume.proofs.Paths.{place_within}
-use Rattle.bz_journal_format.specs.Spellings.{number_limit}
-use Rattle.bz_journal_format.specs.Texts.{row_length, IsSmallPart, AreSmallParts, IsHeld, IsEdit}
 
 -- ---- parts by their lists
 

@@ -1,18 +1,6 @@
 -- A well-formed step has no more edits than its tree has places: they are numbered in the order of the text.
-use Rattle.std.proofs.Common.{ℕ, zero, suc, ◌≡◌, ◌+◌, ◌*◌, ◌<◌, ◌≤◌, ◌^◌, ⊎_elim, true, List, [], ◌∷◌, ◌++◌, length, take, Some, sym, ap, ◌∙◌, subst, arith}
-use Rattle.std.specs.Prelude.{slice_get}
-use Rattle.std.specs.List.{AllByRecursion}
-use Rattle.std.proofs.lemmas.Bool.{and_parts, leb-true}
-use Rattle.std.proofs.lemmas.Option.{same_Some}
-use Rattle.bz_resume.specs.Words.{Node, Part, Edit, IsTree, StepLeads}
+use Rattle.bz_resume.proofs.Words.{[], ⊎_elim, ◌*◌, ◌++◌, ◌+◌, ◌<◌, ◌^◌, ◌∙◌, ◌∷◌, ◌≡◌, ◌≤◌, all_there, AllByRecursion, and_parts, ap, arith, child, child_found, Edit, few_parts, has_place, if_node, IsBefore, IsTree, leb-true, length, length_total, List, MayFollow, Node, node_in, opened_node, outs-Node, Part, parts_in, parts_Node, same_Some, slice_get, Some, StepLeads, subst, suc, sym, take, total_length, true, WellFormed, zero, ℕ}
 use Rattle.bz_grammar.specs.declared.tree.Part.TheVariants as p
-use Rattle.bz_grammar.specs.declared.tree.Part.TheViews.{outs-Node}
-use Rattle.bz_edit.specs.Places.{has_place, child, if_node, node_in, opened_node}
-use Rattle.bz_edit.specs.private.Plans.{parts_in, total_length}
-use Rattle.bz_edit.specs.Steps.{IsBefore, WellFormed, MayFollow, all_there}
-use Rattle.bz_edit.proofs.Planning.{parts_Node, length_total}
-use Rattle.bz_edit.proofs.Puts.{child_found}
-use Rattle.bz_edit.proofs.Sizes.{few_parts}
 
 -- ---- parts before a place
 

@@ -1,11 +1,5 @@
 -- Where a trail matches a text, as the code looks.
-use Rattle.std.proofs.Common.{ℕ, ◌≡◌, Bool, true, false, List, [], ◌++◌, length, take, drop, Some, None, refl, sym, ap, ◌∙◌, arith}
-use Rattle.std.proofs.lemmas.List.{take_at}
-use Rattle.std.specs.Prelude.{slice_index_or}
-use Rattle.std.specs.Str.{bytes_eq}
-use Rattle.bz_resume.specs.Words.{Node, spell_node, Edit, Trail, IsTrail, trail_at, Moves, Text, texts_of}
-use Rattle.bz_edit.proofs.Keeps.{present_text, texts_length}
-use Rattle.bz_resume.specs.private.Agreement.{HasStood}
+use Rattle.bz_resume.proofs.Words.{[], ◌++◌, ◌∙◌, ◌≡◌, ap, arith, Bool, bytes_eq, drop, Edit, false, HasStood, IsTrail, length, List, Moves, Node, None, present_text, refl, slice_index_or, Some, spell_node, sym, take, take_at, Text, texts_length, texts_of, Trail, trail_at, true, ℕ}
 
 shown_at : (t : Trail) (text : Text) (shown b : Bool) → IsTrail t → shown ≡ bytes_eq text (spell_node t.tree) → shown ≡ b → bytes_eq text (slice_index_or (texts_of t) t.cursor []) ≡ b
 shown_at t text shown b trail is e = ap (bytes_eq text) (present_text t trail) ∙ sym is ∙ e

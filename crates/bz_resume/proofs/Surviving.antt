@@ -1,14 +1,6 @@
 -- What each moment of a keeping leaves.
-use Rattle.std.proofs.Common.{◌≡◌, ◌≢◌, ◌∙◌, ◌⊎◌, ap, sym, refl, subst, inl, inr, List, [], Some}
-use Rattle.std.specs.Option.{unwrap_or}
-use Rattle.std.specs.FinMap.{get}
-use Rattle.bz_edit.specs.declared.edit.Edit.{Edit}
-use Rattle.bz_files.specs.Folder.{Folder, Text, SameBut, with_file}
-use Rattle.bz_files.proofs.Folders.{reads_back, other_stays}
-use Rattle.bz_resume.specs.Journals.{History}
-use Rattle.bz_files.specs.Pair.{IsNew, IsKeeping, IsChecking, with_both}
-use Rattle.bz_resume.specs.Pair.{journal_name}
-use Rattle.bz_resume.specs.Resuming.{IsRecordedBy, Holds, Resumes, MayResume, OthersStay, Survives, present}
+use Rattle.bz_resume.proofs.Words.{[], ◌∙◌, ◌≡◌, ◌≢◌, ◌⊎◌, ap, Edit, Folder, get, History, Holds, inl, inr, IsChecking, IsKeeping, IsNew, IsRecordedBy, journal_name, List, MayResume, other_stays, OthersStay, present, reads_back, refl, Resumes, SameBut, Some, subst, Survives, sym, unwrap_or, with_both, with_file}
+use Rattle.bz_files.specs.Folder.{Text}
 use Rattle.bz_resume.proofs.Names.{file_journal, journal_file, file_is_old, journal_is_old}
 use Rattle.bz_resume.proofs.PairStanding.{stands_before, stands_now}
 

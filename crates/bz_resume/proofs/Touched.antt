@@ -1,24 +1,10 @@
 -- A tree is legal where a step led to it from a legal one, and what the step touched is legal by itself.
-use Rattle.std.proofs.Common.{◌≡◌, ◌⊎◌, ℕ, zero, suc, ◌+◌, ◌≤◌, nat_eq, List, [], ◌∷◌, ◌++◌, length, length-append, take, drop, inl, inr, refl, sym, ap, ◌∙◌, subst, arith}
-use Rattle.std.specs.List.{AllByRecursion, flat_map}
-use Rattle.std.proofs.lemmas.Bool.{cases_Bool, eqb-true, cond-false}
-use Rattle.std.proofs.lemmas.List.{append-nil}
-use Rattle.bz_resume.specs.Words.{Leaf, Node, Part, Node', bare_end, Edit, IsTree}
-use Rattle.bz_grammar.specs.declared.kind.Kind.TheVariants as k
+use Rattle.bz_resume.proofs.Words.{[], ◌++◌, ◌+◌, ◌∙◌, ◌∷◌, ◌≡◌, ◌≤◌, ◌⊎◌, all_both, AllByRecursion, ap, append-nil, AreAlone, AreLined, AreTouchedAlone, AreWholeLines, arith, bare_end, below, cases_Bool, cond-false, drop, Edit, EndsLine, eqb-true, file_with, flat_map, here, if_below, if_here, inl, inr, IsAlone, IsAloneAt, IsHeldAlone, IsLast, IsTouchedAlone, IsTree, Kind as k, Leaf, leaves_both, leaves_Node, leaves_part, LegalBuild, length, length-append, limit, line_feed, lines_split, List, nat_eq, Node, Node', Part, refl, spell_node, spell_part, splice_all, spliced, subst, suc, swap_list, swap_node, swap_part, sym, take, zero, ℕ}
 use Rattle.bz_grammar.specs.declared.tree.Part.TheVariants as p
-use Rattle.bz_grammar.specs.Spell.{leaves_part, spell_node, spell_part, limit}
-use Rattle.bz_grammar.specs.Legal.{LegalBuild, IsNonterminal}
-use Rattle.bz_grammar.specs.Shapes.{Several, stmt}
-use Rattle.bz_grammar.specs.Joined.{AreWholeLines, file_with, last_token}
-use Rattle.bz_items.specs.Characters.{line_feed}
-use Rattle.bz_grammar.proofs.Balance.{no_such}
-use Rattle.bz_grammar.proofs.Spells.{leaves_Node}
-use Rattle.bz_grammar.proofs.Joining.{lines_join}
-use Rattle.bz_grammar.proofs.Split.{all_both, leaves_both, IsLast, lines_split}
-use Rattle.bz_edit.specs.Steps.{here, if_here, below, if_below, spliced, splice_all, swap_part, swap_list, swap_node}
+use Rattle.bz_grammar.specs.{Legal.IsNonterminal, Shapes.Several, Shapes.stmt, Joined.last_token}
+use Rattle.bz_grammar.proofs.{Balance.no_such, Joining.lines_join}
 use Rattle.bz_edit.proofs.Swaps.{stays, swap_none}
 use Rattle.bz_resume.proofs.Sized.{all_taken, all_dropped}
-use Rattle.bz_resume.specs.private.Alone.{IsAlone, AreAlone, EndsLine, AreLined, IsAloneAt, IsTouchedAlone, IsHeldAlone, AreTouchedAlone}
 
 -- ---- a legal file has parts that are legal by themselves
 

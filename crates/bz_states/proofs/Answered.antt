@@ -1,16 +1,10 @@
 -- What a symbol says of a token is so.
-use Rattle.std.proofs.Common.{◌≡◌, ℕ, Bool, true, false, not, List, [], ◌∷◌, ◌||◌, ◌&&◌, inl, inr, bytes_eq, codes, refl, sym, ap, ◌∙◌, cond}
-use Rattle.std.proofs.lemmas.Bool.{cases_Bool, and_parts, and_from, not-true, both_ways}
+use Rattle.bz_states.proofs.Words.{[], ◌&&◌, ◌||◌, ◌∙◌, ◌∷◌, ◌≡◌, and_from, and_parts, any, ap, bare, Bool, both_ways, bytes_eq, cases_Bool, codes, cond, example, false, inl, inr, is_class, is_one_of, keyword_table, known, List, mark_table, not, not-true, refl, sym, Symbol, Symbol as y, symbol_of_token, SymbolEntry, Terminal, terminals_of, this, true, ℕ}
 use Rattle.std.proofs.lemmas.Slice.Eq.{bytes_eq-Decides}
 use Rattle.bz_token.specs.declared.class.Class.{Class}
 use Rattle.bz_token.specs.declared.class.Class.TheVariants as c
-use Rattle.bz_states.specs.declared.symbol.Symbol.{Symbol}
-use Rattle.bz_states.specs.declared.symbol.Symbol.TheVariants as y
 use Rattle.bz_states.specs.declared.token.TokenSet.{TokenSet}
 use Rattle.bz_states.specs.declared.token.TokenSet.TheVariants as t
-use Rattle.bz_grammar.specs.Shapes.{Terminal, any, this, is_class, is_one_of}
-use Rattle.bz_states.specs.Tokens.{bare, terminals_of}
-use Rattle.bz_states.specs.Symbols.{SymbolEntry, example, known, keyword_table, mark_table, symbol_of_token}
 
 -- the grammar distinguishes a token of a class from no token of the symbol
 abbrev pub Same : Class → List ℕ → Symbol → Type 0

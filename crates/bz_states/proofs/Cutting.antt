@@ -1,18 +1,6 @@
 -- The leaves that come, as they are cut off the text.
-use Rattle.std.proofs.Common.{◌≡◌, ℕ, Bool, true, false, IsTrue, ◌↔◌, List, [], ◌∷◌, Option, Some, None, ◌||◌, ◌&&◌, ◌≤◌, ◌+◌, bytes_eq, length, drop, refl, sym, ap, ◌∙◌}
-use Rattle.std.proofs.lemmas.Bool.{both_ways}
+use Rattle.bz_states.proofs.Words.{[], ◌&&◌, ◌+◌, ◌||◌, ◌↔◌, ◌∙◌, ◌∷◌, ◌≡◌, ◌≤◌, after_front, AnswersFront, any, ap, bare, Bool, both_ways, bytes_eq, come_first, come_none, DecidesFirst, drop, example, false, Front, front_leaf, front_token, is_class, is_one_of, IsFront, IsTrue, length, List, next, NoLeaf, None, Option, Place, refl, Some, starts_with, sym, Symbol, Symbol as y, symbol_of_token, Terminal, terminals_of, this, to_come, true, ℕ}
 use Rattle.bz_lex.specs.declared.leaf.Leaf.{Leaf}
-use Rattle.bz_lex.specs.declared.front.Front.{Front}
-use Rattle.bz_lex.specs.declared.place.Place.{Place}
-use Rattle.bz_lex.specs.Places.{next}
-use Rattle.bz_lex.specs.Fronts.{IsFront, NoLeaf, AnswersFront, front_leaf, front_token, after_front}
-use Rattle.bz_lex.proofs.Coming.{to_come, come_first, come_none}
-use Rattle.bz_grammar.specs.Shapes.{Terminal, any, this, is_class, is_one_of}
-use Rattle.bz_grammar.specs.Reading.{starts_with}
-use Rattle.bz_states.specs.Tokens.{bare, terminals_of}
-use Rattle.bz_states.specs.declared.symbol.Symbol.{Symbol}
-use Rattle.bz_states.specs.declared.symbol.Symbol.TheVariants as y
-use Rattle.bz_states.specs.Symbols.{example, symbol_of_token, DecidesFirst}
 use Rattle.bz_states.proofs.Answered.{symbol_answered, nothing}
 
 -- no terminal requires a gap

@@ -1,3 +1,4 @@
 mod Answered
 mod Cutting
 mod Lines
+mod Words

@@ -1,19 +1,8 @@
 -- The first token of a line, by the leaves before it.
-use Rattle.std.proofs.Common.{◌≡◌, ◌≢◌, ℕ, ◌+◌, ◌-◌, ◌≤◌, true, false, List, [], ◌++◌, inl, inr, length, take, drop, refl, sym, ap, ◌∙◌, subst, arith, append_assoc, length-append, length-drop}
-use Rattle.std.proofs.lemmas.List.{take-append-drop}
-use Rattle.bz_token.specs.declared.class.Class.TheVariants.{End}
-use Rattle.bz_token.specs.Tokens.{NoToken}
-use Rattle.bz_lex.specs.declared.front.Front.{Front}
-use Rattle.bz_lex.specs.declared.gap.GapState.{GapState}
-use Rattle.bz_lex.specs.Fronts.{IsFront, front_leaf, after_front}
-use Rattle.bz_lex.specs.Gaps.{IsGap, indent}
-use Rattle.bz_lex.specs.declared.place.Place.{Place}
-use Rattle.bz_lex.specs.declared.place.Place.TheVariants.{Fresh}
-use Rattle.bz_lex.specs.Places.{next}
-use Rattle.bz_lex.specs.Stops.{LeavesTo, no_leaf, leaf_more, BeginsLine}
-use Rattle.bz_lex.proofs.Forms.{form, Form, Ended}
-use Rattle.bz_lex.proofs.Gaps.{gap_from}
-use Rattle.bz_lex.proofs.Lists.{front_text}
+use Rattle.bz_states.proofs.Words.{[], ◌++◌, ◌+◌, ◌-◌, ◌∙◌, ◌≡◌, ◌≢◌, ◌≤◌, after_front, ap, append_assoc, arith, BeginsLine, drop, false, Front, front_leaf, front_text, indent, inl, inr, IsFront, IsGap, leaf_more, LeavesTo, length, length-append, length-drop, List, next, no_leaf, Place, refl, subst, sym, take, take-append-drop, true, ℕ}
+use Rattle.bz_token.specs.{declared.class.Class.TheVariants.End, Tokens.NoToken}
+use Rattle.bz_lex.specs.{declared.gap.GapState.GapState, declared.place.Place.TheVariants.Fresh}
+use Rattle.bz_lex.proofs.{Forms.form, Forms.Form, Forms.Ended, Gaps.gap_from}
 
 -- what the leaves spell is in front of the rest
 leaves_split : (text rest : List ℕ) (p : Place) → LeavesTo text p rest → (front : List ℕ) × (text ≡ front ++ rest)

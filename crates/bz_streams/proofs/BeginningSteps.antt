@@ -1,7 +1,5 @@
 -- The first bytes of a text.
-use Rattle.std.proofs.Common.{◌≡◌, ◌<◌, ◌≤◌, ℕ, length, take, sym, arith}
-use Rattle.std.proofs.lemmas.List.{length-take-le, take_all}
-use Rattle.bz_items.specs.Characters.{Bytes}
+use Rattle.bz_streams.proofs.Imported.{◌<◌, ◌≡◌, ◌≤◌, arith, Bytes, length, length-take-le, sym, take, take_all, ℕ}
 
 pub front_cut : (count : ℕ) (text : Bytes) → count < length text → length (take count text) ≡ count
 front_cut count text long = length-take-le count text (omega (arith, long))

@@ -1,11 +1,5 @@
 -- What is shown of a text whose first control character is at a place.
-use Rattle.std.proofs.Common.{◌≡◌, ◌<◌, ◌+◌, ◌-◌, ◌++◌, ◌∷◌, ◌∙◌, ℕ, [], true, false, length, get_or, take, drop, sym, ap, arith, append_assoc, length-drop}
-use Rattle.std.specs.Char.{is_ascii_control}
-use Rattle.std.proofs.Math.Seq.{take-length}
-use Rattle.std.proofs.lemmas.Bool.{cond-true, cond-false}
-use Rattle.std.proofs.lemmas.List.{append-nil}
-use Rattle.bz_items.specs.Characters.{Bytes}
-use Rattle.bz_streams.specs.Controls.{is_control_pair, with_controls}
+use Rattle.bz_streams.proofs.Imported.{[], ◌++◌, ◌+◌, ◌-◌, ◌<◌, ◌∙◌, ◌∷◌, ◌≡◌, ap, append-nil, append_assoc, arith, Bytes, cond-false, cond-true, drop, false, get_or, is_ascii_control, is_control_pair, length, length-drop, sym, take, take-length, true, with_controls, ℕ}
 use Rattle.bz_streams.proofs.Written.{left-cons}
 
 -- a control character of ASCII comes first

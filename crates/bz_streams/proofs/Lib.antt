@@ -6,4 +6,5 @@ pub mod ControlSteps
 pub mod BeginningSteps
 pub mod BracketSteps
 pub mod Escapes
+mod Imported
 pub mod OddNames

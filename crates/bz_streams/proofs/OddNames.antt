@@ -1,14 +1,6 @@
 -- A text of ASCII has no name with another character.
-use Rattle.std.proofs.Common.{◌≡◌, ◌+◌, ◌∷◌, ℕ, [], false, None, refl, sym, if◌then◌else◌}
-use Rattle.std.proofs.lemmas.Bool.{or_parts}
-use Rattle.std.specs.List.{list_any}
-use Rattle.bz_items.specs.Characters.{Bytes}
-use Rattle.bz_lex.specs.Positions.{is_newline}
-use Rattle.bz_streams.specs.Beginnings.{is_beyond_ascii}
-use Rattle.bz_streams.specs.Brackets.{is_outside, within_after}
-use Rattle.bz_streams.specs.Names.{odd_line_from, odd_name_line}
-use Rattle.bz_streams.specs.declared.brackets.Within.{Within}
-use Rattle.bz_streams.specs.declared.brackets.Within.TheVariants.{Outside}
+use Rattle.bz_streams.proofs.Imported.{[], ◌+◌, ◌∷◌, ◌≡◌, Bytes, false, if◌then◌else◌, is_beyond_ascii, is_newline, is_outside, list_any, None, odd_line_from, odd_name_line, or_parts, refl, sym, within_after, ℕ}
+use Rattle.bz_streams.specs.{declared.brackets.Within.Within, declared.brackets.Within.TheVariants.Outside}
 
 none_from : (within : Within) (line : ℕ) (text : Bytes) → list_any is_beyond_ascii text ≡ false → odd_line_from within line text ≡ None
 none_from within line [] h = refl

@@ -1,9 +1,5 @@
 -- What the outputs hold after two parts of a run, one after the other.
-use Rattle.std.proofs.Common.{◌≡◌, ◌⊎◌, ◌≤◌, ◌∙◌, ◌++◌, ◌∷◌, ◌||◌, inl, inr, ℕ, List, [], Option, Bool, true, false, sym, subst, arith}
-use Rattle.std.specs.Io.KnownBytes.{Appends}
-use Rattle.std.proofs.KnownBytes.{Appends-nil, Appends-trans}
-use Rattle.bz_streams.specs.Faults.{Rises, AppendsSome}
-use Rattle.bz_streams.specs.Outputs.{Writes, WritesUnlessClosed, Reports, Counts}
+use Rattle.bz_streams.proofs.Imported.{[], ◌++◌, ◌||◌, ◌∙◌, ◌∷◌, ◌≡◌, ◌≤◌, ◌⊎◌, Appends, Appends-nil, Appends-trans, AppendsSome, arith, Bool, Counts, false, inl, inr, List, Option, Reports, Rises, subst, sym, true, Writes, WritesUnlessClosed, ℕ}
 use Rattle.bz_streams.proofs.Written.{some_first, some_second}
 
 -- ---- counts

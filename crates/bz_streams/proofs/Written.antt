@@ -1,11 +1,5 @@
 -- What is on a writer after the parts of a text, one after the other.
-use Rattle.std.proofs.Common.{◌≡◌, ◌<◌, ◌+◌, ◌++◌, ◌∷◌, ℕ, List, [], length, get_or, add-one, take, drop, Option, Some, None, arith, refl, ap, sym, subst, ◌∙◌, append_assoc, length-append, inl, inr}
-use Rattle.std.specs.Prelude.{Result, Ok, Err, OnOk, OnErr, IsOk, IsErr}
-use Rattle.std.specs.Io.KnownBytes.{Appends, Keeps}
-use Rattle.std.proofs.KnownBytes.{Appends-nil, Appends-trans}
-use Rattle.std.proofs.Math.Seq.{drop-cons, take-append-add}
-use Rattle.std.proofs.lemmas.List.{append-nil, take-append-le}
-use Rattle.bz_streams.specs.Faults.{Rises, AppendsSome, AppendsPart, AppendsUnlessFailed, AnswersAppends}
+use Rattle.bz_streams.proofs.Imported.{[], ◌++◌, ◌+◌, ◌<◌, ◌∙◌, ◌∷◌, ◌≡◌, add-one, AnswersAppends, ap, append-nil, append_assoc, Appends, Appends-nil, Appends-trans, AppendsPart, AppendsSome, AppendsUnlessFailed, arith, drop, drop-cons, Err, get_or, inl, inr, IsErr, IsOk, Keeps, length, length-append, List, None, Ok, OnErr, OnOk, Option, refl, Result, Rises, Some, subst, sym, take, take-append-add, take-append-le, ℕ}
 
 -- what is left at a place is the item there and what is left after it
 pub left-cons : {A : Type 0} (items : List A) (at : ℕ) (default : A) → at < length items → drop at items ≡ get_or items at default ∷ drop (at + 1) items

@@ -1,26 +1,6 @@
 -- A token of a text in UTF-8 ends where a character does.
-use Rattle.std.proofs.Common.{take, drop, ◌≡◌, ◌<◌, ◌≤◌, ◌+◌, ℕ, Bool, true, false, List, [], ◌∷◌, ◌++◌, ◌&&◌, ◌||◌, eqb, leb, get_or, length, ◌⊎◌, inl, inr, Option, Some, None, refl, sym, ap, ◌∙◌, subst, arith, append_assoc, length-append}
-use Rattle.std.proofs.Math.Seq.{get_or-append_seam}
-use Rattle.std.proofs.lemmas.Bool.{both_ways, cases_Bool, leb-false, le-leb, ne_eqb, or_right, cases_lt}
-use Rattle.std.proofs.lemmas.Bool.Decides.{nat_tests}
-use Rattle.std.proofs.lemmas.List.{take-append-drop, length-take-le}
-use Rattle.std.proofs.lemmas.Option.{none-some, same_Some}
-use Rattle.std.proofs.lemmas.Str.{lead_after_ascii}
-use Rattle.std.specs.Str.{IsUtf8, IsCharBoundary}
-use Rattle.bz_token.specs.declared.class.Class.{Class}
-use Rattle.bz_token.specs.declared.class.Class.TheVariants as v
-use Rattle.bz_token.specs.declared.state.State.{State}
-use Rattle.bz_token.specs.declared.state.State.TheVariants.{Start, Word, PrefixR, PrefixB, PrefixBoth, High, HighMark, HighOther, Zero, Whole, HexMark, Hex, OctMark, Oct, Point, Fraction, ExponentMark, ExponentSign, Exponent, Opened, Empty, Short, ShortTaken, ShortReturn, Long, LongOne, LongTwo, LongTaken, Closed, Star, Slash, Less, Greater, Bang, Operator, Ended}
-use Rattle.bz_token.specs.declared.state.Quote.{Quote}
-use Rattle.bz_token.specs.declared.state.Quote.TheVariants.{Single, Double}
-use Rattle.bz_token.specs.Bytes.{is_digit, is_octal, is_hexadecimal, is_high, is_letter}
-use Rattle.bz_token.specs.private.Machine.{after}
-use Rattle.bz_token.specs.private.Scanner.{lone_marks, operator_marks, word_move, quote_or_word, quote_byte, move, ends, keyword_or_name}
-use Rattle.bz_token.specs.Tokens.{IsToken, TokenAt}
-use Rattle.bz_token.proofs.Fronts.{some_next, after_append}
-use Rattle.bz_token.proofs.Laws.{state_of}
-use Rattle.bz_token.proofs.Sound.{sound}
-use Rattle.bz_token.proofs.Tables.{none_of, is_not}
+use Rattle.bz_token.proofs.Words.{[], ◌&&◌, ◌++◌, ◌+◌, ◌<◌, ◌||◌, ◌∙◌, ◌∷◌, ◌≡◌, ◌≤◌, ◌⊎◌, after, ap, append_assoc, arith, Bang, Bool, both_ways, cases_Bool, cases_lt, Class, Class as v, Closed, Double, drop, Empty, Ended, ends, eqb, Exponent, ExponentMark, ExponentSign, false, Fraction, get_or, get_or-append_seam, Greater, Hex, HexMark, High, HighMark, HighOther, inl, inr, is_digit, is_hexadecimal, is_high, is_letter, is_octal, IsCharBoundary, IsToken, IsUtf8, keyword_or_name, le-leb, lead_after_ascii, leb, leb-false, length, length-append, length-take-le, Less, List, lone_marks, Long, LongOne, LongTaken, LongTwo, move, nat_tests, ne_eqb, None, none-some, Oct, OctMark, Opened, Operator, operator_marks, Option, or_right, Point, PrefixB, PrefixBoth, PrefixR, Quote, quote_byte, quote_or_word, refl, same_Some, Short, ShortReturn, ShortTaken, Single, Slash, Some, Star, Start, State, subst, sym, take, take-append-drop, TokenAt, true, Whole, Word, word_move, Zero, ℕ}
+use Rattle.bz_token.proofs.{Fronts.some_next, Fronts.after_append, Laws.state_of, Sound.sound, Tables.none_of, Tables.is_not}
 
 -- no class but a Name ends in this state
 abbrev only_name : Option Class → Bool

@@ -1,14 +1,6 @@
 -- The bytes of names are the bytes of letters, digits and `_`.
-use Rattle.std.proofs.Common.{◌≡◌, ◌≢◌, ◌<◌, ◌≤◌, ◌+◌, ◌/◌, ℕ, Bool, true, false, not, List, [], ◌∷◌, ◌++◌, ◌&&◌, ◌||◌, eqb, ltb, ◌⊎◌, inl, inr, refl, sym, ap, ◌∙◌, subst, arith}
-use Rattle.std.proofs.lemmas.Bool.{both_ways, cases_Bool, cases_eq, cases_lt, and_parts, and_from, or_cases, or_left, or_right, eqb-true, ne_eqb, eq-eqb, lt-ltb, le-ltb, le-leb, not_from_false}
-use Rattle.std.proofs.lemmas.Bool.Decides.{nat_tests}
-use Rattle.std.proofs.lemmas.Str.{encode_ascii}
-use lib.Utf8.{encode, encodes, next}
-use Rattle.bz_token.specs.Bytes.{is_digit, is_letter, is_high}
-use Rattle.bz_token.specs.Characters.{is_letter_character, IsWordOfCharacters}
-use Rattle.bz_token.specs.Lexemes.{IsLetters, none, one, three, IsWord, Each}
-use Rattle.bz_token.proofs.Taken.{three_letters}
-use Rattle.bz_token.proofs.Boundaries.{letter_high, no_digit}
+use Rattle.bz_token.proofs.Words.{[], ◌&&◌, ◌++◌, ◌+◌, ◌/◌, ◌<◌, ◌||◌, ◌∙◌, ◌∷◌, ◌≡◌, ◌≢◌, ◌≤◌, ◌⊎◌, and_from, and_parts, ap, arith, Bool, both_ways, cases_Bool, cases_eq, cases_lt, Each, encode, encode_ascii, encodes, eq-eqb, eqb, eqb-true, false, inl, inr, is_digit, is_high, is_letter, is_letter_character, IsLetters, IsWord, IsWordOfCharacters, le-leb, le-ltb, List, lt-ltb, ltb, nat_tests, ne_eqb, next, none, not, not_from_false, one, or_cases, or_left, or_right, refl, subst, sym, three, true, ℕ}
+use Rattle.bz_token.proofs.{Taken.three_letters, Boundaries.letter_high, Boundaries.no_digit}
 
 two_bytes : (c : ℕ) → 128 ≤ c → c < 2048 → encode c ≡ (192 + c / 64) ∷ next c ∷ []
 unfolding encode

@@ -1,15 +1,6 @@
 -- The machine takes the texts of each class.
-use Rattle.std.proofs.Common.{◌≡◌, ℕ, Bool, true, false, not, List, [], ◌∷◌, ◌++◌, ◌||◌, eqb, ◌⊎◌, inl, inr, Option, Some, None, refl}
-use Rattle.std.proofs.lemmas.Bool.{both_ways, cases_Bool, eqb-true, or_cases}
-use Rattle.std.proofs.lemmas.Option.{none-some}
-use Rattle.bz_token.specs.declared.class.Class.{Class}
-use Rattle.bz_token.specs.declared.class.Class.TheVariants as v
-use Rattle.bz_token.specs.declared.state.State.TheVariants.{Start, Word, PrefixR, PrefixB, PrefixBoth, Zero, Whole, HexMark, Hex, OctMark, Oct, Fraction, ExponentMark, ExponentSign, Exponent}
-use Rattle.bz_token.specs.Bytes.{is_digit, is_octal, is_hexadecimal, is_e, is_letter}
-use Rattle.bz_token.specs.Lexemes.{keywords, marks, IsLetters, none, one, three, IsWord, Each, SomeOf, IsDigits, IsSigned, IsExponent, MayBeExponent, IsNumber, whole, hexadecimal, octal, pointed, point_first, scaled, IsLexeme}
-use Rattle.bz_token.specs.private.Scanner.{lone_marks, operator_marks, mark_start, text_start, quote_or_word, move, reads, keyword_or_name}
-use Rattle.bz_token.proofs.Strings.{string_taken}
-use Rattle.bz_token.proofs.Tables.{every, none_of, is_not, one_text}
+use Rattle.bz_token.proofs.Words.{[], ◌++◌, ◌||◌, ◌∷◌, ◌≡◌, ◌⊎◌, Bool, both_ways, cases_Bool, Class, Class as v, Each, eqb, eqb-true, Exponent, ExponentMark, ExponentSign, false, Fraction, Hex, hexadecimal, HexMark, inl, inr, is_digit, is_e, is_hexadecimal, is_letter, is_octal, IsDigits, IsExponent, IsLetters, IsLexeme, IsNumber, IsSigned, IsWord, keyword_or_name, keywords, List, lone_marks, mark_start, marks, MayBeExponent, move, None, none, none-some, not, Oct, octal, OctMark, one, operator_marks, Option, or_cases, point_first, pointed, PrefixB, PrefixBoth, PrefixR, quote_or_word, reads, refl, scaled, Some, SomeOf, Start, text_start, three, true, Whole, whole, Word, Zero, ℕ}
+use Rattle.bz_token.proofs.{Strings.string_taken, Tables.every, Tables.none_of, Tables.is_not, Tables.one_text}
 
 abbrev pub is_class_1 : Option Class → Bool
 is_class_1 (Some v.Name) = true

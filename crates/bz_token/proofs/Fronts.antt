@@ -1,7 +1,6 @@
 -- Fronts of a text, and machines on them.
-use Rattle.std.proofs.Common.{◌≡◌, ℕ, ◌≤◌, List, [], ◌∷◌, ◌++◌, length, ◌⊎◌, inl, inr, Option, Some, None, refl, sym, ap, subst, arith}
+use Rattle.bz_token.proofs.Words.{[], ◌++◌, ◌∷◌, ◌≡◌, ◌≤◌, ◌⊎◌, after, and_next, ap, arith, inl, inr, length, List, None, Option, refl, Some, subst, sym, ℕ}
 use Rattle.std.proofs.lemmas.List.{append_cancel_left}
-use Rattle.bz_token.specs.private.Machine.{after, and_next}
 
 -- of two fronts the first is no longer, or it is the second and more
 pub longer : (u s t r : List ℕ) → u ++ s ≡ t ++ r → (length u ≤ length t) ⊎ ((b : ℕ) × (v : List ℕ) × (u ≡ t ++ (b ∷ v)) × (r ≡ b ∷ (v ++ s)))

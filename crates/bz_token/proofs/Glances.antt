@@ -1,18 +1,7 @@
 -- What is known at a glance is the longest front.
-use Rattle.std.proofs.Common.{◌≡◌, ℕ, ◌+◌, ◌≤◌, ◌<◌, true, eqb, List, length, take, drop, get_or, inl, inr, Option, Some, None, refl, sym, ap, ◌∙◌, arith}
-use Rattle.std.proofs.lemmas.Bool.{cases_Bool, cases_lt}
-use Rattle.std.proofs.Common.{IfSome, IsUtf8, IsCharBoundary}
+use Rattle.bz_token.proofs.Words.{◌+◌, ◌<◌, ◌∙◌, ◌≡◌, ◌≤◌, ap, arith, cases_Bool, cases_lt, Class as v, Closed, Double, drop, Ended, eqb, get_or, IfSome, inl, inr, IsCharBoundary, IsUtf8, keyword_or_name, length, List, longest, longest_front, may_end, move, None, Opened, Operator, Option, or_best, or_found, refl, Short, Some, Start, State, sym, take, TokenAt, true, Word, ℕ}
 use Rattle.bz_token.specs.declared.scan.Found.{Found}
-use Rattle.bz_token.specs.declared.class.Class.TheVariants as v
-use Rattle.bz_token.specs.declared.state.State.{State}
-use Rattle.bz_token.specs.declared.state.State.TheVariants.{Start, Word, Opened, Short, Closed, Operator, Ended}
-use Rattle.bz_token.specs.declared.state.Quote.TheVariants.{Double}
-use Rattle.bz_token.specs.private.Machine.{longest, or_found, or_best}
-use Rattle.bz_token.specs.private.Scanner.{move, may_end, keyword_or_name, longest_front}
-use Rattle.bz_token.specs.Tokens.{TokenAt}
-use Rattle.bz_token.proofs.Longest.{goes_on, sticks, ends_here, ran}
-use Rattle.bz_token.proofs.Tokens.{some_token}
-use Rattle.bz_token.proofs.Boundaries.{boundary_at}
+use Rattle.bz_token.proofs.{Longest.goes_on, Longest.sticks, Longest.ends_here, Longest.ran, Tokens.some_token, Boundaries.boundary_at}
 
 from_none : (o : Option (State × ℕ)) → or_found None 0 o ≡ o
 from_none None = refl

@@ -1,21 +1,7 @@
 -- The laws of tokens.
-use Rattle.std.proofs.Common.{◌≡◌, ℕ, ◌≤◌, Bool, true, false, List, [], ◌∷◌, ◌++◌, ◌||◌, not, is_none, length, ◌⊎◌, inl, inr, Option, Some, None, refl, sym, ap, ◌∙◌, subst, arith, length-append}
-use Rattle.std.proofs.lemmas.Bool.{both_ways, cases_Bool, or_cases, not-true}
-use Rattle.std.proofs.lemmas.Bool.Decides.{nat_tests}
-use Rattle.std.proofs.lemmas.Option.{same_Some, none-some}
-use Rattle.bz_token.specs.declared.class.Class.{Class}
-use Rattle.bz_token.specs.declared.state.State.{State}
-use Rattle.bz_token.specs.declared.state.State.TheVariants.{Start, Opened, Empty, Ended}
-use Rattle.bz_token.specs.declared.state.Quote.TheVariants.{Single, Double}
-use Rattle.bz_token.specs.Bytes.{among, is_solid, separators, brackets_and_comma, is_quote}
-use Rattle.bz_token.specs.Lexemes.{IsLexeme, is_mark}
-use Rattle.bz_token.specs.Tokens.{IsToken}
-use Rattle.bz_token.specs.Laws.{OneToken, Begins, Separated, Single as SingleLaw}
-use Rattle.bz_token.specs.private.Machine.{after}
-use Rattle.bz_token.specs.private.Scanner.{move, ends, keyword_or_name}
-use Rattle.bz_token.proofs.Fronts.{longer, same_front, some_next, after_append}
-use Rattle.bz_token.proofs.Tables.{every, one_of, is_none_at}
-use Rattle.bz_token.proofs.Complete.{complete}
+use Rattle.bz_token.proofs.Words.{[], ◌++◌, ◌||◌, ◌∙◌, ◌∷◌, ◌≡◌, ◌≤◌, ◌⊎◌, after, among, ap, arith, Begins, Bool, both_ways, brackets_and_comma, cases_Bool, Class, Double, Empty, Ended, ends, false, inl, inr, is_mark, is_none, is_quote, is_solid, IsLexeme, IsToken, keyword_or_name, length, length-append, List, move, nat_tests, None, none-some, not, not-true, OneToken, Opened, Option, or_cases, refl, same_Some, Separated, separators, Single, Some, Start, State, subst, sym, true, ℕ}
+use Rattle.bz_token.specs.Laws.{Single as SingleLaw}
+use Rattle.bz_token.proofs.{Fronts.longer, Fronts.same_front, Fronts.some_next, Fronts.after_append, Tables.every, Tables.one_of, Tables.is_none_at, Complete.complete}
 
 -- the state after a lexeme
 pub state_of : (c : Class) (s : List ℕ) → IsLexeme c s → (q : State) × (k : Class) × (after move Start s ≡ Some q) × (ends q ≡ Some k) × (keyword_or_name k s ≡ c)

@@ -14,3 +14,4 @@ pub mod Pieces
 pub mod Texts
 pub mod Opening
 pub mod Glances
+mod Words

@@ -1,8 +1,5 @@
 -- The longest front that a machine takes is found.
-use Rattle.std.proofs.Common.{◌≡◌, ℕ, zero, suc, ◌+◌, ◌-◌, ◌≤◌, ◌<◌, Bool, true, false, List, [], ◌∷◌, ◌++◌, length, take, drop, get_or, ◌⊎◌, inl, inr, Option, Some, None, refl, sym, ap, subst, ◌∙◌, arith, drop-cons, add-one}
-use Rattle.std.proofs.lemmas.Bool.{both_ways, cases_lt}
-use Rattle.std.proofs.Math.ListN.{drop_of_length-le}
-use Rattle.bz_token.specs.private.Machine.{after, takes, and_next, or_here, one_longer, longest, or_found, or_best}
+use Rattle.bz_token.proofs.Words.{[], ◌++◌, ◌+◌, ◌-◌, ◌<◌, ◌∙◌, ◌∷◌, ◌≡◌, ◌≤◌, ◌⊎◌, add-one, after, and_next, ap, arith, Bool, both_ways, cases_lt, drop, drop-cons, drop_of_length-le, false, get_or, inl, inr, length, List, longest, None, one_longer, Option, or_best, or_found, or_here, refl, Some, subst, suc, sym, take, takes, true, zero, ℕ}
 
 -- a front that is taken, and no longer one is
 pub record IsLongest (S : Type 0) (step : S → ℕ → Option S) (final : S → Bool) (q : S) (s : List ℕ) (x : S × ℕ) : Type 0 where

@@ -1,28 +1,6 @@
 -- The machine ends inside a string exactly where one begins that is not closed.
-use Rattle.std.proofs.Common.{◌≡◌, ℕ, suc, ◌+◌, ◌≤◌, ◌<◌, IsTrue, Bool, true, false, List, [], ◌∷◌, ◌++◌, ◌||◌, if◌then◌else◌, eqb, length, drop, get_or, drop-cons, add-one, inl, inr, Option, Some, None, refl, sym, ap, ◌∙◌, subst, arith, append_assoc}
-use Rattle.std.proofs.lemmas.Bool.{both_ways, cases_Bool, and_parts, eqb-true}
-use Rattle.std.proofs.Math.ListN.{drop_of_length-le}
-use Rattle.std.proofs.lemmas.Option.{none-some, same_Some}
-use Rattle.std.specs.Option.{option_or}
-use Rattle.bz_token.specs.declared.class.Class.{Class}
-use Rattle.bz_token.specs.declared.class.Class.TheVariants as v
-use Rattle.bz_token.specs.declared.state.State.{State}
-use Rattle.bz_token.specs.declared.state.State.TheVariants.{Start, Word, PrefixR, PrefixB, PrefixBoth, High, HighMark, HighOther, Zero, Whole, HexMark, Hex, OctMark, Oct, Point, Fraction, ExponentMark, ExponentSign, Exponent, Opened, Empty, Short, ShortTaken, ShortReturn, Long, LongOne, LongTwo, LongTaken, Closed, Star, Slash, Less, Greater, Bang, Operator, Ended}
-use Rattle.bz_token.specs.declared.state.Quote.{Quote}
-use Rattle.bz_token.specs.declared.state.Quote.TheVariants.{Single, Double}
-use Rattle.bz_token.specs.Bytes.{among, is_digit, is_hexadecimal, is_octal, is_e, is_x, is_o, is_sign, is_high, is_letter, is_quote}
-use Rattle.bz_token.specs.Laws.{OpensAfterPrefix}
-use Rattle.bz_token.specs.Lexemes.{prefixes, is_prefix, IsString}
-use Rattle.bz_token.specs.private.Machine.{after, and_next}
-use Rattle.bz_token.specs.private.Scanner.{lone_marks, operator_marks, mark_start, number_start, text_start, word_move, quote_byte, move, ends, reads, keyword_or_name, before_third, is_in_string}
-use Rattle.bz_token.specs.Tokens.{IsToken, NoToken, OpensString}
-use Rattle.bz_token.proofs.Complete.{is_class_1, at_1}
-use Rattle.bz_token.proofs.Fronts.{longer, same_front, rest_same, some_next}
-use Rattle.bz_token.proofs.Laws.{state_of, Stops, longest_at, begins}
-use Rattle.bz_token.proofs.Sound.{sound}
-use Rattle.bz_token.proofs.Strings.{quote_of, quote_is, itself, prefix_opens, prefixed, empty_state, string_state}
-use Rattle.bz_token.proofs.Tables.{every, one_text}
-use Rattle.bz_token.proofs.Tokens.{third_at, third_parts}
+use Rattle.bz_token.proofs.Words.{[], ◌++◌, ◌+◌, ◌<◌, ◌||◌, ◌∙◌, ◌∷◌, ◌≡◌, ◌≤◌, add-one, after, among, and_next, and_parts, ap, append_assoc, arith, Bang, before_third, Bool, both_ways, cases_Bool, Class, Class as v, Closed, Double, drop, drop-cons, drop_of_length-le, Empty, Ended, ends, eqb, eqb-true, Exponent, ExponentMark, ExponentSign, false, Fraction, get_or, Greater, Hex, HexMark, High, HighMark, HighOther, if◌then◌else◌, inl, inr, is_digit, is_e, is_hexadecimal, is_high, is_in_string, is_letter, is_o, is_octal, is_prefix, is_quote, is_sign, is_x, IsString, IsToken, IsTrue, keyword_or_name, length, Less, List, lone_marks, Long, LongOne, LongTaken, LongTwo, mark_start, move, None, none-some, NoToken, number_start, Oct, OctMark, Opened, OpensAfterPrefix, OpensString, Operator, operator_marks, Option, option_or, Point, PrefixB, PrefixBoth, prefixes, PrefixR, Quote, quote_byte, reads, refl, same_Some, Short, ShortReturn, ShortTaken, Single, Slash, Some, Star, Start, State, subst, suc, sym, text_start, true, Whole, Word, word_move, Zero, ℕ}
+use Rattle.bz_token.proofs.{Complete.is_class_1, Complete.at_1, Fronts.longer, Fronts.same_front, Fronts.rest_same, Fronts.some_next, Laws.state_of, Laws.Stops, Laws.longest_at, Laws.begins, Sound.sound, Strings.quote_of, Strings.quote_is, Strings.itself, Strings.prefix_opens, Strings.prefixed, Strings.empty_state, Strings.string_state, Tables.every, Tables.one_text, Tokens.third_at, Tokens.third_parts}
 
 -- ---- the state in which the machine goes no further
 

@@ -1,12 +1,6 @@
 -- The bytes of strings are those of pieces, prefixes and marks.
-use Rattle.std.proofs.Common.{◌≡◌, ◌<◌, ◌≤◌, ℕ, zero, suc, Bool, true, false, List, [], ◌∷◌, ◌++◌, eqb, ltb, length, ◌⊎◌, inl, inr, refl, sym, ap, ◌∙◌, subst, arith, append-nil, append_assoc, replicate, length-append}
-use Rattle.std.proofs.lemmas.Bool.{both_ways, and_parts, or_cases, eqb-true, leb-true, ltb-true, lt-leb}
-use Rattle.std.proofs.lemmas.Str.{encode_ascii}
-use lib.Utf8.{encode, encodes}
-use Rattle.bz_token.specs.Bytes.{among, is_high, is_quote}
-use Rattle.bz_token.specs.Lexemes.{Each, IsShort, short_end, short_plain, short_taken, short_line, IsLong, long_end, long_plain, long_taken, IsQuoted, single, triple, prefixes, IsString}
-use Rattle.bz_token.proofs.Characters.{BytesOf, bytes_of}
-use Rattle.bz_token.proofs.Tables.{is_not, one_text, every}
+use Rattle.bz_token.proofs.Words.{[], ◌++◌, ◌<◌, ◌∙◌, ◌∷◌, ◌≡◌, ◌≤◌, ◌⊎◌, among, and_parts, ap, append-nil, append_assoc, arith, Bool, both_ways, Each, encode, encode_ascii, encodes, eqb, eqb-true, false, inl, inr, is_high, is_quote, IsLong, IsQuoted, IsShort, IsString, leb-true, length, length-append, List, long_end, long_plain, long_taken, lt-leb, ltb, ltb-true, or_cases, prefixes, refl, replicate, short_end, short_line, short_plain, short_taken, single, subst, suc, sym, triple, true, zero, ℕ}
+use Rattle.bz_token.proofs.{Characters.BytesOf, Characters.bytes_of, Tables.is_not, Tables.one_text, Tables.every}
 
 quote_low : (m : ℕ) → is_quote m ≡ true → m < 128
 quote_low m h = elim (or_cases (eqb m 34) (eqb m 39) h) [ inl e ↦ (let i = eqb-true m 34 e in omega (arith, i)) | inr e ↦ (let i = eqb-true m 39 e in omega (arith, i)) ]

@@ -1,16 +1,6 @@
 -- The rows of the tables, by a computed test of each.
-use Rattle.std.proofs.Common.{◌≡◌, ℕ, Bool, true, false, List, [], ◌∷◌, codes, Option, Some, None, refl, subst}
-use Rattle.std.proofs.lemmas.Bool.{both_ways, and_parts}
-use Rattle.bz_token.specs.declared.class.Class.{Class}
-use Rattle.bz_token.specs.declared.class.Class.TheVariants as v
-use Rattle.bz_token.specs.declared.state.State.TheVariants.{Start, Fraction, Point, Word}
-use Rattle.bz_token.specs.Laws.{AllTokens, EachMark, EachKeyword, EachNumber, numbers, Cuts, ClassOfNumber}
-use Rattle.bz_token.specs.Lexemes.{marks, keywords, IsLexeme}
-use Rattle.bz_token.specs.private.Scanner.{reads, keyword_or_name, longest_front}
-use Rattle.bz_token.proofs.Laws.{separated}
-use Rattle.bz_token.proofs.Sound.{sound}
-use Rattle.bz_token.proofs.Tables.{every}
-use Rattle.bz_token.proofs.Tokens.{some_token}
+use Rattle.bz_token.proofs.Words.{[], ◌∷◌, ◌≡◌, AllTokens, and_parts, Bool, both_ways, Class, Class as v, ClassOfNumber, codes, Cuts, EachKeyword, EachMark, EachNumber, false, Fraction, IsLexeme, keyword_or_name, keywords, List, longest_front, marks, None, numbers, Option, Point, reads, refl, Some, Start, subst, true, Word, ℕ}
+use Rattle.bz_token.proofs.{Laws.separated, Sound.sound, Tables.every, Tokens.some_token}
 
 -- the machine takes the text as one of this class
 abbrev as_class : Class → Class → Bool

@@ -1,18 +1,5 @@
 -- What the machine takes is a text of the class that it gives.
-use Rattle.std.proofs.Common.{◌≡◌, ℕ, true, false, List, [], ◌∷◌, ◌++◌, ◌||◌, eqb, length, ◌⊎◌, inl, inr, Option, Some, None, refl, sym, ◌∙◌, subst, arith, append-nil}
-use Rattle.std.proofs.lemmas.Bool.{cases_Bool, eqb-true, or_left}
-use Rattle.std.proofs.lemmas.Option.{none-some, same_Some}
-use Rattle.std.specs.Option.{option_or}
-use Rattle.bz_token.specs.declared.class.Class.{Class}
-use Rattle.bz_token.specs.declared.class.Class.TheVariants as v
-use Rattle.bz_token.specs.declared.state.State.{State}
-use Rattle.bz_token.specs.declared.state.State.TheVariants.{Start, PrefixR, PrefixB, PrefixBoth, Opened, Zero, Whole, Slash, Less, Greater}
-use Rattle.bz_token.specs.declared.state.Quote.{Quote}
-use Rattle.bz_token.specs.declared.state.Quote.TheVariants.{Single, Double}
-use Rattle.bz_token.specs.Bytes.{among, is_digit, is_letter}
-use Rattle.bz_token.specs.Lexemes.{none, is_keyword, is_mark, IsLetters, one, IsNumber, whole, hexadecimal, octal, pointed, point_first, scaled, IsQuoted, single, triple, is_prefix, IsString, IsWord, short_end, IsLexeme}
-use Rattle.bz_token.specs.private.Machine.{after, and_next}
-use Rattle.bz_token.specs.private.Scanner.{lone_marks, operator_marks, mark_start, number_start, text_start, quote_or_word, doubled_move, quote_byte, move, ends, reads, keyword_or_name}
+use Rattle.bz_token.proofs.Words.{[], ◌++◌, ◌||◌, ◌∙◌, ◌∷◌, ◌≡◌, ◌⊎◌, after, among, and_next, append-nil, arith, cases_Bool, Class, Class as v, Double, doubled_move, ends, eqb, eqb-true, false, Greater, hexadecimal, inl, inr, is_digit, is_keyword, is_letter, is_mark, is_prefix, IsLetters, IsLexeme, IsNumber, IsQuoted, IsString, IsWord, keyword_or_name, length, Less, List, lone_marks, mark_start, move, None, none, none-some, number_start, octal, one, Opened, operator_marks, Option, option_or, or_left, point_first, pointed, PrefixB, PrefixBoth, PrefixR, Quote, quote_byte, quote_or_word, reads, refl, same_Some, scaled, short_end, Single, single, Slash, Some, Start, State, subst, sym, text_start, triple, true, Whole, whole, Zero, ℕ}
 use Rattle.bz_token.proofs.Strings.{quote_is}
 use Rattle.bz_token.proofs.Tables.{one_of}
 use Rattle.bz_token.proofs.Taken.{ended_reads, operator_reads, star_reads, bang_reads, doubled_reads, IsFraction, AfterDigit, whole_reads, AfterZero, zero_reads, point_reads, EndsShort, short_reads, EndsLong, long_reads, high_reads, three_letters, word_reads}

@@ -1,18 +1,6 @@
 -- The machine takes the strings.
-use Rattle.std.proofs.Common.{◌≡◌, ◌<◌, ℕ, zero, suc, Bool, true, false, List, [], ◌∷◌, ◌++◌, ◌||◌, eqb, ◌⊎◌, inl, inr, Option, Some, None, refl, ◌∙◌, subst, arith, append_assoc, replicate}
-use Rattle.std.proofs.lemmas.Bool.{both_ways, cases_Bool, eqb-true, or_cases, or_parts}
-use Rattle.std.proofs.lemmas.Option.{none-some}
-use Rattle.bz_token.specs.declared.class.Class.TheVariants as v
-use Rattle.bz_token.specs.declared.state.State.{State}
-use Rattle.bz_token.specs.declared.state.State.TheVariants.{Start, Opened, Empty, Short, ShortTaken, ShortReturn, Long, LongOne, LongTwo, Closed}
-use Rattle.bz_token.specs.declared.state.Quote.{Quote}
-use Rattle.bz_token.specs.declared.state.Quote.TheVariants.{Single, Double}
-use Rattle.bz_token.specs.Bytes.{is_quote}
-use Rattle.bz_token.specs.Lexemes.{IsShort, short_end, short_plain, short_taken, short_line, IsLong, long_end, long_plain, long_taken, single, triple, prefixes, is_prefix, IsString}
-use Rattle.bz_token.specs.private.Machine.{after}
-use Rattle.bz_token.specs.private.Scanner.{quote_byte, move, reads}
-use Rattle.bz_token.proofs.Fronts.{after_append}
-use Rattle.bz_token.proofs.Tables.{one_text}
+use Rattle.bz_token.proofs.Words.{[], ◌++◌, ◌<◌, ◌||◌, ◌∙◌, ◌∷◌, ◌≡◌, ◌⊎◌, after, append_assoc, arith, Bool, both_ways, cases_Bool, Class as v, Closed, Double, Empty, eqb, eqb-true, false, inl, inr, is_prefix, is_quote, IsLong, IsShort, IsString, List, Long, long_end, long_plain, long_taken, LongOne, LongTwo, move, None, none-some, Opened, Option, or_cases, or_parts, prefixes, Quote, quote_byte, reads, refl, replicate, Short, short_end, short_line, short_plain, short_taken, ShortReturn, ShortTaken, Single, single, Some, Start, State, subst, suc, triple, true, zero, ℕ}
+use Rattle.bz_token.proofs.{Fronts.after_append, Tables.one_text}
 
 pub quote_of : (m : ℕ) → is_quote m ≡ true → (q : Quote) × (m ≡ quote_byte q)
 quote_of m h = elim (or_cases (eqb m 34) (eqb m 39) h) [ inl e ↦ (Double, eqb-true m 34 e) | inr e ↦ (Single, eqb-true m 39 e) ]

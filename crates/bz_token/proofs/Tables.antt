@@ -1,10 +1,6 @@
 -- What holds of each row of a table holds of what is found in it.
-use Rattle.std.proofs.Common.{◌≡◌, ℕ, Bool, true, false, not, List, [], ◌∷◌, ◌&&◌, eqb, inl, inr, Option, Some, None, is_none, refl, subst}
-use Rattle.std.proofs.lemmas.Bool.{both_ways, cases_Bool, eqb-true, or_cases, and_parts, not-true}
+use Rattle.bz_token.proofs.Words.{[], ◌&&◌, ◌∷◌, ◌≡◌, among, and_parts, Bool, both_ways, bytes_eq, cases_Bool, eqb, eqb-true, false, in_table, inl, inr, is_none, List, None, not, not-true, Option, or_cases, refl, Some, subst, true, ℕ}
 use Rattle.std.proofs.lemmas.Slice.Eq.{bytes_eq-Decides}
-use Rattle.std.specs.Str.{bytes_eq}
-use Rattle.bz_token.specs.Bytes.{among}
-use Rattle.bz_token.specs.Lexemes.{in_table}
 
 -- a test that holds of each of some things
 abbrev pub every : {X : Type 0} → (X → Bool) → List X → Bool

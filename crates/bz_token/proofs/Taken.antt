@@ -1,16 +1,5 @@
 -- What the machine takes from each state but the first.
-use Rattle.std.proofs.Common.{◌≡◌, ◌<◌, ◌≤◌, ℕ, zero, suc, true, false, List, [], ◌∷◌, ◌++◌, ◌&&◌, ◌||◌, eqb, length, ◌⊎◌, inl, inr, Some, refl, sym, ap, ◌∙◌, arith, append_assoc, replicate}
-use Rattle.std.proofs.lemmas.Bool.{cases_Bool, eqb-true, and_left, and_right}
-use Rattle.std.proofs.lemmas.Option.{none-some, same_Some}
-use Rattle.bz_token.specs.declared.class.Class.{Class}
-use Rattle.bz_token.specs.declared.class.Class.TheVariants as v
-use Rattle.bz_token.specs.declared.state.State.{State}
-use Rattle.bz_token.specs.declared.state.State.TheVariants.{Word, High, Zero, Whole, HexMark, Hex, OctMark, Oct, Point, Fraction, ExponentMark, ExponentSign, Exponent, Short, ShortTaken, Long, LongOne, LongTwo, LongTaken, Closed, Star, Bang, Operator, Ended}
-use Rattle.bz_token.specs.declared.state.Quote.{Quote}
-use Rattle.bz_token.specs.Bytes.{among, is_digit, is_octal, is_hexadecimal, is_x, is_o, is_e, is_sign, is_high, is_letter}
-use Rattle.bz_token.specs.Lexemes.{IsLetters, none, one, three, Each, SomeOf, IsDigits, IsSigned, MayBeExponent, IsShort, short_end, short_plain, short_taken, short_line, IsLong, long_end, long_plain, long_taken}
-use Rattle.bz_token.specs.private.Machine.{after, and_next}
-use Rattle.bz_token.specs.private.Scanner.{doubled_move, quote_byte, long_move, move, ends, reads}
+use Rattle.bz_token.proofs.Words.{[], ◌&&◌, ◌++◌, ◌<◌, ◌||◌, ◌∙◌, ◌∷◌, ◌≡◌, ◌≤◌, ◌⊎◌, after, among, and_left, and_next, and_right, ap, append_assoc, arith, Bang, cases_Bool, Class, Class as v, Closed, doubled_move, Each, Ended, ends, eqb, eqb-true, Exponent, ExponentMark, ExponentSign, false, Fraction, Hex, HexMark, High, inl, inr, is_digit, is_e, is_hexadecimal, is_high, is_letter, is_o, is_octal, is_sign, is_x, IsDigits, IsLetters, IsLong, IsShort, IsSigned, length, List, Long, long_end, long_move, long_plain, long_taken, LongOne, LongTaken, LongTwo, MayBeExponent, move, none, none-some, Oct, OctMark, one, Operator, Point, Quote, quote_byte, reads, refl, replicate, same_Some, Short, short_end, short_line, short_plain, short_taken, ShortTaken, Some, SomeOf, Star, State, suc, sym, three, true, Whole, Word, Zero, zero, ℕ}
 
 -- ---- marks
 

@@ -1,15 +1,6 @@
 -- The bytes of a text are a lexeme just where its characters are.
-use Rattle.std.proofs.Common.{◌≡◌, ℕ, Bool, true, false, List, [], ◌∷◌, ◌++◌, ◌||◌, eqb, inl, inr, refl, sym, ◌∙◌, subst, arith}
-use Rattle.std.proofs.lemmas.Bool.{both_ways, cases_Bool, and_from, or_cases, eqb-true}
-use Rattle.std.proofs.lemmas.Bool.Decides.{nat_tests}
-use lib.Utf8.{encodes}
-use Rattle.bz_token.specs.declared.class.Class.TheVariants as v
-use Rattle.bz_token.specs.Bytes.{is_digit, is_octal, is_hexadecimal}
-use Rattle.bz_token.specs.Characters.{ByCharacters}
-use Rattle.bz_token.specs.Lexemes.{Each, SomeOf, IsExponent, MayBeExponent, IsNumber, whole, hexadecimal, octal, pointed, point_first, scaled, keywords, is_keyword, marks, is_mark}
-use Rattle.bz_token.proofs.Characters.{words_to, words_from}
-use Rattle.bz_token.proofs.Pieces.{is_low, low_encodes, low_same, string_to, string_from}
-use Rattle.bz_token.proofs.Tables.{every, one_text}
+use Rattle.bz_token.proofs.Words.{[], ◌++◌, ◌||◌, ◌∙◌, ◌∷◌, ◌≡◌, and_from, arith, Bool, both_ways, ByCharacters, cases_Bool, Class as v, Each, encodes, eqb, eqb-true, false, hexadecimal, inl, inr, is_digit, is_hexadecimal, is_keyword, is_mark, is_octal, IsExponent, IsNumber, keywords, List, marks, MayBeExponent, nat_tests, octal, or_cases, point_first, pointed, refl, scaled, SomeOf, subst, sym, true, whole, ℕ}
+use Rattle.bz_token.proofs.{Characters.words_to, Characters.words_from, Pieces.is_low, Pieces.low_encodes, Pieces.low_same, Pieces.string_to, Pieces.string_from, Tables.every, Tables.one_text}
 
 digit_low : (b : ℕ) → is_digit b ≡ true → is_low b ≡ true
 digit_low b h = grind (arith, nat_tests)

@@ -1,24 +1,6 @@
 -- The longest front that the machine takes is the token, or there is none.
-use Rattle.std.proofs.Common.{◌-◌, length-drop, ◌≡◌, ◌≤◌, ℕ, true, false, List, [], ◌∷◌, ◌++◌, length, take, drop, inl, inr, Some, None, refl, sym, ap, ◌∙◌, subst, arith, is_some}
-use Rattle.std.proofs.lemmas.Bool.{both_ways, eqb-true, eq-eqb}
-use Rattle.std.proofs.lemmas.List.{take-append-drop, length-take-le}
-use Rattle.std.proofs.Math.Seq.{take-length}
-use Rattle.std.proofs.lemmas.Option.{same_Some}
-use Rattle.bz_token.specs.declared.class.Class.{Class}
-use Rattle.bz_token.specs.declared.class.Class.TheVariants as v
-use Rattle.bz_token.specs.declared.state.State.{State}
-use Rattle.bz_token.specs.declared.state.State.TheVariants.{Start, Empty, Closed}
-use Rattle.bz_token.specs.declared.state.Quote.{Quote}
-use Rattle.bz_token.specs.Bytes.{is_quote}
-use Rattle.bz_token.specs.Lexemes.{IsLexeme, IsString, is_prefix}
-use Rattle.bz_token.specs.Tokens.{NoToken, TokenAt}
-use Rattle.bz_token.specs.private.Machine.{after, takes}
-use Rattle.bz_token.specs.private.Scanner.{quote_byte, move, ends, may_end, keyword_or_name, before_third, longest_front}
-use Rattle.bz_token.proofs.Fronts.{same_front, rest_same}
-use Rattle.bz_token.proofs.Laws.{state_of}
-use Rattle.bz_token.proofs.Longest.{IsLongest, Found, found}
-use Rattle.bz_token.proofs.Sound.{sound}
-use Rattle.bz_token.proofs.Strings.{quote_of, quote_is, empty_state, string_state}
+use Rattle.bz_token.proofs.Words.{[], ◌++◌, ◌-◌, ◌∙◌, ◌∷◌, ◌≡◌, ◌≤◌, after, ap, arith, before_third, both_ways, Class, Class as v, Closed, drop, Empty, ends, eq-eqb, eqb-true, false, inl, inr, is_prefix, is_quote, is_some, IsLexeme, IsString, keyword_or_name, length, length-drop, length-take-le, List, longest_front, may_end, move, None, NoToken, Quote, quote_byte, refl, same_Some, Some, Start, State, subst, sym, take, take-append-drop, take-length, takes, TokenAt, true, ℕ}
+use Rattle.bz_token.proofs.{Fronts.same_front, Fronts.rest_same, Laws.state_of, Longest.IsLongest, Longest.Found, Longest.found, Sound.sound, Strings.quote_of, Strings.quote_is, Strings.empty_state, Strings.string_state}
 
 abbrev pub Front : List ℕ → State × ℕ → Type 0
 Front s x = IsLongest State move may_end Start s x

@@ -1,11 +1,5 @@
 -- A gap in which no unescaped newline may be says no newline, and at most one comment.
-use Rattle.std.proofs.Common.{ℕ, suc, eqb, ◌≡◌, Bool, true, false, if◌then◌else◌, List, [], ◌∷◌, Option, Some, None, refl, ap, arith}
-use Rattle.std.proofs.lemmas.Bool.{both_ways, ne_eqb}
-use Rattle.std.proofs.lemmas.Bool.Decides.{nat_tests}
-use Rattle.bz_token.specs.Bytes.{is_blank}
-use Rattle.bz_lex.specs.Gaps.{is_indent, IsGap, IsOneLine, nothing, blank, escaped, escaped_return, unescaped, comment, last_comment}
-use Rattle.bz_items.specs.Characters.{Bytes, backslash, line_feed, number_sign}
-use Rattle.bz_value.specs.Gaps.{GapLine, trimmed, lines_from, rest_of_line, lines_of, as_list, comments_in, some_newline}
+use Rattle.bz_value.proofs.Words.{[], ◌∷◌, ◌≡◌, ap, arith, as_list, backslash, blank, Bool, both_ways, Bytes, comment, comments_in, eqb, escaped, escaped_return, false, GapLine, if◌then◌else◌, is_blank, is_indent, IsGap, IsOneLine, last_comment, line_feed, lines_from, lines_of, List, nat_tests, ne_eqb, None, nothing, number_sign, Option, refl, rest_of_line, Some, some_newline, suc, trimmed, true, unescaped, ℕ}
 
 -- a blank says nothing
 blank_silent : (indent c : ℕ) (g : Bytes) → is_blank c ≡ true → lines_from indent (c ∷ g) ≡ lines_from (if is_indent c then suc indent else 0) g

@@ -1,12 +1,5 @@
 -- An expression that is proper along a line is proper at its start: neither is inside brackets.
-use Rattle.std.proofs.Common.{◌≡◌, Bool, refl, sym, ap, ◌∙◌}
-use Rattle.bz_grammar.specs.declared.kind.Kind.{Kind}
-use Rattle.bz_grammar.specs.declared.kind.Kind.TheVariants as k
-use Rattle.bz_grammar.specs.Spots.{Spot, onward, Role, opens, closes, ends, plain, role, following_token, after_node}
-use Rattle.bz_value.specs.declared.value.Expr.{Expr, Token, Form', Row_of-Expr, end_of-Expr, more_of-Expr}
-use Rattle.bz_value.specs.Frames.{frame, is_binary}
-use Rattle.bz_grammar.specs.Shapes.{Shape}
-use Rattle.bz_value.specs.Proper.{after_expr, ProperBy, ProperRowBy, ProperHeadBy}
+use Rattle.bz_value.proofs.Words.{◌∙◌, ◌≡◌, after_expr, after_node, ap, Bool, closes, end_of-Expr, ends, Expr, following_token, Form', frame, is_binary, Kind, Kind as k, more_of-Expr, onward, opens, plain, ProperBy, ProperHeadBy, ProperRowBy, refl, Role, role, Row_of-Expr, Shape, Spot, sym, Token}
 use Rattle.bz_value.proofs.FormParts.{framed}
 
 token_same : (t : Role) (outer outer' here here' : Spot) → onward outer ≡ onward outer' → onward here ≡ onward here' → following_token t outer here ≡ following_token t outer' here'

@@ -1,22 +1,10 @@
 -- A value is proper by the grammar of BUILD files exactly where it is proper and has none of the newer kinds.
-use Rattle.std.proofs.Common.{Bool, ◌≡◌, ◌<◌, List, [], ◌∷◌, true, refl, arith}
-use Rattle.std.specs.List.{AllByRecursion}
-use Rattle.std.proofs.lemmas.List.Elements.{All-from_recursion, recursion_from_All}
-use Rattle.bz_grammar.specs.declared.kind.Kind.{Kind}
-use Rattle.bz_grammar.specs.declared.kind.Kind.TheVariants as k
-use Rattle.bz_grammar.specs.declared.tree.Part.{Part}
+use Rattle.bz_value.proofs.Words.{[], ◌<◌, ◌∷◌, ◌≡◌, after_expr, All-from_recursion, AllByRecursion, arith, Begins, Bool, build_grammar, compound, end_of-Expr, Expr, Fits, Form', Frame, frame, in_frame, is_binary, is_inner_frame, IsEmptyRow, IsNonterminal, IsProperItem, IsProperItemIn, Kind, Kind as k, List, more_of-Expr, Part, ProperBy, ProperHeadBy, ProperItemsBy, ProperRowBy, recursion_from_All, refl, row, Row_of-Expr, sequence, Shape, Spot, Token, true, value_shape, whole_shape, Within}
 use Rattle.bz_grammar.specs.Kinds.{kind_number}
-use Rattle.bz_grammar.specs.Legal.{IsNonterminal}
-use Rattle.bz_grammar.specs.Shapes.{Fits, Shape}
-use Rattle.bz_grammar.specs.Spots.{Begins, Spot, Within}
 use Rattle.bz_grammar.proofs.Balance.{no_such}
-use Rattle.bz_value.specs.declared.value.Expr.{Expr, Token, Form', Row_of-Expr, end_of-Expr, more_of-Expr}
 use Rattle.bz_value.specs.declared.value.Item.{Item}
 use Rattle.bz_value.specs.declared.value.Item.TheVariants as i
 use Rattle.bz_value.specs.BuildValues.{AreBuildExprs, BuildValuesAreProper, IsBuildExpr, IsBuildItem}
-use Rattle.bz_value.specs.Frames.{Frame, row, sequence, compound, frame, is_binary, is_inner_frame}
-use Rattle.bz_value.specs.LineShapes.{build_grammar, value_shape, whole_shape}
-use Rattle.bz_value.specs.Proper.{IsEmptyRow, IsProperItem, IsProperItemIn, ProperBy, ProperHeadBy, ProperItemsBy, ProperRowBy, after_expr, in_frame}
 use Rattle.bz_value.proofs.Wider.{IsWider, wider_expr}
 
 -- ---- shapes

@@ -1,20 +1,8 @@
 -- A form is proper where its parts are, stated for lists.
-use Rattle.std.proofs.Common.{◌≡◌, Bool, true, false, not, ◌&&◌, List, [], ◌∷◌, map, refl, sym, ap, ◌∙◌, subst, true≢false}
-use Rattle.std.specs.List.{All}
+use Rattle.bz_value.proofs.Words.{[], ◌&&◌, ◌∙◌, ◌∷◌, ◌≡◌, after_expr, All, alternatives_fit, ap, AreComments, Begins, begins_operator, Bool, comments_of, compound, end_of-Expr, Expr, false, Fits, Form, Form', Frame, frame, has_break, has_header_kind, in_frame, is_alternative, is_binary, is_comprehension, is_operator, is_whole_statement, IsBare, IsComment, IsEmptyRow, IsNonterminal, IsSomeRow, items-the_row-Expr, items_hidden-the_row-Expr-0, Kind, List, map, more_of-Expr, not, ProperBy, ProperHeadBy, ProperHeaderBy, ProperItemsBy, ProperLinesBy, ProperRowBy, refl, root, roots, row, row_in, Row_of-Expr, sequence, Shape, Spot, subst, sym, Token, true, true≢false, Within}
 use mathlib.Core.Former.{Count}
-use Rattle.bz_grammar.specs.declared.kind.Kind.{Kind}
-use Rattle.bz_grammar.specs.Shapes.{Shape, Fits}
-use Rattle.bz_grammar.specs.Legal.{IsNonterminal}
-use Rattle.bz_grammar.specs.Spots.{Spot, Begins, Within}
-use Rattle.bz_value.specs.declared.value.Form.{Form}
-use Rattle.bz_value.specs.declared.value.Expr.{Expr, Token, Form', Row_of-Expr, end_of-Expr, more_of-Expr, items-the_row-Expr, items_hidden-the_row-Expr-0}
 use Rattle.bz_value.specs.declared.value.Expr.TheVariants as e
-use Rattle.bz_value.specs.Comments.{no_comments}
-use Rattle.bz_value.specs.Empty.{is_empty}
-use Rattle.bz_value.specs.Frames.{Frame, row, sequence, compound, frame, is_binary, is_comprehension}
-use Rattle.bz_value.specs.Roots.{root, row_in}
-use Rattle.bz_value.specs.Proper.{IsComment, AreComments, comments_of, has_break, is_operator, begins_operator, after_expr, roots, IsEmptyRow, IsSomeRow, IsBare, in_frame, ProperBy, ProperRowBy, ProperHeadBy, ProperItemsBy, ProperHeaderBy, ProperLinesBy}
-use Rattle.bz_value.specs.Statements.{has_header_kind, is_alternative, is_whole_statement, alternatives_fit}
+use Rattle.bz_value.specs.{Comments.no_comments, Empty.is_empty}
 
 -- ---- the definition's conditions on rows, of lists
 

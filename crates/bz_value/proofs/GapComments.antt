@@ -1,17 +1,6 @@
 -- What a gap says is comments: each is a text of characters, begins with `#`, holds no newline and has no blank at its end.
-use Rattle.std.proofs.Common.{ℕ, eqb, ◌≡◌, ◌≢◌, ◌<◌, suc, true, false, if◌then◌else◌, List, [], ◌∷◌, ◌++◌, inl, inr, Option, Some, None, length, refl, sym, ap, subst, append_assoc, append-nil, length-append, arith}
-use Rattle.std.specs.Str.{IsUtf8}
-use Rattle.std.proofs.Math.Seq.{get_or-append_seam, take_at, drop_at}
+use Rattle.bz_value.proofs.Words.{[], ◌++◌, ◌<◌, ◌∷◌, ◌≡◌, ◌≢◌, after_first_line, All-from_recursion, all_but_last, all_in, AllByRecursion, ap, append-nil, append_assoc, arith, as_list, backslash, before_groups, Bytes, cases_Bool, comments_in, drop_at, eqb, eqb-false, eqb-true, false, first_comment, GapLine, get_or-append_seam, groups_of, if◌then◌else◌, inl, inr, is_blank, is_indent, IsComment, IsUtf8, last_group, length, length-append, line_feed, lines_from, lines_of, List, MaybeComment, nat_tests, None, number_sign, Option, others_in, put_on_first, refl, rest_of_line, Some, subst, suc, suffix_in, sym, take_at, trimmed, true, with_first, ℕ}
 use Rattle.std.proofs.lemmas.Str.{IsUtf8-take, IsUtf8-drop, IsCharBoundary-before_ascii}
-use Rattle.std.specs.List.{AllByRecursion}
-use Rattle.std.proofs.lemmas.List.Elements.{All-from_recursion}
-use Rattle.std.proofs.lemmas.Bool.{cases_Bool, eqb-true, eqb-false}
-use Rattle.std.proofs.lemmas.Bool.Decides.{nat_tests}
-use Rattle.bz_token.specs.Bytes.{is_blank}
-use Rattle.bz_lex.specs.Gaps.{is_indent}
-use Rattle.bz_items.specs.Characters.{Bytes, backslash, line_feed, number_sign}
-use Rattle.bz_value.specs.Gaps.{GapLine, with_first, trimmed, rest_of_line, lines_from, lines_of, as_list, comments_in, first_comment, after_first_line, suffix_in, others_in, all_in, put_on_first, before_groups, groups_of, all_but_last, last_group}
-use Rattle.bz_value.specs.Proper.{IsComment, MaybeComment}
 
 abbrev OneLine : Bytes → Type 0
 OneLine s = AllByRecursion (λ c. c ≢ line_feed) s

@@ -1,17 +1,6 @@
 -- How many parts are before the opening bracket of a sequence.
-use Rattle.std.proofs.Common.{◌≡◌, ℕ, suc, Bool, true, false, not, ◌&&◌, List, [], ◌∷◌, ◌++◌, inl, inr, refl, sym, ap, ◌∙◌, true≢false}
-use Rattle.std.specs.Prelude.{length, codes}
-use Rattle.std.proofs.lemmas.Bool.{and_parts}
-use Rattle.bz_grammar.specs.declared.kind.Kind.{Kind}
-use Rattle.bz_grammar.specs.declared.kind.Kind.TheVariants as k
-use Rattle.bz_grammar.specs.declared.tree.Part.{Part}
+use Rattle.bz_value.proofs.Words.{[], ◌&&◌, ◌++◌, ◌∙◌, ◌∷◌, ◌≡◌, After, and_parts, ap, Bool, codes, each_with_comma, false, Fits, frame, has_nonterminal, has_token, in_frame, inl, inr, IsNonterminal, Kind, Kind as k, lead, length, List, Listed, mark_leaf, Nonterminal, not, Part, refl, row_in, Several, Shape, suc, sym, Terminal, true, true≢false, whole_shape, ℕ}
 use Rattle.bz_grammar.specs.Shapes as s
-use Rattle.bz_grammar.specs.Shapes.{Nonterminal, Terminal, Shape, Fits, Listed, After, Several, has_token, has_nonterminal}
-use Rattle.bz_grammar.specs.Legal.{IsNonterminal}
-use Rattle.bz_value.specs.Frames.{frame, lead}
-use Rattle.bz_value.specs.Proper.{in_frame}
-use Rattle.bz_value.specs.Roots.{mark_leaf, each_with_comma, row_in}
-use Rattle.bz_value.specs.LineShapes.{whole_shape}
 
 abbrev pub lacks_mark : ℕ → List Terminal → Bool
 lacks_mark o terminals = not (has_token terminals (mark_leaf o))

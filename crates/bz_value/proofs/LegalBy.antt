@@ -1,15 +1,8 @@
 -- Parts that are legal by a grammar: every node has the shape that the grammar gives its kind.
-use Rattle.std.proofs.Common.{List, sym, subst}
-use Rattle.std.specs.List.{AllByRecursion}
-use Rattle.bz_grammar.specs.declared.kind.Kind.{Kind}
-use Rattle.bz_grammar.specs.declared.kind.Kind.TheVariants as k
+use Rattle.bz_value.proofs.Words.{AllByRecursion, bzl_shape, end_of-Part, Fits, IsNonterminal, items-the_row-Part, Kind, Kind as k, LegalPart, LegalRow, line_shape, List, more_of-Part, Node', Part, Row_of-Part, Shape, subst, sym}
 use Rattle.bz_grammar.specs.declared.tree.Node.{Node}
-use Rattle.bz_grammar.specs.declared.tree.Part.{Part, Row_of-Part, end_of-Part, more_of-Part, Node', items-the_row-Part}
 use Rattle.bz_grammar.specs.declared.tree.Part.TheVariants as p
-use Rattle.bz_grammar.specs.Shapes.{Shape, Fits, bzl_shape}
-use Rattle.bz_grammar.specs.Legal.{IsNonterminal, LegalPart, LegalRow}
 use Rattle.bz_grammar.proofs.Nested.{row_of, items_of_row}
-use Rattle.bz_value.specs.LineShapes.{line_shape}
 use Rattle.bz_value.proofs.Wider.{IsWider}
 
 module _ (grammar : Kind → Shape) where

@@ -1,10 +1,5 @@
 -- Lines of a gap, read from the left.
-use Rattle.std.proofs.Common.{ℕ, zero, suc, true, false, eqb, ◌≡◌, ◌≢◌, ◌<◌, ◌≤◌, ◌+◌, ◌-◌, add-one, [], ◌∷◌, ◌++◌, refl, sym, ap, ◌∙◌, length, take, drop, get_or, arith}
-use Rattle.std.proofs.lemmas.Bool.{ne_eqb}
-use Rattle.std.proofs.lemmas.List.{take_more, drop_all}
-use Rattle.bz_token.specs.Bytes.{is_blank}
-use Rattle.bz_items.specs.Characters.{Bytes, line_feed}
-use Rattle.bz_value.specs.Gaps.{with_first, trimmed, rest_of_line, lines_of}
+use Rattle.bz_value.proofs.Words.{[], ◌++◌, ◌+◌, ◌-◌, ◌<◌, ◌∙◌, ◌∷◌, ◌≡◌, ◌≢◌, ◌≤◌, add-one, ap, arith, Bytes, drop, drop_all, eqb, false, get_or, is_blank, length, line_feed, lines_of, ne_eqb, refl, rest_of_line, suc, sym, take, take_more, trimmed, true, with_first, zero, ℕ}
 
 abbrev pub NoneBefore : ℕ → Bytes → Type 0
 NoneBefore n text = (k : ℕ) → k < n → get_or text k 0 ≢ line_feed

@@ -1,16 +1,7 @@
 -- All that the table of shapes sees of a part is its root: parts of equal roots fit equal shapes.
-use Rattle.std.proofs.Common.{Bool, true, ◌≡◌, suc, List, [], ◌∷◌, ◌++◌, inl, inr, refl, sym, ap, ◌∙◌, subst, take, drop}
+use Rattle.bz_value.proofs.Words.{[], ◌++◌, ◌∙◌, ◌∷◌, ◌≡◌, After, ap, Bool, comma, compound, done, drop, each_with_comma, Fits, Frame, frame, has_nonterminal, has_token, inl, inr, is_one_of, is_terminal, IsNonterminal, items, Kind, Kind as k, lead, List, Listed, mark_leaf, no_more, Nonterminal, once_more, Part, refl, row, row_in, sequence, Several, Shape, shape, subst, suc, sym, take, Terminal, Times, tok, true, whole_shape}
 use Rattle.bz_lex.specs.declared.leaf.Leaf.{Leaf}
-use Rattle.bz_grammar.specs.declared.kind.Kind.{Kind}
-use Rattle.bz_grammar.specs.declared.kind.Kind.TheVariants as k
-use Rattle.bz_grammar.specs.declared.tree.Part.{Part}
 use Rattle.bz_grammar.specs.Shapes as s
-use Rattle.bz_grammar.specs.Shapes.{Nonterminal, Terminal, Shape, Fits, Listed, After, Several, Times, no_more, once_more, shape, items, has_token, has_nonterminal, is_one_of, is_terminal, tok, done}
-use Rattle.bz_grammar.specs.Legal.{IsNonterminal}
-use Rattle.bz_items.specs.Characters.{comma}
-use Rattle.bz_value.specs.Frames.{Frame, row, sequence, compound, frame, lead}
-use Rattle.bz_value.specs.Roots.{mark_leaf, each_with_comma, row_in}
-use Rattle.bz_value.specs.LineShapes.{whole_shape}
 
 pub record SameRoot (x y : Part) : Type 0 where
   pub token : (ts : List Terminal) → has_token ts x ≡ has_token ts y

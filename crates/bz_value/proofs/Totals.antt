@@ -1,10 +1,7 @@
 -- Sums of a number of each comment: of lists, and of a form by its lists.
-use Rattle.std.proofs.Common.{◌≡◌, ℕ, ◌+◌, List, [], ◌∷◌, ◌++◌, refl, ap, ◌∙◌, arith}
-use Rattle.bz_value.specs.declared.value.Form.{Form}
-use Rattle.bz_value.specs.declared.value.Expr.{Row_of-Expr, end_of-Expr, more_of-Expr, items-the_row-Expr, items_hidden-the_row-Expr-0}
+use Rattle.bz_value.proofs.Words.{[], ◌++◌, ◌+◌, ◌∙◌, ◌∷◌, ◌≡◌, ap, arith, Bytes, end_of-Expr, Form, items-the_row-Expr, items_hidden-the_row-Expr-0, List, more_of-Expr, refl, Row_of-Expr, ℕ}
 use Rattle.bz_value.specs.declared.value.Expr.TheVariants as e
 use Rattle.bz_value.specs.Counted.{total, host_amount, amount, row_amount}
-use Rattle.bz_items.specs.Characters.{Bytes}
 use Rattle.bz_value.proofs.FormParts.{parts_in, items_in}
 
 -- ---- lists

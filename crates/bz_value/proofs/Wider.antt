@@ -1,16 +1,5 @@
 -- What is proper by a grammar is proper by a wider one; that of values is wider than that of lines.
-use Rattle.std.proofs.Common.{Bool, List}
-use Rattle.bz_grammar.specs.declared.kind.Kind.{Kind}
-use Rattle.bz_grammar.specs.declared.kind.Kind.TheVariants as k
-use Rattle.bz_grammar.specs.declared.tree.Part.{Part}
-use Rattle.bz_grammar.specs.Shapes.{Shape, Fits}
-use Rattle.bz_grammar.specs.Legal.{IsNonterminal}
-use Rattle.bz_grammar.specs.Spots.{Spot, Begins, Within}
-use Rattle.bz_value.specs.declared.value.Expr.{Expr, Token, Form', Row_of-Expr, end_of-Expr, more_of-Expr}
-use Rattle.bz_value.specs.Frames.{frame, is_binary}
-use Rattle.bz_value.specs.Proper.{after_expr, ProperBy, ProperRowBy, ProperHeadBy, ProperItemsBy, ProperHeaderBy, ProperLinesBy}
-use Rattle.bz_value.specs.Statements.{is_alternative, is_whole_statement}
-use Rattle.bz_value.specs.LineShapes.{line_shape, whole_shape}
+use Rattle.bz_value.proofs.Words.{after_expr, Begins, Bool, end_of-Expr, Expr, Fits, Form', frame, is_alternative, is_binary, is_whole_statement, IsNonterminal, Kind, Kind as k, line_shape, List, more_of-Expr, Part, ProperBy, ProperHeadBy, ProperHeaderBy, ProperItemsBy, ProperLinesBy, ProperRowBy, Row_of-Expr, Shape, Spot, Token, whole_shape, Within}
 use Rattle.bz_value.proofs.FormParts.{framed}
 
 -- what has the shape of a kind by the one grammar has it by the other

@@ -1,6 +1,4 @@
-use Rattle.std.proofs.Common.{◌≡◌, drop, slice_get}
-use Rattle.std.specs.List.{flat_map}
-use Rattle.bz_grammar.specs.Spell.{leaves_part}
+use Rattle.bz_grammar.proofs.Words.{◌≡◌, drop, flat_map, leaves_part, slice_get}
 use Rattle.bz_grammar.proofs.+first.Given as goal
 
 abbrev pub invariant-statement::first_of-loop-part : goal.invariant-statement::first_of-loop-part

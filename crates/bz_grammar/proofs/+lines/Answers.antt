@@ -1,9 +1,4 @@
-use Rattle.std.proofs.Common.{append_assoc, rules, ◌≡◌, ◌+◌, ◌++◌, ◌∙◌, IfOk, OnOk, ap, arith, length, map, subst, sym, take}
-use Rattle.std.specs.List.{flat_map}
-use Rattle.bz_grammar.specs.declared.tree.Part.TheViews.{the_lemmas}
-use Rattle.bz_grammar.specs.Spell.{spell_part}
-use Rattle.bz_grammar.specs.Statements.{newlines, line_following}
-use Rattle.bz_grammar.specs.private.Seeking.{own_front}
+use Rattle.bz_grammar.proofs.Words.{◌++◌, ◌+◌, ◌∙◌, ◌≡◌, ap, append_assoc, arith, flat_map, IfOk, length, line_following, map, newlines, OnOk, own_front, rules, spell_part, subst, sym, take, the_lemmas}
 use Rattle.bz_grammar.proofs.Statements.{line_more, text_to}
 use Rattle.bz_grammar.proofs.AllLines.{alone_lines, inner_text, line_turn, lines_among, part_fits, pushed_turn, within_lines}
 use Rattle.bz_grammar.proofs.+lines.Goals as goal

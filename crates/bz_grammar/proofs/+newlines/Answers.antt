@@ -1,7 +1,4 @@
-use Rattle.std.proofs.Common.{rules, ◌≡◌, ap, ◌∙◌, length, arith}
-use Rattle.std.specs.List.{flat_map}
-use Rattle.bz_grammar.specs.declared.tree.Part.TheViews.{the_lemmas}
-use Rattle.bz_grammar.specs.Spell.{spell_part}
+use Rattle.bz_grammar.proofs.Words.{◌∙◌, ◌≡◌, ap, arith, flat_map, length, rules, spell_part, the_lemmas}
 use Rattle.bz_grammar.proofs.Spells.{spell_Node, spelled_so_far}
 use Rattle.bz_grammar.proofs.+newlines.Goals as goal
 

@@ -1,7 +1,4 @@
-use Rattle.std.proofs.Common.{◌≡◌, take}
-use Rattle.std.specs.List.{flat_map}
-use Rattle.bz_grammar.specs.Spell.{spell_part}
-use Rattle.bz_grammar.specs.Statements.{newlines}
+use Rattle.bz_grammar.proofs.Words.{◌≡◌, flat_map, newlines, spell_part, take}
 use Rattle.bz_grammar.proofs.+newlines.Given as goal
 
 abbrev pub invariant-statement::newlines_of-loop-part :

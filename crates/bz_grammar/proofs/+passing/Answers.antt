@@ -1,9 +1,4 @@
-use Rattle.std.proofs.Common.{rules, ◌+◌, ◌∙◌, ap, arith, length, map, sym, take}
-use Rattle.std.specs.List.{flat_map}
-use Rattle.bz_grammar.specs.declared.tree.Part.TheViews.{the_lemmas}
-use Rattle.bz_grammar.specs.Spell.{spell_part}
-use Rattle.bz_grammar.specs.Statements.{newlines, line_following}
-use Rattle.bz_grammar.specs.private.Seeking.{all_passed, own_front}
+use Rattle.bz_grammar.proofs.Words.{◌+◌, ◌∙◌, all_passed, ap, arith, flat_map, length, line_following, map, newlines, own_front, rules, spell_part, sym, take, the_lemmas}
 use Rattle.bz_grammar.proofs.Statements.{line_more, text_to}
 use Rattle.bz_grammar.proofs.AllLines.{alone_lines, inner_text, line_turn, lines_among, part_fits, passed_both, passed_turn, within_lines}
 use Rattle.bz_grammar.proofs.+passing.Goals as goal

@@ -1,10 +1,5 @@
-use Rattle.std.proofs.Common.{◌≡◌, ◌+◌, ℕ, List, take, drop}
-use Rattle.std.specs.List.{flat_map}
-use Rattle.bz_grammar.specs.Spell.{spell_part}
-use Rattle.bz_grammar.specs.Statements.{newlines, line_following}
-use Rattle.bz_grammar.specs.private.Seeking.{all_passed}
-use Rattle.bz_grammar.proofs.Statements.{text_to}
-use Rattle.bz_grammar.proofs.AllLines.{lines_among}
+use Rattle.bz_grammar.proofs.Words.{◌+◌, ◌≡◌, all_passed, drop, flat_map, line_following, List, newlines, spell_part, take, ℕ}
+use Rattle.bz_grammar.proofs.{Statements.text_to, AllLines.lines_among}
 use Rattle.bz_grammar.proofs.+passing.Given as goal
 
 abbrev pub invariant-statement::pass_all-loop-part : goal.invariant-statement::pass_all-loop-part

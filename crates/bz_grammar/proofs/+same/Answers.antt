@@ -1,14 +1,8 @@
-use Rattle.std.proofs.Common.{ℕ, Bool, false, ◌≡◌, ◌↔◌, IsTrue, ◌<◌, ◌+◌, List, Option, Some, None, take, length, get_or, sym, ap, ◌∙◌, refl, rules, arith}
-use Rattle.std.proofs.lemmas.List.{take_more_same}
-use Rattle.std.proofs.lemmas.Bool.{false≢true}
-use Rattle.std.proofs.lemmas.Option.{same_Some}
+use Rattle.bz_grammar.proofs.Words.{◌+◌, ◌<◌, ◌↔◌, ◌∙◌, ◌≡◌, ap, arith, Bool, false, false≢true, get_or, IsTrue, length, List, Node, None, Option, out-Part, outs-Node, Part, refl, rules, same_Some, Some, sym, take, take_more_same, ℕ}
 use denote.Enum.Bare.{same_true, same_false}
 use Rattle.bz_grammar.specs.contracts.kind.Kind.{the_type}
-use Rattle.bz_grammar.specs.declared.tree.Node.{Node}
-use Rattle.bz_grammar.specs.declared.tree.Part.{Part}
 use Rattle.bz_grammar.specs.declared.tree.Part.TheVariants as p
 use Rattle.bz_grammar.specs.declared.tree.Part.TheOpen as o
-use Rattle.bz_grammar.specs.declared.tree.Part.TheViews.{outs-Node, out-Part}
 use Rattle.bz_grammar.proofs.+same.Goals as goal
 
 same_next : (a b : List Part) (i : ℕ) (x y : Part) → i < length a → length a ≡ length b → x ≡ get_or a i x → y ≡ get_or b i y → x ≡ y → take i a ≡ take i b → take (i + 1) a ≡ take (i + 1) b

@@ -1,7 +1,4 @@
-use Rattle.std.proofs.Common.{ℕ, ◌≡◌, ◌<◌, ◌+◌, List, take, length, get_or, sym, ap, ◌∙◌, refl, arith}
-use Rattle.std.proofs.lemmas.List.{take_more_same}
-use Rattle.bz_value.specs.declared.value.Expr.{Expr}
-use Rattle.bz_value.specs.declared.value.Form.{Form}
+use Rattle.bz_value.proofs.Words.{◌+◌, ◌<◌, ◌∙◌, ◌≡◌, ap, arith, Expr, Form, get_or, length, List, refl, sym, take, take_more_same, ℕ}
 use Rattle.bz_value.proofs.+same.Goals as goal
 
 same_next : (a b : List Expr) (i : ℕ) (x y : Expr) → i < length a → length a ≡ length b → x ≡ get_or a i x → y ≡ get_or b i y → x ≡ y → take i a ≡ take i b → take (i + 1) a ≡ take (i + 1) b

@@ -1,5 +1,4 @@
-use Rattle.std.proofs.Common.{◌∙◌, ap, arith, inl, refl}
-use Rattle.bz_build_format.specs.Words.{drafted, limit}
+use Rattle.bz_build_format.proofs.Words.{◌∙◌, ap, arith, drafted, inl, limit, refl}
 use Rattle.bz_build_format.proofs.Chunking.{IsBegun, next_begun, still_within, whole_formatted}
 use Rattle.bz_build_format.proofs.chunks.chunks_formatted.Goals as goal
 

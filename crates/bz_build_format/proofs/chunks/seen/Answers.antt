@@ -1,8 +1,5 @@
-use Rattle.std.proofs.Common.{◌∙◌, [], ap, sym}
-use Rattle.std.specs.Prelude.{◌≢◌}
-use Rattle.std.proofs.lemmas.Bool.{not-true}
+use Rattle.bz_build_format.proofs.Words.{[], ◌∙◌, ◌≢◌, Accepted, ap, begins_with_load, NoBzlTree, not-true, sym, tidied}
 use Rattle.std.proofs.lemmas.Result.{err_from_is_err_and}
-use Rattle.bz_build_format.specs.Words.{Accepted, NoBzlTree, begins_with_load, tidied}
 use Rattle.bz_build_format.proofs.ReadFaults.{reported}
 use Rattle.bz_build_format.proofs.chunks.seen.Goals as goal
 

@@ -1,5 +1,4 @@
-use Rattle.std.proofs.Common.{◌≡◌}
-use Rattle.bz_build_format.specs.private.Lines.{at_side, joined_at, spelled_parts}
+use Rattle.bz_build_format.proofs.Words.{◌≡◌, at_side, joined_at, spelled_parts}
 use Rattle.bz_build_format.proofs.ends.+rest.Given as goal
 
 -- the text has the parts so far at this side

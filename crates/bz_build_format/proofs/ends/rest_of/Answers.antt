@@ -1,5 +1,4 @@
-use Rattle.std.proofs.lemmas.Bool.Decides.{Decides-eqb}
-use Rattle.std.proofs.lemmas.Slice.Eq.{strip_prefix_is, strip_suffix_is}
+use Rattle.bz_build_format.proofs.Words.{Decides-eqb, strip_prefix_is, strip_suffix_is}
 use Rattle.bz_build_format.proofs.ends.rest_of.Goals as goal
 
 pub returns-in-Front : goal.returns-in-Front

@@ -1,5 +1,4 @@
-use Rattle.bz_build_format.specs.Faults.{FormatsTo}
-use Rattle.bz_build_format.specs.Fixed.{IsFormatted}
+use Rattle.bz_build_format.proofs.Words.{FormatsTo, IsFormatted}
 use Rattle.bz_build_format.proofs.Formatting.{given_so}
 use Rattle.bz_build_format.proofs.formatter.format.Goals as goal
 

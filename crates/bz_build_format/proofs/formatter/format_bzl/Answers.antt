@@ -1,5 +1,4 @@
-use Rattle.bz_build_format.specs.Faults.{FormatsBzlTo}
-use Rattle.bz_build_format.specs.Fixed.{IsFormattedBzl}
+use Rattle.bz_build_format.proofs.Words.{FormatsBzlTo, IsFormattedBzl}
 use Rattle.bz_build_format.proofs.Formatting.{given_so}
 use Rattle.bz_build_format.proofs.formatter.format_bzl.Goals as goal
 

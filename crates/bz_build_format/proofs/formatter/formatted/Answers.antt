@@ -1,7 +1,4 @@
-use Rattle.std.proofs.Common.{◌≡◌, ◌∙◌, [], Bool, Err, List, ap, false, subst, sym}
-use Rattle.bz_build_format.specs.Words.{Bytes, Item, layout, limit}
-use Rattle.bz_build_format.specs.declared.chunks.FileKind.{FileKind}
-use Rattle.bz_build_format.specs.private.Chunks.{ReadsAs, of_kind}
+use Rattle.bz_build_format.proofs.Words.{[], ◌∙◌, ◌≡◌, ap, Bool, Bytes, Err, false, FileKind, Item, layout, limit, List, of_kind, ReadsAs, subst, sym}
 use Rattle.bz_build_format.proofs.Chunking.{answered_chunks, answered_fault, answered_text, answered_too_deep, answered_too_large}
 use Rattle.bz_build_format.proofs.formatter.formatted.Goals as goal
 

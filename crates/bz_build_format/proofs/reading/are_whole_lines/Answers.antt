@@ -1,5 +1,4 @@
-use Rattle.std.proofs.Common.{◌++◌, ◌∙◌, ◌∷◌, [], ap, rules}
-use Rattle.bz_grammar.specs.declared.tree.Part.{Part}
+use Rattle.bz_build_format.proofs.Words.{[], ◌++◌, ◌∙◌, ◌∷◌, ap, Part, rules}
 use Rattle.bz_build_format.proofs.Lines.{whole_lines}
 use Rattle.bz_build_format.proofs.reading.are_whole_lines.Goals as goal
 

@@ -1,6 +1,4 @@
-use Rattle.std.proofs.Common.{◌+◌, ◌-◌, arith, drop, length, length-take, refl, subst, take}
-use Rattle.bz_edit.specs.declared.part_windows.PartWindow.{PartWindow}
-use Rattle.bz_build_format.specs.private.Lines.{IsPutAmong}
+use Rattle.bz_build_format.proofs.Words.{◌+◌, ◌-◌, arith, drop, IsPutAmong, length, length-take, PartWindow, refl, subst, take}
 use Rattle.bz_build_format.proofs.Windowed.{cut_so, less_kept, put_so}
 use Rattle.bz_build_format.proofs.reading.cut_lines.Goals as goal
 

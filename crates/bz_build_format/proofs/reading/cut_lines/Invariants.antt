@@ -1,5 +1,4 @@
-use Rattle.std.proofs.Common.{◌≡◌, ◌≤◌, ◌-◌, ◌++◌, drop, length}
-use Rattle.bz_build_format.specs.private.Lines.{spelled_parts}
+use Rattle.bz_build_format.proofs.Words.{◌++◌, ◌-◌, ◌≡◌, ◌≤◌, drop, length, spelled_parts}
 use Rattle.bz_build_format.proofs.reading.cut_lines.Given as goal
 
 abbrev pub invariant-loop : goal.invariant-loop

@@ -1,7 +1,4 @@
-use Rattle.std.proofs.Common.{◌+◌, ◌++◌, ◌∙◌, ◌∷◌, List, [], arith, refl, subst, sym, take}
-use Rattle.std.proofs.lemmas.List.{nil_from_length}
-use Rattle.bz_build_format.specs.Words.{PartWindow, Part}
-use Rattle.bz_build_format.specs.private.Lines.{AreAmong, AreRead, IsPushed, IsPutAmong, spelled_parts, text_with}
+use Rattle.bz_build_format.proofs.Words.{[], ◌++◌, ◌+◌, ◌∙◌, ◌∷◌, AreAmong, AreRead, arith, IsPushed, IsPutAmong, List, nil_from_length, Part, PartWindow, refl, spelled_parts, subst, sym, take, text_with}
 use Rattle.bz_build_format.proofs.Windowed.{AreBefore, begun, ended, ended_by, next, none_there, ok_gives}
 use Rattle.bz_build_format.proofs.reading.each_read.Goals as goal
 

@@ -1,5 +1,4 @@
-use Rattle.std.proofs.Common.{length}
-use Rattle.bz_build_format.specs.private.Lines.{text_with}
+use Rattle.bz_build_format.proofs.Words.{length, text_with}
 use Rattle.bz_build_format.proofs.Windowed.{AreBefore}
 use Rattle.bz_build_format.proofs.reading.each_read.Given as goal
 

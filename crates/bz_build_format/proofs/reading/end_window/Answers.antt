@@ -1,5 +1,4 @@
-use Rattle.std.proofs.Common.{◌+◌, ◌-◌, ◌∙◌, ◌++◌, length, length-take, take, drop, ap, append_assoc, arith, refl, sym}
-use Rattle.bz_build_format.specs.private.Lines.{spelled_parts}
+use Rattle.bz_build_format.proofs.Words.{◌++◌, ◌+◌, ◌-◌, ◌∙◌, ap, append_assoc, arith, drop, length, length-take, refl, spelled_parts, sym, take}
 use Rattle.bz_build_format.proofs.Windowed.{end_kept, further_text, read_at_end}
 use Rattle.bz_build_format.proofs.reading.end_window.Goals as goal
 

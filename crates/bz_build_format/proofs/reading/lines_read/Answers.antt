@@ -1,7 +1,5 @@
-use Rattle.std.proofs.Common.{◌∙◌, ap, sym}
-use Rattle.bz_build_format.specs.Words.{Reads, Node}
-use Rattle.bz_build_format.proofs.Lines.{lines_of_read}
-use Rattle.bz_build_format.proofs.Windowed.{ok_gives}
+use Rattle.bz_build_format.proofs.Words.{◌∙◌, ap, Node, Reads, sym}
+use Rattle.bz_build_format.proofs.{Lines.lines_of_read, Windowed.ok_gives}
 use Rattle.bz_build_format.proofs.reading.lines_read.Goals as goal
 
 pub returns : goal.returns

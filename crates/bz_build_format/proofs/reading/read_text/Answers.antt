@@ -1,7 +1,4 @@
-use Rattle.std.proofs.Common.{◌∙◌, ap, length, subst}
-use Rattle.bz_grammar.specs.declared.tree.Node.{Node}
-use Rattle.bz_grammar.specs.Legal.{Legal}
-use Rattle.bz_build_format.specs.private.Lines.{IsPushed}
+use Rattle.bz_build_format.proofs.Words.{◌∙◌, ap, IsPushed, Legal, length, Node, subst}
 use Rattle.bz_build_format.proofs.Windowed.{alone, file_legal, tree_read}
 use Rattle.bz_build_format.proofs.reading.read_text.Goals as goal
 

@@ -1,6 +1,4 @@
-use Rattle.std.proofs.Common.{◌∙◌, ap, rules, sym, subst}
-use Rattle.bz_build_format.specs.Words.{Node, with_windows}
-use Rattle.bz_grammar.specs.Legal.{Accepted, Legal, Reads}
+use Rattle.bz_build_format.proofs.Words.{◌∙◌, Accepted, ap, Legal, Node, Reads, rules, subst, sym, with_windows}
 use Rattle.bz_build_format.proofs.Windowed.{file_legal, one_tree, required, tree_read}
 use Rattle.bz_build_format.proofs.reading.read_windows.Goals as goal
 

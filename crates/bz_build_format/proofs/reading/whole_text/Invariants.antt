@@ -1,5 +1,4 @@
-use Rattle.std.proofs.Common.{◌≡◌, ◌++◌, drop}
-use Rattle.bz_build_format.specs.private.Lines.{AreAmong, text_with}
+use Rattle.bz_build_format.proofs.Words.{◌++◌, ◌≡◌, AreAmong, drop, text_with}
 use Rattle.bz_build_format.proofs.reading.whole_text.Given as goal
 
 -- what is left is what the text goes on with

@@ -1,8 +1,5 @@
-use Rattle.std.proofs.Common.{◌≡◌, ◌∙◌, List, ap, subst, sym}
-use Rattle.bz_value.specs.Proper.{IsProper}
-use Rattle.bz_build_format.specs.Words.{Item, IsBuild, NoBzlTree, ReadsBzl, view_of, laid_out, layout}
-use Rattle.bz_build_format.proofs.Formatting.{layout_read}
-use Rattle.bz_build_format.proofs.ReadFaults.{refused_text}
+use Rattle.bz_build_format.proofs.Words.{◌∙◌, ◌≡◌, ap, IsBuild, IsProper, Item, laid_out, layout, List, NoBzlTree, ReadsBzl, subst, sym, view_of}
+use Rattle.bz_build_format.proofs.{Formatting.layout_read, ReadFaults.refused_text}
 use Rattle.bz_build_format.proofs.writing.set.Goals as goal
 
 pub returns-in-Ok : goal.returns-in-Ok

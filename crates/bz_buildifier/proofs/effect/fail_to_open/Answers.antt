@@ -1,7 +1,5 @@
-use Rattle.std.proofs.Common.{◌∷◌, [], Option, Bor, ℕ, List, codes, refl, sym, subst, option_map}
+use Rattle.bz_buildifier.proofs.Words.{[], ◌∷◌, Bor, codes, List, named_line, Option, option_map, refl, Reports, reports_more, subst, sym, ℕ}
 use Rattle.std.specs.Option.{option_map_or}
-use Rattle.bz_buildifier.specs.Words.{Reports, named_line}
-use Rattle.bz_streams.proofs.Outputs.{reports_more}
 use Rattle.bz_buildifier.proofs.effect.fail_to_open.Goals as goal
 
 pub returns-in-Some-clause-reported : goal.returns-in-Some-clause-reported

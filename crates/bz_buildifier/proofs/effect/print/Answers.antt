@@ -1,7 +1,6 @@
-use Rattle.std.proofs.Common.{[], inl, inr, refl, ap, true}
+use Rattle.bz_buildifier.proofs.Words.{[], ap, inl, inr, refl, reports_more, true}
 use Rattle.bz_buildifier.specs.FormatRun as r
 use Rattle.bz_buildifier.specs.declared.effect.Effect.{Effect}
-use Rattle.bz_streams.proofs.Outputs.{reports_more}
 use Rattle.bz_buildifier.proofs.effect.print.Goals as goal
 
 pub returns-then-closed-clause-step : goal.returns-then-closed-clause-step

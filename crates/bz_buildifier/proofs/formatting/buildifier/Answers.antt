@@ -1,13 +1,8 @@
-use Rattle.std.proofs.Common.{◌≡◌, ◌∙◌, ◌∷◌, ◌+◌, [], arith, inl, inr, refl, ap, map, codes, drop, get_or, subst, sym, Bool, Bor, List, ℕ, true}
-use Rattle.std.proofs.lemmas.List.{drop_all}
+use Rattle.bz_buildifier.proofs.Words.{[], ◌+◌, ◌∙◌, ◌∷◌, ◌≡◌, ap, appends_nothing, arith, Bool, Bor, codes, counts_more, drop, drop_all, get_or, inl, inr, List, map, named_line, none_read, reads_on, refl, reports_more, seen_line, subst, sym, true, WritesUnlessClosed, ℕ}
 use Rattle.bz_buildifier.specs.FormatRun as r
-use Rattle.bz_buildifier.specs.private.FormatShown.{seen_line}
-use Rattle.bz_buildifier.specs.Words.{named_line, WritesUnlessClosed}
 use Rattle.bz_streams.specs.declared.exit.Cut.TheVariants as cut
 use Rattle.bz_buildifier.specs.declared.effect.Effect.{Effect}
-use Rattle.bz_files.proofs.Orders.{none_read, reads_on}
 use Rattle.bz_streams.proofs.Written.{left-cons}
-use Rattle.bz_streams.proofs.Outputs.{appends_nothing, counts_more, reports_more}
 use Rattle.bz_buildifier.proofs.FormatRuns.{cut_more, files_more, files_outcome, grown_is, input_outcome, no_names, some_names, status_more, usage_outcome, writes_on}
 use Rattle.bz_buildifier.proofs.formatting.buildifier.Goals as goal
 

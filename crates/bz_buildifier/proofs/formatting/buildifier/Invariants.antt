@@ -1,8 +1,5 @@
-use Rattle.std.proofs.Common.{◌≡◌, true, map, drop}
-use Rattle.bz_buildifier.specs.Words.{Folder, ReadsRegular, Writes, Reports, Counts}
+use Rattle.bz_buildifier.proofs.Words.{◌≡◌, Counts, Cut as c, drop, effect_seen, Folder, map, ReadsRegular, Reports, true, Writes}
 use Rattle.bz_buildifier.specs.FormatRun as r
-use Rattle.bz_buildifier.specs.private.FormatShown.{effect_seen}
-use Rattle.bz_streams.specs.declared.exit.Cut.TheVariants as c
 use Rattle.bz_buildifier.proofs.formatting.buildifier.Given as goal
 
 -- what the files that are left do is what all do

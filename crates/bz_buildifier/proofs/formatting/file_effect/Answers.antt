@@ -1,10 +1,5 @@
-use Rattle.std.proofs.Common.{◌≡◌, ◌∙◌, ◌++◌, [], inl, inr, refl, sym, subst, ap, List, ℕ, true, false, Err}
-use Rattle.bz_buildifier.specs.FormatRun.{FormatsAs, unread, without_memory, unformatted, kept, rewritten, Rewrites, Prints, is_rewritten, file_out, text_status}
-use Rattle.bz_buildifier.specs.Modes.{is_bzl}
-use Rattle.bz_buildifier.specs.Words.{Reports}
-use Rattle.bz_streams.proofs.Outputs.{reports_more}
+use Rattle.bz_buildifier.proofs.Words.{[], ◌++◌, ◌∙◌, ◌≡◌, ap, Err, false, file_out, FormatsAs, inl, inr, is_bzl, is_rewritten, kept, List, Prints, reads_on, reads_one, refl, Reports, reports_more, rewrite_reads, Rewrites, rewritten, subst, sym, text_status, true, unformatted, unread, without_memory, ℕ}
 use Rattle.bz_buildifier.specs.FormatRun as r
-use Rattle.bz_files.proofs.Orders.{reads_on, reads_one, rewrite_reads}
 use Rattle.bz_buildifier.proofs.FormatSteps.{nothing_more, quiet, unread_quiet, refused_quiet, same_rewrites, formatted_file, refused_file}
 use Rattle.bz_buildifier.proofs.formatting.file_effect.Goals as goal
 

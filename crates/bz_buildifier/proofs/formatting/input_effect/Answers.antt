@@ -1,10 +1,5 @@
-use Rattle.std.proofs.Common.{◌≡◌, ◌∙◌, refl, sym, subst, ap, List, ℕ, false, Ok, Err}
-use Rattle.bz_buildifier.specs.FormatRun.{FormatsAs, input_unread, input_without_memory, input_unformatted, input_printed, Prints, input_out, text_status}
-use Rattle.bz_buildifier.specs.Modes.{is_bzl}
-use Rattle.bz_streams.specs.Reported.{stdin}
+use Rattle.bz_buildifier.proofs.Words.{◌∙◌, ◌≡◌, ap, appends_nothing, Cut as cut, Err, false, FormatsAs, input_out, input_printed, input_unformatted, input_unread, input_without_memory, is_bzl, List, Ok, Prints, refl, stdin, subst, sym, text_status, ℕ}
 use Rattle.bz_buildifier.specs.FormatRun as r
-use Rattle.bz_streams.specs.declared.exit.Cut.TheVariants as cut
-use Rattle.bz_streams.proofs.Outputs.{appends_nothing}
 use Rattle.bz_buildifier.proofs.FormatSteps.{quiet, refused_quiet, ok_of_front, err_of_front}
 use Rattle.bz_buildifier.proofs.formatting.input_effect.Goals as goal
 

@@ -1,7 +1,4 @@
-use Rattle.std.proofs.Common.{codes, refl}
-use Rattle.bz_streams.specs.Near.{nearest}
-use Rattle.bz_buildifier.specs.FormatRun.{no_word_line}
-use Rattle.bz_buildifier.specs.Modes.{no_mode, no_type, mode_in_place, mode_names, type_in_place, type_names}
+use Rattle.bz_buildifier.proofs.Words.{codes, mode_in_place, mode_names, nearest, no_mode, no_type, no_word_line, refl, type_in_place, type_names}
 use Rattle.bz_buildifier.proofs.formatting.report_unusable.Goals as goal
 
 pub returns-in_ok-near-in-NoMode-clause-ok : goal.returns-in_ok-near-in-NoMode-clause-ok

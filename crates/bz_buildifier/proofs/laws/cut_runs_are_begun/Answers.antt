@@ -1,5 +1,4 @@
-use Rattle.std.proofs.Common.{refl}
-use Rattle.bz_buildifier.specs.FormatRun.{begun}
+use Rattle.bz_buildifier.proofs.Words.{begun, refl}
 use Rattle.bz_buildifier.proofs.FormatWhole.{cut_run}
 use Rattle.bz_buildifier.proofs.laws.cut_runs_are_begun.Goals as goal
 

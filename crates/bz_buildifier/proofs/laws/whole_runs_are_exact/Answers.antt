@@ -1,5 +1,4 @@
-use Rattle.std.proofs.Common.{refl}
-use Rattle.bz_buildifier.specs.FormatRun.{begun}
+use Rattle.bz_buildifier.proofs.Words.{begun, refl}
 use Rattle.bz_buildifier.proofs.FormatWhole.{exact_run}
 use Rattle.bz_buildifier.proofs.laws.whole_runs_are_exact.Goals as goal
 

@@ -1,6 +1,5 @@
 use Rattle.std.proofs.Common.{◌∙◌, sym, refl}
-use Rattle.bz_edit.proofs.Going.{ok_gives}
-use Rattle.bz_edit.proofs.Turn.{as_tree, tree_there}
+use Rattle.bz_edit.proofs.{Going.ok_gives, Turn.as_tree, Turn.tree_there}
 use Rattle.bz_edit.proofs.crossing.cross_all.Goals as goal
 
 pub invariant_of-tree : goal.invariant_of-tree

@@ -1,5 +1,4 @@
-use Rattle.std.proofs.Common.{◌≡◌, ◌∙◌, refl, ap, length, subst}
-use Rattle.bz_edit.specs.Steps.{IsStep, turned_all}
+use Rattle.bz_edit.proofs.Words.{◌∙◌, ◌≡◌, ap, IsStep, length, refl, subst, turned_all}
 use Rattle.bz_edit.proofs.Turn.{apart_there, step_there}
 use Rattle.bz_edit.proofs.exchanging.cross_one.Goals as goal
 

@@ -1,5 +1,4 @@
-use Rattle.std.proofs.Common.{◌∙◌, ap, length, refl, sym}
-use Rattle.bz_edit.specs.Steps.{all_there, turned_all}
+use Rattle.bz_edit.proofs.Words.{◌∙◌, all_there, ap, length, refl, sym, turned_all}
 use Rattle.bz_edit.proofs.Turn.{apart_there, step_there}
 use Rattle.bz_edit.proofs.exchanging.exchange_node.Goals as goal
 

@@ -1,5 +1,4 @@
-use Rattle.std.proofs.Common.{◌-◌, arith}
-use Rattle.bz_edit.specs.Trails.{trail_at}
+use Rattle.bz_edit.proofs.Words.{◌-◌, arith, trail_at}
 use Rattle.bz_edit.proofs.Passing.{went_back, lead_back, even_back}
 use Rattle.bz_edit.proofs.moves.go_back.Goals as goal
 

@@ -1,7 +1,4 @@
-use Rattle.std.proofs.Common.{subst}
-use Rattle.bz_edit.specs.Steps.{IsStep}
-use Rattle.bz_edit.specs.Windows.{with_windows}
-use Rattle.bz_edit.specs.Trails.{trail_at}
+use Rattle.bz_edit.proofs.Words.{IsStep, subst, trail_at, with_windows}
 use Rattle.bz_edit.proofs.Taking.{took_up}
 use Rattle.bz_edit.proofs.moves.take_up.Goals as goal
 

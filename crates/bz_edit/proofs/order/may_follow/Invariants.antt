@@ -1,5 +1,4 @@
-use Rattle.std.proofs.Common.{◌≡◌, length}
-use Rattle.bz_edit.specs.private.Tests.{follows_at}
+use Rattle.bz_edit.proofs.Words.{◌≡◌, follows_at, length}
 use Rattle.bz_edit.proofs.order.may_follow.Given as goal
 
 abbrev pub invariant-loop-i : goal.invariant-loop-i

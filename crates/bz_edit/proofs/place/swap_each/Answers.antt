@@ -1,7 +1,4 @@
-use Rattle.std.proofs.Common.{◌≡◌, ◌∙◌, ap, arith, length, refl, slice_index_or}
-use Rattle.bz_edit.specs.Places.{covered, has_place, parts_put}
-use Rattle.bz_edit.specs.Steps.{turned}
-use Rattle.bz_edit.specs.declared.edit.Edit.{Edit}
+use Rattle.bz_edit.proofs.Words.{◌∙◌, ◌≡◌, ap, arith, covered, Edit, has_place, length, parts_put, refl, slice_index_or, turned}
 use Rattle.bz_edit.proofs.Going.{ends, here, swapped_next}
 use Rattle.bz_edit.proofs.place.swap_each.Goals as goal
 

@@ -1,9 +1,5 @@
-use Rattle.std.proofs.Common.{◌∙◌, ◌∷◌, [], inl, refl, OnOk}
-use Rattle.bz_files.specs.Folder.{SameBeside, IsReplaced, IsReplacing}
-use Rattle.bz_files.specs.Orders.{SawAgain, TookPlace, place_acts}
-use Rattle.bz_files.proofs.Acts.{after_look, counted_before, counted_on, on_ok_all}
-use Rattle.bz_files.proofs.Keeping.{same_beside}
-use Rattle.bz_files.proofs.Orders.{broken, broken_off, fails, one_act, order_after}
+use Rattle.bz_files.proofs.Words.{[], ◌∙◌, ◌∷◌, inl, IsReplaced, IsReplacing, OnOk, place_acts, refl, SameBeside, SawAgain, TookPlace}
+use Rattle.bz_files.proofs.{Acts.after_look, Acts.counted_before, Acts.counted_on, Acts.on_ok_all, Keeping.same_beside, Orders.broken, Orders.broken_off, Orders.fails, Orders.one_act, Orders.order_after}
 use Rattle.bz_files.proofs.replacing.place.Goals as goal
 
 pub returns-in-Ok-clause-there : goal.returns-in-Ok-clause-there

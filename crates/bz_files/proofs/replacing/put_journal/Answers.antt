@@ -1,9 +1,6 @@
-use Rattle.std.proofs.Common.{◌∙◌, ◌++◌, ◌∷◌, [], inl, inr, refl, Ok, Err}
-use Rattle.std.proofs.lemmas.Result.{err_from_is_err_and}
-use Rattle.bz_files.specs.Folder.{IsReplaced, IsReplacing}
+use Rattle.bz_files.proofs.Words.{[], ◌++◌, ◌∙◌, ◌∷◌, Err, err_from_is_err_and, Flushed, inl, inr, IsReplaced, IsReplacing, Made, Ok, place_acts, refl}
 use Rattle.bz_files.proofs.Acts.{before_flush, counted_on, not_made, placed_after, put_after}
 use Rattle.bz_files.proofs.Keeping.{replaced_after, replacing, same_beside}
-use Rattle.bz_files.specs.Orders.{Flushed, Made, place_acts}
 use Rattle.bz_files.proofs.Orders.{broken_after, broken_before, fails, joined, one_act, order_after, seen_since, stops}
 use Rattle.bz_files.proofs.replacing.put_journal.Goals as goal
 

@@ -1,8 +1,6 @@
-use Rattle.std.proofs.Common.{◌∷◌, [], inl, refl}
-use Rattle.bz_files.specs.Folder.{IsReplaced, IsReplacing}
+use Rattle.bz_files.proofs.Words.{[], ◌∷◌, inl, IsReplaced, IsReplacing, Made, place_acts, refl, rewrite_acts, Saw}
 use Rattle.bz_files.proofs.Acts.{rewritten}
 use Rattle.bz_files.proofs.Keeping.{replaced_after, replacing, same_beside}
-use Rattle.bz_files.specs.Orders.{Made, Saw, place_acts, rewrite_acts}
 use Rattle.bz_files.proofs.Orders.{broken_after, fails, first_seen, joined, no_stamp, order_after, seen_since, stops}
 use Rattle.bz_files.proofs.replacing.rewrite.Goals as goal
 

@@ -1,10 +1,6 @@
-use Rattle.std.proofs.Common.{◌∙◌, ◌++◌, ◌∷◌, [], inl, inr, refl, Err, OnOk}
-use Rattle.std.proofs.lemmas.Result.{on_ok_weaker}
-use Rattle.bz_files.specs.Folder.{SameBeside, IsReplaced, IsReplacing}
-use Rattle.bz_files.specs.Pair.{AreReplaced, IsChecking, IsKeeping}
+use Rattle.bz_files.proofs.Words.{[], ◌++◌, ◌∙◌, ◌∷◌, AreReplaced, Err, inl, inr, IsChecking, IsKeeping, IsReplaced, IsReplacing, journal_acts, Made, on_ok_weaker, OnOk, pair_acts, place_acts, refl, SameBeside, Saw}
 use Rattle.bz_files.proofs.Acts.{after, counted_before, counted_on, last, rewritten}
 use Rattle.bz_files.proofs.Keeping.{beside_file, both, first, given_up, keeping_after, replaced_both, same_beside, second}
-use Rattle.bz_files.specs.Orders.{Made, Saw, journal_acts, pair_acts, place_acts}
 use Rattle.bz_files.proofs.Orders.{broken, broken_after, broken_before, broken_off, fails, first_seen, joined, no_stamp, order_after, seen_since, stops}
 use Rattle.bz_files.proofs.replacing.rewrite_pair.Goals as goal
 

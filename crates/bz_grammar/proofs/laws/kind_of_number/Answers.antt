@@ -1,6 +1,4 @@
-use Rattle.std.proofs.Common.{refl}
-use Rattle.bz_grammar.specs.declared.kind.Kind.TheVariants as v
-use Rattle.bz_grammar.specs.Laws.{KindOfNumber}
+use Rattle.bz_grammar.proofs.Words.{Kind as v, KindOfNumber, refl}
 use Rattle.bz_grammar.proofs.laws.kind_of_number.Goals as goal
 
 kind_of_number : KindOfNumber

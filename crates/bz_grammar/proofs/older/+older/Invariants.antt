@@ -1,6 +1,4 @@
-use Rattle.std.proofs.Common.{take}
-use Rattle.std.specs.List.{AllByRecursion}
-use Rattle.bz_grammar.specs.Legal.{IsBuildPart}
+use Rattle.bz_grammar.proofs.Words.{AllByRecursion, IsBuildPart, take}
 use Rattle.bz_grammar.proofs.older.+older.Given as goal
 
 abbrev pub invariant-have_newer-loop-i : goal.invariant-have_newer-loop-i

@@ -1,8 +1,5 @@
-use Rattle.std.proofs.Common.{◌≡◌, ◌∙◌, ◌++◌, ap, subst, take, length, Ok, Err, Result}
-use Rattle.std.specs.Result.{OnErr}
-use Rattle.bz_grammar.specs.Spell.{spell_part}
-use Rattle.bz_grammar.proofs.Spells.{front_of_front}
-use Rattle.bz_grammar.proofs.Statements.{text_more}
+use Rattle.bz_grammar.proofs.Words.{◌++◌, ◌∙◌, ◌≡◌, ap, Err, length, Ok, OnErr, Result, spell_part, subst, take}
+use Rattle.bz_grammar.proofs.{Spells.front_of_front, Statements.text_more}
 use Rattle.bz_grammar.proofs.tree.+append.Goals as goal
 
 at_err : {T E P : Type 0} (r : Result T E) → P → OnErr r P

@@ -1,6 +1,4 @@
-use Rattle.std.proofs.Common.{◌≡◌, ◌++◌, take}
-use Rattle.std.specs.List.{flat_map}
-use Rattle.bz_grammar.specs.Spell.{spell_part}
+use Rattle.bz_grammar.proofs.Words.{◌++◌, ◌≡◌, flat_map, spell_part, take}
 use Rattle.bz_grammar.proofs.tree.+append.Given as goal
 
 abbrev pub invariant-append_all-loop-part : goal.invariant-append_all-loop-part

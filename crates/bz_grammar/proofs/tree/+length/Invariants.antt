@@ -1,6 +1,4 @@
-use Rattle.std.proofs.Common.{◌≡◌, ◌≤◌, ◌+◌, drop, length}
-use Rattle.std.specs.List.{flat_map}
-use Rattle.bz_grammar.specs.Spell.{spell_part, limit, within_limit}
+use Rattle.bz_grammar.proofs.Words.{◌+◌, ◌≡◌, ◌≤◌, drop, flat_map, length, limit, spell_part, within_limit}
 use Rattle.bz_grammar.proofs.tree.+length.Given as goal
 
 abbrev pub invariant-length_with-loop-part : goal.invariant-length_with-loop-part

@@ -1,8 +1,5 @@
-use Rattle.std.proofs.Common.{◌≡◌, [], List, map, MatchOption, sym, ap, ◌∙◌, subst}
-use Rattle.bz_hosts.specs.Words.{Node, Part, Bytes}
-use Rattle.bz_hosts.specs.Seen.{first_seen_gap, seen}
-use Rattle.bz_hosts.proofs.NodeViews.{gap_of_node}
-use Rattle.bz_hosts.proofs.RowSteps.{seen_here}
+use Rattle.bz_hosts.proofs.Words.{[], ◌∙◌, ◌≡◌, ap, Bytes, first_seen_gap, List, map, MatchOption, Node, Part, seen, subst, sym}
+use Rattle.bz_hosts.proofs.{NodeViews.gap_of_node, RowSteps.seen_here}
 use Rattle.bz_hosts.proofs.before.+first_gap_at.Goals as goal
 
 pub returns-in-Some-Node : goal.returns-in-Some-Node

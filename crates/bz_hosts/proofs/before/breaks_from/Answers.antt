@@ -1,5 +1,4 @@
-use Rattle.std.proofs.Common.{map, drop, add-one, sym, ap, ◌∙◌}
-use Rattle.bz_hosts.specs.Seen.{is_split, seen}
+use Rattle.bz_hosts.proofs.Words.{◌∙◌, add-one, ap, drop, is_split, map, seen, sym}
 use Rattle.bz_hosts.proofs.NodeViews.{no_split_at}
 use Rattle.bz_hosts.proofs.before.breaks_from.Goals as goal
 

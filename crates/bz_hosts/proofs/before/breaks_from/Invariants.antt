@@ -1,5 +1,4 @@
-use Rattle.std.proofs.Common.{◌≡◌, map, drop}
-use Rattle.bz_hosts.specs.Seen.{is_split, seen}
+use Rattle.bz_hosts.proofs.Words.{◌≡◌, drop, is_split, map, seen}
 use Rattle.bz_hosts.proofs.before.breaks_from.Given as goal
 
 abbrev pub invariant-loop-at : goal.invariant-loop-at

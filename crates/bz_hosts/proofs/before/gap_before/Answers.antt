@@ -1,6 +1,4 @@
-use Rattle.std.proofs.Common.{List, map, ap, ◌∙◌}
-use Rattle.bz_grammar.specs.declared.tree.Part.{Part}
-use Rattle.bz_hosts.specs.Seen.{first_seen_gap, seen}
+use Rattle.bz_hosts.proofs.Words.{◌∙◌, ap, first_seen_gap, List, map, Part, seen}
 use Rattle.bz_hosts.proofs.NodeViews.{gap_of_node}
 use Rattle.bz_hosts.proofs.before.gap_before.Goals as goal
 

@@ -1,8 +1,5 @@
-use Rattle.std.proofs.Common.{◌≡◌, [], ◌∷◌, ◌++◌, map, ◌+◌, append-nil, sym, refl, ap, ◌∙◌, drop, arith}
-use Rattle.std.proofs.lemmas.List.{take_all}
-use Rattle.bz_hosts.specs.Words.{Part, frame}
+use Rattle.bz_hosts.proofs.Words.{[], ◌++◌, ◌+◌, ◌∙◌, ◌∷◌, ◌≡◌, ap, append-nil, arith, drop, first_seen_gap, frame, map, Part, refl, seen, sym, take_all}
 use Rattle.bz_value.specs.declared.value.Expr.TheVariants as e
-use Rattle.bz_hosts.specs.Seen.{first_seen_gap, seen}
 use Rattle.bz_hosts.proofs.HostSteps.{item_more, items_done}
 use Rattle.bz_hosts.proofs.NodeViews.{node_pushed, node_loose, sequence_made}
 use Rattle.bz_hosts.proofs.RowSteps.{seen_here, gap_inside, gap_at_first, gap_at_later, row_more, row_done, loose_done, loose_more, head_row, bracket_loose, most_taken}

@@ -1,5 +1,4 @@
-use Rattle.std.proofs.Common.{◌≡◌, ◌∷◌, None}
-use Rattle.bz_value.specs.Gaps.{lines_of}
+use Rattle.bz_hosts.proofs.Words.{◌∷◌, ◌≡◌, lines_of, None}
 use Rattle.bz_hosts.proofs.GroupSteps.{bare_line, block_pushed}
 use Rattle.bz_hosts.proofs.groups.push_lines.Goals as goal
 

@@ -1,5 +1,4 @@
-use Rattle.std.proofs.Common.{length}
-use Rattle.bz_value.specs.Gaps.{lines_of}
+use Rattle.bz_hosts.proofs.Words.{length, lines_of}
 use Rattle.bz_hosts.proofs.GroupSteps.{Pushed}
 use Rattle.bz_hosts.proofs.groups.push_lines.Given as goal
 

@@ -1,7 +1,4 @@
-use Rattle.std.proofs.Common.{◌≡◌, ◌-◌, Bool, [], List, map, take, drop}
-use Rattle.bz_hosts.specs.Words.{Kind, Bytes, GapLine}
-use Rattle.bz_hosts.specs.Seen.{seen}
-use Rattle.bz_hosts.specs.Suites.{branches, stated}
+use Rattle.bz_hosts.proofs.Words.{[], ◌-◌, ◌≡◌, Bool, branches, Bytes, drop, GapLine, Kind, List, map, seen, stated, take}
 use Rattle.bz_hosts.proofs.headers.colon_from.Given as goal
 
 abbrev pub invariant-loop-at : goal.invariant-loop-at

@@ -1,5 +1,4 @@
-use Rattle.std.proofs.Common.{sym, ap, ◌∙◌}
-use Rattle.bz_hosts.specs.Suites.{only_comment}
+use Rattle.bz_hosts.proofs.Words.{◌∙◌, ap, only_comment, sym}
 use Rattle.bz_hosts.proofs.Stated.{suffix_of}
 use Rattle.bz_hosts.proofs.headers.suffix_before.Goals as goal
 

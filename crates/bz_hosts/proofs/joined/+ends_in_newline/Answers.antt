@@ -1,5 +1,4 @@
-use Rattle.std.proofs.Common.{sym, ◌∙◌}
-use Rattle.std.proofs.lemmas.Slice.Eq.{bytes_eq-Decides}
+use Rattle.bz_hosts.proofs.Words.{◌∙◌, bytes_eq-Decides, sym}
 use Rattle.bz_hosts.proofs.JoinedFiles.{leaf_newline, node_newline}
 use Rattle.bz_hosts.proofs.joined.+ends_in_newline.Goals as goal
 

@@ -1,5 +1,4 @@
-use Rattle.std.proofs.Common.{sym, ap, ◌∙◌}
-use Rattle.bz_lex.proofs.Fronts.{empty_list}
+use Rattle.bz_hosts.proofs.Words.{◌∙◌, ap, empty_list, sym}
 use Rattle.bz_hosts.proofs.JoinedFiles.{ends_in_line}
 use Rattle.bz_hosts.proofs.joined.ends_in_line.Goals as goal
 

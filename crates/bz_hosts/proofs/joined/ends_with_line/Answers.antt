@@ -1,7 +1,4 @@
-use Rattle.std.proofs.Common.{sym, ap, ◌∙◌}
-use Rattle.std.proofs.lemmas.Slice.Eq.{bytes_eq-Decides}
-use Rattle.bz_lex.proofs.Fronts.{empty_list}
-use Rattle.bz_value.specs.Gaps.{after_first_line, lines_of}
+use Rattle.bz_hosts.proofs.Words.{◌∙◌, after_first_line, ap, bytes_eq-Decides, empty_list, lines_of, sym}
 use Rattle.bz_hosts.proofs.JoinedLines.{line_last}
 use Rattle.bz_hosts.proofs.joined.ends_with_line.Goals as goal
 

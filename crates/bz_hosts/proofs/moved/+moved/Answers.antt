@@ -1,9 +1,6 @@
-use Rattle.std.proofs.Common.{◌<◌, ◌≤◌, ◌+◌, List, [], ◌∷◌, ◌++◌, length, map, take, drop, refl, sym, ap, ◌∙◌, subst, arith}
-use Rattle.std.proofs.lemmas.List.{drop-set-lt}
-use Rattle.bz_hosts.specs.Words.{Part, frame}
+use Rattle.bz_hosts.proofs.Words.{[], ◌++◌, ◌+◌, ◌<◌, ◌∙◌, ◌∷◌, ◌≤◌, ap, arith, drop, drop-set-lt, frame, is_split, length, List, map, Part, plain, refl, seen, subst, sym, take}
 use Rattle.bz_grammar.specs.declared.tree.Part.TheVariants as p
 use Rattle.bz_value.specs.declared.value.Expr.TheVariants as e
-use Rattle.bz_hosts.specs.Seen.{is_split, plain, seen}
 use Rattle.bz_hosts.proofs.HostSteps.{item_more, items_done}
 use Rattle.bz_hosts.proofs.NodeViews.{node_pushed, node_loose, sequence_made}
 use Rattle.bz_hosts.proofs.moved.+moved.Goals as goal

@@ -1,6 +1,4 @@
-use Rattle.std.proofs.Common.{◌≡◌, ◌+◌, ◌-◌, ◌*◌, ◌++◌, false, length, map, drop}
-use Rattle.bz_value.specs.Gaps.{all_in}
-use Rattle.bz_hosts.specs.Seen.{first_seen_gap, items_in, loose_in, row_exprs, seen}
+use Rattle.bz_hosts.proofs.Words.{◌*◌, ◌++◌, ◌+◌, ◌-◌, ◌≡◌, all_in, drop, false, first_seen_gap, items_in, length, loose_in, map, row_exprs, seen}
 use Rattle.bz_hosts.proofs.moved.+moved.Given as goal
 
 abbrev pub decreases-push_form_moved : goal.decreases-push_form_moved

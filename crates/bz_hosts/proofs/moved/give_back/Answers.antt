@@ -1,7 +1,5 @@
-use Rattle.std.proofs.Common.{◌≡◌, ◌+◌, ◌-◌, ◌++◌, List, length, length-drop, take, drop, ap, ◌∙◌, arith}
+use Rattle.bz_hosts.proofs.Words.{◌++◌, ◌+◌, ◌-◌, ◌∙◌, ◌≡◌, ap, arith, drop, drop-drop, length, length-drop, List, Part, take}
 use Rattle.std.proofs.Math.Seq.{take-append_seam}
-use Rattle.std.proofs.lemmas.List.{drop-drop}
-use Rattle.bz_grammar.specs.declared.tree.Part.{Part}
 use Rattle.bz_hosts.proofs.moved.give_back.Goals as goal
 
 -- what was walked over goes, but for the last of it

@@ -1,5 +1,4 @@
-use Rattle.std.proofs.Common.{◌≡◌, length}
-use Rattle.bz_value.specs.Gaps.{all_in}
+use Rattle.bz_hosts.proofs.Words.{◌≡◌, all_in, length}
 use Rattle.bz_hosts.proofs.rest.comment_in.Given as goal
 
 abbrev pub invariant-loop-line : goal.invariant-loop-line

@@ -1,6 +1,4 @@
-use Rattle.std.proofs.Common.{◌≡◌, ◌+◌, ◌++◌, length}
-use Rattle.bz_value.specs.Gaps.{lines_of}
-use Rattle.bz_hosts.specs.Suites.{after_end, end_comments}
+use Rattle.bz_hosts.proofs.Words.{◌++◌, ◌+◌, ◌≡◌, after_end, end_comments, length, lines_of}
 use Rattle.bz_hosts.proofs.rest.take_end.Given as goal
 
 abbrev pub invariant-loop-line : goal.invariant-loop-line

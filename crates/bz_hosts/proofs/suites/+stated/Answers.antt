@@ -1,9 +1,5 @@
-use Rattle.std.proofs.Common.{false, sym, ap, ◌≡◌, ◌∙◌, ◌++◌, ◌+◌, ◌-◌, ◌∷◌, [], List, map, take, drop, arith}
-use Rattle.bz_hosts.specs.Words.{Part, GapLine, lines_of}
-use Rattle.bz_hosts.specs.Seen.{Seen, seen}
-use Rattle.bz_hosts.specs.Suites.{branches, stated, Stated, with_suite}
-use Rattle.bz_hosts.proofs.Branches.{branch_more}
-use Rattle.bz_hosts.proofs.Colons.{part_here}
+use Rattle.bz_hosts.proofs.Words.{[], ◌++◌, ◌+◌, ◌-◌, ◌∙◌, ◌∷◌, ◌≡◌, ap, arith, branches, drop, false, GapLine, lines_of, List, map, Part, Seen, seen, Stated, stated, sym, take, with_suite}
+use Rattle.bz_hosts.proofs.{Branches.branch_more, Colons.part_here}
 use Rattle.bz_value.specs.declared.value.Expr.TheVariants as e
 use Rattle.bz_hosts.proofs.suites.+stated.Goals as goal
 

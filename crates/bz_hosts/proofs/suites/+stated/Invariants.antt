@@ -1,7 +1,5 @@
-use Rattle.std.proofs.Common.{false, ◌≡◌, ◌≤◌, ◌++◌, ◌-◌, [], map, drop, length}
+use Rattle.bz_hosts.proofs.Words.{[], ◌++◌, ◌-◌, ◌≡◌, ◌≤◌, branches, drop, false, indented_lines_before, length, lines_of, map, stated, walked}
 use Rattle.bz_value.specs.declared.value.Expr.TheVariants as e
-use Rattle.bz_value.specs.Gaps.{lines_of}
-use Rattle.bz_hosts.specs.Suites.{branches, indented_lines_before, stated, walked}
 use Rattle.bz_hosts.proofs.suites.+stated.Given as goal
 
 abbrev pub invariant-push_all_statements-loop-at : goal.invariant-push_all_statements-loop-at

@@ -1,7 +1,4 @@
-use Rattle.std.proofs.Common.{◌≡◌, ◌++◌, [], map, drop}
-use Rattle.bz_value.specs.Gaps.{lines_of}
-use Rattle.bz_hosts.specs.View.{items_from}
-use Rattle.bz_hosts.specs.Suites.{indented_lines_before, stated}
+use Rattle.bz_hosts.proofs.Words.{[], ◌++◌, ◌≡◌, drop, indented_lines_before, items_from, lines_of, map, stated}
 use Rattle.bz_hosts.proofs.suites.items_of.Given as goal
 
 abbrev pub invariant-loop-at : goal.invariant-loop-at

@@ -1,5 +1,4 @@
-use Rattle.std.proofs.Common.{◌≡◌, ◌++◌}
-use Rattle.bz_hosts.specs.Suites.{exprs_in}
+use Rattle.bz_hosts.proofs.Words.{◌++◌, ◌≡◌, exprs_in}
 use Rattle.bz_hosts.proofs.suites.push_exprs.Given as goal
 
 abbrev pub invariant-loop-item : goal.invariant-loop-item

@@ -1,5 +1,4 @@
-use Rattle.std.proofs.Common.{◌≡◌, ◌++◌, map}
-use Rattle.bz_value.specs.declared.value.Item.TheVariants as i
+use Rattle.bz_hosts.proofs.Words.{◌++◌, ◌≡◌, Item as i, map}
 use Rattle.bz_hosts.proofs.suites.push_items.Given as goal
 
 abbrev pub invariant-loop-statement : goal.invariant-loop-statement

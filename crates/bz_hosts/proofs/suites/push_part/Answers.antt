@@ -1,6 +1,4 @@
-use Rattle.std.proofs.Common.{List, ◌++◌, sym, ap, ◌∙◌}
-use Rattle.bz_hosts.specs.Words.{Item, lines_of}
-use Rattle.bz_hosts.specs.Suites.{ReadStatements}
+use Rattle.bz_hosts.proofs.Words.{◌++◌, ◌∙◌, ap, Item, lines_of, List, ReadStatements, sym}
 use Rattle.bz_hosts.proofs.FileSteps.{line_part}
 use Rattle.bz_hosts.proofs.suites.push_part.Goals as goal
 

@@ -1,5 +1,4 @@
-use Rattle.std.proofs.Common.{subst, sym}
-use Rattle.bz_value.specs.Proper.{IsProper}
+use Rattle.bz_hosts.proofs.Words.{IsProper, subst, sym}
 use Rattle.bz_hosts.proofs.ProperViews.{views_proper}
 use Rattle.bz_hosts.proofs.viewing.into_front.Goals as goal
 

@@ -1,7 +1,4 @@
-use Rattle.std.proofs.Common.{rules, ◌<◌, ◌≤◌, ◌+◌, ◌++◌, List, map, length, sym, ap, ◌∙◌, subst, arith}
-use Rattle.bz_grammar.specs.declared.tree.Part.{Part}
-use Rattle.bz_hosts.specs.Seen.{first_seen_gap, seen}
-use Rattle.bz_hosts.specs.private.FileParts.{items_below, left_below}
+use Rattle.bz_hosts.proofs.Words.{◌++◌, ◌+◌, ◌<◌, ◌∙◌, ◌≤◌, ap, arith, first_seen_gap, items_below, left_below, length, List, map, Part, rules, seen, subst, sym}
 use Rattle.bz_hosts.proofs.FileSteps.{begun, finished}
 use Rattle.bz_hosts.proofs.viewing.into_items.Goals as goal
 

@@ -1,8 +1,4 @@
-use Rattle.std.proofs.Common.{◌≡◌, ◌<◌, ◌≤◌, ◌+◌, ◌-◌, ◌++◌, true, [], map, drop, length}
-use Rattle.bz_hosts.specs.SuitesJoined.{lines_at_end}
-use Rattle.bz_hosts.specs.View.{items_from}
-use Rattle.bz_hosts.specs.Suites.{indented_lines_before, stated}
-use Rattle.bz_hosts.specs.private.FileParts.{items_below, left_below}
+use Rattle.bz_hosts.proofs.Words.{[], ◌++◌, ◌+◌, ◌-◌, ◌<◌, ◌≡◌, ◌≤◌, drop, indented_lines_before, items_below, items_from, left_below, length, lines_at_end, map, stated, true}
 use Rattle.bz_hosts.proofs.viewing.into_items.Given as goal
 
 abbrev pub invariant-loop-parts : goal.invariant-loop-parts

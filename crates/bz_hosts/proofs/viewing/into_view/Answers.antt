@@ -1,6 +1,4 @@
-use Rattle.std.proofs.Common.{subst, sym, ap, ◌∙◌}
-use Rattle.bz_hosts.specs.Words.{times, IsProper}
-use Rattle.bz_hosts.specs.Kept.{occurrences}
+use Rattle.bz_hosts.proofs.Words.{◌∙◌, ap, IsProper, occurrences, subst, sym, times}
 use Rattle.bz_hosts.proofs.ProperViews.{comments_kept, views_proper}
 use Rattle.bz_hosts.proofs.viewing.into_view.Goals as goal
 

@@ -1,8 +1,4 @@
-use Rattle.std.proofs.Common.{◌+◌, List, map, drop, ap, ◌∙◌, refl, arith}
-use Rattle.std.proofs.lemmas.List.{length-set, drop-set-lt}
-use Rattle.bz_hosts.specs.Words.{Part, lines_of}
-use Rattle.bz_hosts.specs.Seen.{last_gap, seen}
-use Rattle.bz_hosts.specs.private.FileParts.{part_read}
+use Rattle.bz_hosts.proofs.Words.{◌+◌, ◌∙◌, ap, arith, drop, drop-set-lt, last_gap, length-set, lines_of, List, map, Part, part_read, refl, seen}
 use Rattle.bz_hosts.proofs.FileSteps.{before, line_moved, moved}
 use Rattle.bz_hosts.proofs.viewing.push_moved_part.Goals as goal
 

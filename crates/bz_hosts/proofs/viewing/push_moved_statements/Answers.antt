@@ -1,7 +1,4 @@
-use Rattle.std.proofs.Common.{◌<◌, ◌≤◌, ◌+◌, [], ◌∷◌, ◌++◌, List, length, drop, ap, ◌∙◌, subst, arith}
-use Rattle.std.proofs.lemmas.List.{drop-set-lt}
-use Rattle.bz_hosts.specs.Words.{Part, Expr}
-use Rattle.bz_hosts.specs.Seen.{plain, seen}
+use Rattle.bz_hosts.proofs.Words.{[], ◌++◌, ◌+◌, ◌<◌, ◌∙◌, ◌∷◌, ◌≤◌, ap, arith, drop, drop-set-lt, Expr, length, List, Part, plain, seen, subst}
 use Rattle.bz_hosts.proofs.LineSteps.{statement_more, statements_done}
 use Rattle.bz_hosts.proofs.viewing.push_moved_statements.Goals as goal
 

@@ -1,6 +1,4 @@
-use Rattle.std.proofs.Common.{[], ◌∷◌, ◌++◌, ◌+◌, List, drop, refl, ap, ◌∙◌}
-use Rattle.bz_value.specs.declared.value.Expr.{Expr}
-use Rattle.bz_hosts.specs.Seen.{plain, seen}
+use Rattle.bz_hosts.proofs.Words.{[], ◌++◌, ◌+◌, ◌∙◌, ◌∷◌, ap, drop, Expr, List, plain, refl, seen}
 use Rattle.bz_hosts.proofs.LineSteps.{statement_more, statements_done}
 use Rattle.bz_hosts.proofs.viewing.push_statements.Goals as goal
 

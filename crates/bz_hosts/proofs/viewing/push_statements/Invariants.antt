@@ -1,5 +1,4 @@
-use Rattle.std.proofs.Common.{◌≡◌, ◌-◌, ◌++◌, [], length, map, drop}
-use Rattle.bz_hosts.specs.Seen.{seen, statements_in}
+use Rattle.bz_hosts.proofs.Words.{[], ◌++◌, ◌-◌, ◌≡◌, drop, length, map, seen, statements_in}
 use Rattle.bz_hosts.proofs.viewing.push_statements.Given as goal
 
 abbrev pub invariant-loop-before : goal.invariant-loop-before

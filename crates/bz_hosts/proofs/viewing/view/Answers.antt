@@ -1,8 +1,4 @@
-use Rattle.std.proofs.Common.{[], map, subst, sym, ap, ◌∙◌}
-use Rattle.bz_hosts.specs.Words.{times, IsProper}
-use Rattle.bz_hosts.specs.Kept.{occurrences}
-use Rattle.bz_hosts.specs.Suites.{indented_lines_before, stated}
-use Rattle.bz_hosts.specs.View.{items_from}
+use Rattle.bz_hosts.proofs.Words.{[], ◌∙◌, ap, indented_lines_before, IsProper, items_from, map, occurrences, stated, subst, sym, times}
 use Rattle.bz_hosts.proofs.ProperViews.{comments_kept, views_proper}
 use Rattle.bz_hosts.proofs.viewing.view.Goals as goal
 

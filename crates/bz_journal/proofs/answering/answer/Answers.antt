@@ -1,5 +1,4 @@
-use Rattle.std.proofs.Common.{◌≡◌, ◌∙◌, ap, false, inl, is_some, refl, sym, true≢false, Option, None, Some}
-use Rattle.bz_journal.specs.Clauses.{SessionState, session_history}
+use Rattle.bz_journal.proofs.Words.{◌∙◌, ◌≡◌, ap, false, inl, is_some, None, Option, refl, session_history, SessionState, Some, sym, true≢false}
 use Rattle.bz_journal.proofs.Edited.{edited_refused, edited_same}
 use Rattle.bz_journal.proofs.answering.answer.Goals as goal
 

@@ -1,5 +1,4 @@
-use Rattle.std.proofs.Common.{◌≡◌, ◌∙◌, List, map, subst}
-use Rattle.bz_journal.specs.Clauses.{AreListed, Item, item_hash}
+use Rattle.bz_journal.proofs.Words.{◌∙◌, ◌≡◌, AreListed, Item, item_hash, List, map, subst}
 use Rattle.bz_journal.proofs.answering.look_up.Goals as goal
 
 pub returns-in_ok-of-in-Loads-clause-looked : goal.returns-in_ok-of-in-Loads-clause-looked

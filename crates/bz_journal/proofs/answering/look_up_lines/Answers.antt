@@ -1,7 +1,4 @@
-use Rattle.std.proofs.Common.{◌≡◌, ◌∙◌, [], ℕ, List, Option, None, Some, is_some, refl, subst, sym, true, true≢false}
-use Rattle.std.specs.Prelude.{IfSome}
-use Rattle.std.specs.Option.{unwrap_or}
-use Rattle.bz_journal.specs.Clauses.{GivesAlike, lines_begun, lines_of}
+use Rattle.bz_journal.proofs.Words.{[], ◌∙◌, ◌≡◌, GivesAlike, IfSome, is_some, lines_begun, lines_of, List, None, Option, refl, Some, subst, sym, true, true≢false, unwrap_or, ℕ}
 use Rattle.bz_journal.proofs.answering.look_up_lines.Goals as goal
 use Rattle.bz_journal.proofs.answering.look_up_lines.Goals.{then-is_some-via-then-is_some, then-is_some-via-else-is_some+then-not-looks_at_lines}
 

@@ -1,6 +1,4 @@
-use Rattle.std.proofs.Common.{rules}
-use Rattle.std.proofs.lemmas.Result.{err_from_is_err_and}
-use Rattle.bz_journal_format.specs.declared.content.Version.TheVariants.{Two}
+use Rattle.bz_journal.proofs.Words.{err_from_is_err_and, rules, Two}
 use Rattle.bz_journal.proofs.Opening.{opened_of, passed_of, refused_of}
 use Rattle.bz_journal.proofs.course.begin.Goals as goal
 

@@ -1,6 +1,4 @@
-use Rattle.std.proofs.Common.{◌++◌, take, List, ℕ}
-use Rattle.std.specs.List.{flat_map}
-use Rattle.bz_journal.specs.Clauses.{Holds256, spell_part}
+use Rattle.bz_journal.proofs.Words.{◌++◌, flat_map, Holds256, List, spell_part, take, ℕ}
 use Rattle.bz_journal.proofs.digest.+hash.Given as goal
 
 -- what was hashed before, and after it the text of the parts so far

@@ -1,6 +1,4 @@
-use Rattle.std.proofs.Common.{◌+◌, arith}
-use Rattle.std.proofs.lemmas.Grind.{common_steps}
-use Rattle.bz_journal.specs.Clauses.{session_history, sha256}
+use Rattle.bz_journal.proofs.Words.{◌+◌, arith, common_steps, session_history, sha256}
 use Rattle.bz_journal.proofs.Digested.{all_first}
 use Rattle.bz_journal.proofs.digests.are_all.Goals as goal
 

@@ -1,6 +1,4 @@
-use Rattle.std.proofs.Common.{◌≡◌, ◌∙◌, ◌<◌, ◌++◌, ◌∷◌, [], ap, length, rules, subst, sym, ℕ, List}
-use Rattle.std.specs.Prelude.{slice_index_or}
-use Rattle.bz_journal.specs.Clauses.{Bytes, session_history}
+use Rattle.bz_journal.proofs.Words.{[], ◌++◌, ◌<◌, ◌∙◌, ◌∷◌, ◌≡◌, ap, Bytes, length, List, rules, session_history, slice_index_or, subst, sym, ℕ}
 use Rattle.bz_journal.proofs.Digested.{learn_next}
 use Rattle.bz_journal.proofs.digests.learn.Goals as goal
 

@@ -1,7 +1,5 @@
-use Rattle.std.proofs.Common.{◌-◌, ap, arith, subst, sym}
-use Rattle.bz_journal.specs.Clauses.{Action, Do, HasActed, Redo, Undo, action_in}
-use Rattle.bz_journal.proofs.Acting.{has_gone}
-use Rattle.bz_journal.proofs.AtOnce.{acted_at_once}
+use Rattle.bz_journal.proofs.Words.{◌-◌, Action, action_in, ap, arith, Do, HasActed, Redo, subst, sym, Undo}
+use Rattle.bz_journal.proofs.{Acting.has_gone, AtOnce.acted_at_once}
 use Rattle.bz_journal.proofs.doing.act.Goals as goal
 
 pub returns-in-Some-clause-acted : goal.returns-in-Some-clause-acted

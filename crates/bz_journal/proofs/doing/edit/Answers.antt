@@ -1,6 +1,4 @@
-use Rattle.std.proofs.Common.{◌∙◌, List, ap, refl, subst, sym}
-use Rattle.std.proofs.lemmas.Bool.{false≢true}
-use Rattle.bz_journal.specs.Clauses.{AreOver, Item, Node, SessionState, session_history, view_of}
+use Rattle.bz_journal.proofs.Words.{◌∙◌, ap, AreOver, false≢true, Item, List, Node, refl, session_history, SessionState, subst, sym, view_of}
 use Rattle.bz_journal.proofs.Edited.{edited_made, edited_refused, edited_same}
 use Rattle.bz_journal.proofs.doing.edit.Goals as goal
 

@@ -1,8 +1,5 @@
-use Rattle.std.proofs.Common.{◌∙◌, List, ap, subst, sym}
-use Rattle.bz_journal.specs.Clauses.{AreOver, session_history, view_of}
-use Rattle.bz_journal.specs.Words.{Window}
-use Rattle.bz_journal.proofs.Acting.{formats_made}
-use Rattle.bz_journal.proofs.Formatting.{formatted_after}
+use Rattle.bz_journal.proofs.Words.{◌∙◌, ap, AreOver, List, session_history, subst, sym, view_of, Window}
+use Rattle.bz_journal.proofs.{Acting.formats_made, Formatting.formatted_after}
 use Rattle.bz_journal.proofs.doing.format.Goals as goal
 
 pub take_up-requires-clause-over : goal.take_up-requires-clause-over

@@ -1,12 +1,5 @@
-use Rattle.std.proofs.Common.{◌≡◌, ◌∙◌, Err, List, Ok, ap, length, map, subst, sym}
-use Rattle.std.specs.Prelude.{IfSome}
-use Rattle.bz_journal.specs.Clauses.{AreListed, Bytes, EndsAt, IsIndexOf, IsWritten, Item, Node, after_meaning, item_hash, layout, lines_of, session_history, spell_node, tidied}
-use Rattle.bz_journal.specs.Clauses.{view_of, with_windows}
-use Rattle.bz_journal.specs.Words.{Reads}
-use Rattle.bz_build_format.specs.Meaning.{Meaning}
-use Rattle.bz_journal.specs.Editing.{IsTidyLayoutOf}
-use Rattle.bz_journal.proofs.Edited.{refused_end, value_taken}
-use Rattle.bz_journal.proofs.MadeLines.{lines_written}
+use Rattle.bz_journal.proofs.Words.{◌∙◌, ◌≡◌, after_meaning, ap, AreListed, Bytes, EndsAt, Err, IfSome, IsIndexOf, IsTidyLayoutOf, IsWritten, Item, item_hash, layout, length, lines_of, List, map, Meaning, Node, Ok, Reads, session_history, spell_node, subst, sym, tidied, view_of, with_windows}
+use Rattle.bz_journal.proofs.{Edited.refused_end, Edited.value_taken, MadeLines.lines_written}
 use Rattle.bz_journal.proofs.doing.take_up.Goals as goal
 
 pub returns-in-Err-clause-end : goal.returns-in-Err-clause-end

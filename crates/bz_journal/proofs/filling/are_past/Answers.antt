@@ -1,9 +1,4 @@
-use Rattle.std.proofs.Common.{◌+◌, ◌||◌, arith, drop, inl, inr, subst, sym}
-use Rattle.std.specs.Prelude.{IfOk}
-use Rattle.std.proofs.lemmas.Bool.{eqb-true}
-use Rattle.std.proofs.lemmas.List.{drop_all}
-use Rattle.std.proofs.lemmas.Result.{err_from_is_err_and}
-use Rattle.bz_journal.specs.Clauses.{IsProperItem, Item, item_made_by, items_made_by, meant}
+use Rattle.bz_journal.proofs.Words.{◌+◌, ◌||◌, arith, drop, drop_all, eqb-true, err_from_is_err_and, IfOk, inl, inr, IsProperItem, Item, item_made_by, items_made_by, meant, subst, sym}
 use Rattle.bz_command.proofs.TargetMarks.{as_many}
 use Rattle.bz_journal.proofs.GrownItems.{AreTried, all_tried, first_tried, next_tried}
 use Rattle.bz_journal.proofs.filling.are_past.Goals as goal

@@ -1,5 +1,4 @@
-use Rattle.std.proofs.Common.{drop}
-use Rattle.bz_journal.specs.private.Filling.{item_made_by, items_made_by}
+use Rattle.bz_journal.proofs.Words.{drop, item_made_by, items_made_by}
 use Rattle.bz_journal.proofs.GrownItems.{AreTried}
 use Rattle.bz_journal.proofs.filling.are_past.Given as goal
 

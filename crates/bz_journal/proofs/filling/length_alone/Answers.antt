@@ -1,8 +1,4 @@
-use Rattle.std.proofs.Common.{◌≡◌, List, [], ◌∷◌, arith, subst, sym}
-use Rattle.std.proofs.lemmas.Grind.{common_steps}
-use Rattle.std.proofs.lemmas.List.Elements.{All-from_recursion}
-use Rattle.bz_value.specs.Proper.{IsProper, IsProperItem}
-use Rattle.bz_value.specs.declared.value.Item.{Item}
+use Rattle.bz_journal.proofs.Words.{[], ◌∷◌, ◌≡◌, All-from_recursion, arith, common_steps, IsProper, IsProperItem, Item, List, subst, sym}
 use Rattle.bz_journal.proofs.filling.length_alone.Goals as goal
 
 pub invariant_of-file : goal.invariant_of-file

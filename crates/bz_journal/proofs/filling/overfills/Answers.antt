@@ -1,13 +1,4 @@
-use Rattle.std.proofs.Common.{◌≡◌, ◌∙◌, ◌⊎◌, List, Result, Err, ap, arith, subst, sym}
-use Rattle.std.specs.Prelude.{IfErr, IfOk, IsTrue}
-use Rattle.std.specs.Option.{option_copied}
-use Rattle.std.proofs.lemmas.Grind.{common_steps}
-use Rattle.bz_value.specs.Proper.{IsProper}
-use Rattle.bz_command_syntax.specs.Proper.{IsProperCommand}
-use Rattle.bz_command.specs.Effect.{effect, on_each}
-use Rattle.bz_journal.specs.Clauses.{AreBuild, Item, Overfills, Refusal, marked_places, meant}
-use Rattle.bz_journal.specs.Words.{on_meant}
-use Rattle.bz_journal.specs.private.Filling.{item_made}
+use Rattle.bz_journal.proofs.Words.{◌∙◌, ◌≡◌, ◌⊎◌, ap, AreBuild, arith, common_steps, effect, Err, IfErr, IfOk, IsProper, IsProperCommand, IsTrue, Item, item_made, List, marked_places, meant, on_each, on_meant, option_copied, Overfills, Refusal, Result, subst, sym}
 use Rattle.bz_journal.proofs.GrownItems.{ones_proper, one_by_one}
 use Rattle.bz_journal.proofs.filling.overfills.Goals as goal
 

@@ -1,13 +1,6 @@
-use Rattle.std.proofs.Common.{◌≡◌, ◌≢◌, ◌∙◌, ap, arith, length, map, refl, subst, sym}
-use Rattle.bz_journal.specs.Clauses.{IsSavedSession, SessionState, present, saved, session_history, session_trail, sha256, texts_of}
-use Rattle.bz_journal.specs.Words.{Two}
-use Rattle.bz_journal_format.specs.declared.content.Record.{Record}
-use Rattle.bz_journal_format.specs.Texts.{record_text}
-use Rattle.bz_resume.proofs.Saves.{record_made}
-use Rattle.bz_resume.specs.Journals.{record_of}
-use Rattle.bz_journal.proofs.Following.{has_moved}
-use Rattle.bz_journal.proofs.Kept.{first_of_same}
-use Rattle.bz_journal.proofs.Resuming.{same_state}
+use Rattle.bz_journal.proofs.Words.{◌∙◌, ◌≡◌, ◌≢◌, ap, arith, IsSavedSession, length, map, present, record_made, record_of, refl, saved, session_history, session_trail, SessionState, sha256, subst, sym, texts_of, Two}
+use Rattle.bz_journal_format.specs.{declared.content.Record.Record, Texts.record_text}
+use Rattle.bz_journal.proofs.{Following.has_moved, Kept.first_of_same, Resuming.same_state}
 use Rattle.bz_journal.proofs.keeping.written_since.Goals as goal
 
 pub record_bytes-requires-clause-noted : goal.record_bytes-requires-clause-noted

@@ -1,5 +1,4 @@
-use Rattle.std.proofs.Common.{◌≡◌, ◌+◌, ◌++◌, drop}
-use Rattle.bz_journal.specs.Listing.{text_lines_from}
+use Rattle.bz_journal.proofs.Words.{◌++◌, ◌+◌, ◌≡◌, drop, text_lines_from}
 use Rattle.bz_journal.proofs.listing.listed.Given as goal
 
 abbrev pub invariant-loop-i : goal.invariant-loop-i

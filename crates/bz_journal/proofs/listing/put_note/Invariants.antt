@@ -1,7 +1,4 @@
-use Rattle.std.proofs.Common.{◌≡◌, ◌++◌, ◌∷◌, take}
-use Rattle.std.specs.List.{flat_map}
-use Rattle.bz_items.specs.Characters.{space}
-use Rattle.bz_journal.specs.Listing.{shown_byte}
+use Rattle.bz_journal.proofs.Words.{◌++◌, ◌∷◌, ◌≡◌, flat_map, shown_byte, space, take}
 use Rattle.bz_journal.proofs.listing.put_note.Given as goal
 
 abbrev pub invariant-loop-byte : goal.invariant-loop-byte

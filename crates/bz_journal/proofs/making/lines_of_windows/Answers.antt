@@ -1,6 +1,4 @@
-use Rattle.std.proofs.Common.{◌≤◌, ◌∙◌, List, length, subst, sym}
-use Rattle.bz_journal.specs.Clauses.{Bytes, Item, layout, limit, view_of}
-use Rattle.bz_journal.specs.Words.{IsProper, IsProperBuild}
+use Rattle.bz_journal.proofs.Words.{◌∙◌, ◌≤◌, Bytes, IsProper, IsProperBuild, Item, layout, length, limit, List, subst, sym, view_of}
 use Rattle.bz_layout.specs.Windows.{IsLayoutOf}
 use Rattle.bz_journal.proofs.MadeLines.{are_within, lines_read}
 use Rattle.bz_journal.proofs.making.lines_of_windows.Goals as goal

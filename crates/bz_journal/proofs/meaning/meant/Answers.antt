@@ -1,8 +1,4 @@
-use Rattle.std.proofs.Common.{◌∙◌, ⊎_elim, inl, inr, subst, sym}
-use Rattle.std.proofs.lemmas.Bool.{false≢true}
-use Rattle.std.proofs.lemmas.Result.{err_from_is_err_and}
-use Rattle.bz_grammar.specs.Spell.{spell_node}
-use Rattle.bz_journal.specs.Meaning.{Meaning, Means}
+use Rattle.bz_journal.proofs.Words.{⊎_elim, ◌∙◌, err_from_is_err_and, false≢true, inl, inr, Meaning, Means, spell_node, subst, sym}
 use Rattle.bz_journal.proofs.Edited.{means_not, means_ran}
 use Rattle.bz_journal.proofs.meaning.meant.Goals as goal
 

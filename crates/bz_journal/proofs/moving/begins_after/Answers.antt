@@ -1,6 +1,4 @@
-use Rattle.std.proofs.Common.{◌∙◌, ◌+◌, [], ap, arith, length, refl, sym}
-use Rattle.std.proofs.lemmas.List.{take_at}
-use Rattle.bz_journal.specs.Clauses.{Node, moved_from}
+use Rattle.bz_journal.proofs.Words.{[], ◌+◌, ◌∙◌, ap, arith, length, moved_from, Node, refl, sym, take_at}
 use Rattle.bz_journal.proofs.MovedLines.{all_one, one_of, shifts}
 use Rattle.bz_journal.proofs.moving.begins_after.Goals as goal
 

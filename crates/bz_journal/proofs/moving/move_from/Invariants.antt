@@ -1,5 +1,4 @@
-use Rattle.std.proofs.Common.{◌≡◌, ◌++◌, map, take, drop}
-use Rattle.bz_journal.specs.private.Making.{moved, moved_from}
+use Rattle.bz_journal.proofs.Words.{◌++◌, ◌≡◌, drop, map, moved, moved_from, take}
 use Rattle.bz_journal.proofs.moving.move_from.Given as goal
 
 abbrev pub invariant-loop-at : goal.invariant-loop-at

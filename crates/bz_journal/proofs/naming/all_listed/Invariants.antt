@@ -1,5 +1,4 @@
-use Rattle.std.proofs.Common.{◌≡◌, ◌+◌, drop, length}
-use Rattle.bz_journal.specs.private.Making.{HaveListedNamesIn}
+use Rattle.bz_journal.proofs.Words.{◌+◌, ◌≡◌, drop, HaveListedNamesIn, length}
 use Rattle.bz_journal.proofs.naming.all_listed.Given as goal
 
 -- what is left begins at this place, and all are listed where those in it are

@@ -1,5 +1,4 @@
-use Rattle.std.proofs.Common.{◌+◌, drop}
-use Rattle.bz_journal.specs.private.Making.{HaveListedNames}
+use Rattle.bz_journal.proofs.Words.{◌+◌, drop, HaveListedNames}
 use Rattle.bz_journal.proofs.naming.are_listed.Given as goal
 
 -- all are listed, where those from here on are

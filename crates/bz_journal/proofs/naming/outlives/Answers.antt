@@ -1,6 +1,4 @@
-use Rattle.std.proofs.Common.{Option, refl, subst}
-use Rattle.std.specs.Prelude.{IfSome}
-use Rattle.bz_rule.specs.Index.{Index, IsIndexOf}
+use Rattle.bz_journal.proofs.Words.{IfSome, Index, IsIndexOf, Option, refl, subst}
 use Rattle.bz_journal.proofs.NamedWindows.{index_outlives}
 use Rattle.bz_journal.proofs.naming.outlives.Goals as goal
 

@@ -1,8 +1,5 @@
-use Rattle.std.proofs.Common.{◌∙◌, sym}
-use Rattle.std.proofs.lemmas.Bool.{false≢true}
-use Rattle.bz_journal.specs.Clauses.{session_history}
-use Rattle.bz_journal.proofs.Digested.{first_cut, first_stay}
-use Rattle.bz_journal.proofs.Following.{goes}
+use Rattle.bz_journal.proofs.Words.{◌∙◌, false≢true, session_history, sym}
+use Rattle.bz_journal.proofs.{Digested.first_cut, Digested.first_stay, Following.goes}
 use Rattle.bz_journal.proofs.past.settle.Goals as goal
 
 pub returns-then-not-is_changed-clause-digests : goal.returns-then-not-is_changed-clause-digests

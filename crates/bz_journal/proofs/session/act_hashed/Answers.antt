@@ -1,8 +1,5 @@
-use Rattle.std.proofs.Common.{◌∙◌, ap, map, sym}
-use Rattle.std.proofs.lemmas.Bool.{false≢true}
-use Rattle.bz_journal.specs.Clauses.{History, action_in, session_history, sha256, spell_node}
-use Rattle.bz_journal.proofs.Digested.{digest_put}
-use Rattle.bz_journal.proofs.Following.{Goes, goes}
+use Rattle.bz_journal.proofs.Words.{◌∙◌, action_in, ap, false≢true, History, map, session_history, sha256, spell_node, sym}
+use Rattle.bz_journal.proofs.{Digested.digest_put, Following.Goes, Following.goes}
 use Rattle.bz_journal.proofs.session.act_hashed.Goals as goal
 
 pub returns-then-not-is_changed-clause-digests : goal.returns-then-not-is_changed-clause-digests

@@ -1,6 +1,4 @@
-use Rattle.std.proofs.Common.{◌≡◌, ◌+◌, ◌-◌, ◌∙◌, arith, ℕ, List, ap, drop, length, subst, sym, take}
-use Rattle.std.proofs.lemmas.Bool.{eq-eqb, eqb-true, false≢true}
-use Rattle.bz_grammar.specs.declared.tree.Part.{Part}
+use Rattle.bz_journal.proofs.Words.{◌+◌, ◌-◌, ◌∙◌, ◌≡◌, ap, arith, drop, eq-eqb, eqb-true, false≢true, length, List, Part, subst, sym, take, ℕ}
 use Rattle.bz_journal.proofs.PassedWindows.{all_passed, parts_differ, passed_next, stays_between}
 use Rattle.bz_journal.proofs.staying.stay.Goals as goal
 use Rattle.bz_journal.proofs.staying.stay.Goals.{else-new-old-via-then-new-old+else-not-has_there, else-new-old-via-else-new-old}

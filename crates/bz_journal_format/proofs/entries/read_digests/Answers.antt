@@ -1,7 +1,5 @@
-use Rattle.std.proofs.lemmas.Result.{err_from_is_err_and}
+use Rattle.bz_journal_format.proofs.Words.{digest_line_at, err_from_is_err_and, repeated}
 use Rattle.bz_journal_format.proofs.Loops.{goes_on, halts, is_done}
-use Rattle.bz_journal_format.specs.Readers.{repeated}
-use Rattle.bz_journal_format.specs.private.Reading.{digest_line_at}
 use Rattle.bz_journal_format.proofs.entries.read_digests.Goals as goal
 
 pub returns-in_err-digest : goal.returns-in_err-digest

@@ -1,7 +1,5 @@
-use Rattle.std.proofs.Common.{◌≡◌, ◌-◌}
+use Rattle.bz_journal_format.proofs.Words.{◌-◌, ◌≡◌, edit_at, repeated}
 use Rattle.bz_journal_format.proofs.Loops.{with_front}
-use Rattle.bz_journal_format.specs.Readers.{repeated}
-use Rattle.bz_journal_format.specs.private.Reading.{edit_at}
 use Rattle.bz_journal_format.proofs.entries.read_edits.Given as goal
 
 abbrev pub invariant-several : goal.invariant-several

@@ -1,7 +1,5 @@
-use Rattle.std.proofs.lemmas.Result.{err_from_is_err_and}
+use Rattle.bz_journal_format.proofs.Words.{err_from_is_err_and, number_at, repeated, space}
 use Rattle.bz_journal_format.proofs.Loops.{goes_on, halts, is_done}
-use Rattle.bz_journal_format.specs.Readers.{number_at, repeated}
-use Rattle.bz_items.specs.Characters.{space}
 use Rattle.bz_journal_format.proofs.entries.read_path.Goals as goal
 
 pub returns-in_err-entry : goal.returns-in_err-entry

@@ -1,7 +1,5 @@
-use Rattle.std.proofs.Common.{◌≡◌, ◌-◌}
+use Rattle.bz_journal_format.proofs.Words.{◌-◌, ◌≡◌, number_at, repeated, space}
 use Rattle.bz_journal_format.proofs.Loops.{with_front}
-use Rattle.bz_journal_format.specs.Readers.{number_at, repeated}
-use Rattle.bz_items.specs.Characters.{space}
 use Rattle.bz_journal_format.proofs.entries.read_path.Given as goal
 
 abbrev pub invariant-several : goal.invariant-several

@@ -1,10 +1,5 @@
-use Rattle.std.proofs.Common.{◌∷◌, [], rules, ◌≡◌, Some, None}
-use Rattle.std.specs.Prelude.{codes}
-use Rattle.hex.specs.Hex.{encode_lower}
-use Rattle.sha2.specs.Sha256.{sha256}
+use Rattle.bz_journal_format.proofs.Words.{[], ◌∷◌, ◌≡◌, after_mark, codes, encode_lower, line_feed, None, rules, sha256, Some}
 use Rattle.bz_journal_format.proofs.Marks.{no_front, no_middle, at_end}
-use Rattle.bz_journal_format.specs.Readers.{after_mark}
-use Rattle.bz_items.specs.Characters.{line_feed}
 use Rattle.bz_journal_format.proofs.lines.is_end.Goals as goal
 
 pub returns-in_default : goal.returns-in_default

@@ -1,5 +1,4 @@
-use Rattle.std.proofs.Common.{◌≡◌, length}
-use Rattle.bz_journal_format.specs.Readers.{digits_at}
+use Rattle.bz_journal_format.proofs.Words.{◌≡◌, digits_at, length}
 use Rattle.bz_journal_format.proofs.mark_fields.read_digits.Given as goal
 
 abbrev pub invariant-digits : goal.invariant-digits

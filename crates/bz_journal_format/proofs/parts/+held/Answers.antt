@@ -1,7 +1,5 @@
-use Rattle.std.proofs.lemmas.Result.{err_from_is_err_and}
+use Rattle.bz_journal_format.proofs.Words.{err_from_is_err_and, held_at, repeated}
 use Rattle.bz_journal_format.proofs.Loops.{goes_on, halts, is_done}
-use Rattle.bz_journal_format.specs.Readers.{repeated}
-use Rattle.bz_journal_format.specs.private.Reading.{held_at}
 use Rattle.bz_journal_format.proofs.parts.+held.Goals as goal
 
 pub read_parts-returns-in_err-part : goal.read_parts-returns-in_err-part

@@ -1,7 +1,5 @@
-use Rattle.std.proofs.Common.{◌≡◌, ◌-◌, ◌+◌, ◌*◌}
+use Rattle.bz_journal_format.proofs.Words.{◌*◌, ◌+◌, ◌-◌, ◌≡◌, held_at, repeated}
 use Rattle.bz_journal_format.proofs.Loops.{with_front}
-use Rattle.bz_journal_format.specs.Readers.{repeated}
-use Rattle.bz_journal_format.specs.private.Reading.{held_at}
 use Rattle.bz_journal_format.proofs.parts.+held.Given as goal
 
 abbrev pub decreases-read_part : goal.decreases-read_part

@@ -1,8 +1,5 @@
-use Rattle.std.proofs.Common.{◌++◌, ap, ◌∙◌}
-use Rattle.std.specs.List.{flat_map}
-use Rattle.std.proofs.lemmas.Result.{on_ok_weaker}
+use Rattle.bz_journal_format.proofs.Words.{◌++◌, ◌∙◌, ap, flat_map, last_number, on_ok_weaker, part_text, spaced_number}
 use Rattle.bz_journal_format.proofs.Appends.{node_pushed}
-use Rattle.bz_journal_format.specs.Texts.{last_number, part_text, spaced_number}
 use Rattle.bz_journal_format.proofs.writing.+push.Goals as goal
 
 pub push_part-returns-in_ok-push_number-in-Node-2 : goal.push_part-returns-in_ok-push_number-in-Node-2

@@ -1,14 +1,5 @@
-use Rattle.std.proofs.Common.{[], ◌∷◌, ◌++◌, ap, ◌∙◌, sym}
-use Rattle.std.specs.Prelude.{codes}
-use Rattle.std.specs.List.{flat_map}
-use Rattle.hex.specs.Hex.{encode_lower}
-use Rattle.sha2.specs.Sha256.{sha256}
-use Rattle.bz_items.specs.Characters.{line_feed, space}
-use Rattle.bz_journal_format.proofs.Appends.{end_pushed, lines_pushed}
-use Rattle.bz_journal_format.proofs.Paired.{entries_length}
-use Rattle.bz_journal_format.specs.Contents.{record_in}
-use Rattle.bz_journal_format.specs.Spellings.{counted_text}
-use Rattle.bz_journal_format.specs.Texts.{digest_text, end_line, entry_text, last_number, spaced_number, version_line}
+use Rattle.bz_journal_format.proofs.Words.{[], ◌++◌, ◌∙◌, ◌∷◌, ap, codes, counted_text, digest_text, encode_lower, end_line, entry_text, flat_map, last_number, line_feed, record_in, sha256, space, spaced_number, sym, version_line}
+use Rattle.bz_journal_format.proofs.{Appends.end_pushed, Appends.lines_pushed, Paired.entries_length}
 use Rattle.bz_journal_format.proofs.writing.joined_lines.Goals as goal
 
 pub returns : goal.returns

@@ -1,6 +1,4 @@
-use Rattle.std.proofs.Common.{◌≡◌, take}
-use Rattle.std.specs.List.{flat_map}
-use Rattle.bz_journal_format.specs.Texts.{digest_text}
+use Rattle.bz_journal_format.proofs.Words.{◌≡◌, digest_text, flat_map, take}
 use Rattle.bz_journal_format.proofs.writing.push_digests.Given as goal
 
 abbrev pub invariant-loop-at : goal.invariant-loop-at

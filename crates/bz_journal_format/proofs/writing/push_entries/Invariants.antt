@@ -1,7 +1,4 @@
-use Rattle.std.proofs.Common.{◌≡◌, ◌++◌, drop}
-use Rattle.std.specs.List.{flat_map}
-use Rattle.bz_journal_format.specs.Contents.{entries_of}
-use Rattle.bz_journal_format.specs.Texts.{entry_text}
+use Rattle.bz_journal_format.proofs.Words.{◌++◌, ◌≡◌, drop, entries_of, entry_text, flat_map}
 use Rattle.bz_journal_format.proofs.writing.push_entries.Given as goal
 
 abbrev pub invariant-loop-at : goal.invariant-loop-at

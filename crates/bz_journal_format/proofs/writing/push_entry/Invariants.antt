@@ -1,6 +1,4 @@
-use Rattle.std.proofs.Common.{◌≡◌, ◌++◌, take}
-use Rattle.std.specs.List.{flat_map}
-use Rattle.bz_journal_format.specs.Texts.{edit_text}
+use Rattle.bz_journal_format.proofs.Words.{◌++◌, ◌≡◌, edit_text, flat_map, take}
 use Rattle.bz_journal_format.proofs.writing.push_entry.Given as goal
 
 abbrev pub invariant-edits : goal.invariant-edits

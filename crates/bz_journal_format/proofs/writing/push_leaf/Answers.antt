@@ -1,9 +1,5 @@
-use Rattle.std.proofs.Common.{length, [], ◌∷◌, ◌++◌, ap, ◌∙◌}
-use Rattle.std.specs.Prelude.{codes}
-use Rattle.bz_token.specs.Classes.{class_number}
+use Rattle.bz_journal_format.proofs.Words.{[], ◌++◌, ◌∙◌, ◌∷◌, ap, class_number, codes, last_number, length, line_feed, spaced_number}
 use Rattle.bz_journal_format.proofs.Appends.{leaf_pushed}
-use Rattle.bz_journal_format.specs.Texts.{last_number, spaced_number}
-use Rattle.bz_items.specs.Characters.{line_feed}
 use Rattle.bz_journal_format.proofs.writing.push_leaf.Goals as goal
 
 pub returns : goal.returns

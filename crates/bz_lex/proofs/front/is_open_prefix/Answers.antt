@@ -1,6 +1,4 @@
-use Rattle.std.proofs.Common.{refl}
-use Rattle.std.proofs.lemmas.Bool.{both_ways}
-use Rattle.bz_token.proofs.Tokens.{whole_rest}
+use Rattle.bz_lex.proofs.Words.{both_ways, refl, whole_rest}
 use Rattle.bz_lex.proofs.Stopping.{unmarked}
 use Rattle.bz_lex.proofs.front.is_open_prefix.Goals as goal
 

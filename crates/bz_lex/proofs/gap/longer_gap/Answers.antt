@@ -1,6 +1,4 @@
-use Rattle.std.proofs.Common.{◌≡◌, ◌∙◌, ℕ, length, take, sym, ap, arith}
-use Rattle.bz_lex.specs.declared.gap.GapState.TheVariants.{Open}
-use Rattle.bz_lex.specs.private.GapStates.{gap_state_after}
+use Rattle.bz_lex.proofs.Words.{◌∙◌, ◌≡◌, ap, arith, gap_state_after, length, Open, sym, take, ℕ}
 use Rattle.bz_lex.proofs.Gaps.{after_more, after_run}
 use Rattle.bz_lex.proofs.gap.longer_gap.Goals as goal
 

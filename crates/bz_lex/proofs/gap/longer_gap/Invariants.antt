@@ -1,6 +1,4 @@
-use Rattle.std.proofs.Common.{◌≡◌, ◌≤◌, ◌-◌, Some, take, length}
-use Rattle.bz_lex.specs.declared.gap.GapState.TheVariants.{Open}
-use Rattle.bz_lex.specs.private.GapStates.{gap_state_after}
+use Rattle.bz_lex.proofs.Words.{◌-◌, ◌≡◌, ◌≤◌, gap_state_after, length, Open, Some, take}
 use Rattle.bz_lex.proofs.gap.longer_gap.Given as goal
 
 abbrev pub invariant-bytes : goal.invariant-bytes

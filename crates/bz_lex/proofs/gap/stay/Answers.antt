@@ -1,5 +1,4 @@
-use Rattle.std.proofs.Common.{◌≡◌, Some, get_or, arith}
-use Rattle.bz_lex.specs.private.GapStates.{gap_move}
+use Rattle.bz_lex.proofs.Words.{◌≡◌, arith, gap_move, get_or, Some}
 use Rattle.bz_token.proofs.Longest.{one_further}
 use Rattle.bz_lex.proofs.gap.stay.Goals as goal
 

@@ -1,5 +1,4 @@
-use Rattle.std.proofs.Common.{◌≡◌, ◌≤◌, ◌<◌, ℕ, Bool, Some, get_or, length}
-use Rattle.bz_lex.specs.private.GapStates.{gap_move}
+use Rattle.bz_lex.proofs.Words.{◌<◌, ◌≡◌, ◌≤◌, Bool, gap_move, get_or, length, Some, ℕ}
 use Rattle.bz_lex.proofs.gap.stay.Given as goal
 
 abbrev pub invariant-loop-at : goal.invariant-loop-at

@@ -1,5 +1,4 @@
-use Rattle.std.proofs.Common.{map, refl, ◌∙◌, ap}
-use Rattle.std.proofs.lemmas.List.{map-append}
+use Rattle.bz_lex.proofs.Words.{◌∙◌, ap, map, map-append, refl}
 use Rattle.bz_lex.proofs.Lexing.{begin, next_turn, shorter, done}
 use Rattle.bz_lex.proofs.Stopping.{stop_placed, stop_lexical}
 use Rattle.bz_lex.proofs.source.lex.Goals as goal

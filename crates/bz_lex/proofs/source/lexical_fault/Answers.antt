@@ -1,7 +1,5 @@
-use Rattle.std.proofs.Common.{refl, arith}
-use Rattle.bz_lex.specs.Stops.{no_token}
-use Rattle.bz_lex.proofs.Lexing.{lexed_more, shorter}
-use Rattle.bz_lex.proofs.Stopping.{stop_placed}
+use Rattle.bz_lex.proofs.Words.{arith, no_token, refl}
+use Rattle.bz_lex.proofs.{Lexing.lexed_more, Lexing.shorter, Stopping.stop_placed}
 use Rattle.bz_lex.proofs.source.lexical_fault.Goals as goal
 
 pub tokens-init : goal.tokens-init

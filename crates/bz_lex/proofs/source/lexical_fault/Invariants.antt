@@ -1,5 +1,4 @@
-use Rattle.std.proofs.Common.{◌≤◌, length}
-use Rattle.bz_lex.specs.Stops.{LexedTo}
+use Rattle.bz_lex.proofs.Words.{◌≤◌, length, LexedTo}
 use Rattle.bz_lex.proofs.source.lexical_fault.Given as goal
 
 abbrev pub invariant-tokens : goal.invariant-tokens

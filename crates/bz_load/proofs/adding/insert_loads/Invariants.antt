@@ -1,7 +1,4 @@
-use Rattle.std.proofs.Common.{◌≡◌, ◌||◌, drop}
-use Rattle.bz_command_syntax.specs.declared.command.Symbol.{Symbol}
-use Rattle.bz_load.specs.Loads.{is_loaded}
-use Rattle.bz_load.specs.private.Known.{knows}
+use Rattle.bz_load.proofs.Words.{◌||◌, ◌≡◌, drop, is_loaded, knows, Symbol}
 use Rattle.bz_load.proofs.adding.insert_loads.Given as goal
 
 abbrev pub invariant-loop-item : goal.invariant-loop-item

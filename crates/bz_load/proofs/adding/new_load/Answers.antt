@@ -1,7 +1,4 @@
-use Rattle.std.proofs.Common.{◌∙◌, ap, arith}
-use Rattle.std.specs.Prelude.{◌==◌, slice_set}
-use Rattle.std.specs.List.{position}
-use Rattle.bz_load.specs.Loads.{is_load_from}
+use Rattle.bz_load.proofs.Words.{◌==◌, ◌∙◌, ap, arith, is_load_from, position, slice_set}
 use Rattle.bz_load.proofs.PutSteps.{none_counted, over_there, same_there}
 use Rattle.bz_load.proofs.adding.new_load.Goals as goal
 

@@ -1,10 +1,4 @@
-use Rattle.std.proofs.Common.{◌≡◌, ◌++◌, ◌+◌, ◌∷◌, [], List, ap, sym, ◌∙◌, map, drop, append_assoc}
-use Rattle.std.proofs.lemmas.List.{drop_more}
-use Rattle.bz_command_syntax.specs.declared.command.Symbol.{Symbol}
-use Rattle.bz_load.specs.private.Known.{knows}
-use Rattle.bz_load.specs.declared.readings.Loaded.{Loaded}
-use Rattle.bz_load.specs.Loads.{symbol_named}
-use Rattle.bz_load.specs.NewLoad.{new_symbols, symbol_made}
+use Rattle.bz_load.proofs.Words.{[], ◌++◌, ◌+◌, ◌∙◌, ◌∷◌, ◌≡◌, ap, append_assoc, drop, drop_more, knows, List, Loaded, map, new_symbols, sym, Symbol, symbol_made, symbol_named}
 use Rattle.bz_load.proofs.KnownSteps.{next_known, next_new}
 use Rattle.bz_load.proofs.adding.new_symbols.Goals as goal
 use Rattle.bz_load.proofs.adding.new_symbols.Goals.{then-branch+in_ok-push_symbol, else-branch}

@@ -1,7 +1,4 @@
-use Rattle.std.proofs.Common.{◌≡◌, ◌++◌, drop, map}
-use Rattle.bz_load.specs.private.Known.{knows}
-use Rattle.bz_load.specs.Loads.{is_loaded}
-use Rattle.bz_load.specs.NewLoad.{new_symbols, symbol_made}
+use Rattle.bz_load.proofs.Words.{◌++◌, ◌≡◌, drop, is_loaded, knows, map, new_symbols, symbol_made}
 use Rattle.bz_load.proofs.adding.new_symbols.Given as goal
 
 abbrev pub invariant-loop-symbol : goal.invariant-loop-symbol

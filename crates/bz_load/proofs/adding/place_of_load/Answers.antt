@@ -1,5 +1,4 @@
-use Rattle.std.proofs.Common.{rules, sym}
-use Rattle.bz_load.specs.Paths.{AreListed}
+use Rattle.bz_load.proofs.Words.{AreListed, rules, sym}
 use Rattle.bz_load.proofs.PathSteps.{unlisted}
 use Rattle.bz_load.proofs.adding.place_of_load.Goals as goal
 

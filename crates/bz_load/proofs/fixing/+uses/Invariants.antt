@@ -1,6 +1,4 @@
-use Rattle.std.proofs.Common.{◌≡◌, ◌||◌, drop, length}
-use Rattle.bz_items.specs.Characters.{Bytes}
-use Rattle.bz_load.specs.private.Known.{knows_name, operand_among, operand_in}
+use Rattle.bz_load.proofs.Words.{◌||◌, ◌≡◌, Bytes, drop, knows_name, length, operand_among, operand_in}
 use Rattle.bz_load.proofs.fixing.+uses.Given as goal
 
 abbrev pub invariant-insert_each-loop-at : goal.invariant-insert_each-loop-at

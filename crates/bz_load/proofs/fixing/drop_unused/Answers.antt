@@ -1,8 +1,4 @@
-use Rattle.std.proofs.Common.{rules}
-use Rattle.std.specs.Prelude.{not}
-use Rattle.std.proofs.lemmas.Fn.{filter_same}
-use Rattle.bz_load.specs.Fixes.{is_emptied}
-use Rattle.bz_load.specs.private.Known.{knows_name}
+use Rattle.bz_load.proofs.Words.{filter_same, is_emptied, knows_name, not, rules}
 use Rattle.bz_load.proofs.fixing.drop_unused.Goals as goal
 
 pub loop-item-init : goal.loop-item-init

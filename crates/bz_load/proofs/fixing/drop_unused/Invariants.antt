@@ -1,8 +1,4 @@
-use Rattle.std.proofs.Common.{◌≡◌, ◌++◌, take, drop, map}
-use Rattle.std.specs.Prelude.{not}
-use Rattle.std.specs.List.{filter}
-use Rattle.bz_load.specs.Fixes.{is_emptied, used_alone}
-use Rattle.bz_load.specs.private.Known.{knows_name}
+use Rattle.bz_load.proofs.Words.{◌++◌, ◌≡◌, drop, filter, is_emptied, knows_name, map, not, take, used_alone}
 use Rattle.bz_load.proofs.fixing.drop_unused.Given as goal
 
 abbrev pub invariant-loop-item : goal.invariant-loop-item

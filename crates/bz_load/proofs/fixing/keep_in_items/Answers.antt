@@ -1,7 +1,4 @@
-use Rattle.std.proofs.Common.{rules}
-use Rattle.std.proofs.lemmas.Fn.{filter_same}
-use Rattle.bz_load.specs.Fixes.{symbol_stays}
-use Rattle.bz_load.specs.private.Known.{knows_name}
+use Rattle.bz_load.proofs.Words.{filter_same, knows_name, rules, symbol_stays}
 use Rattle.bz_load.proofs.fixing.keep_in_items.Goals as goal
 
 pub returns : goal.returns

@@ -1,10 +1,4 @@
-use Rattle.std.proofs.Common.{List, ap, sym, ◌∙◌}
-use Rattle.std.specs.List.{position}
-use Rattle.bz_value.specs.declared.value.Item.{Item}
-use Rattle.bz_attribute.proofs.ArgumentPlaces.{is_first, none_passes}
-use Rattle.bz_attribute.proofs.FormsAgain.{if_true}
-use Rattle.bz_load.specs.Fixes.{is_package_call, move_package_to_top}
-use Rattle.bz_load.specs.Loads.{leading_blocks, loads_end}
+use Rattle.bz_load.proofs.Words.{◌∙◌, ap, if_true, is_first, is_package_call, Item, leading_blocks, List, loads_end, move_package_to_top, none_passes, position, sym}
 use Rattle.bz_load.proofs.PlaceSteps.{no_package, blocks_fit, package_put}
 use Rattle.bz_load.proofs.fixing.move_package.Goals as goal
 

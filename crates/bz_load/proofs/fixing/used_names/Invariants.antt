@@ -1,7 +1,4 @@
-use Rattle.std.proofs.Common.{◌≡◌, ◌||◌, drop}
-use Rattle.bz_items.specs.Characters.{Bytes}
-use Rattle.bz_load.specs.Fixes.{is_used}
-use Rattle.bz_load.specs.private.Known.{knows_name}
+use Rattle.bz_load.proofs.Words.{◌||◌, ◌≡◌, Bytes, drop, is_used, knows_name}
 use Rattle.bz_load.proofs.fixing.used_names.Given as goal
 
 abbrev pub invariant-loop-item : goal.invariant-loop-item

@@ -1,9 +1,4 @@
-use Rattle.std.proofs.Common.{◌∙◌, List, ap, false}
-use Rattle.std.specs.Prelude.{None}
-use Rattle.std.specs.List.{flat_map}
-use Rattle.bz_load.specs.Words.{Bytes}
-use Rattle.bz_load.specs.ReplaceLoad.{all_comments_joined, comments_without, gone_from}
-use Rattle.bz_load.specs.private.Replacing.{gathered_comments}
+use Rattle.bz_load.proofs.Words.{◌∙◌, all_comments_joined, ap, Bytes, comments_without, false, flat_map, gathered_comments, gone_from, List, None}
 use Rattle.bz_load.proofs.GatheredComments.{all_around}
 use Rattle.bz_load.proofs.gathering.comments_around.Goals as goal
 

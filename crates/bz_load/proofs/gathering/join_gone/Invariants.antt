@@ -1,6 +1,4 @@
-use Rattle.std.proofs.Common.{◌≡◌, drop}
-use Rattle.bz_load.specs.ReplaceLoad.{all_comments_joined, gone_comments}
-use Rattle.bz_load.specs.private.Replacing.{gathered_comments}
+use Rattle.bz_load.proofs.Words.{◌≡◌, all_comments_joined, drop, gathered_comments, gone_comments}
 use Rattle.bz_load.proofs.gathering.join_gone.Given as goal
 
 abbrev pub invariant-loop-x : goal.invariant-loop-x

@@ -1,6 +1,4 @@
-use Rattle.std.proofs.Common.{◌≡◌, drop, map}
-use Rattle.bz_load.specs.ReplaceLoad.{all_comments_joined, suffix_host}
-use Rattle.bz_load.specs.private.Replacing.{gathered_comments}
+use Rattle.bz_load.proofs.Words.{◌≡◌, all_comments_joined, drop, gathered_comments, map, suffix_host}
 use Rattle.bz_load.proofs.gathering.join_suffixes.Given as goal
 
 abbrev pub invariant-loop-x : goal.invariant-loop-x

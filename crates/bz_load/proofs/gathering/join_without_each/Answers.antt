@@ -1,9 +1,4 @@
-use Rattle.std.proofs.Common.{◌+◌, ◌∙◌, ◌∷◌, List, ap, drop, sym}
-use Rattle.std.proofs.lemmas.List.{drop_more}
-use Rattle.std.specs.List.{flat_map}
-use Rattle.bz_load.specs.Words.{Item}
-use Rattle.bz_load.specs.ReplaceLoad.{all_comments_joined, comments_without}
-use Rattle.bz_load.specs.private.Replacing.{gathered_comments}
+use Rattle.bz_load.proofs.Words.{◌+◌, ◌∙◌, ◌∷◌, all_comments_joined, ap, comments_without, drop, drop_more, flat_map, gathered_comments, Item, List, sym}
 use Rattle.bz_load.proofs.GatheredComments.{all_joined_more}
 use Rattle.bz_load.proofs.gathering.join_without_each.Goals as goal
 

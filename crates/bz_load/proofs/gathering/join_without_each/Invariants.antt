@@ -1,7 +1,4 @@
-use Rattle.std.proofs.Common.{◌≡◌, drop}
-use Rattle.std.specs.List.{flat_map}
-use Rattle.bz_load.specs.ReplaceLoad.{all_comments_joined, comments_without}
-use Rattle.bz_load.specs.private.Replacing.{gathered_comments}
+use Rattle.bz_load.proofs.Words.{◌≡◌, all_comments_joined, comments_without, drop, flat_map, gathered_comments}
 use Rattle.bz_load.proofs.gathering.join_without_each.Given as goal
 
 abbrev pub invariant-loop-item : goal.invariant-loop-item

@@ -1,5 +1,4 @@
-use Rattle.std.proofs.Common.{◌≡◌, ◌++◌, drop}
-use Rattle.bz_load.specs.ReplaceLoad.{comments_above}
+use Rattle.bz_load.proofs.Words.{◌++◌, ◌≡◌, comments_above, drop}
 use Rattle.bz_load.proofs.gathering.push_above.Given as goal
 
 abbrev pub invariant-loop-x : goal.invariant-loop-x

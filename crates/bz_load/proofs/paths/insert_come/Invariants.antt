@@ -1,6 +1,4 @@
-use Rattle.std.proofs.Common.{◌≡◌, ◌||◌, drop}
-use Rattle.bz_items.specs.Characters.{Bytes}
-use Rattle.bz_load.specs.private.Known.{come_with, knows_name}
+use Rattle.bz_load.proofs.Words.{◌||◌, ◌≡◌, Bytes, come_with, drop, knows_name}
 use Rattle.bz_load.proofs.paths.insert_come.Given as goal
 
 abbrev pub invariant-loop-window : goal.invariant-loop-window

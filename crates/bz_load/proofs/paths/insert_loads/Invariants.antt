@@ -1,7 +1,4 @@
-use Rattle.std.proofs.Common.{◌≡◌, ◌||◌, drop}
-use Rattle.std.specs.List.{list_any}
-use Rattle.bz_items.specs.Characters.{Bytes}
-use Rattle.bz_load.specs.private.Known.{knows_name, mentions}
+use Rattle.bz_load.proofs.Words.{◌||◌, ◌≡◌, Bytes, drop, knows_name, list_any, mentions}
 use Rattle.bz_load.proofs.paths.insert_loads.Given as goal
 
 abbrev pub invariant-loop-item : goal.invariant-loop-item

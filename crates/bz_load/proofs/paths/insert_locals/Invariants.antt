@@ -1,9 +1,4 @@
-use Rattle.std.proofs.Common.{◌≡◌, ◌||◌, drop}
-use Rattle.std.specs.Prelude.{bytes_eq}
-use Rattle.std.specs.List.{list_any}
-use Rattle.bz_items.specs.Characters.{Bytes}
-use Rattle.bz_load.specs.Words.{local_name}
-use Rattle.bz_load.specs.private.Known.{knows_name}
+use Rattle.bz_load.proofs.Words.{◌||◌, ◌≡◌, Bytes, bytes_eq, drop, knows_name, list_any, local_name}
 use Rattle.bz_load.proofs.paths.insert_locals.Given as goal
 
 abbrev pub invariant-loop-x : goal.invariant-loop-x

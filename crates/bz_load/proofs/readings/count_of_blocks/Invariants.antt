@@ -1,5 +1,4 @@
-use Rattle.std.proofs.Common.{◌≡◌, ◌+◌, drop}
-use Rattle.bz_load.specs.Loads.{leading_blocks}
+use Rattle.bz_load.proofs.Words.{◌+◌, ◌≡◌, drop, leading_blocks}
 use Rattle.bz_load.proofs.readings.count_of_blocks.Given as goal
 
 -- the items so far are blocks

@@ -1,5 +1,4 @@
-use Rattle.std.proofs.Common.{◌≡◌, ◌≤◌, ℕ, drop, length}
-use Rattle.bz_load.specs.Loads.{loads_end}
+use Rattle.bz_load.proofs.Words.{◌≡◌, ◌≤◌, drop, length, loads_end, ℕ}
 use Rattle.bz_load.proofs.readings.place_after_loads.Given as goal
 
 abbrev pub invariant-loop-place : goal.invariant-loop-place

@@ -1,5 +1,4 @@
-use Rattle.std.proofs.Common.{◌≡◌, ◌++◌, drop}
-use Rattle.bz_load.specs.SubstituteLoad.{substitute_load}
+use Rattle.bz_load.proofs.Words.{◌++◌, ◌≡◌, drop, substitute_load}
 use Rattle.bz_load.proofs.renaming.substitute_load.Given as goal
 
 abbrev pub invariant-loop-item : goal.invariant-loop-item

@@ -1,6 +1,4 @@
-use Rattle.std.proofs.Common.{◌≡◌, ◌≤◌, ◌+◌, drop, length}
-use Rattle.std.specs.List.{filter}
-use Rattle.bz_load.specs.ReplaceLoad.{is_local}
+use Rattle.bz_load.proofs.Words.{◌+◌, ◌≡◌, ◌≤◌, drop, filter, is_local, length}
 use Rattle.bz_load.proofs.replacing.count_of_local.Given as goal
 
 abbrev pub invariant-loop-x : goal.invariant-loop-x

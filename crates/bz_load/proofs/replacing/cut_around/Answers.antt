@@ -1,12 +1,4 @@
-use Rattle.std.proofs.Common.{◌≡◌, ◌∙◌, ◌++◌, ◌∷◌, List, ℕ, ap, drop, refl, take}
-use Rattle.std.proofs.lemmas.List.{take-append-drop}
-use Rattle.std.specs.Prelude.{None, Option, Some}
-use Rattle.std.specs.List.{position}
-use Rattle.bz_attribute.proofs.FormsAgain.{both}
-use Rattle.bz_load.specs.Words.{Item}
-use Rattle.bz_load.specs.Loads.{leading_blocks, loads_end}
-use Rattle.bz_load.specs.NewLoad.{load_made}
-use Rattle.bz_load.specs.ReplaceLoad.{may_have, replaced_around}
+use Rattle.bz_load.proofs.Words.{◌++◌, ◌∙◌, ◌∷◌, ◌≡◌, ap, both, drop, Item, leading_blocks, List, load_made, loads_end, may_have, None, Option, position, refl, replaced_around, Some, take, take-append-drop, ℕ}
 use Rattle.bz_load.proofs.ReplacedSymbols.{around_new, around_there, whole_there}
 use Rattle.bz_load.proofs.replacing.cut_around.Goals as goal
 

@@ -1,10 +1,4 @@
-use Rattle.std.proofs.Common.{◌≡◌, ◌∙◌, ◌∷◌, ◌+◌, List, ap, arith, drop, min, sym}
-use Rattle.std.proofs.lemmas.List.{drop_all, drop_more}
-use Rattle.std.proofs.lemmas.Bool.{eqb-true}
-use Rattle.std.specs.Prelude.{◌==◌}
-use Rattle.bz_load.specs.Words.{Item}
-use Rattle.bz_load.specs.Loads.{is_load_item}
-use Rattle.bz_load.specs.ReplaceLoad.{is_local}
+use Rattle.bz_load.proofs.Words.{◌+◌, ◌==◌, ◌∙◌, ◌∷◌, ◌≡◌, ap, arith, drop, drop_all, drop_more, eqb-true, is_load_item, is_local, Item, List, min, sym}
 use Rattle.bz_load.proofs.ReplacedAgain.{chosen, count, in_items, in_next}
 use Rattle.bz_load.proofs.replacing.is_local_once.Goals as goal
 

@@ -1,7 +1,4 @@
-use Rattle.std.proofs.Common.{◌≡◌, ◌+◌, drop, length, min}
-use Rattle.std.specs.List.{filter}
-use Rattle.bz_load.specs.Laws.{loaded_symbols}
-use Rattle.bz_load.specs.ReplaceLoad.{is_local}
+use Rattle.bz_load.proofs.Words.{◌+◌, ◌≡◌, drop, filter, is_local, length, loaded_symbols, min}
 use Rattle.bz_load.proofs.replacing.is_local_once.Given as goal
 
 abbrev pub invariant-loop-item : goal.invariant-loop-item

@@ -1,8 +1,4 @@
-use Rattle.std.proofs.Common.{◌≡◌, false, rules, subst}
-use Rattle.std.specs.List.{list_any}
-use Rattle.std.proofs.lemmas.Bool.{not-true}
-use Rattle.bz_load.specs.Words.{Bytes}
-use Rattle.bz_load.specs.Paths.{AreListed, has_local}
+use Rattle.bz_load.proofs.Words.{◌≡◌, AreListed, Bytes, false, has_local, list_any, not-true, rules, subst}
 use Rattle.bz_load.proofs.PathSteps.{unmentioned}
 use Rattle.bz_load.proofs.replacing.is_unknown.Goals as goal
 

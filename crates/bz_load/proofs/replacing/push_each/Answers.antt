@@ -1,9 +1,4 @@
-use Rattle.std.proofs.Common.{◌≡◌, ◌∙◌, ◌++◌, ◌∷◌, List, ap, append_assoc, rules, subst, sym}
-use Rattle.std.specs.List.{flat_map}
-use Rattle.std.specs.Vec.Iter.{into_iter_items}
-use Rattle.bz_load.specs.Words.{Item}
-use Rattle.bz_load.specs.Growing.{IsGrown}
-use Rattle.bz_load.specs.ReplaceLoad.{without_symbol}
+use Rattle.bz_load.proofs.Words.{◌++◌, ◌∙◌, ◌∷◌, ◌≡◌, ap, append_assoc, flat_map, into_iter_items, IsGrown, Item, List, rules, subst, sym, without_symbol}
 use Rattle.bz_load.proofs.replacing.push_each.Goals as goal
 
 pub loop-item-preserved : goal.loop-item-preserved

@@ -1,9 +1,4 @@
-use Rattle.std.proofs.Common.{◌≡◌, ◌≤◌, ◌++◌, List, length}
-use Rattle.std.specs.List.{flat_map}
-use Rattle.std.specs.Vec.Iter.{into_iter_items}
-use Rattle.bz_load.specs.Words.{Item}
-use Rattle.bz_load.specs.Growing.{IsGrown}
-use Rattle.bz_load.specs.ReplaceLoad.{without_symbol}
+use Rattle.bz_load.proofs.Words.{◌++◌, ◌≡◌, ◌≤◌, flat_map, into_iter_items, IsGrown, Item, length, List, without_symbol}
 use Rattle.bz_load.proofs.replacing.push_each.Given as goal
 
 abbrev pub invariant-loop-item : goal.invariant-loop-item

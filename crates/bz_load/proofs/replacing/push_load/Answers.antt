@@ -1,6 +1,4 @@
-use Rattle.std.proofs.Common.{◌≡◌, ◌-◌, ◌∙◌, ◌++◌, ◌∷◌, [], List, ap, append_assoc, arith, length, subst, sym}
-use Rattle.std.proofs.lemmas.List.{length-append}
-use Rattle.bz_load.specs.Words.{IsSpliced, Item}
+use Rattle.bz_load.proofs.Words.{[], ◌++◌, ◌-◌, ◌∙◌, ◌∷◌, ◌≡◌, ap, append_assoc, arith, IsSpliced, Item, length, length-append, List, subst, sym}
 use Rattle.bz_load.proofs.OneMore.{changed_at}
 use Rattle.bz_load.proofs.replacing.push_load.Goals as goal
 

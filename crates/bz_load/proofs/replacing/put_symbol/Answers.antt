@@ -1,7 +1,5 @@
-use Rattle.std.proofs.Common.{◌∙◌, ap, refl, sym, true≢false}
+use Rattle.bz_load.proofs.Words.{◌∙◌, after_path, ap, loads_symbol, position, refl, sym, true≢false}
 use Rattle.std.proofs.lemmas.Result.{on_ok_weaker}
-use Rattle.std.specs.List.{position}
-use Rattle.bz_load.specs.Loads.{after_path, loads_symbol}
 use Rattle.bz_load.proofs.ReplacedSymbols.{put_there}
 use Rattle.bz_load.proofs.replacing.put_symbol.Goals as goal
 

@@ -1,12 +1,5 @@
-use Rattle.std.proofs.Common.{◌∙◌, ◌++◌, ◌∷◌, [], List, ap, append-nil, subst, sym, take}
-use Rattle.std.proofs.lemmas.List.{length-take-le}
-use Rattle.std.specs.List.{flat_map}
-use Rattle.bz_attribute.proofs.FormsAgain.{both}
-use Rattle.bz_load.specs.Words.{AreOver, Item, no_comments}
-use Rattle.bz_load.specs.Growing.{IsGrown}
-use Rattle.bz_load.specs.ReplaceLoad.{all_comments_joined, comments_around, without_symbol}
-use Rattle.bz_load.proofs.OneMore.{nothing_grown}
-use Rattle.bz_load.proofs.ReplacedSymbols.{around_made}
+use Rattle.bz_load.proofs.Words.{[], ◌++◌, ◌∙◌, ◌∷◌, all_comments_joined, ap, append-nil, AreOver, both, comments_around, flat_map, IsGrown, Item, length-take-le, List, no_comments, subst, sym, take, without_symbol}
+use Rattle.bz_load.proofs.{OneMore.nothing_grown, ReplacedSymbols.around_made}
 use Rattle.bz_load.proofs.replacing.replace_around.Goals as goal
 
 pub returns-clause-items : goal.returns-clause-items

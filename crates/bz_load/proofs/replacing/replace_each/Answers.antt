@@ -1,8 +1,4 @@
-use Rattle.std.proofs.Common.{◌≡◌, ◌∙◌, ◌∷◌, List, ap, subst, sym}
-use Rattle.std.specs.List.{AllByRecursion}
-use Rattle.bz_load.specs.Words.{AreOver, Item, Symbol, Window}
-use Rattle.bz_load.specs.Laws.{IsLoadedAlone}
-use Rattle.bz_load.specs.ReplaceLoad.{last_of_each, replace_load}
+use Rattle.bz_load.proofs.Words.{◌∙◌, ◌∷◌, ◌≡◌, AllByRecursion, ap, AreOver, IsLoadedAlone, Item, last_of_each, List, replace_load, subst, sym, Symbol, Window}
 use Rattle.bz_load.proofs.ReplacedSymbols.{one_replaced, settled_next}
 use Rattle.bz_load.proofs.replacing.replace_each.Goals as goal
 

@@ -1,8 +1,4 @@
-use Rattle.std.proofs.Common.{◌≡◌, [], length}
-use Rattle.std.specs.List.{AllByRecursion}
-use Rattle.bz_load.specs.Words.{AreOver}
-use Rattle.bz_load.specs.Laws.{IsLoadedAlone}
-use Rattle.bz_load.specs.ReplaceLoad.{last_of_each, replace_load}
+use Rattle.bz_load.proofs.Words.{[], ◌≡◌, AllByRecursion, AreOver, IsLoadedAlone, last_of_each, length, replace_load}
 use Rattle.bz_load.proofs.replacing.replace_each.Given as goal
 
 -- what is made of the items as they are, by the symbols that are left; nothing is made of items that have all

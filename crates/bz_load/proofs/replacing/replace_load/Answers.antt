@@ -1,6 +1,4 @@
-use Rattle.std.proofs.Common.{◌∙◌, List, subst, sym}
-use Rattle.std.proofs.lemmas.Bool.{and_parts}
-use Rattle.bz_load.specs.Words.{AreOver, Item, Window}
+use Rattle.bz_load.proofs.Words.{◌∙◌, and_parts, AreOver, Item, List, subst, sym, Window}
 use Rattle.bz_load.proofs.ReplacedAgain.{all_settled}
 use Rattle.bz_load.proofs.replacing.replace_load.Goals as goal
 

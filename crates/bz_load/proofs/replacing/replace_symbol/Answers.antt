@@ -1,10 +1,5 @@
-use Rattle.std.proofs.Common.{◌∙◌, List, ap, subst, sym, true≢false}
-use Rattle.bz_load.specs.Words.{AreOver, Item}
-use Rattle.bz_load.specs.Laws.{IsLoadedAlone}
-use Rattle.bz_load.specs.Loads.{after_loads}
-use Rattle.bz_load.specs.private.Replacing.{IsUnknown}
-use Rattle.bz_load.proofs.ReplacedAgain.{symbol_stays}
-use Rattle.bz_load.proofs.ReplacedSymbols.{new_alone, unloaded}
+use Rattle.bz_load.proofs.Words.{◌∙◌, after_loads, ap, AreOver, IsLoadedAlone, IsUnknown, Item, List, subst, sym, true≢false}
+use Rattle.bz_load.proofs.{ReplacedAgain.symbol_stays, ReplacedSymbols.new_alone, ReplacedSymbols.unloaded}
 use Rattle.bz_load.proofs.replacing.replace_symbol.Goals as goal
 
 pub returns-then-is_unknown-clause-items : goal.returns-then-is_unknown-clause-items

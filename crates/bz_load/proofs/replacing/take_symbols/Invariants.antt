@@ -1,7 +1,4 @@
-use Rattle.std.proofs.Common.{◌≡◌, ◌++◌}
-use Rattle.std.specs.Vec.Iter.{into_iter_items}
-use Rattle.bz_load.specs.Words.{on_rest}
-use Rattle.bz_load.specs.ReplaceLoad.{left_symbols}
+use Rattle.bz_load.proofs.Words.{◌++◌, ◌≡◌, into_iter_items, left_symbols, on_rest}
 use Rattle.bz_load.proofs.replacing.take_symbols.Given as goal
 
 abbrev pub invariant-loop-x : goal.invariant-loop-x

@@ -1,6 +1,4 @@
-use Rattle.std.proofs.Common.{rules}
-use Rattle.std.proofs.lemmas.Fn.{filter_same}
-use Rattle.bz_load.specs.Usages.{argument_stays}
+use Rattle.bz_load.proofs.Words.{argument_stays, filter_same, rules}
 use Rattle.bz_load.proofs.usages.keep_others.Goals as goal
 
 pub returns : goal.returns

@@ -1,5 +1,4 @@
-use Rattle.std.proofs.Common.{◌∙◌, arith, sym}
-use Rattle.bz_load.specs.private.Imports.{is_sought_import}
+use Rattle.bz_load.proofs.Words.{◌∙◌, arith, is_sought_import, sym}
 use Rattle.bz_load.proofs.ImportSteps.{last_found}
 use Rattle.bz_load.proofs.usages.last_sought.Goals as goal
 

@@ -1,6 +1,4 @@
-use Rattle.std.proofs.Common.{◌≡◌, ◌≤◌, drop, false, length}
-use Rattle.std.specs.List.{list_any}
-use Rattle.bz_load.specs.private.Imports.{is_sought_import}
+use Rattle.bz_load.proofs.Words.{◌≡◌, ◌≤◌, drop, false, is_sought_import, length, list_any}
 use Rattle.bz_load.proofs.usages.last_sought.Given as goal
 
 abbrev pub invariant-loop-end : goal.invariant-loop-end

@@ -1,5 +1,4 @@
-use Rattle.std.proofs.Common.{◌≡◌, drop}
-use Rattle.bz_load.specs.Usages.{repos_added}
+use Rattle.bz_load.proofs.Words.{◌≡◌, drop, repos_added}
 use Rattle.bz_load.proofs.usages.repos_added.Given as goal
 
 abbrev pub invariant-loop-repo : goal.invariant-loop-repo

@@ -1,7 +1,4 @@
-use Rattle.std.proofs.Common.{rules}
-use Rattle.std.specs.Prelude.{not}
-use Rattle.std.proofs.lemmas.Fn.{filter_same}
-use Rattle.bz_load.specs.Usages.{loses_last}
+use Rattle.bz_load.proofs.Words.{filter_same, loses_last, not, rules}
 use Rattle.bz_load.proofs.usages.repos_removed.Goals as goal
 
 pub loop-item-init : goal.loop-item-init

@@ -1,5 +1,4 @@
-use Rattle.std.proofs.Common.{◌≡◌, ◌++◌, take, drop, map}
-use Rattle.bz_load.specs.Usages.{repos_removed, without_repos}
+use Rattle.bz_load.proofs.Words.{◌++◌, ◌≡◌, drop, map, repos_removed, take, without_repos}
 use Rattle.bz_load.proofs.usages.repos_removed.Given as goal
 
 abbrev pub invariant-loop-item : goal.invariant-loop-item

@@ -1,5 +1,4 @@
-use Rattle.std.proofs.Common.{◌≡◌, ◌++◌, drop}
-use Rattle.bz_load.specs.Usages.{variables}
+use Rattle.bz_load.proofs.Words.{◌++◌, ◌≡◌, drop, variables}
 use Rattle.bz_load.proofs.usages.variables.Given as goal
 
 abbrev pub invariant-loop-item : goal.invariant-loop-item

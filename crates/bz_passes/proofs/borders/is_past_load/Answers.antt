@@ -1,5 +1,4 @@
-use Rattle.std.proofs.Common.{arith, ◌∙◌}
-use Rattle.bz_passes.specs.Passes.{is_run_load}
+use Rattle.bz_passes.proofs.Words.{◌∙◌, arith, is_run_load}
 use Rattle.bz_passes.proofs.Pieces.{last_before}
 use Rattle.bz_passes.proofs.borders.is_past_load.Goals as goal
 

@@ -1,5 +1,4 @@
-use Rattle.std.proofs.Common.{◌≡◌, drop}
-use Rattle.bz_passes.specs.private.Borders.{all_joined}
+use Rattle.bz_passes.proofs.Words.{◌≡◌, all_joined, drop}
 use Rattle.bz_passes.proofs.borders.joined.Given as goal
 
 abbrev pub invariant-loop-next : goal.invariant-loop-next

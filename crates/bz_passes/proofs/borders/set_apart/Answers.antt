@@ -1,5 +1,4 @@
-use Rattle.std.proofs.Common.{◌≤◌, ◌+◌, ◌∙◌, length, subst, sym}
-use Rattle.bz_value.specs.Windows.{AreWithin}
+use Rattle.bz_passes.proofs.Words.{◌+◌, ◌∙◌, ◌≤◌, AreWithin, length, subst, sym}
 use Rattle.bz_passes.proofs.Joining.{joined_apart, joined_within}
 use Rattle.bz_passes.proofs.borders.set_apart.Goals as goal
 

@@ -1,5 +1,4 @@
-use Rattle.std.proofs.Common.{◌≤◌, drop, length}
-use Rattle.bz_passes.specs.private.Borders.{AreLoads}
+use Rattle.bz_passes.proofs.Words.{◌≤◌, AreLoads, drop, length}
 use Rattle.bz_passes.proofs.borders.start_of_run.Given as goal
 
 abbrev pub invariant-loop-start : goal.invariant-loop-start

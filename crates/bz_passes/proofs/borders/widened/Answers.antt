@@ -1,5 +1,4 @@
-use Rattle.std.proofs.Common.{[], ◌∷◌, ◌-◌, ◌≤◌, arith, length, subst, sym}
-use Rattle.bz_passes.specs.private.Borders.{AreSetApart}
+use Rattle.bz_passes.proofs.Words.{[], ◌-◌, ◌∷◌, ◌≤◌, AreSetApart, arith, length, subst, sym}
 use Rattle.bz_passes.proofs.Joining.{before_all, wide_apart}
 use Rattle.bz_passes.proofs.borders.widened.Goals as goal
 

@@ -1,5 +1,4 @@
-use Rattle.std.proofs.Common.{◌≡◌, ◌++◌, map, take, drop}
-use Rattle.bz_layout.specs.Flags.{with_flags}
+use Rattle.bz_passes.proofs.Words.{◌++◌, ◌≡◌, drop, map, take, with_flags}
 use Rattle.bz_passes.proofs.flags.+settle.Given as goal
 
 abbrev pub invariant-settle_each-loop-x : goal.invariant-settle_each-loop-x

@@ -1,5 +1,4 @@
-use Rattle.std.proofs.Common.{◌≡◌, ◌++◌, map, take, drop}
-use Rattle.bz_passes.specs.Passes.{labelled}
+use Rattle.bz_passes.proofs.Words.{◌++◌, ◌≡◌, drop, labelled, map, take}
 use Rattle.bz_passes.proofs.labels.shorten_labels.Given as goal
 
 abbrev pub invariant-loop-x : goal.invariant-loop-x

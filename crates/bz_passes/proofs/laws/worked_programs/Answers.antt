@@ -1,9 +1,4 @@
-use Rattle.std.proofs.Common.{◌≡◌, ◌∙◌, [], ◌∷◌, ℕ, refl, ap, codes, arith}
-use Rattle.bz_token.specs.declared.class.Class.TheVariants as classes
-use Rattle.bz_token.specs.Lexemes.{short_end, short_plain}
-use Rattle.bz_label.proofs.Repeats.{is_unrepeated}
-use Rattle.bz_label.proofs.Shorter.{unrepeated_same}
-use Rattle.bz_passes.specs.Programs.{renamed, turned}
+use Rattle.bz_passes.proofs.Words.{[], ◌∙◌, ◌∷◌, ◌≡◌, ap, arith, Class as classes, codes, is_unrepeated, refl, renamed, short_end, short_plain, turned, unrepeated_same, ℕ}
 use Rattle.bz_passes.specs.Rows.{rule_named}
 use Rattle.bz_passes.proofs.TokensKept.{argument_text, body_stays, other_body, other_name, unmoved, value_text, tokens_kept}
 use Rattle.bz_passes.proofs.laws.worked_programs.Goals as goal

@@ -1,9 +1,4 @@
-use Rattle.std.proofs.Common.{List, subst, sym}
-use Rattle.std.proofs.lemmas.List.{length-map}
-use Rattle.bz_value.specs.LineShapes.{whole_grammar}
-use Rattle.bz_value.specs.Proper.{IsProper}
-use Rattle.bz_passes.specs.Words.{Item, flags, item_with_flags}
-use Rattle.bz_layout.proofs.FlaggedProper.{flags_proper}
+use Rattle.bz_passes.proofs.Words.{flags, flags_proper, IsProper, Item, item_with_flags, length-map, List, subst, sym, whole_grammar}
 use Rattle.bz_passes.proofs.EachChanged.{put_back}
 use Rattle.bz_passes.proofs.leveling.level.Goals as goal
 

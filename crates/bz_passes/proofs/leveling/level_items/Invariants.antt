@@ -1,5 +1,4 @@
-use Rattle.std.proofs.Common.{◌≡◌, ◌++◌, map, take, drop}
-use Rattle.bz_layout.specs.Flags.{item_with_flags}
+use Rattle.bz_passes.proofs.Words.{◌++◌, ◌≡◌, drop, item_with_flags, map, take}
 use Rattle.bz_passes.proofs.leveling.level_items.Given as goal
 
 abbrev pub invariant-loop-item : goal.invariant-loop-item

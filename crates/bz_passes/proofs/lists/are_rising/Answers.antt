@@ -1,5 +1,4 @@
-use Rattle.std.proofs.Common.{rules}
-use Rattle.bz_passes.specs.Lists.{precedes}
+use Rattle.bz_passes.proofs.Words.{precedes, rules}
 use Rattle.bz_passes.proofs.Stable.{answers_climb}
 use Rattle.bz_passes.proofs.lists.are_rising.Goals as goal
 

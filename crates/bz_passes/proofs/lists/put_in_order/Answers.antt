@@ -1,13 +1,5 @@
-use Rattle.std.proofs.Common.{[], ◌∷◌, ◌++◌, ◌≡◌, ◌∙◌, ap, arith, rules, subst, true}
-use Rattle.std.proofs.lemmas.Grind.{common_steps}
-use Rattle.std.specs.Prelude.{IfOk}
-use Rattle.std.specs.List.{insert}
-use Rattle.bz_passes.specs.Lists.{precedes, without_repeats}
-use Rattle.bz_passes.specs.Sorting.{sort_by}
-use Rattle.bz_passes.specs.private.Repeats.{Climbs}
-use Rattle.bz_passes.proofs.Listed.{last_put, sorted_rises}
-use Rattle.bz_passes.proofs.Ranks.{item_ranks}
-use Rattle.bz_passes.proofs.Stable.{from_sort_by}
+use Rattle.bz_passes.proofs.Words.{[], ◌++◌, ◌∙◌, ◌∷◌, ◌≡◌, ap, arith, Climbs, common_steps, IfOk, insert, precedes, rules, sort_by, subst, true, without_repeats}
+use Rattle.bz_passes.proofs.{Listed.last_put, Listed.sorted_rises, Ranks.item_ranks, Stable.from_sort_by}
 use Rattle.bz_passes.proofs.lists.put_in_order.Goals as goal
 
 pub returns-then-are_rising : goal.returns-then-are_rising

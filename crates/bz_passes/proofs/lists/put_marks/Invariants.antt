@@ -1,5 +1,4 @@
-use Rattle.std.proofs.Common.{◌≡◌, ◌++◌, drop}
-use Rattle.bz_passes.specs.Lists.{above_first}
+use Rattle.bz_passes.proofs.Words.{◌++◌, ◌≡◌, above_first, drop}
 use Rattle.bz_passes.proofs.lists.put_marks.Given as goal
 
 abbrev pub invariant-loop-comment : goal.invariant-loop-comment

@@ -1,8 +1,4 @@
-use Rattle.std.proofs.Common.{◌≡◌, ◌++◌, drop, List}
-use Rattle.std.specs.Bool.{beq}
-use Rattle.std.specs.List.{filter}
-use Rattle.bz_items.specs.Characters.{Bytes}
-use Rattle.bz_passes.specs.Lists.{is_marked, keep_sorted}
+use Rattle.bz_passes.proofs.Words.{◌++◌, ◌≡◌, beq, Bytes, drop, filter, is_marked, keep_sorted, List}
 use Rattle.bz_passes.proofs.lists.split_marks.Given as goal
 
 abbrev pub invariant-loop-comment : goal.invariant-loop-comment

@@ -1,6 +1,4 @@
-use Rattle.std.proofs.Common.{◌≡◌, map, length}
-use Rattle.std.specs.Char.{to_ascii_lowercase}
-use Rattle.bz_passes.specs.Lists.{begins_with}
+use Rattle.bz_passes.proofs.Words.{◌≡◌, begins_with, length, map, to_ascii_lowercase}
 use Rattle.bz_passes.proofs.marks.begins.Given as goal
 
 abbrev pub invariant-loop-left : goal.invariant-loop-left

@@ -1,6 +1,4 @@
-use Rattle.std.proofs.Common.{◌≡◌, map, length}
-use Rattle.std.specs.Char.{to_ascii_lowercase}
-use Rattle.bz_passes.specs.Lists.{stands_in}
+use Rattle.bz_passes.proofs.Words.{◌≡◌, length, map, stands_in, to_ascii_lowercase}
 use Rattle.bz_passes.proofs.marks.is_marked.Given as goal
 
 abbrev pub invariant-loop-rest : goal.invariant-loop-rest

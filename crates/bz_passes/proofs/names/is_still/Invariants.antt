@@ -1,7 +1,4 @@
-use Rattle.std.proofs.Common.{◌≡◌, false}
-use Rattle.bz_passes.specs.Words.{with_flags, fronts}
-use Rattle.bz_passes.specs.Newer.{has_newer_node}
-use Rattle.bz_passes.specs.Passes.{quotes_in}
+use Rattle.bz_passes.proofs.Words.{◌≡◌, false, fronts, has_newer_node, quotes_in, with_flags}
 use Rattle.bz_passes.proofs.names.is_still.Given as goal
 
 abbrev pub invariant-loop-front : goal.invariant-loop-front

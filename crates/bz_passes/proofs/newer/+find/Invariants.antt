@@ -1,6 +1,4 @@
-use Rattle.std.proofs.Common.{◌≡◌, drop}
-use Rattle.std.specs.List.{list_any}
-use Rattle.bz_passes.specs.Newer.{has_newer_node}
+use Rattle.bz_passes.proofs.Words.{◌≡◌, drop, has_newer_node, list_any}
 use Rattle.bz_passes.proofs.newer.+find.Given as goal
 
 abbrev pub invariant-have_newer_nodes-loop-x : goal.invariant-have_newer_nodes-loop-x

@@ -1,5 +1,4 @@
-use Rattle.std.proofs.Common.{◌≡◌, ◌++◌, map, take, drop}
-use Rattle.bz_passes.specs.Passes.{quotes_in}
+use Rattle.bz_passes.proofs.Words.{◌++◌, ◌≡◌, drop, map, quotes_in, take}
 use Rattle.bz_passes.proofs.quotes.+quote.Given as goal
 
 abbrev pub invariant-quote_each-loop-x : goal.invariant-quote_each-loop-x

@@ -1,7 +1,4 @@
-use Rattle.std.proofs.Common.{◌≡◌, ◌++◌, ◌∷◌, ◌∙◌, [], true, false, ap, refl, length, List, ℕ, rules}
-use Rattle.bz_passes.specs.Words.{Expr as Value, text_of}
-use Rattle.bz_passes.specs.Lists.{has_no_comment}
-use Rattle.bz_passes.specs.private.Repeats.{repeats_at, tied_places}
+use Rattle.bz_passes.proofs.Words.{[], ◌++◌, ◌∙◌, ◌∷◌, ◌≡◌, ap, Expr as Value, false, has_no_comment, length, List, refl, repeats_at, rules, text_of, tied_places, true, ℕ}
 use Rattle.bz_passes.proofs.Dropping.{turn_new, turn_old, turn_dropped, turned}
 use Rattle.bz_passes.proofs.repeats.keep.Goals as goal
 use Rattle.bz_passes.proofs.repeats.keep.Goals.{then-not-stands+in_ok-push, else-not-stands+else-has_no_comment}

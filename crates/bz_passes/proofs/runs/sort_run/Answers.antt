@@ -1,7 +1,6 @@
 use Rattle.std.proofs.Common.{rules, Bool, sym, ◌∙◌}
 use Rattle.std.specs.Ordering.{is_lt}
-use Rattle.bz_passes.proofs.Sorting.{run_sorted}
-use Rattle.bz_passes.proofs.Stable.{from_sort_by}
+use Rattle.bz_passes.proofs.{Sorting.run_sorted, Stable.from_sort_by}
 use Rattle.bz_passes.proofs.runs.sort_run.Goals as goal
 
 pub returns : goal.returns

@@ -1,7 +1,6 @@
 use Rattle.std.proofs.Common.{◌+◌, Bool, arith, rules, not, sym}
 use Rattle.std.specs.Ordering.{is_lt}
-use Rattle.bz_passes.proofs.Sorting.{none_yet, run_out, climbs_stays, compared}
-use Rattle.bz_passes.proofs.Stable.{answers_climb}
+use Rattle.bz_passes.proofs.{Sorting.none_yet, Sorting.run_out, Sorting.climbs_stays, Sorting.compared, Stable.answers_climb}
 use Rattle.bz_passes.proofs.runs.sort_runs.Goals as goal
 
 pub returns-then-is_sorted_by : goal.returns-then-is_sorted_by

@@ -1,7 +1,4 @@
-use Rattle.std.proofs.Common.{◌≡◌, ◌≤◌, ◌++◌, ◌&&◌, true, take, drop, slice_range}
-use Rattle.std.specs.List.{AllByRecursion}
-use Rattle.std.specs.Ordering.{is_lt}
-use Rattle.bz_passes.specs.Sorting.{sort_by}
+use Rattle.bz_passes.proofs.Words.{◌&&◌, ◌++◌, ◌≡◌, ◌≤◌, AllByRecursion, drop, is_lt, slice_range, sort_by, take, true}
 use Rattle.bz_passes.proofs.runs.sort_runs.Given as goal
 
 -- what is before the run is in order, and with the rest sorted it is the whole

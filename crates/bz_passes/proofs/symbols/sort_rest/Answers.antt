@@ -1,9 +1,5 @@
-use Rattle.std.proofs.Common.{rules}
-use Rattle.bz_passes.specs.Passes.{symbol_precedes}
-use Rattle.bz_passes.specs.Sorting.{sort_by}
-use Rattle.bz_passes.proofs.Ranks.{symbol_ranks}
-use Rattle.bz_passes.proofs.Sorting.{rest_put}
-use Rattle.bz_passes.proofs.Stable.{from_sort_by}
+use Rattle.bz_passes.proofs.Words.{rules, sort_by, symbol_precedes}
+use Rattle.bz_passes.proofs.{Ranks.symbol_ranks, Sorting.rest_put, Stable.from_sort_by}
 use Rattle.bz_passes.proofs.symbols.sort_rest.Goals as goal
 
 pub returns-in_ok-sort_by : goal.returns-in_ok-sort_by

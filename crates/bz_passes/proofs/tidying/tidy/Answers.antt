@@ -1,5 +1,4 @@
-use Rattle.std.proofs.Common.{◌∙◌, ap, sym}
-use Rattle.bz_passes.specs.Newer.{has_newer}
+use Rattle.bz_passes.proofs.Words.{◌∙◌, ap, has_newer, sym}
 use Rattle.bz_passes.proofs.Cases.{are_level, made_again, made_comments, made_program, made_settled}
 use Rattle.bz_passes.proofs.tidying.tidy.Goals as goal
 

@@ -1,11 +1,5 @@
-use Rattle.std.proofs.Common.{List, subst, sym, ◌∙◌}
-use Rattle.bz_value.specs.LineShapes.{whole_grammar}
-use Rattle.bz_value.specs.Proper.{IsProper}
-use Rattle.bz_value.specs.declared.value.Item.{Item}
-use Rattle.bz_passes.specs.Passes.{passed}
-use Rattle.bz_passes.proofs.Cases.{build_passed, made_again, made_comments, made_program, made_settled, passed_stays_proper}
-use Rattle.bz_passes.proofs.EachChanged.{put_back}
-use Rattle.bz_passes.proofs.Pieces.{passed_length}
+use Rattle.bz_passes.proofs.Words.{◌∙◌, IsProper, Item, List, passed, subst, sym, whole_grammar}
+use Rattle.bz_passes.proofs.{Cases.build_passed, Cases.made_again, Cases.made_comments, Cases.made_program, Cases.made_settled, Cases.passed_stays_proper, EachChanged.put_back, Pieces.passed_length}
 use Rattle.bz_passes.proofs.tidying.tidy_build.Goals as goal
 
 pub invariant_of-result : goal.invariant_of-result

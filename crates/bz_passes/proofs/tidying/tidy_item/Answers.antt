@@ -1,13 +1,6 @@
-use Rattle.std.proofs.Common.{◌≡◌, ◌∙◌, true, false, ap, refl, rules, sym}
-use Rattle.bz_value.specs.declared.value.Item.TheVariants as i
-use Rattle.bz_passes.specs.Words.{with_flags, above}
-use Rattle.bz_passes.specs.Changes.{after_passes}
-use Rattle.bz_passes.specs.Joined.{item_tidied}
-use Rattle.bz_passes.specs.Lists.{any_marked}
-use Rattle.bz_passes.specs.Passes.{leave_alone, taken}
-use Rattle.bz_passes.proofs.Settling.{passes_taken}
+use Rattle.bz_passes.proofs.Words.{◌∙◌, ◌≡◌, above, after_passes, any_marked, ap, false, Item as i, item_tidied, leave_alone, refl, rules, sym, taken, true, with_flags}
+use Rattle.bz_passes.proofs.{Settling.passes_taken, tidying.tidy_item.Goals.then-not-any_marked+in_ok-quote+in_ok-change_lists_and_arguments+in_ok-sort_symbols, tidying.tidy_item.Goals.else-not-any_marked}
 use Rattle.bz_passes.proofs.tidying.tidy_item.Goals as goal
-use Rattle.bz_passes.proofs.tidying.tidy_item.Goals.{then-not-any_marked+in_ok-quote+in_ok-change_lists_and_arguments+in_ok-sort_symbols, else-not-any_marked}
 
 pub returns-after-not-any_marked : goal.returns-after-not-any_marked
 returns-after-not-any_marked c =

@@ -1,8 +1,5 @@
-use Rattle.std.proofs.Common.{◌≡◌, ◌∙◌, ap, arith, map, sym}
-use Rattle.bz_passes.specs.Joined.{item_tidied}
-use Rattle.bz_passes.specs.Passes.{loads}
-use Rattle.bz_passes.proofs.EachChanged.{all_turned}
-use Rattle.bz_passes.proofs.Settling.{by_items}
+use Rattle.bz_passes.proofs.Words.{◌∙◌, ◌≡◌, ap, arith, item_tidied, loads, map, sym}
+use Rattle.bz_passes.proofs.{EachChanged.all_turned, Settling.by_items}
 use Rattle.bz_passes.proofs.tidying.tidy_items.Goals as goal
 
 pub returns : goal.returns

@@ -1,5 +1,4 @@
-use Rattle.std.proofs.Common.{◌≡◌, ◌++◌, map, take, drop}
-use Rattle.bz_passes.specs.Joined.{item_tidied}
+use Rattle.bz_passes.proofs.Words.{◌++◌, ◌≡◌, drop, item_tidied, map, take}
 use Rattle.bz_passes.proofs.tidying.tidy_items.Given as goal
 
 abbrev pub invariant-loop-item : goal.invariant-loop-item

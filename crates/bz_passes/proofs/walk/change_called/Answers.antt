@@ -1,10 +1,5 @@
-use Rattle.std.proofs.Common.{◌∙◌, ap, arith, rules}
-use Rattle.bz_rule.specs.Rules.{dotted_name}
-use Rattle.bz_passes.specs.Changes.{arguments_changed, attribute_changed}
-use Rattle.bz_passes.specs.Sorting.{sort_by}
-use Rattle.bz_passes.specs.Passes.{argument_precedes, on_attribute}
-use Rattle.bz_passes.proofs.EachChanged.{all_turned}
-use Rattle.bz_passes.proofs.Settling.{of_same_kind}
+use Rattle.bz_passes.proofs.Words.{◌∙◌, ap, argument_precedes, arguments_changed, arith, attribute_changed, dotted_name, on_attribute, rules, sort_by}
+use Rattle.bz_passes.proofs.{EachChanged.all_turned, Settling.of_same_kind}
 use Rattle.bz_passes.proofs.walk.change_called.Goals as goal
 
 pub returns : goal.returns

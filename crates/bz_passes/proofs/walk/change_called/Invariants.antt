@@ -1,6 +1,4 @@
-use Rattle.std.proofs.Common.{◌≡◌, ◌++◌, map, take, drop}
-use Rattle.bz_passes.specs.Passes.{on_attribute}
-use Rattle.bz_passes.specs.Changes.{attribute_changed}
+use Rattle.bz_passes.proofs.Words.{◌++◌, ◌≡◌, attribute_changed, drop, map, on_attribute, take}
 use Rattle.bz_passes.proofs.walk.change_called.Given as goal
 
 abbrev pub invariant-loop-x : goal.invariant-loop-x

@@ -1,7 +1,4 @@
-use Rattle.std.proofs.Common.{◌≡◌, ◌++◌, map, take, drop}
-use Rattle.bz_grammar.specs.declared.kind.Kind.TheVariants as k
-use Rattle.bz_passes.specs.Words.{Expr, on_items, parts_of}
-use Rattle.bz_passes.specs.Changes.{list_changed}
+use Rattle.bz_passes.proofs.Words.{◌++◌, ◌≡◌, drop, Expr, Kind as k, list_changed, map, on_items, parts_of, take}
 use Rattle.bz_passes.proofs.walk.change_lists.Given as goal
 
 abbrev pub invariant-loop-operand : goal.invariant-loop-operand

@@ -1,7 +1,4 @@
-use Rattle.std.proofs.Common.{arith, subst}
-use Rattle.std.proofs.lemmas.Grind.{common_steps}
-use Rattle.bz_value.specs.Proper.{IsProper}
-use Rattle.bz_passes.specs.private.Borders.{IsMoved}
+use Rattle.bz_passes.proofs.Words.{arith, common_steps, IsMoved, IsProper, subst}
 use Rattle.bz_passes.proofs.Single.{moved_proper}
 use Rattle.bz_passes.proofs.windows.move_back.Goals as goal
 

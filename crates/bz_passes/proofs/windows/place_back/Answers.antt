@@ -1,12 +1,5 @@
-use Rattle.std.proofs.Common.{◌≡◌, ◌∙◌, ◌-◌, ap, arith, false, length, not, rules, slice_get, subst, sym}
-use Rattle.std.specs.Option.{option_map_or}
-use Rattle.std.proofs.lemmas.List.{drop_all, take_all}
-use Rattle.std.proofs.lemmas.List.Sorted.{IsPartitionPoint-from_clause}
-use Rattle.bz_passes.specs.Passes.{load_precedes}
-use Rattle.bz_passes.specs.private.Borders.{AreLoads, precedes_last}
-use Rattle.bz_passes.proofs.Pieces.{InOrder, by_last, ordered_drop}
-use Rattle.bz_passes.proofs.Single.{AllLater, parted, placed_back}
-use Rattle.bz_passes.proofs.Sorting.{ordered_by}
+use Rattle.bz_passes.proofs.Words.{◌-◌, ◌∙◌, ◌≡◌, ap, AreLoads, arith, drop_all, false, IsPartitionPoint-from_clause, length, load_precedes, not, option_map_or, precedes_last, rules, slice_get, subst, sym, take_all}
+use Rattle.bz_passes.proofs.{Pieces.InOrder, Pieces.by_last, Pieces.ordered_drop, Single.AllLater, Single.parted, Single.placed_back, Sorting.ordered_by}
 use Rattle.bz_passes.proofs.windows.place_back.Goals as goal
 
 pub returns-then-not-is_some_and-clause-place : goal.returns-then-not-is_some_and-clause-place

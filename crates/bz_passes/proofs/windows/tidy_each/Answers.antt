@@ -1,6 +1,4 @@
-use Rattle.std.proofs.Common.{◌+◌, arith, drop, get_or, subst}
-use Rattle.std.proofs.lemmas.List.{drop_more}
-use Rattle.bz_passes.specs.private.Borders.{tidied_over}
+use Rattle.bz_passes.proofs.Words.{◌+◌, arith, drop, drop_more, get_or, subst, tidied_over}
 use Rattle.bz_passes.proofs.Joining.{AreOnTheWay, one_further}
 use Rattle.bz_passes.proofs.windows.tidy_each.Goals as goal
 

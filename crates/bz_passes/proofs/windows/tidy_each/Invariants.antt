@@ -1,5 +1,4 @@
-use Rattle.std.proofs.Common.{drop}
-use Rattle.bz_passes.specs.private.Borders.{tidied_over}
+use Rattle.bz_passes.proofs.Words.{drop, tidied_over}
 use Rattle.bz_passes.proofs.Joining.{AreOnTheWay}
 use Rattle.bz_passes.proofs.windows.tidy_each.Given as goal
 

@@ -1,13 +1,5 @@
-use Rattle.std.proofs.Common.{◌∙◌, List, subst, sym}
-use Rattle.bz_value.specs.BuildValues.{AreBuild, IsProperBuild}
-use Rattle.bz_value.specs.LineShapes.{build_grammar}
-use Rattle.bz_value.specs.Proper.{IsProper, IsProperItemIn}
-use Rattle.bz_passes.specs.Words.{Item, Window}
-use Rattle.bz_value.proofs.BuildValues.{build_values_proper}
-use Rattle.bz_passes.specs.private.Borders.{tidied_over}
-use Rattle.bz_passes.proofs.EachChanged.{put_back}
-use Rattle.bz_passes.proofs.Pieces.{over_all, over_length}
-use Rattle.bz_passes.proofs.ProperPasses.{passed_proper}
+use Rattle.bz_passes.proofs.Words.{◌∙◌, AreBuild, build_grammar, build_values_proper, IsProper, IsProperBuild, IsProperItemIn, Item, List, subst, sym, tidied_over, Window}
+use Rattle.bz_passes.proofs.{EachChanged.put_back, Pieces.over_all, Pieces.over_length, ProperPasses.passed_proper}
 use Rattle.bz_passes.proofs.windows.tidy_in.Goals as goal
 
 over_proper : (ws : List Window) (file : List Item) → IsProper file → AreBuild file → IsProperBuild (tidied_over ws file)

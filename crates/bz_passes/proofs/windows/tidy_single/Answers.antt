@@ -1,5 +1,4 @@
-use Rattle.std.proofs.Common.{[], ◌∷◌, ◌∙◌, ap, inl, inr, refl, set, sym}
-use Rattle.bz_passes.specs.private.Borders.{tidied_over, one_at}
+use Rattle.bz_passes.proofs.Words.{[], ◌∙◌, ◌∷◌, ap, inl, inr, one_at, refl, set, sym, tidied_over}
 use Rattle.bz_passes.proofs.Single.{single_done, single_left}
 use Rattle.bz_passes.proofs.windows.tidy_single.Goals as goal
 

@@ -1,7 +1,5 @@
-use Rattle.std.proofs.Common.{Ok, ap, subst, ◌∙◌}
-use Rattle.bz_passes.specs.private.Borders.{AreSetApart, AreTidied, tidied_over}
-use Rattle.bz_passes.proofs.Cases.{windows_tidied}
-use Rattle.bz_passes.proofs.Pieces.{apart_tidied}
+use Rattle.bz_passes.proofs.Words.{◌∙◌, ap, AreSetApart, AreTidied, Ok, subst, tidied_over}
+use Rattle.bz_passes.proofs.{Cases.windows_tidied, Pieces.apart_tidied}
 use Rattle.bz_passes.proofs.windows.tidy_windows.Goals as goal
 
 pub returns-then-branch : goal.returns-then-branch

@@ -1,8 +1,5 @@
-use Rattle.std.proofs.Common.{ap, sym, ◌∙◌, subst}
-use Rattle.std.specs.List.{AllByRecursion}
-use Rattle.bz_resume.specs.private.Agreement.{MayLead, edits_of, notes_of}
-use Rattle.bz_resume.proofs.Loops.{when_none, when_some}
-use Rattle.bz_resume.proofs.Opens.{split_none, opens_none, opens, is_opened}
+use Rattle.bz_resume.proofs.Words.{◌∙◌, AllByRecursion, ap, edits_of, MayLead, notes_of, subst, sym}
+use Rattle.bz_resume.proofs.{Loops.when_none, Loops.when_some, Opens.split_none, Opens.opens_none, Opens.opens, Opens.is_opened}
 use Rattle.bz_resume.proofs.opening.open.Goals as goal
 
 pub returns-in_default : goal.returns-in_default

@@ -1,6 +1,4 @@
-use Rattle.std.proofs.Common.{◌++◌, ◌∷◌, [], ap, ◌∙◌}
-use Rattle.std.proofs.lemmas.Result.{on_ok_weaker}
-use Rattle.bz_resume.specs.private.Outlines.{outline_list, outline_part}
+use Rattle.bz_resume.proofs.Words.{[], ◌++◌, ◌∙◌, ◌∷◌, ap, on_ok_weaker, outline_list, outline_part}
 use Rattle.bz_resume.proofs.Outlined.{node_pushed}
 use Rattle.bz_resume.proofs.outlining.+outline.Goals as goal
 

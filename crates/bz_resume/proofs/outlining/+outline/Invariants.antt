@@ -1,6 +1,4 @@
-use Rattle.std.proofs.Common.{◌≡◌, ◌++◌, ◌∷◌, take}
-use Rattle.std.specs.List.{flat_map}
-use Rattle.bz_resume.specs.private.Outlines.{outline_part}
+use Rattle.bz_resume.proofs.Words.{◌++◌, ◌∷◌, ◌≡◌, flat_map, outline_part, take}
 use Rattle.bz_resume.proofs.outlining.+outline.Given as goal
 
 abbrev pub invariant-push_all-loop-part : goal.invariant-push_all-loop-part

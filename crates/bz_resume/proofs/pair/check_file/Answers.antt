@@ -1,5 +1,4 @@
-use Rattle.std.proofs.Common.{◌≡◌, ◌∙◌, ap, sym, inl, inr, Some, None}
-use Rattle.std.proofs.lemmas.Result.{on_ok_weaker}
+use Rattle.bz_resume.proofs.Words.{◌∙◌, ◌≡◌, ap, inl, inr, None, on_ok_weaker, Some, sym}
 use Rattle.bz_files.proofs.Fronts.{shows}
 use Rattle.bz_resume.proofs.Checking.{memory_alone, of_ok, ok_alone}
 use Rattle.bz_resume.proofs.pair.check_file.Goals as goal

@@ -1,5 +1,4 @@
-use Rattle.std.proofs.Common.{◌∙◌, Ok, Err, refl}
-use Rattle.bz_resume.specs.declared.pair_fault.PairFault.TheVariants as p
+use Rattle.bz_resume.proofs.Words.{◌∙◌, Err, Ok, PairFault as p, refl}
 use Rattle.bz_resume.proofs.Checking.{as_read, held, never_err, unkept}
 use Rattle.bz_resume.proofs.pair.keep.Goals as goal
 

@@ -1,6 +1,4 @@
-use Rattle.std.proofs.Common.{sym, subst}
-use Rattle.bz_grammar.specs.Legal.{NoTree, Reads}
-use Rattle.bz_resume.specs.private.Agreement.{StepsAgree, as_taken}
+use Rattle.bz_resume.proofs.Words.{as_taken, NoTree, Reads, StepsAgree, subst, sym}
 use Rattle.bz_resume.proofs.Loops.{agrees_of, when_some}
 use Rattle.bz_resume.proofs.replaying.agree.Goals as goal
 

@@ -1,5 +1,4 @@
-use Rattle.std.proofs.Common.{◌∙◌, sym, subst}
-use Rattle.bz_resume.specs.Words.{Node, NoTree, Reads}
+use Rattle.bz_resume.proofs.Words.{◌∙◌, Node, NoTree, Reads, subst, sym}
 use Rattle.bz_resume.proofs.Loops.{by_outline, when_some}
 use Rattle.bz_resume.proofs.replaying.is_tree.Goals as goal
 

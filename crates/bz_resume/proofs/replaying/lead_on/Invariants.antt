@@ -1,5 +1,4 @@
-use Rattle.std.proofs.Common.{length}
-use Rattle.bz_resume.specs.private.Agreement.{as_taken}
+use Rattle.bz_resume.proofs.Words.{as_taken, length}
 use Rattle.bz_resume.proofs.Loops.{IsGoing}
 use Rattle.bz_resume.proofs.replaying.lead_on.Given as goal
 

@@ -1,5 +1,4 @@
-use Rattle.std.proofs.Common.{◌∙◌, not, arith, ap, sym, take, true≢false}
-use Rattle.std.proofs.lemmas.Slice.Eq.{bytes_eq-Decides}
+use Rattle.bz_resume.proofs.Words.{◌∙◌, ap, arith, bytes_eq-Decides, not, sym, take, true≢false}
 use Rattle.bz_resume.proofs.JournalFronts.{begins_other}
 use Rattle.bz_resume.proofs.resuming.begins_no_journal.Goals as goal
 

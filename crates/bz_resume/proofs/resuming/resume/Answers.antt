@@ -1,8 +1,4 @@
-use Rattle.std.proofs.Common.{Err, List, ap, sym, subst, refl}
-use Rattle.bz_resume.specs.Words.{Edit, trail_at}
-use Rattle.bz_resume.specs.private.Agreement.{HasStood, IsOpened, NoneAgrees}
-use Rattle.bz_resume.specs.declared.resumed.Resumed.{Resumed}
-use Rattle.bz_resume.specs.Resumed.{IsResumed}
+use Rattle.bz_resume.proofs.Words.{ap, Edit, Err, HasStood, IsOpened, IsResumed, List, NoneAgrees, refl, Resumed, subst, sym, trail_at}
 use Rattle.bz_resume.proofs.Loops.{when_none, when_some}
 use Rattle.bz_resume.proofs.Stands.{written_back}
 use Rattle.bz_resume.proofs.Outcomes.{opened_trail, is_resumed, is_stale, known_ok, known_stale, no_journal, none_journal, not_other}

@@ -1,8 +1,5 @@
-use Rattle.std.proofs.Common.{ap, sym, ◌∙◌, ◌++◌, refl}
-use Rattle.bz_journal_format.specs.declared.content.Version.TheVariants.{Two}
-use Rattle.bz_journal_format.specs.Texts.{record_text}
-use Rattle.bz_resume.specs.Saved.{CanSave, IsSaved, saved_history, saved_trail}
-use Rattle.bz_resume.specs.declared.saving.Saved.{Saved}
+use Rattle.bz_resume.proofs.Words.{◌++◌, ◌∙◌, ap, record_text, refl, sym, Two}
+use Rattle.bz_resume.specs.{Saved.CanSave, Saved.IsSaved, Saved.saved_history, Saved.saved_trail, declared.saving.Saved.Saved}
 use Rattle.bz_resume.proofs.Saves.{is_saved, record_made}
 use Rattle.bz_resume.proofs.saving.save_into.Goals as goal
 

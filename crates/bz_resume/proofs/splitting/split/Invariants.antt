@@ -1,8 +1,5 @@
-use Rattle.std.proofs.Common.{◌≡◌, ◌++◌}
-use Rattle.std.specs.List.{AllByRecursion}
+use Rattle.bz_resume.proofs.Words.{◌++◌, ◌≡◌, AllByRecursion, edits_of, MayLead, notes_of}
 use Rattle.std.specs.Vec.Iter.{into_iter_items}
-use Rattle.bz_resume.specs.private.Agreement.{edits_of, notes_of}
-use Rattle.bz_resume.specs.private.Agreement.{MayLead}
 use Rattle.bz_resume.proofs.splitting.split.Given as goal
 
 -- the notes and steps so far, and those of the entries that are left, are those of all

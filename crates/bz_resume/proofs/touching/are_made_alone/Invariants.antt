@@ -1,6 +1,4 @@
-use Rattle.std.proofs.Common.{take}
-use Rattle.std.specs.List.{AllByRecursion}
-use Rattle.bz_resume.specs.private.Alone.{IsAloneAt, IsTouchedAlone}
+use Rattle.bz_resume.proofs.Words.{AllByRecursion, IsAloneAt, IsTouchedAlone, take}
 use Rattle.bz_resume.proofs.touching.are_made_alone.Given as goal
 
 abbrev pub invariant-loop-edit : goal.invariant-loop-edit

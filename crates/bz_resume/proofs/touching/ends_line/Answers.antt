@@ -1,5 +1,4 @@
-use Rattle.std.proofs.Common.{◌∙◌, sym}
-use Rattle.std.proofs.lemmas.Slice.Eq.{bytes_eq-Decides}
+use Rattle.bz_resume.proofs.Words.{◌∙◌, bytes_eq-Decides, sym}
 use Rattle.bz_resume.proofs.Touched.{node_ends}
 use Rattle.bz_resume.proofs.touching.ends_line.Goals as goal
 

@@ -1,5 +1,4 @@
-use Rattle.std.proofs.Common.{subst}
-use Rattle.bz_resume.specs.private.Alone.{AreLined, AreTouchedAlone}
+use Rattle.bz_resume.proofs.Words.{AreLined, AreTouchedAlone, subst}
 use Rattle.bz_resume.proofs.Touched.{led_to}
 use Rattle.bz_resume.proofs.touching.is_led_to.Goals as goal
 

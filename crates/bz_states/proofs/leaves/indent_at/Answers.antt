@@ -1,5 +1,4 @@
-use Rattle.std.proofs.Common.{◌∙◌, ap, sym, refl}
-use Rattle.bz_lex.specs.Gaps.{indent}
+use Rattle.bz_states.proofs.Words.{◌∙◌, ap, indent, refl, sym}
 use Rattle.bz_grammar.specs.Indents.{first_indent}
 use Rattle.bz_states.proofs.Cutting.{first_comes, none_comes}
 use Rattle.bz_states.proofs.leaves.indent_at.Goals as goal

@@ -1,5 +1,4 @@
-use Rattle.std.proofs.Common.{◌≡◌, ◌≤◌, true, length, drop}
-use Rattle.bz_lex.specs.Gaps.{are_indents}
+use Rattle.bz_states.proofs.Words.{◌≡◌, ◌≤◌, are_indents, drop, length, true}
 use Rattle.bz_states.proofs.line.indent_of.Given as goal
 
 abbrev pub invariant-blanks : goal.invariant-blanks

@@ -1,8 +1,5 @@
-use Rattle.std.proofs.Common.{sym, ap, ◌∙◌, arith}
+use Rattle.bz_states.proofs.Words.{◌∙◌, after_token, ap, arith, less, no_leaf, sym}
 use Rattle.std.proofs.lemmas.Grind.{common_steps}
-use Rattle.bz_lex.specs.Places.{after_token}
-use Rattle.bz_lex.specs.Stops.{no_leaf}
-use Rattle.bz_lex.proofs.Coming.{less}
 use Rattle.bz_states.proofs.Lines.{leaves_more, line_found, rest_shorter}
 use Rattle.bz_states.proofs.line.line_indent.Goals as goal
 

@@ -1,7 +1,4 @@
-use Rattle.std.proofs.Common.{◌≤◌, ◌<◌, ◌+◌, ◌^◌, length}
-use Rattle.bz_lex.specs.Places.{open_brackets}
-use Rattle.bz_lex.specs.Stops.{LeavesTo}
-use Rattle.bz_lex.proofs.Lists.{left}
+use Rattle.bz_states.proofs.Words.{◌+◌, ◌<◌, ◌^◌, ◌≤◌, LeavesTo, left, length, open_brackets}
 use Rattle.bz_states.proofs.line.line_indent.Given as goal
 
 abbrev pub invariant-leaves : goal.invariant-leaves

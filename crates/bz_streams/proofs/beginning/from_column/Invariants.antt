@@ -1,5 +1,4 @@
-use Rattle.std.proofs.Common.{◌≡◌, ◌-◌, drop}
-use Rattle.bz_streams.specs.Beginnings.{from_character}
+use Rattle.bz_streams.proofs.Imported.{◌-◌, ◌≡◌, drop, from_character}
 use Rattle.bz_streams.proofs.beginning.from_column.Given as goal
 
 -- what is sought of what is left is what is sought of all

@@ -1,6 +1,4 @@
-use Rattle.std.proofs.Common.{◌≡◌, ◌+◌, drop}
-use Rattle.std.specs.List.{prefix_len}
-use Rattle.bz_streams.specs.Beginnings.{is_word_byte}
+use Rattle.bz_streams.proofs.Imported.{◌+◌, ◌≡◌, drop, is_word_byte, prefix_len}
 use Rattle.bz_streams.proofs.beginning.word_length.Given as goal
 
 -- the bytes so far are a word's

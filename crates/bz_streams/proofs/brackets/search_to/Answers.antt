@@ -1,5 +1,4 @@
-use Rattle.std.proofs.Common.{◌∙◌, drop, subst, sym}
-use Rattle.bz_streams.specs.private.Search.{AreOpen}
+use Rattle.bz_streams.proofs.Imported.{◌∙◌, AreOpen, drop, subst, sym}
 use Rattle.bz_streams.proofs.BracketSteps.{stops_here}
 use Rattle.bz_streams.proofs.brackets.search_to.Goals as goal
 

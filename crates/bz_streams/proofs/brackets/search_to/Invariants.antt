@@ -1,6 +1,4 @@
-use Rattle.std.proofs.Common.{◌≡◌, ◌≤◌, ◌+◌, drop}
-use Rattle.bz_streams.specs.Brackets.{Scan, brackets_at, first_scan}
-use Rattle.bz_streams.specs.private.Search.{IsSearch}
+use Rattle.bz_streams.proofs.Imported.{◌+◌, ◌≡◌, ◌≤◌, brackets_at, drop, first_scan, IsSearch, Scan}
 use Rattle.bz_streams.proofs.brackets.search_to.Given as goal
 
 -- The search is where a scan is from which the rest has the brackets of the whole; no count is past what was read.

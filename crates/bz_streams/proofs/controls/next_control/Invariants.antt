@@ -1,6 +1,4 @@
-use Rattle.std.proofs.Common.{◌≡◌, ◌++◌, ℕ, take, drop}
-use Rattle.bz_items.specs.Characters.{Bytes}
-use Rattle.bz_streams.specs.Controls.{with_controls}
+use Rattle.bz_streams.proofs.Imported.{◌++◌, ◌≡◌, Bytes, drop, take, with_controls, ℕ}
 use Rattle.bz_streams.proofs.controls.next_control.Given as goal
 
 -- no control character begins before this place

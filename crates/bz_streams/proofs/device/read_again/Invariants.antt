@@ -1,6 +1,5 @@
 -- A read that was interrupted consumed nothing, and the room is as long as before.
-use Rattle.std.specs.Prelude.{◌≡◌, length}
-use Rattle.std.specs.Io.KnownBytes.{Keeps}
+use Rattle.bz_streams.proofs.Imported.{◌≡◌, Keeps, length}
 use Rattle.bz_streams.proofs.device.read_again.Given as goal
 
 abbrev pub invariant-loop : goal.invariant-loop

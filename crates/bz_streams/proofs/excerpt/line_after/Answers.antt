@@ -1,8 +1,5 @@
-use Rattle.std.proofs.Common.{rules}
-use Rattle.std.proofs.lemmas.Iterator.Consumers.{nth_from_yields_List}
-use Rattle.std.proofs.lemmas.Iterator.Splits.{YieldsList-from_slice_split}
-use borrow.Author.Tests.{tests}
-use Rattle.bz_lex.specs.Positions.{is_newline}
+use Rattle.bz_streams.proofs.Imported.{is_newline, rules, tests}
+use Rattle.std.proofs.{lemmas.Iterator.Consumers.nth_from_yields_List, lemmas.Iterator.Splits.YieldsList-from_slice_split}
 use Rattle.bz_streams.proofs.excerpt.line_after.Goals as goal
 
 pub returns : goal.returns

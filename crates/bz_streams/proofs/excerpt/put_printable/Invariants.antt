@@ -1,6 +1,5 @@
-use Rattle.std.proofs.Common.{◌≡◌, ◌≤◌, ◌+◌, ◌++◌, length}
+use Rattle.bz_streams.proofs.Imported.{◌++◌, ◌+◌, ◌≡◌, ◌≤◌, length, printable}
 use Rattle.arrayvec.specs.ArrayVec.{array_vec_len}
-use Rattle.bz_streams.specs.Controls.{printable}
 use Rattle.bz_streams.proofs.excerpt.put_printable.Given as goal
 
 -- what is there and what is left are all, and there is room for what is left

@@ -1,5 +1,4 @@
-use Rattle.std.proofs.Common.{◌++◌, ◌∙◌, ℕ, List, ap}
-use Rattle.std.proofs.lemmas.List.{take-replicate}
+use Rattle.bz_streams.proofs.Imported.{◌++◌, ◌∙◌, ap, List, take-replicate, ℕ}
 use Rattle.bz_streams.proofs.excerpt.put_spaces.Goals as goal
 
 pub returns-clause-items : goal.returns-clause-items

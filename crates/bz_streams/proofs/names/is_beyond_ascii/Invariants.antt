@@ -1,6 +1,4 @@
-use Rattle.std.proofs.Common.{◌≡◌, ◌||◌, drop}
-use Rattle.std.specs.List.{list_any}
-use Rattle.bz_streams.specs.Beginnings.{is_beyond_ascii}
+use Rattle.bz_streams.proofs.Imported.{◌||◌, ◌≡◌, drop, is_beyond_ascii, list_any}
 use Rattle.bz_streams.proofs.names.is_beyond_ascii.Given as goal
 
 -- one was found, or is in what is left

@@ -1,5 +1,4 @@
-use Rattle.std.proofs.Common.{◌≡◌, ◌≤◌, ◌+◌, drop}
-use Rattle.bz_streams.specs.Names.{odd_line_from, odd_name_line}
+use Rattle.bz_streams.proofs.Imported.{◌+◌, ◌≡◌, ◌≤◌, drop, odd_line_from, odd_name_line}
 use Rattle.bz_streams.proofs.names.line_of_odd_name.Given as goal
 
 -- what is sought of what is left is what is sought of all

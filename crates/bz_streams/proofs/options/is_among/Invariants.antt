@@ -1,5 +1,4 @@
-use Rattle.std.proofs.Common.{◌≡◌, drop, map}
-use Rattle.bz_streams.specs.Options.{is_among}
+use Rattle.bz_streams.proofs.Imported.{◌≡◌, drop, is_among, map}
 use Rattle.bz_streams.proofs.options.is_among.Given as goal
 
 -- the words so far are others

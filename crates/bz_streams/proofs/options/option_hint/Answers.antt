@@ -1,8 +1,5 @@
-use Rattle.std.proofs.Common.{◌≡◌, ◌∙◌, ap, ℕ, List, [], Bor, Option, Some, None, map, option_map, sym}
+use Rattle.bz_streams.proofs.Imported.{[], ◌∙◌, ◌≡◌, after_dashes, ap, Bor, Bytes, List, map, nearest, None, Option, option_hint, option_line, option_map, option_name, OptionTable, Some, strange_option, sym, ℕ}
 use Rattle.std.specs.Option.{option_map_or}
-use Rattle.bz_items.specs.Characters.{Bytes}
-use Rattle.bz_streams.specs.Near.{nearest}
-use Rattle.bz_streams.specs.Options.{OptionTable, after_dashes, option_name, strange_option, option_line, option_hint}
 use Rattle.bz_streams.proofs.options.option_hint.Goals as goal
 
 hint_is : (options : OptionTable) (words : List Bytes) (word name : Bytes) (near : Option Bytes) → Some word ≡ strange_option options.names options.letters words

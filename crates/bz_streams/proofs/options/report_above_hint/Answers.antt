@@ -1,7 +1,5 @@
-use Rattle.std.proofs.Common.{◌++◌, sym, subst}
+use Rattle.bz_streams.proofs.Imported.{◌++◌, AppendsUnlessFailed, option_hint_text, subst, sym}
 use Rattle.bz_streams.specs.declared.options.OptionHint.{OptionHint}
-use Rattle.bz_streams.specs.Faults.{AppendsUnlessFailed}
-use Rattle.bz_streams.specs.Options.{option_hint_text}
 use Rattle.bz_streams.proofs.options.report_above_hint.Goals as goal
 
 pub returns-in-Meant : goal.returns-in-Meant

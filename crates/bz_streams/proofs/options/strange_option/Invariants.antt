@@ -1,5 +1,4 @@
-use Rattle.std.proofs.Common.{◌≡◌, drop, map}
-use Rattle.bz_streams.specs.Options.{strange_option}
+use Rattle.bz_streams.proofs.Imported.{◌≡◌, drop, map, strange_option}
 use Rattle.bz_streams.proofs.options.strange_option.Given as goal
 
 -- the words so far are known, or no options

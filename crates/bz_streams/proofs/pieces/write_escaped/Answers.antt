@@ -1,7 +1,5 @@
-use Rattle.std.proofs.Common.{◌∙◌}
-use Rattle.bz_streams.specs.Controls.{escape}
-use Rattle.bz_streams.proofs.Written.{ended, goes_on, stops}
-use Rattle.bz_streams.proofs.ControlSteps.{shown_next}
+use Rattle.bz_streams.proofs.Imported.{◌∙◌, escape}
+use Rattle.bz_streams.proofs.{Written.ended, Written.goes_on, Written.stops, ControlSteps.shown_next}
 use Rattle.bz_streams.proofs.pieces.write_escaped.Goals as goal
 
 pub loop-plain-preserved : goal.loop-plain-preserved

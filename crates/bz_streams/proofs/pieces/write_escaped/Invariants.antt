@@ -1,5 +1,4 @@
-use Rattle.std.proofs.Common.{length}
-use Rattle.bz_streams.specs.Controls.{escaped_text}
+use Rattle.bz_streams.proofs.Imported.{escaped_text, length}
 use Rattle.bz_streams.proofs.Written.{SoFar}
 use Rattle.bz_streams.proofs.pieces.write_escaped.Given as goal
 

@@ -1,7 +1,4 @@
-use Rattle.std.proofs.Common.{ap}
-use Rattle.std.specs.List.{flat_map}
-use Rattle.std.proofs.lemmas.List.{drop_all}
-use Rattle.bz_streams.specs.Pieces.{line_piece_text}
+use Rattle.bz_streams.proofs.Imported.{ap, drop_all, flat_map, line_piece_text}
 use Rattle.bz_streams.proofs.Written.{all_written, goes_on, left-cons, stops}
 use Rattle.bz_streams.proofs.pieces.write_pieces.Goals as goal
 

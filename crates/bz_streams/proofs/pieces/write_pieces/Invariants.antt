@@ -1,6 +1,4 @@
-use Rattle.std.proofs.Common.{drop}
-use Rattle.std.specs.List.{flat_map}
-use Rattle.bz_streams.specs.Pieces.{line_piece_text}
+use Rattle.bz_streams.proofs.Imported.{drop, flat_map, line_piece_text}
 use Rattle.bz_streams.proofs.Written.{SoFar}
 use Rattle.bz_streams.proofs.pieces.write_pieces.Given as goal
 

@@ -1,5 +1,4 @@
-use Rattle.std.proofs.Common.{◌≡◌, ◌≤◌, ◌-◌, vec_len}
-use Rattle.std.specs.Io.KnownBytes.{Consumes}
+use Rattle.bz_streams.proofs.Imported.{◌-◌, ◌≡◌, ◌≤◌, Consumes, vec_len}
 use Rattle.bz_streams.proofs.source.read_most.Given as goal
 
 abbrev pub invariant-loop-chunk : goal.invariant-loop-chunk

@@ -1,6 +1,4 @@
-use Rattle.std.proofs.Common.{◌∙◌}
-use Rattle.clap.specs.Words.{found_of}
-use Rattle.clap.proofs.WalkLemmas.{first_value-rows}
+use Rattle.bz_streams.proofs.Imported.{◌∙◌, first_value-rows, found_of}
 use Rattle.bz_streams.proofs.words.argument_text.Goals as goal
 
 pub returns : goal.returns

@@ -1,7 +1,4 @@
-use Rattle.std.proofs.Common.{◌≡◌, ◌∙◌, ℕ, List, Option, [], map, rules, subst}
-use Rattle.std.specs.Prelude.{IfOk, unwrap_or}
-use Rattle.clap.specs.Words.{found_of}
-use Rattle.clap.proofs.WalkLemmas.{raw_values-rows}
+use Rattle.bz_streams.proofs.Imported.{[], ◌∙◌, ◌≡◌, found_of, IfOk, List, map, Option, raw_values-rows, rules, subst, unwrap_or, ℕ}
 use Rattle.bz_streams.proofs.words.argument_texts.Goals as goal
 
 pub returns-in-Some : goal.returns-in-Some

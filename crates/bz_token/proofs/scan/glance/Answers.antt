@@ -1,6 +1,4 @@
-use Rattle.std.proofs.Common.{rules, ◌≡◌, ◌<◌, length, get_or, Some}
-use Rattle.bz_token.specs.declared.state.State.TheVariants.{Start, Ended}
-use Rattle.bz_token.specs.private.Scanner.{move}
+use Rattle.bz_token.proofs.Words.{◌<◌, ◌≡◌, Ended, get_or, length, move, rules, Some, Start}
 use Rattle.bz_token.proofs.Glances.{mark_token}
 use Rattle.bz_token.proofs.scan.glance.Goals as goal
 

@@ -1,6 +1,4 @@
-use Rattle.std.proofs.Common.{◌≡◌, length, refl, sym, ◌∙◌, arith}
-use Rattle.bz_token.specs.private.Machine.{or_best}
-use Rattle.bz_token.specs.private.Scanner.{move, may_end, longest_front}
+use Rattle.bz_token.proofs.Words.{◌∙◌, ◌≡◌, arith, length, longest_front, may_end, move, or_best, refl, sym}
 use Rattle.bz_token.proofs.Longest.{goes_on, sticks, ends_here, ran}
 use Rattle.bz_token.proofs.scan.longest_front.Goals as goal
 use Rattle.bz_token.proofs.scan.longest_front.Goals.{then-may_end, else-may_end}

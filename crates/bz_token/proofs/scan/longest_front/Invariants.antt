@@ -1,7 +1,4 @@
-use Rattle.std.proofs.Common.{◌≡◌, ◌≤◌, ◌-◌, drop, length}
-use Rattle.bz_token.specs.declared.state.State.TheVariants.{Start}
-use Rattle.bz_token.specs.private.Machine.{longest, or_found}
-use Rattle.bz_token.specs.private.Scanner.{move, may_end}
+use Rattle.bz_token.proofs.Words.{◌-◌, ◌≡◌, ◌≤◌, drop, length, longest, may_end, move, or_found, Start}
 use Rattle.bz_token.proofs.scan.longest_front.Given as goal
 
 abbrev pub invariant-bytes : goal.invariant-bytes

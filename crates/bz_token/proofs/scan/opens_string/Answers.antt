@@ -1,5 +1,4 @@
-use Rattle.std.proofs.Common.{sym, ap, ◌∙◌}
-use Rattle.bz_token.specs.private.Scanner.{is_in_string}
+use Rattle.bz_token.proofs.Words.{◌∙◌, ap, is_in_string, sym}
 use Rattle.bz_token.proofs.Opening.{answered, stuck, moved, at_end}
 use Rattle.bz_token.proofs.scan.opens_string.Goals as goal
 

@@ -1,5 +1,4 @@
-use Rattle.std.proofs.Common.{◌≡◌, drop}
-use Rattle.bz_token.specs.declared.state.State.TheVariants.{Start}
+use Rattle.bz_token.proofs.Words.{◌≡◌, drop, Start}
 use Rattle.bz_token.proofs.Opening.{last_state}
 use Rattle.bz_token.proofs.scan.opens_string.Given as goal
 

@@ -1,5 +1,4 @@
-use Rattle.std.proofs.Common.{◌≡◌, Some, get_or, arith}
-use Rattle.bz_token.specs.private.Scanner.{move}
+use Rattle.bz_token.proofs.Words.{◌≡◌, arith, get_or, move, Some}
 use Rattle.bz_token.proofs.Longest.{one_further}
 use Rattle.bz_token.proofs.scan.run.Goals as goal
 

@@ -1,5 +1,4 @@
-use Rattle.std.proofs.Common.{◌≡◌, ◌≤◌, ◌<◌, ℕ, Some, get_or, length}
-use Rattle.bz_token.specs.private.Scanner.{move}
+use Rattle.bz_token.proofs.Words.{◌<◌, ◌≡◌, ◌≤◌, get_or, length, move, Some, ℕ}
 use Rattle.bz_token.proofs.scan.run.Given as goal
 
 abbrev pub invariant-loop-at : goal.invariant-loop-at

@@ -1,11 +1,5 @@
-use Rattle.std.proofs.Common.{rules, ◌≡◌, drop, length, ℕ, ◌≤◌, true, false, sym, ap, ◌∙◌}
-use Rattle.std.proofs.lemmas.List.{length-take-le}
-use Rattle.bz_token.specs.declared.state.State.{State}
-use Rattle.bz_token.specs.private.Scanner.{before_third}
-use Rattle.bz_token.specs.Tokens.{TokenAt}
-use Rattle.bz_token.proofs.Boundaries.{boundary_at}
-use Rattle.bz_token.proofs.Tokens.{front_of, none_token, no_class, third_token, some_token, whole_rest}
-use Rattle.bz_token.proofs.Glances.{found_boundary}
+use Rattle.bz_token.proofs.Words.{◌∙◌, ◌≡◌, ◌≤◌, ap, before_third, drop, false, length, length-take-le, rules, State, sym, TokenAt, true, ℕ}
+use Rattle.bz_token.proofs.{Boundaries.boundary_at, Tokens.front_of, Tokens.none_token, Tokens.no_class, Tokens.third_token, Tokens.some_token, Tokens.whole_rest, Glances.found_boundary}
 use Rattle.bz_token.proofs.scan.token.Goals as goal
 
 pub returns-then-is_some-clause-boundary : goal.returns-then-is_some-clause-boundary

@@ -1,5 +1,4 @@
-use Rattle.std.proofs.Common.{◌≡◌, ◌≤◌, ◌-◌, length}
-use Rattle.bz_value.specs.Gaps.{lines_from, lines_of}
+use Rattle.bz_value.proofs.Words.{◌-◌, ◌≡◌, ◌≤◌, length, lines_from, lines_of}
 use Rattle.bz_value.proofs.gap.first_line.Given as goal
 
 abbrev pub invariant-loop-rest : goal.invariant-loop-rest

@@ -1,5 +1,4 @@
-use Rattle.std.proofs.Common.{◌≡◌, length}
-use Rattle.bz_value.specs.Gaps.{has_newline}
+use Rattle.bz_value.proofs.Words.{◌≡◌, has_newline, length}
 use Rattle.bz_value.proofs.gap.has_newline.Given as goal
 
 abbrev pub invariant-loop-line : goal.invariant-loop-line

@@ -1,7 +1,4 @@
-use Rattle.std.proofs.Common.{length, get_or, sym, ap, ◌∙◌, add-one, drop, arith}
-use Rattle.std.proofs.Math.Seq.{take-length}
-use Rattle.std.proofs.lemmas.Bool.{lt-ltb, le-ltb, eqb-true, eq-eqb}
-use Rattle.bz_value.specs.Gaps.{lines_of}
+use Rattle.bz_value.proofs.Words.{◌∙◌, add-one, ap, arith, drop, eq-eqb, eqb-true, get_or, le-ltb, length, lines_of, lt-ltb, sym, take-length}
 use Rattle.bz_value.proofs.Lines.{NoneBefore, line_breaks, line_stops, none_left}
 use Rattle.bz_value.proofs.gap.line_len.Goals as goal
 

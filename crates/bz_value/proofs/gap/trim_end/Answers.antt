@@ -1,8 +1,6 @@
-use Rattle.std.proofs.Common.{◌≡◌, take, sym, ap, ◌∙◌, arith}
-use Rattle.bz_value.specs.Gaps.{trimmed}
-use Rattle.bz_value.proofs.Lines.{blank_last, solid_last}
+use Rattle.bz_value.proofs.Words.{◌∙◌, ◌≡◌, ap, arith, sym, take, trimmed}
+use Rattle.bz_value.proofs.{Lines.blank_last, Lines.solid_last, gap.trim_end.Goals.then-loop-end-test+else-is_blank_byte, gap.trim_end.Goals.else-loop-end-test}
 use Rattle.bz_value.proofs.gap.trim_end.Goals as goal
-use Rattle.bz_value.proofs.gap.trim_end.Goals.{then-loop-end-test+else-is_blank_byte, else-loop-end-test}
 
 pub loop-end-preserved : goal.loop-end-preserved
 loop-end-preserved c = record {

@@ -1,5 +1,4 @@
-use Rattle.std.proofs.Common.{◌≡◌, ◌≤◌, take, length}
-use Rattle.bz_value.specs.Gaps.{trimmed}
+use Rattle.bz_value.proofs.Words.{◌≡◌, ◌≤◌, length, take, trimmed}
 use Rattle.bz_value.proofs.gap.trim_end.Given as goal
 
 abbrev pub invariant-loop-end : goal.invariant-loop-end

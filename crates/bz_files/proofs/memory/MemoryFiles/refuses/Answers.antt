@@ -1,6 +1,4 @@
-use Rattle.std.proofs.Common.{◌≡◌, ◌∙◌, sym, map, string_bytes}
-use Rattle.std.specs.List.{list_any}
-use Rattle.std.specs.Str.{bytes_eq}
+use Rattle.bz_files.proofs.Words.{◌∙◌, ◌≡◌, bytes_eq, list_any, map, string_bytes, sym}
 use Rattle.bz_files.proofs.Fronts.{any_map}
 use Rattle.bz_files.proofs.memory.MemoryFiles.refuses.Goals as goal
 

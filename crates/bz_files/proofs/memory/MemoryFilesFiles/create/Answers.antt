@@ -1,5 +1,4 @@
-use Rattle.std.proofs.Common.{Some, ap}
-use Rattle.bz_files.specs.Log.{plan_in}
+use Rattle.bz_files.proofs.Words.{ap, plan_in, Some}
 use Rattle.bz_files.specs.declared.memory.MemoryFiles.{MemoryFiles}
 use Rattle.bz_files.proofs.Plans.{goes_on}
 use Rattle.bz_files.proofs.memory.MemoryFilesFiles.create.Goals as goal

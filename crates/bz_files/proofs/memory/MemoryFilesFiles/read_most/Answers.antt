@@ -1,5 +1,4 @@
-use Rattle.std.proofs.Common.{refl}
-use Rattle.bz_files.specs.Log.{plan_in}
+use Rattle.bz_files.proofs.Words.{plan_in, refl}
 use Rattle.bz_files.proofs.Plans.{goes_on}
 use Rattle.bz_files.proofs.memory.MemoryFilesFiles.read_most.Goals as goal
 

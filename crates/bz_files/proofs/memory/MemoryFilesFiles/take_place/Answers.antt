@@ -1,8 +1,5 @@
-use Rattle.std.proofs.Common.{◌∙◌, ⊎_elim, refl, sym, rules}
-use Rattle.std.proofs.lemmas.Bool.{false≢true}
-use Rattle.bz_files.specs.Log.{plan_in}
-use Rattle.bz_files.proofs.Logs.{placed}
-use Rattle.bz_files.proofs.Plans.{goes_on}
+use Rattle.bz_files.proofs.Words.{⊎_elim, ◌∙◌, false≢true, plan_in, refl, rules, sym}
+use Rattle.bz_files.proofs.{Logs.placed, Plans.goes_on}
 use Rattle.bz_files.proofs.memory.MemoryFilesFiles.take_place.Goals as goal
 
 pub returns-then-fails_now-clause-replaced : goal.returns-then-fails_now-clause-replaced

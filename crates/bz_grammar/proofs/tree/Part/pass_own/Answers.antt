@@ -1,5 +1,4 @@
-use Rattle.std.proofs.Common.{arith}
-use Rattle.bz_grammar.specs.Statements.{gap_of}
+use Rattle.bz_grammar.proofs.Words.{arith, gap_of}
 use Rattle.bz_grammar.proofs.Statements.{gap_within, newlines_within}
 use Rattle.bz_grammar.proofs.tree.Part.pass_own.Goals as goal
 

@@ -1,7 +1,4 @@
-use Rattle.std.proofs.Common.{◌∙◌, [], ap, option_map, refl, slice_get}
-use Rattle.bz_grammar.specs.declared.statement.Sought.{Sought}
-use Rattle.bz_grammar.specs.declared.tree.Node.{Node}
-use Rattle.bz_grammar.specs.Statements.{fronts, line_following}
+use Rattle.bz_grammar.proofs.Words.{[], ◌∙◌, ap, fronts, line_following, Node, option_map, refl, slice_get, Sought}
 use Rattle.bz_grammar.proofs.AllLines.{sought_line}
 use Rattle.bz_grammar.proofs.tree.Tree.line_of.Goals as goal
 

@@ -1,5 +1,4 @@
-use Rattle.std.proofs.Common.{arith}
-use Rattle.bz_journal.specs.Actions.{action_in}
+use Rattle.bz_journal.proofs.Words.{action_in, arith}
 use Rattle.bz_journal.proofs.AtOnce.{acts_at_once}
 use Rattle.bz_journal.proofs.alone.Alone.wanting.Goals as goal
 

@@ -1,9 +1,4 @@
-use Rattle.std.proofs.Common.{◌≡◌, ◌∙◌, ◌+◌, ◌-◌, ◌<◌, [], List, arith, ap, length, map, refl, subst, sym}
-use Rattle.std.specs.Prelude.{slice_index_or}
-use Rattle.std.proofs.lemmas.List.{take_all}
-use Rattle.bz_journal.specs.Clauses.{Bytes, SessionState, session_trail, sha256, spell_node, texts_of, trail_at}
-use Rattle.bz_journal.specs.Words.{Trail}
-use Rattle.bz_edit.specs.Shown.{Moves}
+use Rattle.bz_journal.proofs.Words.{[], ◌+◌, ◌-◌, ◌<◌, ◌∙◌, ◌≡◌, ap, arith, Bytes, length, List, map, Moves, refl, session_trail, SessionState, sha256, slice_index_or, spell_node, subst, sym, take_all, texts_of, Trail, trail_at}
 use Rattle.bz_journal.proofs.Digested.{hash_next, same_texts}
 use Rattle.bz_journal.proofs.course.Course.hashed.Goals as goal
 

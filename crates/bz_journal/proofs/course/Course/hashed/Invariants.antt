@@ -1,5 +1,4 @@
-use Rattle.std.proofs.Common.{◌≡◌, ◌+◌, length, map, take}
-use Rattle.bz_journal.specs.Clauses.{IsTrail, sha256, texts_of, trail_at}
+use Rattle.bz_journal.proofs.Words.{◌+◌, ◌≡◌, IsTrail, length, map, sha256, take, texts_of, trail_at}
 use Rattle.bz_journal.proofs.course.Course.hashed.Given as goal
 
 -- the tree is that of the text with this number, the texts stay, and the digests are those up to it

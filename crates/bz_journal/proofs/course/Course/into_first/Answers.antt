@@ -1,5 +1,4 @@
-use Rattle.std.proofs.Common.{◌≡◌, subst, sym}
-use Rattle.bz_journal.specs.Clauses.{SessionState, opened, session_history, spell_node}
+use Rattle.bz_journal.proofs.Words.{◌≡◌, opened, session_history, SessionState, spell_node, subst, sym}
 use Rattle.bz_journal.proofs.LastText.{opened_first}
 use Rattle.bz_journal.proofs.course.Course.into_first.Goals as goal
 

@@ -1,7 +1,4 @@
-use Rattle.std.proofs.Common.{◌≡◌, ◌↔◌, ◌∙◌, IsTrue, List, ap, subst, sym}
-use Rattle.bz_journal.specs.Clauses.{Node, present, session_history, spell_node, with_windows}
-use Rattle.bz_journal.specs.Words.{Part, Reads}
-use Rattle.bz_edit.specs.Windows.{window_parts}
+use Rattle.bz_journal.proofs.Words.{◌↔◌, ◌∙◌, ◌≡◌, ap, IsTrue, List, Node, Part, present, Reads, session_history, spell_node, subst, sym, window_parts, with_windows}
 use Rattle.bz_journal.proofs.MadeLines.{parts_stay}
 use Rattle.bz_journal.proofs.course.Course.is_present.Goals as goal
 

@@ -1,7 +1,4 @@
-use Rattle.std.proofs.Common.{◌∙◌, ap, length, refl, rules, string_bytes, subst, sym}
-use Rattle.std.proofs.lemmas.List.{take_at}
-use Rattle.bz_journal_format.specs.declared.content.Version.TheVariants.{Two}
-use Rattle.bz_journal.specs.State.{SessionState, IsSession}
+use Rattle.bz_journal.proofs.Words.{◌∙◌, ap, IsSession, length, refl, rules, SessionState, string_bytes, subst, sym, take_at, Two}
 use Rattle.bz_journal.proofs.Kept.{as_before, session_moved}
 use Rattle.bz_journal.proofs.course.Course.redo.Goals as goal
 

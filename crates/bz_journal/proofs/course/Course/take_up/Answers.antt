@@ -1,13 +1,5 @@
-use Rattle.std.proofs.Common.{List, refl, map, ◌≡◌, ◌<◌, ◌+◌, ◌++◌, ◌∷◌, [], ◌∙◌, ap, sym, subst, rules, take, string_bytes, Ok}
-use Rattle.std.proofs.lemmas.Bool.{false≢true}
-use Rattle.bz_journal.specs.Clauses.{Bytes, IsSession, Node, SessionState, most_steps, session_trail, sha256, spell_node, texts_of, trail_at}
-use Rattle.bz_journal.specs.Clauses.{EndsAt, after_text, changed, present, session_history, with_windows}
-use Rattle.bz_journal.specs.Words.{Two}
-use Rattle.bz_edit.specs.Shown.{TakesUp}
-use Rattle.bz_journal.specs.private.Kept.{AreKeptOf}
-use Rattle.bz_journal.specs.declared.action.Reply.TheVariants.{Changed}
-use Rattle.bz_journal.proofs.Acting.{ends_changed}
-use Rattle.bz_journal.proofs.Kept.{as_before, extended, kept_on, session_present}
+use Rattle.bz_journal.proofs.Words.{[], ◌++◌, ◌+◌, ◌<◌, ◌∙◌, ◌∷◌, ◌≡◌, after_text, ap, AreKeptOf, Bytes, Changed, changed, EndsAt, false≢true, IsSession, List, map, most_steps, Node, Ok, present, refl, rules, session_history, session_trail, SessionState, sha256, spell_node, string_bytes, subst, sym, take, TakesUp, texts_of, trail_at, Two, with_windows}
+use Rattle.bz_journal.proofs.{Acting.ends_changed, Kept.as_before, Kept.extended, Kept.kept_on, Kept.session_present}
 use Rattle.bz_journal.proofs.course.Course.take_up.Goals as goal
 
 pub take_up-requires-clause-other : goal.take_up-requires-clause-other

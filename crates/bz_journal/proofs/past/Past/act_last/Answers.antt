@@ -1,9 +1,5 @@
-use Rattle.std.proofs.Common.{◌≡◌, ◌∙◌, Err, ap, string_bytes, subst, sym}
-use Rattle.bz_journal.specs.Clauses.{Do, History, MakesOrWants, opened, present, spell_node}
-use Rattle.bz_journal.specs.Forms.{past_history}
-use Rattle.bz_journal.specs.declared.past.Form.{Form}
-use Rattle.bz_journal.proofs.Acting.{acts_refused}
-use Rattle.bz_journal.proofs.LastText.{last_done}
+use Rattle.bz_journal.proofs.Words.{◌∙◌, ◌≡◌, ap, Do, Err, Form, History, MakesOrWants, opened, past_history, present, spell_node, string_bytes, subst, sym}
+use Rattle.bz_journal.proofs.{Acting.acts_refused, LastText.last_done}
 use Rattle.bz_journal.proofs.past.Past.act_last.Goals as goal
 
 pub returns-in-Ok-clause-makes : goal.returns-in-Ok-clause-makes

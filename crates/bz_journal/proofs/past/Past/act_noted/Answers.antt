@@ -1,5 +1,4 @@
-use Rattle.std.proofs.Common.{◌≤◌, ap, length, rules, string_bytes}
-use Rattle.bz_journal.specs.Clauses.{action_in, note_limit}
+use Rattle.bz_journal.proofs.Words.{◌≤◌, action_in, ap, length, note_limit, rules, string_bytes}
 use Rattle.bz_journal.proofs.InForm.{last_acts, made_as}
 use Rattle.bz_journal.proofs.past.Past.act_noted.Goals as goal
 

@@ -1,12 +1,5 @@
-use Rattle.std.proofs.Common.{◌≡◌, ℕ, rules, subst, sym}
-use Rattle.std.specs.Option.{option_flatten, option_map}
-use Rattle.std.specs.Result.{result_ok}
-use Rattle.bz_journal.specs.Clauses.{Action, History, IsSeenIn, IsWrittenSince, Keeps, KeepsFile, KeepsPair, SessionState, action_in, session_history}
-use Rattle.bz_journal.specs.Forms.{past_history}
-use Rattle.bz_journal.specs.declared.keeping.Written.{Written}
-use Rattle.bz_journal.specs.declared.past.Form.{Form}
-use Rattle.bz_journal.proofs.InForm.{made_as, same_history}
-use Rattle.bz_journal.proofs.Persisting.{file_unkept, text_kept}
+use Rattle.bz_journal.proofs.Words.{◌≡◌, Action, action_in, Form, History, IsSeenIn, IsWrittenSince, Keeps, KeepsFile, KeepsPair, option_flatten, option_map, past_history, result_ok, rules, session_history, SessionState, subst, sym, Written, ℕ}
+use Rattle.bz_journal.proofs.{InForm.made_as, InForm.same_history, Persisting.file_unkept, Persisting.text_kept}
 use Rattle.bz_journal.proofs.past.Past.keep_noted.Goals as goal
 
 pub returns-in-Alone-clause-pair : goal.returns-in-Alone-clause-pair

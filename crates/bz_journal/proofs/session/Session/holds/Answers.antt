@@ -1,5 +1,4 @@
-use Rattle.std.proofs.Common.{subst}
-use Rattle.bz_journal.specs.State.{IsSession}
+use Rattle.bz_journal.proofs.Words.{IsSession, subst}
 use Rattle.bz_journal.proofs.Resuming.{state_holds}
 use Rattle.bz_journal.proofs.session.Session.holds.Goals as goal
 

@@ -1,6 +1,4 @@
-use Rattle.std.proofs.Common.{◌∙◌, ℕ, subst}
-use Rattle.std.proofs.lemmas.Result.{IfOk-weaker}
-use Rattle.bz_journal.specs.Clauses.{IsWrittenSince, SessionState, action_in}
+use Rattle.bz_journal.proofs.Words.{◌∙◌, action_in, IfOk-weaker, IsWrittenSince, SessionState, subst, ℕ}
 use Rattle.bz_journal.proofs.session.Session.keep_noted.Goals as goal
 
 pub returns : goal.returns

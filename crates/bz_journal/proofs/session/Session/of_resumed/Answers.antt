@@ -1,5 +1,4 @@
-use Rattle.std.proofs.Common.{◌≡◌, ◌∙◌, ap, map, rules, subst, sym, refl, string_bytes}
-use Rattle.bz_journal.specs.Clauses.{IsSession, SessionState, sha256, texts_of, trail_at}
+use Rattle.bz_journal.proofs.Words.{◌∙◌, ◌≡◌, ap, IsSession, map, refl, rules, SessionState, sha256, string_bytes, subst, sym, texts_of, trail_at}
 use Rattle.bz_journal.proofs.Resuming.{knows, lasts, same_state}
 use Rattle.bz_journal.proofs.session.Session.of_resumed.Goals as goal
 

@@ -1,5 +1,4 @@
-use Rattle.std.proofs.Common.{◌≡◌, ◌++◌, ◌∷◌, [], rules, arith, ap, ◌∙◌, append_assoc}
-use Rattle.std.proofs.lemmas.Grind.{common_steps}
+use Rattle.bz_journal.proofs.Words.{[], ◌++◌, ◌∙◌, ◌∷◌, ◌≡◌, ap, append_assoc, arith, common_steps, rules}
 use Rattle.bz_journal.proofs.Running.{run_turn}
 use Rattle.bz_journal.proofs.session.Session.run.Goals as goal
 

@@ -1,5 +1,4 @@
-use Rattle.std.proofs.Common.{◌≡◌, ◌≤◌, ◌+◌, ◌-◌, ◌++◌, List, map, take, length, vec_len, vec_capacity, Result}
-use Rattle.bz_journal.specs.Clauses.{IsSmall, Refusal, Reply, Runs, action_in, session_history, session_trail}
+use Rattle.bz_journal.proofs.Words.{◌++◌, ◌+◌, ◌-◌, ◌≡◌, ◌≤◌, action_in, IsSmall, length, List, map, Refusal, Reply, Result, Runs, session_history, session_trail, take, vec_capacity, vec_len}
 use Rattle.bz_journal.proofs.session.Session.run.Given as goal
 
 -- the replies so far are those of the actions so far, and there is room for the others

@@ -1,5 +1,4 @@
-use Rattle.std.proofs.Common.{◌∙◌, ◌++◌, ap}
-use Rattle.bz_journal.specs.Clauses.{SessionState, saved}
+use Rattle.bz_journal.proofs.Words.{◌++◌, ◌∙◌, ap, saved, SessionState}
 use Rattle.bz_journal.proofs.Resuming.{same_state}
 use Rattle.bz_journal.proofs.session.Session.save_into.Goals as goal
 

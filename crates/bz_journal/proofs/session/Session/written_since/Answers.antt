@@ -1,5 +1,4 @@
-use Rattle.std.proofs.Common.{◌∙◌, ◌++◌, List, ℕ, ap, refl}
-use Rattle.bz_journal.specs.Lasting.{saved}
+use Rattle.bz_journal.proofs.Words.{◌++◌, ◌∙◌, ap, List, refl, saved, ℕ}
 use Rattle.bz_journal.proofs.Following.{has_moved}
 use Rattle.bz_journal.proofs.session.Session.written_since.Goals as goal
 

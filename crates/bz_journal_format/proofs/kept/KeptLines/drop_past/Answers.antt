@@ -1,5 +1,4 @@
-use Rattle.std.proofs.Common.{◌≤◌, [], arith}
-use Rattle.bz_journal_format.specs.declared.content.Version.TheVariants.{Two}
+use Rattle.bz_journal_format.proofs.Words.{[], ◌≤◌, arith, Two}
 use Rattle.bz_journal_format.proofs.kept.KeptLines.drop_past.Goals as goal
 
 pub returns-then-past-clause-few : goal.returns-then-past-clause-few

@@ -1,7 +1,4 @@
-use Rattle.std.proofs.Common.{◌∙◌, ap, sym}
-use Rattle.std.proofs.lemmas.Bool.{or_parts}
-use Rattle.bz_load.specs.Paths.{knows_text}
-use Rattle.bz_load.specs.private.Known.{come_with}
+use Rattle.bz_load.proofs.Words.{◌∙◌, ap, come_with, knows_text, or_parts, sym}
 use Rattle.bz_load.proofs.PathSteps.{none_over}
 use Rattle.bz_load.proofs.paths.LoadedPaths.follow_windows.Goals as goal
 

@@ -1,5 +1,4 @@
-use Rattle.std.proofs.Common.{◌∙◌, ap, sym}
-use Rattle.bz_load.specs.Paths.{knows_text}
+use Rattle.bz_load.proofs.Words.{◌∙◌, ap, knows_text, sym}
 use Rattle.bz_load.proofs.paths.LoadedPaths.has.Goals as goal
 
 pub returns : goal.returns

@@ -1,6 +1,4 @@
-use Rattle.std.proofs.Common.{ap, ◌∙◌}
-use Rattle.bz_grammar.specs.Reading.{starts_with}
-use Rattle.bz_states.specs.Tokens.{terminals_of}
+use Rattle.bz_states.proofs.Words.{◌∙◌, ap, starts_with, terminals_of}
 use Rattle.bz_states.proofs.leaves.Leaves.next_is.Goals as goal
 
 pub returns : goal.returns

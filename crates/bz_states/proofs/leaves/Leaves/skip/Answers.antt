@@ -1,5 +1,4 @@
-use Rattle.std.proofs.Common.{◌∙◌, ap, sym}
-use Rattle.bz_lex.specs.Places.{after_token}
+use Rattle.bz_states.proofs.Words.{◌∙◌, after_token, ap, sym}
 use Rattle.bz_states.proofs.Cutting.{first_skipped, none_skipped}
 use Rattle.bz_states.proofs.leaves.Leaves.skip.Goals as goal
 
