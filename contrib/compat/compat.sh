@@ -5,7 +5,8 @@
 #
 # -path gives the type of a file by its name, -root_dir the folder to run in; -r and -d of buildifier, and -types and targets with ... of
 # buildozer are done by buildifier-tree and buildozer-tree, which must be on the PATH then. An option that cannot be done here is named on standard
-# error and nothing is run (status 1 of buildozer, 2 of buildifier); docs/COMING.md says what to do in its place.
+# error and nothing is run (status 1 of buildozer, 2 of buildifier); docs/COMING.md says what to do in its place. The profile of buildozer is
+# bazelbuild's.
 program=$1 count=$(($# - 1)) root=. type='' by_path='' tree='' diff=''
 case $program in buildozer) usage=1 ;; buildifier) usage=2 ;; *) echo "compat.sh: no program: $program" >&2; exit 2 ;; esac
 shift
@@ -41,6 +42,7 @@ done
 [ -z "$type" ] || set -- "$@" "--type=$type"
 [ "$count" -eq 0 ] || [ "$1" != -- ] || { count=$((count - 1)); shift; }
 [ -z "$diff" ] || [ "$count" -gt 0 ] || { echo "compat.sh: buildifier has no -d of standard input here" >&2; exit "$usage"; }
+[ "$program" = buildifier ] || set -- "$@" --profile=bazelbuild
 # what is left are the operands, which go after the options
 set -- "$@" --
 while [ "$count" -gt 0 ]; do

@@ -42,6 +42,7 @@ COMPAT = [
     (["buildozer", "-k", "-numio=200", "-P", "8", "print name", "-:all"], ODD, (3, "\u00e9\n")),
     (["buildozer", "-root_dir", "sub", "-types=f,g", "print kind", "//app:all"], "", (3, "f\n")),
     (["buildozer", "print kind", "//sub/...:all"], "", (3, "f\n")),
+    (["buildozer", "-root_dir", "sub", "print label", "//app:all"], "", (3, "//app:\u00e9\n")),
     (["buildozer", "-output_json", "print name", "-:all"], ODD, (1, "compat.sh: buildozer has no -output_json here\n")),
     (["buildozer", "-eol-comments", "print name", "-:all"], ODD, (1, "compat.sh: buildozer has no -eol-comments here\n")),
 ]

@@ -581,6 +581,17 @@ def labels_of_lines(place):
         place.expect(f"{words}", place.run("buildozer-tree", *words)[0], 1)
 
 
+def values_in_select(place):
+    """--profile is handed on to each process, and another word is what buildozer says of it."""
+    text, left = b'f(\n    name = "x",\n    deps = select({"k": [":a"]}),\n)\n', b'f(\n    name = "x",\n    deps = select({"k": []}),\n)\n'
+    place.put({"MODULE.bazel": b"", "a/BUILD": text, "b/BUILD": text})
+    place.expect("own", place.run("buildozer-tree", "remove deps :a", "//...:all")[0], 3)
+    place.expect("bazelbuild", place.run("buildozer-tree", "--profile=bazelbuild", "remove deps :a", "//...:all")[0], 0)
+    place.wants_files("files", {"MODULE.bazel": b"", "a/BUILD": left, "b/BUILD": left})
+    place.expect("labels", place.run("buildozer-tree", "--profile", "bazelbuild", "print label", "//...:all")[1], b"//a:x\n//b:x\n")
+    place.expect("another", place.run("buildozer-tree", "--profile=x", "delete", "//...:all")[0], 1)
+
+
 def what_is_not_said(place):
     """One --quiet leaves the summary, two leave neither; a package of ten with a rule of its own name is noted."""
     place.put({"MODULE.bazel": b"", **made(20), "p1/x/BUILD": ODD})
@@ -691,7 +702,7 @@ TREES = named(
     all_files_are_formatted, paths_and_usage, refusals_are_sorted, differences, only_what_changed, a_process_that_is_killed, formats_stopped_and_run_again,
     slow_processes_are_ended, two_formats_at_once, on_a_terminal, the_bar_is_below_lines, a_closed_output, all_packages_are_edited, targets_mean_packages, targets_mean_files, names_that_no_target_has,
     lines_in_their_order, notes_are_no_refusals, failures_end_a_run, changed_and_taken_back, formatted_and_taken_back, edits_stopped_and_taken_back, an_undo_that_is_stopped, two_edits_at_once, where_runs_are_kept,
-    edits_that_are_looked_at, labels_of_lines, what_is_not_said, a_run_without_a_journal, journals_that_git_knows, journals_for_people, processes_for_names, a_text_on_standard_input,
+    edits_that_are_looked_at, labels_of_lines, values_in_select, what_is_not_said, a_run_without_a_journal, journals_that_git_knows, journals_for_people, processes_for_names, a_text_on_standard_input,
     sources_are_of_python_3_9,
 )  # fmt: skip
 SCENES = Scenes(__file__, {name: with_git(scene, lambda what: SCENES.say(what)) for name, scene in TREES.items()}, place=place)

@@ -35,6 +35,7 @@ may have ... for all packages below one: //a/...:all, //...:%cc_library, //a/...
   --quiet             prints no lines of files that were written; given twice, no summary either
   --journal           keeps FILE.journal beside each file, and what `undo` needs
   --types=KIND,..     takes only rules of these kinds
+  --profile=PROFILE   own or bazelbuild, as for buildozer
   --state=DIR         keeps what `undo` needs there, and not in .git
   --processes=N       how many processes run at once
   --help, --version
@@ -42,13 +43,11 @@ may have ... for all packages below one: //a/...:all, //...:%cc_library, //a/...
 undo takes back the last run with --journal in all packages that it changed, redo does it again, runs lists the last ten.
 0 something changed, 3 nothing did, 2 something failed, 1 usage."""
 FLAGS = ("-k", "--diff", "--stdout", "--labels", "--quiet", "--journal", "--help", "--version")
-VALUED = ("-f", "--types", "--state", "--processes")
+VALUED = ("-f", "--types", "--profile", "--state", "--processes")
 PASSED = ("-k", "--stdout", "--journal")
 # commands that print what no label is for; options of which one is given at a time, and none with a list of journals
-UNLABELLED = ("print_comment", "journal")
-UNLISTED = ("--diff", "--stdout", "--labels")
-USAGE = 1
-OF_RUNS = ("undo", "redo", "runs")
+UNLABELLED, UNLISTED = ("print_comment", "journal"), ("--diff", "--stdout", "--labels")
+USAGE, OF_RUNS = 1, ("undo", "redo", "runs")
 
 
 class Request:
@@ -63,6 +62,7 @@ class Request:
         self.root = root_above(self.here, self.foreign) or self.here
         self.package = "" if self.here == self.root else os.path.relpath(self.here, self.root)
         self.flags = [flag for flag in PASSED if flag in self.options]
+        self.flags += [f"--profile={self.options['--profile']}"] if "--profile" in self.options else []
         self.quiet = self.options.get("--quiet", 0)
 
     def has(self, option):

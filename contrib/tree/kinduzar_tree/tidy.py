@@ -35,9 +35,8 @@ FLAGS = ("--bzl", "--quiet", "--help", "--version")
 VALUED = ("--mode", "--type", "--diff-from", "--from", "--processes")
 MODES, TYPES = ("fix", "check", "diff"), ("auto", "build", "bzl")
 USAGE, UNREAD, REFUSED, DIFFERS, WELL = 2, 3, 1, 4, 0
-# what a run of buildifier that has tried all of its files ends with
+# what a run of buildifier that has tried all of its files ends with, and how lines end on what could not be tried
 TRIED = (WELL, REFUSED, UNREAD, DIFFERS)
-# how lines end on what could not be tried
 UNTRIED = (": cannot open", ": cannot write", "not UTF-8")
 
 
