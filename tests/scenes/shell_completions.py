@@ -57,7 +57,7 @@ REPLIES = [
     ("buildozer delete //none:", ["all", "__pkg__"]),
     ("buildozer delete -- -:", ["all", "__pkg__"]),
     ("buildozer delete :", [r"odd\'\$x", "x", "xt", "all", "__pkg__"]),
-    ("buildozer --", ["--stdout", "--quiet", "--journal", "--help", "--version"]),
+    ("buildozer --", ["--stdout", "--quiet", "--journal", "--profile=", "--help", "--version"]),
     ("buildozer -f lines d", []),
     ("buildozer 'delete'd", []),
     ("buildifier --m", ["--mode="]),
